@@ -1,0 +1,6 @@
+-- In reading order; the last one is how a record is kept, which no caller needs.
+pub mod Sort
+pub mod Account
+pub mod Charge
+pub mod Grace
+pub mod Kept

@@ -1,0 +1,41 @@
+ghost use Rattle.std.specs.Prelude.{◌≡◌};
+ghost use Rattle.qrules.specs.Charge.{has_ended};
+ghost use Rattle.qrules.specs.Grace.{kept_end, next_end};
+
+/// The latest moment, in seconds, that a call may have.
+pub const MAX_MOMENT: u64 = 1 << 40;
+
+/// The longest grace period, in seconds.
+pub const MAX_GRACE: u64 = (1 << 32) - 1;
+
+/// How long use may stay over a soft limit, in seconds. One pair of periods holds for all records.
+#[derive(Clone, Copy, Debug, PartialEq, Eq, Hash)]
+pub struct Graces {
+    pub block: u64,
+    pub inode: u64,
+}
+
+/// Whether a grace has ended. At its end it has.
+pub(crate) fn has_ended(end: Option<u64>, moment: u64) -> bool
+    ensures { result ≡ has_ended end moment }
+{
+    end.is_some_and(|end| moment >= end)
+}
+
+/// The grace end after a change that may begin a grace: the new one only where none stands.
+pub(crate) fn next_end(is_over_soft: bool, end: Option<u64>, new: u64) -> Option<u64>
+    ensures { result ≡ next_end is_over_soft end new }
+{
+    if is_over_soft {
+        Some(end.unwrap_or(new))
+    } else {
+        None
+    }
+}
+
+/// The grace end after a change that begins none.
+pub(crate) fn kept_end(is_over_soft: bool, end: Option<u64>) -> Option<u64>
+    ensures { result ≡ kept_end is_over_soft end }
+{
+    if is_over_soft { end } else { None }
+}
