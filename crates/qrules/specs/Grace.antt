@@ -24,7 +24,7 @@ with_ends account graces moment =
 abbrev pub unused : Limits → Account
 unused limits = record { blocks = 0; inodes = 0; limits = limits; block_end = None; inode_end = None }
 
--- a charge adds to the use
+-- the account after a charge, which adds to the use, with the ends that then stand
 abbrev pub charged : Account → Graces → ℕ → ℕ → ℕ → Account
 charged account graces moment blocks inodes =
     with_ends (record account { blocks = account.blocks + blocks; inodes = account.inodes + inodes }) graces moment
@@ -44,7 +44,7 @@ released account blocks inodes =
     let less = less_used account blocks inodes in
     record less { block_end = kept_end (is_over_soft Blocks less) account.block_end; inode_end = kept_end (is_over_soft Inodes less) account.inode_end }
 
--- new limits forget both grace ends and compute them anew, also where they are the old limits (setquota(8))
+-- new limits forget both grace ends and compute them anew, also where they are the old limits (profile)
 abbrev pub with_limits : Account → Limits → Graces → ℕ → Account
 with_limits account limits graces moment =
     with_ends (record account { limits = limits; block_end = None; inode_end = None }) graces moment

@@ -8,7 +8,7 @@ pub const MAX_MOMENT: u64 = 1 << 40;
 /// The longest grace period, in seconds.
 pub const MAX_GRACE: u64 = (1 << 32) - 1;
 
-/// How long use may stay over a soft limit, in seconds. One pair of periods holds for all records.
+/// How long charges are still granted over a soft limit, in seconds. One pair of periods holds for all records.
 #[derive(Clone, Copy, Debug, PartialEq, Eq, Hash)]
 pub struct Graces {
     pub block: u64,

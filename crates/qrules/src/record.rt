@@ -15,7 +15,8 @@ pub const MAX_USE: u64 = 1 << 40;
 
 /// The quota record of one user or group: what it uses, its limits and its grace ends (quotactl(2)).
 ///
-/// A grace end stands exactly where use is over that soft limit. No call takes memory or refuses.
+/// Blocks are of 4096 bytes and block limits in KiB; moments are seconds. A grace end stands exactly where use is
+/// over that soft limit. No call takes memory, and only `test` refuses.
 #[derive(Clone, Copy, Debug, PartialEq, Eq)]
 pub struct Record {
     blocks: u64,
@@ -156,7 +157,8 @@ impl Record {
         Ok(())
     }
 
-    /// Adds to the use, and begins a grace where use comes to be over a soft limit.
+    /// Adds to the use. Where use is then over a soft limit, the end that stands stays, and where none stood it
+    /// becomes this moment plus the grace.
     ///
     /// It tests nothing, so the superuser, who passes every limit, begins a grace as any other caller does.
     pub fn charge(&mut self, graces: Graces, moment: u64, blocks: u64, inodes: u64)
@@ -194,7 +196,8 @@ impl Record {
         self.inode_end = kept_end(inodes_over, self.inode_end);
     }
 
-    /// Sets the limits, and computes both grace ends anew: none, or this moment and the grace.
+    /// Sets the limits and forgets both grace ends. Each becomes none where use is not over the new soft limit, and
+    /// else this moment plus the grace.
     pub fn set_limits(&mut self, limits: Limits, graces: Graces, moment: u64)
         requires moment { moment ≤ MAX_MOMENT }
         requires block_grace { graces.block ≤ MAX_GRACE }

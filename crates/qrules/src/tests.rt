@@ -88,6 +88,8 @@ fn new_limits_compute_both_ends_anew(rt: HostRuntime) {
     record.set_limits(lower, GRACES, 2000);
     assert_eq!(rt; record.limits(), lower);
     assert_eq!(rt; record.block_end(), Some(2100));
+    record.set_limits(lower, GRACES, 3000);
+    assert_eq!(rt; record.block_end(), Some(3100));
 
     let higher = Limits {
         block_soft: 12,
@@ -119,6 +121,9 @@ fn inodes_have_limits_and_a_grace_of_their_own(rt: HostRuntime) {
     assert_eq!(rt; record.test(119, false, 5, 2), Err(Over::InodeHard));
     assert_eq!(rt; record.test(120, false, 5, 1), Err(Over::InodeSoft));
     assert_eq!(rt; record.test(120, false, 5, 0), Err(Over::BlockHard));
+    record.set_limits(record.limits(), GRACES, 500);
+    assert_eq!(rt; record.inode_end(), Some(600));
+    assert_eq!(rt; record.block_end(), None);
 }
 
 // setquota(8): users and groups have records of their own; here users come first.
