@@ -1,0 +1,8 @@
+pub mod Bytes
+pub mod Freed
+pub mod Indexes
+pub mod Puts
+pub mod Reading
+pub mod Spans
+pub mod Table
+pub mod View
