@@ -9,6 +9,8 @@ mod row;
 mod rows;
 mod span;
 mod spare;
+#[cfg(test)]
+mod tests;
 
 pub use block::BLOCK_SIZE;
 pub use file::{BlockFile, MAX_SIZE};
