@@ -1,4 +1,5 @@
 pub mod Bytes
+mod Examples
 pub mod Freed
 pub mod Indexes
 pub mod Puts

@@ -1,8 +1,10 @@
 -- What a caller sees of a file: its bytes and its allocated blocks, and what each call makes of them.
---     File                     the bytes below the size, and the indexes of the allocated blocks
---     after_write f off input  the file after a write
---     after_truncate f size    the file at another size
---     read_at f off len        the bytes that a read gives
+--     File                       the bytes below the size, and the indexes of the allocated blocks
+--     size_of, blocks_of         how many bytes and how many blocks it has
+--     after_write f off input    the file after a write
+--     after_truncate f size      the file at another size
+--     read_at f off len          the bytes that a read gives
+--     touches off n k            the write of n bytes at off touches the block k
 use Rattle.std.specs.Prelude.{◌≡◌, ℕ, zero, suc, ◌+◌, ◌-◌, ◌*◌, ◌/◌, Bool, ◌&&◌, ◌||◌, ◌==◌, nat_le, nat_lt, if◌then◌else◌, List, [], ◌∷◌, ◌++◌, length, take, drop, filter, replicate}
 use Rattle.std.specs.List.{list_any}
 use Rattle.qblocks.specs.declared.block.TheConstants.{BLOCK_SIZE}
@@ -56,7 +58,11 @@ Adds file off n blocks =
 unfoldable pub after_write : File → ℕ → List ℕ → File
 after_write file off [] = file
 after_write file off (byte ∷ rest) =
-    record { bytes = written file.bytes off (byte ∷ rest); allocated = with_touched file.allocated off (length (byte ∷ rest)) }
+    let input = byte ∷ rest in
+    record {
+      bytes = written file.bytes off input;
+      allocated = with_touched file.allocated off (length input);
+    }
 
 -- the block begins below the size
 abbrev pub begins_below : ℕ → ℕ → Bool
@@ -65,9 +71,14 @@ begins_below size k = nat_lt (k * BLOCK_SIZE) size
 -- the file at another size: where that is less, the blocks at and past it are freed
 unfoldable pub after_truncate : File → ℕ → File
 after_truncate file size =
-    record { bytes = resized file.bytes size; allocated = if nat_le (size_of file) size then file.allocated else filter (begins_below size) file.allocated }
+    record {
+      bytes = resized file.bytes size;
+      allocated =
+          if nat_le (size_of file) size then file.allocated
+          else filter (begins_below size) file.allocated;
+    }
 
--- the write of n bytes at the offset touches the block: it begins below the write's end and ends past its start
+-- the write of n bytes touches the block, which begins below the write's end and ends past its start
 abbrev pub touches : ℕ → ℕ → ℕ → Bool
 touches off n k =
     nat_lt (k * BLOCK_SIZE) (off + n) && nat_lt off (k * BLOCK_SIZE + BLOCK_SIZE) && nat_lt 0 n

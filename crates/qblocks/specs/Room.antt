@@ -2,7 +2,7 @@
 --     Room, no_room            the write's offset and length;  where there is no room
 --     RoomyFile                a file and its room, which "as before" does not speak of
 --     IsReady f off n blocks   that write needs no memory where so many blocks are at hand
-use Rattle.std.specs.Prelude.{◌≡◌, ℕ, ◌+◌, length}
+use Rattle.std.specs.Prelude.{◌≡◌, ℕ}
 use Rattle.qblocks.specs.File.{File, Adds}
 
 -- the offset and the length of the write that there is room for

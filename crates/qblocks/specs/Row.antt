@@ -1,6 +1,8 @@
 -- A row: 16 places beside each other, each of which may hold a block. No public clause cites this module.
---     place_at row j, row_filled row j, row_byte row o   the place j;  it holds a block;  the byte at the offset o in the row, or 0
---     Puts ..                                            what a write does to bytes, to places and to the blocks that are spare
+--     place_at row j      the place j of a row
+--     row_filled row j    it holds a block
+--     row_byte row o      the byte at the offset o in the row, or 0
+--     Puts ..             what a write does to bytes, to places and to the blocks that are spare
 use Rattle.std.specs.Prelude.{◌≡◌, ℕ, zero, suc, ◌+◌, ◌-◌, ◌/◌, ◌%◌, ◌<◌, ◌≤◌, Bool, ◌||◌, ◌&&◌, nat_le, nat_lt, nat_eq, if◌then◌else◌, List, length, slice_index, slice_index_or, is_some, Option, Some, None, Box}
 use Rattle.qblocks.specs.declared.block.TheConstants.{BLOCK_SIZE}
 use Rattle.qblocks.specs.declared.row.TheConstants.{ROW_BLOCKS}
@@ -36,7 +38,8 @@ pub record Overwrites (f g : ℕ → ℕ) (off : ℕ) (input : List ℕ) : Type 
   pub before : (o : ℕ) → o < off → g o ≡ f o
   pub behind : (o : ℕ) → off + length input ≤ o → g o ≡ f o
 
--- a write of the input changes the bytes f to g and the filled places p to q, and takes a spare block for each that was missing
+-- a write changes the bytes f to g and the filled places p to q, and takes a spare block for each
+-- that was missing
 pub record Puts (f g : ℕ → ℕ) (p q : ℕ → Bool) (old new off : ℕ) (input : List ℕ) : Type 0 where
   pub writes : Overwrites f g off input
   pub fills : (k : ℕ) → q k ≡ (p k || in_pieces BLOCK_SIZE off (length input) k)

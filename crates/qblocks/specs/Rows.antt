@@ -1,6 +1,8 @@
 -- How a file keeps its blocks: a map from numbers to rows of 16 places. No public clause cites this module.
---     slot m k, filled m k, byte_at m o   the place of the index k;  its block is allocated;  the byte at the offset o, or 0
---     IsWhole ..                          what is always true of a file's fields
+--     slot m k       the place of the index k
+--     filled m k     its block is allocated
+--     byte_at m o    the byte at the offset o, or 0
+--     IsWhole ..     what is always true of a file's fields
 use Rattle.std.specs.Prelude.{◌≡◌, ℕ, ◌+◌, ◌*◌, ◌/◌, ◌%◌, ◌<◌, ◌≤◌, ◌^◌, Bool, true, ◌||◌, nat_lt, List, [], length, map, filter, is_some, Option, Some, None, Box}
 use Rattle.std.specs.Ordering.{nat_cmp}
 use Rattle.std.specs.BTreeMap as tree
@@ -62,7 +64,8 @@ module _ {Z : Type 0} where
   pub record SameBlocks (old new : Table Z) : Type 0 where
     pub slots : (k : ℕ) → slot new k ≡ slot old k
 
-  -- the new table has no row that the old one had not, and so many blocks fewer: so many more gaps below any bound of the rows
+  -- the new table has no row that the old one had not, and so many blocks fewer: so many more gaps
+  -- below any bound of the rows
   pub record Frees (old new : Table Z) (freed : ℕ) : Type 0 where
     pub fewer : (r : ℕ) → has_row new r ≡ true → has_row old r ≡ true
     pub count : (n : ℕ) → ((r : ℕ) → has_row old r ≡ true → r < n)

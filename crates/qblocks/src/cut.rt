@@ -69,7 +69,8 @@ fn cut_row(rows: &mut Rows, r: u64, at: u64) -> u64
     }
 }
 
-/// Forgets the bytes from `size` on, and gives how many blocks begin there or behind: they are taken out.
+/// Forgets the bytes from `size` on, takes out the blocks that begin there or behind, and gives their
+/// number.
 pub(crate) fn cut(rows: &mut Rows, size: u64) -> u64
     requires size { size ≤ 2 ^ 40 }
     requires bound { (r : ℕ) → has_row rows.old r ≡ true → r < 2 ^ 28 }

@@ -15,13 +15,14 @@ use std::alloc::{AllocError as NoMemory, Global};
 use std::collections::BTreeMap;
 use std::marker::Model;
 
-/// No byte of a file lies at this offset or behind it: 2^40, which is past any size that a store sets.
-pub const MAX_SIZE: u64 = 1_099_511_627_776;
+/// The greatest size in bytes: a bound of this crate's arithmetic, below which a store sets its own.
+pub const MAX_SIZE: u64 = 1 << 40;
 
-/// A sparse file in memory.
+/// A sparse file in memory, in blocks of 4096 bytes.
 ///
-/// A block is allocated by the first write that touches it; where there is none, and behind what
-/// was written, the bytes below the size read as 0.
+/// A block is allocated by the first write that touches it. A byte below the size that was never
+/// written reads as 0 (lseek(2), on holes). Contracts see a file, and beside it the room that
+/// `ready` makes, of which "as before" does not speak.
 #[derive(Drop)]
 pub struct BlockFile {
     size: u64,
@@ -45,7 +46,7 @@ impl Model for BlockFile {
 }
 
 impl BlockFile {
-    /// An empty file. It takes no memory before its first write.
+    /// An empty file. No memory is taken before the first write or `ready`.
     pub fn new(alloc: Global) -> Self
         ensures { result ≡ record { file = empty_file; room = no_room } }
     {
@@ -77,7 +78,8 @@ impl BlockFile {
 
     /// How many blocks a write of `len` bytes at `off` would allocate.
     ///
-    /// O(log n) for each 64 KiB that it touches, n being the number of allocated blocks.
+    /// O(log n) for each 64 KiB that it touches, n being the number of allocated blocks. It takes no
+    /// memory.
     pub fn missing(&self, off: u64, len: u64) -> u64
         requires { off + len ≤ MAX_SIZE }
         ensures missing { Adds self.now.file off len result }
@@ -86,9 +88,10 @@ impl BlockFile {
         rows::missing(&self.rows, off, len)
     }
 
-    /// The bytes from `off` up to `off + len` or the size, where that is less; none past the size.
+    /// The bytes from `off` up to `off + len` or the size, where that is less; none at the size or
+    /// past it. `off` and `len` may be any numbers (read(2)).
     ///
-    /// An Err leaves nothing behind. O(bytes read), and O(log n) for each 64 KiB.
+    /// O(bytes read), and O(log n) for each 64 KiB of them.
     pub fn read(&self, off: u64, len: u64) -> Result<Vec<u8>, NoMemory>
         ensures { IfOk result (λ bytes. bytes.items ≡ read_at self.now.file off len) }
     {
@@ -101,9 +104,11 @@ impl BlockFile {
         Ok(bytes)
     }
 
-    /// Makes all the memory that a write of `len` bytes at `off` needs, and leaves the file as it was.
+    /// Makes all that a write of `len` bytes at `off` needs, and leaves the file as it was.
     ///
-    /// What an earlier call made and no `put` took is given back first.
+    /// The `Spare` is for a `put` of that place and length, before any other change of the file. It
+    /// may be dropped: the next call that changes the file gives back what was made beside it. An
+    /// Err leaves no room behind. Cost as for `write`.
     pub fn ready(&mut self, off: u64, len: u64) -> Result<Spare, NoMemory>
         requires { off + len ≤ MAX_SIZE }
         ensures same { self.new.file ≡ self.old.file }
@@ -128,7 +133,7 @@ impl BlockFile {
         self.room_len = 0;
     }
 
-    /// Makes the rows that a write of `len` bytes at `off` needs, which are there if no block is `missing`.
+    /// Makes the rows that a write of `len` bytes at `off` needs. They are there if no block is missing.
     fn make_room(&mut self, off: u64, len: u64, missing: u64) -> Result<(), NoMemory>
         requires bound { off + len ≤ MAX_SIZE }
         requires room { self.old.room ≡ no_room }
@@ -153,7 +158,7 @@ impl BlockFile {
     }
 
     /// Writes `input` at `off` with what `ready` made for that place and length, and gives the
-    /// number of blocks newly allocated. It takes no memory.
+    /// number of blocks newly allocated. It takes no memory and always succeeds.
     pub fn put(&mut self, off: u64, input: &[u8], spare: Spare) -> u64
         requires bound { off + length input.now ≤ MAX_SIZE }
         requires ready { IsReady self.old off (length input.now) spare }
@@ -175,7 +180,10 @@ impl BlockFile {
         fresh
     }
 
-    /// Writes `input` at `off`, and gives the number of blocks newly allocated.
+    /// Writes `input` at `off`, by `ready` and `put`, and gives the number of blocks newly allocated.
+    ///
+    /// The write is whole or refused; of no bytes it changes nothing, not the size either (profile,
+    /// after write(2)). O(bytes written), and O(log n) for each 64 KiB that it touches.
     pub fn write(&mut self, off: u64, input: &[u8]) -> Result<u64, NoMemory>
         requires { off + length input.now ≤ MAX_SIZE }
         ensures ok { OnOk result (self.new.file ≡ after_write self.old.file off input.now) }
@@ -189,7 +197,11 @@ impl BlockFile {
         Ok(self.put(off, input, spare))
     }
 
-    /// Sets the size, and gives the number of blocks freed.
+    /// Sets the size, and gives the number of blocks freed. It takes no memory and always succeeds.
+    ///
+    /// To a smaller size: the blocks that begin there or behind are freed, and the bytes from there
+    /// on read as 0 when the size grows again. To a greater one: no block is allocated (truncate(2)).
+    /// O(blocks freed, times log n).
     pub fn truncate(&mut self, size: u64) -> u64
         requires { size ≤ MAX_SIZE }
         ensures file { self.new.file ≡ after_truncate self.old.file size }

@@ -40,7 +40,7 @@ pub(crate) fn missing(row: &Row, first: u64, end: u64) -> u64
     missing
 }
 
-/// Writes `part` at the byte `at` of the block `j`, which is taken from `spare` where there is none yet.
+/// Writes `part` at the byte `at` of the block `j`, which comes from `spare` where there is none yet.
 fn put_block(row: &mut Row, j: u64, at: u64, part: &[u8], spare: &mut Spare)
     requires place { j < ROW_BLOCKS }
     requires fits { at + length part.now ≤ BLOCK_SIZE }
@@ -104,7 +104,8 @@ fn zero_tail(row: &mut Row, j: u64, at: u64)
     }
 }
 
-/// Forgets the bytes from `at` on, and gives how many blocks begin there or behind: they are taken out.
+/// Forgets the bytes from `at` on, takes out the blocks that begin there or behind, and gives their
+/// number.
 pub(crate) fn cut(row: &mut Row, at: u64) -> u64
     requires { at < ROW_SIZE }
     ensures before { (o : ℕ) → o < at → row_byte row.new o ≡ row_byte row.old o }

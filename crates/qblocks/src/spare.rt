@@ -6,7 +6,7 @@ use crate::block::{Block, zero_block};
 use std::alloc::{AllocError as NoMemory, Global};
 use std::marker::Model;
 
-/// Blocks made beforehand for a write, as contracts see it their number.
+/// Blocks made beforehand by `BlockFile::ready`. Contracts see their number. It may be dropped.
 #[derive(Drop)]
 pub struct Spare {
     blocks: Vec<Box<Block>>,

@@ -1,4 +1,4 @@
-use Rattle.std.proofs.Common.{◌≡◌, ◌+◌, ◌-◌, ◌*◌, ◌%◌, ◌/◌, arith, take, drop, List, subst, ap, ◌∙◌, ℕ, length-take-le, length-drop}
+use Rattle.std.proofs.Common.{◌+◌, ◌-◌, ◌*◌, ◌%◌, ◌/◌, arith, take, drop, List, subst, ℕ, length-take-le, length-drop}
 use Rattle.std.proofs.lemmas.List.{take_all}
 use Rattle.qblocks.specs.declared.block.TheConstants.{BLOCK_SIZE}
 use Rattle.qblocks.specs.Row.{Puts, row_filled, row_byte}

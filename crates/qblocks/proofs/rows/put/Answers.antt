@@ -1,4 +1,4 @@
-use Rattle.std.proofs.Common.{◌≡◌, ◌+◌, ◌-◌, ◌*◌, ◌%◌, ◌/◌, arith, take, drop, List, subst, ap, ◌∙◌, ℕ, refl, length-take-le, length-drop}
+use Rattle.std.proofs.Common.{◌+◌, ◌-◌, ◌*◌, ◌%◌, ◌/◌, arith, take, drop, List, subst, ap, ◌∙◌, ℕ, refl, length-take-le, length-drop}
 use Rattle.std.proofs.lemmas.List.{take_all}
 use Rattle.qblocks.specs.declared.row.TheConstants.{ROW_SIZE}
 use Rattle.qblocks.specs.Row.{Puts, gaps_in, row_filled}

@@ -1,4 +1,4 @@
-use Rattle.std.proofs.Common.{◌+◌, ◌-◌, ap, sym, arith}
+use Rattle.std.proofs.Common.{◌+◌, ap, sym, arith}
 use Rattle.qblocks.specs.Row.{row_byte}
 use Rattle.qblocks.specs.Rows.{places_of, row_of}
 use Rattle.qblocks.proofs.Reading.{reads-resized}
