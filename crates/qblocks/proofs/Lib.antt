@@ -1,0 +1,9 @@
+pub mod Bytes
+mod Examples
+pub mod Freed
+pub mod Indexes
+pub mod Puts
+pub mod Reading
+pub mod Spans
+pub mod Table
+pub mod View

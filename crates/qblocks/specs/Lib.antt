@@ -1,0 +1,4 @@
+pub mod File
+pub mod Room
+pub mod Row
+pub mod Rows

@@ -1,0 +1,18 @@
+//! One sparse file in memory, in blocks of 4096 bytes.
+#![tactic(auto)]
+
+mod block;
+mod cut;
+mod file;
+mod room;
+mod row;
+mod rows;
+mod span;
+mod spare;
+#[cfg(test)]
+mod tests;
+
+pub use block::BLOCK_SIZE;
+pub use file::{BlockFile, MAX_SIZE};
+pub use spare::Spare;
+pub use std::alloc::AllocError as NoMemory;

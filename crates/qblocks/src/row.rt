@@ -1,0 +1,155 @@
+//! A row: 16 places beside each other, for 64 KiB of the file.
+ghost use Rattle.std.specs.Prelude.{◌≡◌, ◌≢◌, true, ℕ, ◌+◌, ◌-◌, ◌*◌, ◌/◌, ◌<◌, ◌≤◌, ◌&&◌, ◌^◌, nat_lt, length, is_some, IfOk, OnOk, None, if◌then◌else◌, ◌++◌, map, vec_len};
+ghost use Rattle.std.specs.List.{range_with_len};
+ghost use Rattle.qblocks.specs.Row.{Overwrites, PutsInRow, LosesBlocks, byte_of, place_at, row_filled, row_byte, gaps, gaps_in};
+
+use crate::block::{BLOCK_SIZE, Block, overwrite, zero_from};
+use crate::spare::Spare;
+use std::alloc::{AllocError as NoMemory, Global};
+
+/// How many places a row has.
+pub(crate) const ROW_BLOCKS: u64 = 16;
+
+/// How many bytes of the file a row is for.
+pub(crate) const ROW_SIZE: u64 = 65536;
+
+/// Room for a block, which may be there.
+pub(crate) type Place = Option<Box<Block>>;
+
+pub(crate) type Row = [Place; 16];
+
+pub(crate) fn empty_row(alloc: Global) -> Result<Box<Row>, NoMemory>
+    ensures { IfOk result (λ row. (j : ℕ) → place_at row.value j ≡ None) }
+{
+    Ok(Box::new(alloc, [const { None }; 16])?)
+}
+
+/// How many places from `first` up to `end` hold no block.
+pub(crate) fn missing(row: &Row, first: u64, end: u64) -> u64
+    requires order { first ≤ end }
+    requires within { end ≤ ROW_BLOCKS }
+    ensures missing { result ≡ gaps (row_filled row.now) first (end - first) }
+    ensures bound { result ≤ end - first }
+{
+    let mut missing = 0;
+    for j in first..end {
+        if row[j as usize].is_none() {
+            missing += 1;
+        }
+    }
+    missing
+}
+
+/// Writes `part` at the byte `at` of the block `j`, which comes from `spare` where there is none yet.
+fn put_block(row: &mut Row, j: u64, at: u64, part: &[u8], spare: &mut Spare)
+    requires place { j < ROW_BLOCKS }
+    requires fits { at + length part.now ≤ BLOCK_SIZE }
+    requires spare { (if row_filled row.old j then 0 else 1) ≤ spare.old }
+    ensures filled { row_filled row.new j ≡ true }
+    ensures writes { Overwrites (byte_of (place_at row.old j)) (byte_of (place_at row.new j)) at
+        part.now }
+    ensures others { (q : ℕ) → q ≢ j → place_at row.new q ≡ place_at row.old q }
+    ensures spare { spare.new + (if row_filled row.old j then 0 else 1) ≡ spare.old }
+{
+    let place = &mut row[j as usize];
+    let mut block = match place.take() {
+        Some(block) => block,
+        None => spare.take(),
+    };
+    overwrite(&mut block, at as usize, part);
+    *place = Some(block);
+}
+
+/// Writes `part` at the byte `at` of the row, with a block of `spare` for each that is missing.
+pub(crate) fn put(row: &mut Row, at: u64, part: &[u8], spare: &mut Spare)
+    requires some { 0 < length part.now }
+    requires fits { at + length part.now ≤ ROW_SIZE }
+    requires spare { gaps_in (row_filled row.old) at (length part.now) ≤ spare.old }
+    ensures { PutsInRow row.old row.new spare.old spare.new at part.now }
+{
+    let mut done = 0;
+    while done < part.len() as u64 {
+        let at = at + done;
+        let len = (BLOCK_SIZE - at % BLOCK_SIZE).min(part.len() as u64 - done);
+        let input = &part[done as usize..(done + len) as usize];
+        put_block(row, at / BLOCK_SIZE, at % BLOCK_SIZE, input, spare);
+        done += len;
+    }
+}
+
+/// Takes out the blocks from the place `first` on.
+fn free_from(row: &mut Row, first: u64)
+    ensures before { (j : ℕ) → j < first → place_at row.new j ≡ place_at row.old j }
+    ensures freed { (j : ℕ) → first ≤ j → place_at row.new j ≡ None }
+{
+    for j in first..ROW_BLOCKS {
+        row[j as usize] = None;
+    }
+}
+
+/// Forgets the bytes of the block `j` from `at` on.
+fn zero_tail(row: &mut Row, j: u64, at: u64)
+    requires place { j < ROW_BLOCKS }
+    requires within { at ≤ BLOCK_SIZE }
+    ensures filled { (q : ℕ) → row_filled row.new q ≡ row_filled row.old q }
+    ensures others { (q : ℕ) → q ≢ j → place_at row.new q ≡ place_at row.old q }
+    ensures before { (i : ℕ) → i < at
+        → byte_of (place_at row.new j) i ≡ byte_of (place_at row.old j) i }
+    ensures tail { (i : ℕ) → at ≤ i → byte_of (place_at row.new j) i ≡ 0 }
+{
+    let place = &mut row[j as usize];
+    if let Some(mut block) = place.take() {
+        zero_from(&mut block, at as usize);
+        *place = Some(block);
+    }
+}
+
+/// Forgets the bytes from `at` on, takes out the blocks that begin there or behind, and gives their
+/// number.
+pub(crate) fn cut(row: &mut Row, at: u64) -> u64
+    requires { at < ROW_SIZE }
+    ensures before { (o : ℕ) → o < at → row_byte row.new o ≡ row_byte row.old o }
+    ensures tail { (o : ℕ) → at ≤ o → row_byte row.new o ≡ 0 }
+    ensures filled { (j : ℕ) → row_filled row.new j
+        ≡ (row_filled row.old j && nat_lt (j * BLOCK_SIZE) at) }
+    ensures freed { LosesBlocks row.old row.new result }
+    ensures bound { result ≤ ROW_BLOCKS }
+{
+    let first = (at + BLOCK_SIZE - 1) / BLOCK_SIZE;
+    let freed = ROW_BLOCKS - first - missing(row, first, ROW_BLOCKS);
+    free_from(row, first);
+    zero_tail(row, at / BLOCK_SIZE, at % BLOCK_SIZE);
+    freed
+}
+
+/// Appends `len` bytes of the block `j` from `at` on.
+fn read_block(row: &Row, j: u64, at: u64, len: u64, out: &mut Vec<u8>) -> Result<(), NoMemory>
+    requires place { j < ROW_BLOCKS }
+    requires within { at + len ≤ BLOCK_SIZE }
+    requires room { vec_len out.old ≤ 2 ^ 42 }
+    ensures { OnOk result
+        (out.new.items ≡ out.old.items ++ map (byte_of (place_at row.now j)) (range_with_len at len)) }
+{
+    match &row[j as usize] {
+        Some(block) => out.extend_from_slice(&block[at as usize..(at + len) as usize])?,
+        None => out.resize(out.len() + len as usize, 0)?,
+    }
+    Ok(())
+}
+
+/// Appends the bytes of the row from `from` up to `to`.
+pub(crate) fn read(row: &Row, from: u64, to: u64, out: &mut Vec<u8>) -> Result<(), NoMemory>
+    requires order { from ≤ to }
+    requires within { to ≤ ROW_SIZE }
+    requires room { vec_len out.old ≤ 2 ^ 41 }
+    ensures { OnOk result
+        (out.new.items ≡ out.old.items ++ map (row_byte row.now) (range_with_len from (to - from))) }
+{
+    let mut at = from;
+    while at < to {
+        let len = (BLOCK_SIZE - at % BLOCK_SIZE).min(to - at);
+        read_block(row, at / BLOCK_SIZE, at % BLOCK_SIZE, len, out)?;
+        at += len;
+    }
+    Ok(())
+}

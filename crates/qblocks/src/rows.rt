@@ -1,0 +1,110 @@
+//! The rows of a file by their numbers: what is missing, writing and reading.
+ghost use Rattle.std.specs.Prelude.{◌≡◌, ◌≢◌, true, ℕ, ◌+◌, ◌-◌, ◌*◌, ◌/◌, ◌<◌, ◌≤◌, ◌^◌, ◌++◌, ◌||◌, length, map, vec_len, OnOk};
+ghost use Rattle.std.specs.List.{range_with_len};
+ghost use Rattle.qblocks.specs.Row.{PutsInRow, gaps, gaps_in, in_pieces, row_filled, row_byte};
+ghost use Rattle.qblocks.specs.Rows.{PutsInRows, has_row, row_of, filled, byte_at};
+
+use crate::block::BLOCK_SIZE;
+use crate::row::{self, ROW_BLOCKS, ROW_SIZE, Row};
+use crate::span::span_end;
+use crate::spare::Spare;
+use std::alloc::AllocError as NoMemory;
+use std::collections::BTreeMap;
+
+pub(crate) type Rows = BTreeMap<u64, Box<Row>>;
+
+/// How many places of the row `r` from `first` up to `end` hold no block.
+pub(crate) fn missing_in_row(rows: &Rows, r: u64, first: u64, end: u64) -> u64
+    requires order { first ≤ end }
+    requires within { end ≤ ROW_BLOCKS }
+    ensures missing { result ≡ gaps (row_filled (row_of rows.now r)) first (end - first) }
+    ensures bound { result ≤ end - first }
+{
+    match rows.get(&r) {
+        Some(row) => row::missing(row, first, end),
+        None => end - first,
+    }
+}
+
+/// Writes `part` at the byte `at` of the row `r`.
+fn put_in_row(rows: &mut Rows, r: u64, at: u64, part: &[u8], spare: &mut Spare)
+    requires some { 0 < length part.now }
+    requires fits { at + length part.now ≤ ROW_SIZE }
+    requires row { has_row rows.old r ≡ true }
+    requires spare { gaps_in (row_filled (row_of rows.old r)) at (length part.now) ≤ spare.old }
+    ensures puts { PutsInRow (row_of rows.old r) (row_of rows.new r) spare.old spare.new at part.now }
+    ensures others { (q : ℕ) → q ≢ r → row_of rows.new q ≡ row_of rows.old q }
+    ensures rows { (q : ℕ) → has_row rows.new q ≡ has_row rows.old q }
+{
+    if let Some(row) = rows.get_mut(&r) {
+        row::put(row, at, part, spare);
+    }
+}
+
+/// Appends `len` bytes of the row `r` from `at` on.
+fn read_row(rows: &Rows, r: u64, at: u64, len: u64, out: &mut Vec<u8>) -> Result<(), NoMemory>
+    requires within { at + len ≤ ROW_SIZE }
+    requires room { vec_len out.old ≤ 2 ^ 41 }
+    ensures { OnOk result
+        (out.new.items ≡ out.old.items ++ map (row_byte (row_of rows.now r)) (range_with_len at len)) }
+{
+    match rows.get(&r) {
+        Some(row) => row::read(row, at, at + len, out)?,
+        None => out.resize(out.len() + len as usize, 0)?,
+    }
+    Ok(())
+}
+
+/// How many of the blocks that `len` bytes at `off` touch are missing.
+pub(crate) fn missing(rows: &Rows, off: u64, len: u64) -> u64
+    requires { off + len ≤ 2 ^ 40 }
+    ensures missing { result ≡ gaps_in (filled rows.now) off len }
+    ensures bound { result ≤ 2 ^ 28 }
+{
+    let start = off / BLOCK_SIZE;
+    let stop = span_end(BLOCK_SIZE, off, len);
+    let mut missing = 0;
+    for r in off / ROW_SIZE..span_end(ROW_SIZE, off, len) {
+        let first = start.max(r * ROW_BLOCKS);
+        let end = stop.min(r * ROW_BLOCKS + ROW_BLOCKS);
+        missing += missing_in_row(rows, r, first - r * ROW_BLOCKS, end - r * ROW_BLOCKS);
+    }
+    missing
+}
+
+/// Writes `input` at `off`, with a block of `spare` for each that is missing.
+pub(crate) fn put(rows: &mut Rows, off: u64, input: &[u8], spare: &mut Spare)
+    requires bound { off + length input.now ≤ 2 ^ 40 }
+    requires some { 0 < length input.now }
+    requires rows { (r : ℕ) → in_pieces ROW_SIZE off (length input.now) r ≡ true
+        → has_row rows.old r ≡ true }
+    requires spare { gaps_in (filled rows.old) off (length input.now) ≤ spare.old }
+    ensures puts { PutsInRows rows.old rows.new spare.old spare.new off input.now }
+    ensures rows { (r : ℕ) → has_row rows.new r ≡ has_row rows.old r }
+{
+    let mut done = 0;
+    while done < input.len() as u64 {
+        let at = off + done;
+        let len = (ROW_SIZE - at % ROW_SIZE).min(input.len() as u64 - done);
+        let part = &input[done as usize..(done + len) as usize];
+        put_in_row(rows, at / ROW_SIZE, at % ROW_SIZE, part, spare);
+        done += len;
+    }
+}
+
+/// Appends the bytes from `off` up to `end`.
+pub(crate) fn read(rows: &Rows, off: u64, end: u64, out: &mut Vec<u8>) -> Result<(), NoMemory>
+    requires order { off ≤ end }
+    requires bound { end ≤ 2 ^ 40 }
+    requires room { vec_len out.old ≤ 2 ^ 40 }
+    ensures { OnOk result
+        (out.new.items ≡ out.old.items ++ map (byte_at rows.now) (range_with_len off (end - off))) }
+{
+    let mut at = off;
+    while at < end {
+        let len = (ROW_SIZE - at % ROW_SIZE).min(end - at);
+        read_row(rows, at / ROW_SIZE, at % ROW_SIZE, len, out)?;
+        at += len;
+    }
+    Ok(())
+}

@@ -1,0 +1,61 @@
+//! Blocks made beforehand for a write.
+ghost use Rattle.std.specs.Prelude.{◌≡◌, ℕ, ◌+◌, ◌<◌, ◌≤◌, ◌^◌, IfOk, OnOk, All, vec_len};
+ghost use Rattle.qblocks.specs.Row.{IsZero};
+
+use crate::block::{Block, zero_block};
+use std::alloc::{AllocError as NoMemory, Global};
+use std::marker::Model;
+
+/// Blocks made beforehand by `BlockFile::ready`. Contracts see their number. It may be dropped.
+#[derive(Drop)]
+pub struct Spare {
+    blocks: Vec<Box<Block>>,
+}
+
+impl Model for Spare {
+    ghost use Rattle.std.specs.Prelude.{ℕ, vec_len, All};
+    ghost use Rattle.qblocks.specs.Row.{IsZero};
+
+    ghost Value = { ℕ };
+
+    ghost view = { λ spare. vec_len spare.blocks };
+
+    ghost invariant = { λ spare. All (λ block. IsZero block.value) spare.blocks.items };
+}
+
+impl Spare {
+    pub(crate) fn new(alloc: Global, count: u64) -> Result<Spare, NoMemory>
+        requires { count ≤ 2 ^ 28 }
+        ensures { IfOk result (λ spare. spare ≡ count) }
+    {
+        let mut blocks = Vec::with_capacity(alloc, count as usize)?;
+        for _made in 0..count {
+            push_block(&mut blocks, alloc)?;
+        }
+        Ok(Spare { blocks })
+    }
+
+    pub(crate) fn len(&self) -> u64
+        ensures { result ≡ self.now }
+    {
+        self.blocks.len() as u64
+    }
+
+    /// Takes one of the blocks, whose bytes are all 0.
+    pub(crate) fn take(&mut self) -> Box<Block>
+        requires { 0 < self.old }
+        ensures zero { IsZero result.value }
+        ensures left { self.new + 1 ≡ self.old }
+    {
+        self.blocks.take_last()
+    }
+}
+
+fn push_block(blocks: &mut Vec<Box<Block>>, alloc: Global) -> Result<(), NoMemory>
+    requires zero { All (λ block. IsZero block.value) blocks.old.items }
+    ensures zero { All (λ block. IsZero block.value) blocks.new.items }
+    ensures len { OnOk result (vec_len blocks.new ≡ vec_len blocks.old + 1) }
+{
+    blocks.push(zero_block(alloc)?)?;
+    Ok(())
+}
