@@ -3,4 +3,5 @@ pub mod Sort
 pub mod Account
 pub mod Charge
 pub mod Grace
+pub mod Range
 pub mod Kept

@@ -15,6 +15,17 @@ pub struct Graces {
     pub inode: u64,
 }
 
+impl Graces {
+    ghost use Rattle.qrules.specs.Range.{are_graces_in_range};
+
+    /// Whether each grace is 1 to `MAX_GRACE`.
+    pub fn are_in_range(&self) -> bool
+        ensures { result ≡ are_graces_in_range self.now }
+    {
+        1 <= self.block && self.block <= MAX_GRACE && 1 <= self.inode && self.inode <= MAX_GRACE
+    }
+}
+
 /// Whether a grace has ended. At its end it has.
 pub(crate) fn has_ended(end: Option<u64>, moment: u64) -> bool
     ensures { result ≡ has_ended end moment }

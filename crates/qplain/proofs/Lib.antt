@@ -1,0 +1,12 @@
+-- What the proofs of more than one file share: of setups, then of the plain machine's laws.
+pub mod Ordered
+pub mod Refused
+pub mod Within
+pub mod Balance
+pub mod Becoming
+pub mod Tables
+pub mod Fitting
+pub mod Lawful
+pub mod Start
+pub mod Ends
+pub mod Kept

@@ -1,0 +1,141 @@
+-- A new store of a setup that is not refused is lawful.
+use Rattle.std.proofs.Common.{◌≡◌, ℕ, ◌+◌, ◌*◌, ◌==◌, Bool, true, false, not, ◌&&◌, ◌||◌, nat_le, nat_lt, cond, List, [], ◌∷◌, ◌++◌, map, slice_index_or, Some, None, refl, sym, ◌∙◌, tests, arith}
+use Rattle.std.specs.List.{AllByRecursion, IsDistinct, list_any}
+use Rattle.std.proofs.lemmas.List.Elements.{All-append, All-cons, All-map, All-nil}
+use Rattle.std.proofs.lemmas.List.Folds.{list_any-append}
+use Rattle.qrules.specs.declared.kind.Kind.{Kind}
+use Rattle.qrules.specs.declared.kind.Kind.TheVariants.{User, Group}
+use Rattle.qrules.specs.Sort.{is_over}
+use Rattle.qrules.specs.Account.{HasEnds}
+use Rattle.qplain.specs.declared.principal.Principal.{Principal}
+use Rattle.qplain.specs.declared.setup.SetupFault.TheVariants.{Range, Duplicate, NoZero}
+use Rattle.qrules.specs.Range.{are_graces_in_range}
+use Rattle.qplain.specs.declared.setup.TheConstants.{MAX_BLOCKS, MAX_INODES}
+use Rattle.qplain.specs.declared.bounds.TheConstants.{ROOT}
+use Rattle.qplain.specs.Principals.{are_in_range, collide, has_duplicate, has_zero}
+use Rattle.qplain.specs.Setups.{Setting, is_in_range}
+use Rattle.qplain.specs.State.{Holder, holder_of, root, start}
+use Rattle.qplain.specs.Use.{account_of}
+use Rattle.qplain.specs.Arguments.{is_declared, is_holder, is_same_kind}
+use Rattle.qplain.specs.Laws.{StartIsLawful, are_same, has_known_owners, has_name, leads}
+
+-- what a setting that is not refused has passed
+record HasPassed (in_range users_twice groups_twice user_zero group_zero : Bool) : Type 0 where
+  range : in_range ≡ true
+  users : users_twice ≡ false
+  groups : groups_twice ≡ false
+  user : user_zero ≡ true
+  group : group_zero ≡ true
+
+passed : (r d e z w : Bool) → cond (not r) (Some Range) (cond (d || e) (Some Duplicate) (cond (not (z && w)) (Some NoZero) None)) ≡ None
+    → HasPassed r d e z w
+passed true false false true true h = record { range = refl; users = refl; groups = refl; user = refl; group = refl }
+passed false d e z w h = cc
+passed true true e z w h = cc
+passed true false true z w h = cc
+passed true false false false w h = cc
+passed true false false true false h = cc
+
+third : (a b c d e f g : Bool) → (a && b && c && d && e && f && g) ≡ true → c ≡ true
+third a b true d e f g h = refl
+third true true false d e f g h = cc
+third true false false d e f g h = cc
+third false b false d e f g h = cc
+
+-- one inode or none is over no limit
+not_over-inodes : (b : Bool) (soft : ℕ) → is_over (0 + cond b 1 0) soft ≡ false
+not_over-inodes true soft = grind (arith, tests)
+not_over-inodes false soft = grind (arith, tests)
+
+-- no block is over no limit
+not_over-blocks : (b : Bool) (soft : ℕ) → is_over (4 * (0 + cond b 0 0)) soft ≡ false
+not_over-blocks true soft = grind (arith, tests)
+not_over-blocks false soft = grind (arith, tests)
+
+-- the holders of a new store have no ends, and are over no soft limit
+ends-start : (s : Setting) (kind : Kind) (p : Principal) → HasEnds (account_of (start s) (holder_of kind p))
+ends-start s User p = record { inodes = sym (not_over-inodes (0 == p.id) p.limits.inode_soft); blocks = sym (not_over-blocks (0 == p.id) p.limits.block_soft) }
+ends-start s Group p = record { inodes = sym (not_over-inodes (0 == p.id) p.limits.inode_soft); blocks = sym (not_over-blocks (0 == p.id) p.limits.block_soft) }
+
+same_kind-refl : (kind : Kind) → is_same_kind kind kind ≡ true
+same_kind-refl User = refl
+same_kind-refl Group = refl
+
+-- a kind with an id 0 declares it
+declared-zero : (kind : Kind) (ps : List Principal) → list_any (is_holder kind 0) (map (holder_of kind) ps) ≡ has_zero ps
+declared-zero kind [] = refl
+declared-zero kind (p ∷ ps) =
+    let here : (is_same_kind kind kind && 0 == p.id) ≡ (p.id == 0) = rw (same_kind-refl kind) (grind (arith, tests)) in
+    λ i. here i || declared-zero kind ps i
+
+or_parts : (a b : Bool) → (a || b) ≡ false → (a ≡ false) × (b ≡ false)
+or_parts true b h = cc
+or_parts false b h = (refl, h)
+
+-- principals that do not collide are different holders
+apart-holders : (kind : Kind) (p : Principal) (ps : List Principal) → list_any (collide p) ps ≡ false
+    → AllByRecursion (λ h. are_same (holder_of kind p) h ≡ false) (map (holder_of kind) ps)
+apart-holders kind p [] h = tt
+apart-holders kind p (q ∷ ps) h =
+    let parts : (collide p q ≡ false) × (list_any (collide p) ps ≡ false) = or_parts (collide p q) (list_any (collide p) ps) h in
+    let ids : (p.id == q.id) ≡ false = (or_parts (p.id == q.id) _ parts.0).0 in
+    (rw (same_kind-refl kind, ids) refl, apart-holders kind p ps parts.1)
+
+distinct-holders : (kind : Kind) (ps : List Principal) → has_duplicate ps ≡ false → IsDistinct are_same (map (holder_of kind) ps)
+unfolding IsDistinct
+distinct-holders kind [] h = tt
+distinct-holders kind (p ∷ ps) h =
+    let parts : (list_any (collide p) ps ≡ false) × (has_duplicate ps ≡ false) = or_parts (list_any (collide p) ps) (has_duplicate ps) h in
+    (apart-holders kind p ps parts.0, distinct-holders kind ps parts.1)
+
+-- a user is no group
+apart-kinds : (p : Principal) (gs : List Principal) → AllByRecursion (λ h. are_same (holder_of User p) h ≡ false) (map (holder_of Group) gs)
+apart-kinds p [] = tt
+apart-kinds p (g ∷ gs) = (refl, apart-kinds p gs)
+
+apart-append : (h : Holder) (xs ys : List Holder) → AllByRecursion (λ g. are_same h g ≡ false) xs → AllByRecursion (λ g. are_same h g ≡ false) ys
+    → AllByRecursion (λ g. are_same h g ≡ false) (xs ++ ys)
+apart-append h [] ys p q = q
+apart-append h (x ∷ xs) ys p q = (p.0, apart-append h xs ys p.1 q)
+
+distinct-append : (us : List Principal) (gs : List Principal) → IsDistinct are_same (map (holder_of User) us) → IsDistinct are_same (map (holder_of Group) gs)
+    → IsDistinct are_same (map (holder_of User) us ++ map (holder_of Group) gs)
+unfolding IsDistinct
+distinct-append [] gs p q = q
+distinct-append (u ∷ us) gs p q =
+    (apart-append (holder_of User u) (map (holder_of User) us) (map (holder_of Group) gs) p.0 (apart-kinds u gs), distinct-append us gs p.1 q)
+
+either_way : (a b : Bool) → b ≡ true → (a || b) ≡ true
+either_way true b h = refl
+either_way false b h = h
+
+pub start_is_lawful : StartIsLawful
+start_is_lawful s granted =
+    let parts : HasPassed (is_in_range s) (has_duplicate s.users) (has_duplicate s.groups) (has_zero s.users) (has_zero s.groups) =
+    passed (is_in_range s) (has_duplicate s.users) (has_duplicate s.groups) (has_zero s.users) (has_zero s.groups) granted in
+    let one : nat_le 1 s.inodes ≡ true =
+    third (nat_le 1 s.blocks) (nat_le s.blocks MAX_BLOCKS) (nat_le 1 s.inodes) (nat_le s.inodes MAX_INODES)
+    (are_graces_in_range s.graces) (are_in_range s.users) (are_in_range s.groups) parts.range in
+    let users : List Holder = map (holder_of User) s.users in
+    let groups : List Holder = map (holder_of Group) s.groups in
+    let stands : Holder → Type 0 = λ h. HasEnds (account_of (start s) h) in
+    let user : is_declared (start s) User 0 ≡ true =
+    list_any-append (is_holder User 0) users groups ∙ rw (declared-zero User s.users, parts.user) refl in
+    let group : is_declared (start s) Group 0 ≡ true =
+    list_any-append (is_holder Group 0) users groups ∙ either_way (list_any (is_holder Group 0) users) _ (declared-zero Group s.groups ∙ parts.group) in
+    record {
+      blocks_fit = omega arith;
+      inodes_fit = grind (arith, tests, one);
+      ends_stand = All-append stands users groups
+          (All-map stands (holder_of User) s.users (λ k d below. ends-start s User (slice_index_or s.users k d)))
+          (All-map stands (holder_of Group) s.groups (λ k d below. ends-start s Group (slice_index_or s.groups k d)));
+      parts = record {
+        owners_known = All-cons (λ inode. has_known_owners (start s) inode ≡ true) root [] (rw (user, group) refl)
+            (All-nil (λ inode. has_known_owners (start s) inode ≡ true));
+        distinct = distinct-append s.users s.groups (distinct-holders User s.users parts.users) (distinct-holders Group s.groups parts.groups);
+        root_stands = refl;
+        names_lead = All-nil (λ e. leads (start s) e ≡ true);
+        all_named = All-cons (λ e. has_name (start s) e.0 ≡ true) (ROOT, root) [] refl (All-nil (λ e. has_name (start s) e.0 ≡ true));
+        fresh = All-cons (λ e. nat_lt e.0 2 ≡ true) (ROOT, root) [] refl (All-nil (λ e. nat_lt e.0 2 ≡ true));
+      };
+    }

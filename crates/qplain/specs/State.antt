@@ -1,0 +1,93 @@
+-- The plain state: what a store holds, with nothing counted (tmpfs(5), quotactl(2)).
+use Rattle.std.specs.Prelude.{ℕ, Bool, true, false, List, [], ◌∷◌, ◌++◌, map, Option, Some, None}
+use Rattle.std.specs.declared.cmp.Ordering.{Ordering}
+use Rattle.std.specs.Ordering.{nat_cmp, on, then_cmp}
+use Rattle.std.specs.Cmp.Lexicographic.{slice_cmp}
+use Rattle.std.specs.BTreeMap.{is_at}
+use Rattle.std.specs.Map.{lookup}
+use Rattle.qrules.specs.declared.kind.Kind.{Kind}
+use Rattle.qrules.specs.declared.kind.Kind.TheVariants.{User, Group}
+use Rattle.qrules.specs.declared.limits.Limits.{Limits}
+use Rattle.qrules.specs.declared.graces.Graces.{Graces}
+use Rattle.qblocks.specs.File.{File, empty_file}
+use Rattle.qplain.specs.declared.principal.Principal.{Principal}
+use Rattle.qplain.specs.declared.bounds.TheConstants.{FILE_LIMIT, ROOT}
+use Rattle.qplain.specs.Setups.{Setting}
+
+-- a user or a group with its limits, and for each sort the moment at which its grace ends, where one runs
+pub record Holder : Type 0 where
+  pub kind : Kind
+  pub id : ℕ
+  pub name : List ℕ
+  pub limits : Limits
+  pub block_end : Option ℕ
+  pub inode_end : Option ℕ
+
+-- a file or a directory, its owners, and what it holds; a directory's file is empty
+pub record Inode : Type 0 where
+  pub dir : Bool
+  pub uid : ℕ
+  pub gid : ℕ
+  pub file : File
+
+-- the key of a name: its directory, then its bytes
+abbrev pub NameKey : Type 0
+NameKey = ℕ × List ℕ
+
+-- by directory, then by name
+abbrev pub name_key_cmp : NameKey → NameKey → Ordering
+name_key_cmp = then_cmp (on (λ p. p.0) nat_cmp) (on (λ p. p.1) (slice_cmp nat_cmp))
+
+-- the bounds, the file limit, the graces, the holders (users by id, then groups by id), inodes by number, names by key,
+-- and the number of the next inode
+pub record State : Type 0 where
+  pub size : ℕ
+  pub most_inodes : ℕ
+  pub file_limit : ℕ
+  pub graces : Graces
+  pub holders : List Holder
+  pub inodes : List (ℕ × Inode)
+  pub names : List (NameKey × ℕ)
+  pub next : ℕ
+
+-- the inode of this number
+abbrev pub inode_at : State → ℕ → Option Inode
+inode_at S number = lookup (is_at (nat_cmp number)) S.inodes
+
+-- the inode that this name in this directory leads to
+abbrev pub named : State → ℕ → List ℕ → Option ℕ
+named S dir name = lookup (is_at (name_key_cmp (dir, name))) S.names
+
+-- there is an inode, and it is a directory
+abbrev pub is_dir : Option Inode → Bool
+is_dir None = false
+is_dir (Some inode) = inode.dir
+
+-- the number is a directory's
+abbrev pub is_directory : State → ℕ → Bool
+is_directory S number = is_dir (inode_at S number)
+
+-- the root directory belongs to user 0 and group 0
+abbrev pub root : Inode
+root = record { dir = true; uid = 0; gid = 0; file = empty_file }
+
+-- an empty file of these owners
+abbrev pub new_file : ℕ → ℕ → Inode
+new_file uid gid = record { dir = false; uid = uid; gid = gid; file = empty_file }
+
+-- a declared principal, for whom no grace runs
+abbrev pub holder_of : Kind → Principal → Holder
+holder_of kind p = record { kind = kind; id = p.id; name = p.name; limits = p.limits; block_end = None; inode_end = None }
+
+-- a new store has the root directory, no name and the next number 2; users come before groups
+abbrev pub start : Setting → State
+start s = record {
+  size = s.blocks;
+  most_inodes = s.inodes;
+  file_limit = FILE_LIMIT;
+  graces = s.graces;
+  holders = map (holder_of User) s.users ++ map (holder_of Group) s.groups;
+  inodes = (ROOT, root) ∷ [];
+  names = [];
+  next = 2;
+}

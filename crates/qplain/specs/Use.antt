@@ -1,0 +1,46 @@
+-- What is counted, each time afresh over all inodes and names (quotacheck(8)).
+use Rattle.std.specs.Prelude.{ℕ, ◌+◌, Bool, true, false, ◌&&◌, ◌==◌, if◌then◌else◌, length, sum_by, count_by}
+use Rattle.std.specs.Map.{values_of}
+use Rattle.qrules.specs.declared.kind.Kind.{Kind}
+use Rattle.qrules.specs.declared.kind.Kind.TheVariants.{User, Group}
+use Rattle.qrules.specs.Sort.{Sort, Inodes, Blocks}
+use Rattle.qrules.specs.Account.{Account}
+use Rattle.qplain.specs.State.{Holder, Inode, State, is_directory}
+
+-- what an inode takes of each sort: one inode, and its allocated blocks
+abbrev pub weight : Sort → Inode → ℕ
+weight Inodes inode = 1
+weight Blocks inode = length inode.file.allocated
+
+-- whose the inode is
+abbrev pub owner : Kind → Inode → ℕ
+owner User inode = inode.uid
+owner Group inode = inode.gid
+
+-- what an inode takes of the principal's quota
+abbrev pub charge_to : Kind → ℕ → Sort → Inode → ℕ
+charge_to kind id sort inode = if owner kind inode == id then weight sort inode else 0
+
+-- the use of a principal: the sum over all inodes that it owns
+abbrev pub use_of : State → Kind → ℕ → Sort → ℕ
+use_of S kind id sort = sum_by (charge_to kind id sort) (values_of S.inodes)
+
+-- the use of everybody: the sum over all inodes
+abbrev pub total_of : State → Sort → ℕ
+total_of S sort = sum_by (weight sort) (values_of S.inodes)
+
+-- the links of an inode, told whether it is a directory: of a file its names, of a directory 2 and the names in it that
+-- lead to directories (profile)
+abbrev pub links_of : State → ℕ → Bool → ℕ
+links_of S number false = count_by (λ e. e.1 == number) S.names
+links_of S number true = 2 + count_by (λ e. e.0.0 == number && is_directory S e.1) S.names
+
+-- a holder's quota record: its recounted use beside its limits and its ends
+abbrev pub account_of : State → Holder → Account
+account_of S h = record {
+  blocks = use_of S h.kind h.id Blocks;
+  inodes = use_of S h.kind h.id Inodes;
+  limits = h.limits;
+  block_end = h.block_end;
+  inode_end = h.inode_end;
+}

@@ -1,0 +1,41 @@
+//! The laws of the plain machine, each the contract of a function that does nothing when it runs.
+ghost use Rattle.qplain.specs.Laws.{EndsAreTheRules, EndsStay, LimitsHold, LimitsStay, NewLimitsAreTheRules, RefusalsChangeNothing, SetupsStay, StartIsLawful, StepsStayLawful, UsesAddUp};
+
+/// Totals stay within the bounds, a grace end stands exactly where use is over its soft limit, every inode has
+/// declared owners, and no principal is there twice: in a new store, and after every step.
+pub fn stores_stay_lawful()
+    ensures start { StartIsLawful }
+    ensures steps { StepsStayLawful }
+{}
+
+/// A refused call leaves the state as it was.
+pub fn refusals_change_nothing()
+    ensures { RefusalsChangeNothing }
+{}
+
+/// No call of anybody but the superuser raises a use past a hard limit, or past a soft limit whose grace has ended.
+pub fn limits_hold()
+    ensures { LimitsHold }
+{}
+
+/// The uses of all users add up to the totals of the store, and so do those of all groups.
+pub fn uses_add_up()
+    ensures { UsesAddUp }
+{}
+
+/// At any moment the rule of grace ends leaves a lawful state as it is.
+pub fn ends_stay()
+    ensures { EndsStay }
+{}
+
+/// No call changes the bounds, the file limit or who the holders are, and only the superuser's change limits and graces.
+pub fn setups_stay()
+    ensures setup { SetupsStay }
+    ensures limits { LimitsStay }
+{}
+
+/// The grace ends and the new limits of the plain machine are those of a quota record.
+pub fn holders_keep_the_rules()
+    ensures ends { EndsAreTheRules }
+    ensures limits { NewLimitsAreTheRules }
+{}

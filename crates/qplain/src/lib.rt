@@ -1,0 +1,45 @@
+//! The plain values of calls and replies, and the plain machine that the store is held against, over `qrules` and `qblocks`.
+#![tactic(auto)]
+
+pub use board::Board;
+pub use bounds::{FILE_LIMIT, MAX_DATA, MAX_NAME, MAX_NUMBER, MAX_PATH, ROOT};
+pub use call::Call;
+pub use change::Change;
+pub use cred::{Cred, MAX_MORE_GROUPS};
+pub use entry::Entry;
+pub use examples::worked_examples;
+pub use laws::{
+    ends_stay, holders_keep_the_rules, limits_hold, refusals_change_nothing, setups_stay,
+    stores_stay_lawful, uses_add_up,
+};
+pub use line::Line;
+pub use path::Path;
+pub use principal::{MAX_PRINCIPALS, Principal};
+pub use qblocks::NoMemory;
+pub use quota::Quota;
+pub use refusal::Refusal;
+pub use reply::Reply;
+pub use setup::{MAX_BLOCKS, MAX_INODES, Setup, SetupFault};
+pub use stat::Stat;
+pub use tallies::Tallies;
+
+mod board;
+mod bounds;
+mod call;
+mod change;
+mod copies;
+mod cred;
+mod entry;
+mod examples;
+mod laws;
+mod line;
+mod path;
+mod principal;
+mod quota;
+mod refusal;
+mod reply;
+mod setup;
+mod stat;
+mod tallies;
+#[cfg(test)]
+mod tests;
