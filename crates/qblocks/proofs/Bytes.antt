@@ -17,7 +17,8 @@ zeros n i =
     ⊎_elim (λ l. get_or-replicate n i 0 0 l) (λ l. get_or_past (replicate n 0) i 0 (omega (arith, length-replicate {A = ℕ} n 0))) (cases_lt i n)
 
 -- a list whose end is overwritten by zeros reads as 0 there
-pub put_mid_zeros : (a k : ℕ) (xs ys : List ℕ) → a + k ≡ length xs → ys ≡ replicate k 0 → (i : ℕ) → a ≤ i → get_or (put_mid a k xs ys) i 0 ≡ 0
+pub put_mid_zeros : (a k : ℕ) (xs ys : List ℕ) → a + k ≡ length xs → ys ≡ replicate k 0 → (i : ℕ)
+    → a ≤ i → get_or (put_mid a k xs ys) i 0 ≡ 0
 put_mid_zeros a k xs ys whole blank i above =
     let long : length ys ≡ k = ap length blank ∙ length-replicate k 0 in
     let read : get_or ys (i - a) 0 ≡ 0 = ap (λ l. get_or l (i - a) 0) blank ∙ zeros k (i - a) in
@@ -30,10 +31,11 @@ unfolding resized
 length-resized bytes size = grind (arith, common_steps)
 
 -- the bytes below the size are the same, or 0
-pub get_or-resized : (bytes : List ℕ) (size o : ℕ) → o < size → get_or (resized bytes size) o 0 ≡ get_or bytes o 0
+pub get_or-resized : (bytes : List ℕ) (size o : ℕ) → o < size
+    → get_or (resized bytes size) o 0 ≡ get_or bytes o 0
 unfolding resized
 get_or-resized bytes size o l =
-    let zeros' = replicate (size - length bytes) 0 in
+    let zeros' : List ℕ = replicate (size - length bytes) 0 in
     ⊎_elim
     (λ early. get_or_append_left (take size bytes) zeros' 0 o (omega (arith, length-take size bytes)) ∙ get_or-take size bytes o 0 l)
     (λ late.
@@ -42,13 +44,15 @@ get_or-resized bytes size o l =
     (cases_lt o (length bytes))
 
 -- a write ends at its own end or leaves the size
-pub length-written : (bytes : List ℕ) (off : ℕ) (input : List ℕ) → length (written bytes off input) ≡ max (length bytes) (off + length input)
+pub length-written : (bytes : List ℕ) (off : ℕ) (input : List ℕ)
+    → length (written bytes off input) ≡ max (length bytes) (off + length input)
 unfolding written
 length-written bytes off input =
     omega (arith, length-append (resized bytes off ++ input) (drop (off + length input) bytes), length-append (resized bytes off) input, length-resized bytes off, length-drop (off + length input) bytes)
 
 -- what the bytes after a write read as
-pub get_or-written : (bytes : List ℕ) (off : ℕ) (input : List ℕ) → Overwrites (λ o. get_or bytes o 0) (λ o. get_or (written bytes off input) o 0) off input
+pub get_or-written : (bytes : List ℕ) (off : ℕ) (input : List ℕ)
+    → Overwrites (λ o. get_or bytes o 0) (λ o. get_or (written bytes off input) o 0) off input
 unfolding written
 get_or-written bytes off input =
     let front = resized bytes off in
@@ -81,7 +85,9 @@ module _ (f g : ℕ → ℕ) (size : ℕ) (tail : (o : ℕ) → size ≤ o → f
       (cases_lt o size)
 
   -- over such a list the write is a splice
-  pub bytes-written : (off : ℕ) (input : List ℕ) (to : ℕ) → Overwrites f g off input → to ≡ max size (off + length input) → map g (range_with_len 0 to) ≡ written (map f (range_with_len 0 size)) off input
+  pub bytes-written : (off : ℕ) (input : List ℕ) (to : ℕ) → Overwrites f g off input
+      → to ≡ max size (off + length input)
+      → map g (range_with_len 0 to) ≡ written (map f (range_with_len 0 size)) off input
   bytes-written off input to writes ends =
       let bytes = map f (range_with_len 0 size) in
       let new = map g (range_with_len 0 to) in
@@ -101,7 +107,8 @@ module _ (f g : ℕ → ℕ) (size : ℕ) (tail : (o : ℕ) → size ≤ o → f
       (cases_lt o off))
 
   -- and another size is a cut or zeros
-  pub bytes-resized : (to : ℕ) → ((o : ℕ) → o < to → g o ≡ f o) → map g (range_with_len 0 to) ≡ resized (map f (range_with_len 0 size)) to
+  pub bytes-resized : (to : ℕ) → ((o : ℕ) → o < to → g o ≡ f o)
+      → map g (range_with_len 0 to) ≡ resized (map f (range_with_len 0 size)) to
   bytes-resized to same =
       let bytes = map f (range_with_len 0 size) in
       let long = length-map-range_with_len g 0 to in

@@ -18,6 +18,7 @@ unfolding after_write with_touched with_index
 hole = refl
 
 -- a cut to 1 byte and back to 3 forgets the last two
-forgets : (f : File) → f ≡ after_write empty_file 0 (0x61 ∷ 0x62 ∷ 0x63 ∷ []) → read_at (after_truncate (after_truncate f 1) 3) 0 9 ≡ 0x61 ∷ 0 ∷ 0 ∷ []
+forgets : (f : File) → f ≡ after_write empty_file 0 (0x61 ∷ 0x62 ∷ 0x63 ∷ [])
+    → read_at (after_truncate (after_truncate f 1) 3) 0 9 ≡ 0x61 ∷ 0 ∷ 0 ∷ []
 unfolding after_write after_truncate written resized
 forgets f e = rw e refl

@@ -22,17 +22,21 @@ module _ {Z : Type 0} where
   no_block (Some block) e = absurd (both_ways _ e refl)
 
   -- a change of the row r leaves the other rows
-  pub other_rows : (m n : Table Z) (r : ℕ) (row : Option (Box (List (Place Z)) Z)) → tree.Updates nat_cmp m n r row → (q : ℕ) → (q ≡ r → ⊥) → tree.get nat_cmp n q ≡ tree.get nat_cmp m q
+  pub other_rows : (m n : Table Z) (r : ℕ) (row : Option (Box (List (Place Z)) Z))
+      → tree.Updates nat_cmp m n r row → (q : ℕ) → (q ≡ r → ⊥)
+      → tree.get nat_cmp n q ≡ tree.get nat_cmp m q
   other_rows m n r row u q ne = u.2 q (unsigned_tied r q ∙ ne_eqb r q (λ e. ne (sym e)))
 
   -- the places of a row, by their indexes and by their numbers in the row
-  pub gaps_in_own_row : (m : Table Z) (r : ℕ) → gaps (filled m) (r * ROW_BLOCKS) ROW_BLOCKS ≡ gaps (row_filled (row_of m r)) 0 ROW_BLOCKS
+  pub gaps_in_own_row : (m : Table Z) (r : ℕ)
+      → gaps (filled m) (r * ROW_BLOCKS) ROW_BLOCKS ≡ gaps (row_filled (row_of m r)) 0 ROW_BLOCKS
   gaps_in_own_row m r =
       let at : r * ROW_BLOCKS ≡ r * ROW_BLOCKS + 0 = omega arith in
       ap (λ (x : ℕ). gaps (filled m) x ROW_BLOCKS) at ∙ gaps-row m r 0 ROW_BLOCKS (omega arith)
 
   -- a row that is not there holds no block
-  pub gaps_absent : (row : Option (Box (List (Place Z)) Z)) → is_some row ≡ false → gaps (row_filled (places_of row)) 0 ROW_BLOCKS ≡ ROW_BLOCKS
+  pub gaps_absent : (row : Option (Box (List (Place Z)) Z)) → is_some row ≡ false
+      → gaps (row_filled (places_of row)) 0 ROW_BLOCKS ≡ ROW_BLOCKS
   gaps_absent None e = gaps-all (row_filled {Z = Z} []) 0 ROW_BLOCKS (λ k _ _. refl)
   gaps_absent (Some row) e = absurd (both_ways _ e refl)
 
@@ -47,12 +51,15 @@ module _ {Z : Type 0} where
       ⊎_elim (λ there. there) (λ absent. absurd (both_ways _ (absent_is_unused m r absent) used)) (cases_Bool (has_row m r))
 
   -- the same row in two tables
-  pub is_used-row : (m n : Table Z) (r : ℕ) → row_of n r ≡ row_of m r → is_used (filled n) r ≡ is_used (filled m) r
+  pub is_used-row : (m n : Table Z) (r : ℕ) → row_of n r ≡ row_of m r
+      → is_used (filled n) r ≡ is_used (filled m) r
   is_used-row m n r same =
       ap (λ (x : ℕ). nat_lt x ROW_BLOCKS) (gaps_in_own_row n r ∙ ap (λ row. gaps (row_filled row) 0 ROW_BLOCKS) same ∙ sym (gaps_in_own_row m r))
 
   -- a row with a block is there
-  pub used_is_there : (m : Table Z) (r : ℕ) → (gaps (row_filled (row_of m r)) 0 ROW_BLOCKS ≡ ROW_BLOCKS → ⊥) → has_row m r ≡ is_used (filled m) r
+  pub used_is_there : (m : Table Z) (r : ℕ)
+      → (gaps (row_filled (row_of m r)) 0 ROW_BLOCKS ≡ ROW_BLOCKS → ⊥)
+      → has_row m r ≡ is_used (filled m) r
   used_is_there m r used =
       let yes = lt-ltb (gaps (filled m) (r * ROW_BLOCKS) ROW_BLOCKS) ROW_BLOCKS (omega (arith, gaps_in_own_row m r, gaps_le (row_filled (row_of m r)) 0 ROW_BLOCKS, used)) in
       ⊎_elim (λ there. there ∙ sym yes) (λ absent. absurd (used (gaps_absent (tree.get nat_cmp m r) absent))) (cases_Bool (has_row m r))
@@ -86,13 +93,15 @@ module _ {Z : Type 0} where
     other_filled k ne = ap (λ row. is_some (place_at row (k % ROW_BLOCKS))) (others (k / ROW_BLOCKS) ne)
 
     -- the rows below, the row itself, and the rows behind
-    three : (t : Table Z) (rest : ℕ) → gaps (filled t) 0 (r * ROW_BLOCKS + (ROW_BLOCKS + rest)) ≡ gaps (filled t) 0 (r * ROW_BLOCKS) + gaps (row_filled (row_of t r)) 0 ROW_BLOCKS + gaps (filled t) (r * ROW_BLOCKS + ROW_BLOCKS) rest
+    three : (t : Table Z) (rest : ℕ)
+        → gaps (filled t) 0 (r * ROW_BLOCKS + (ROW_BLOCKS + rest)) ≡ gaps (filled t) 0 (r * ROW_BLOCKS) + gaps (row_filled (row_of t r)) 0 ROW_BLOCKS + gaps (filled t) (r * ROW_BLOCKS + ROW_BLOCKS) rest
     three t rest =
         let at : 0 + r * ROW_BLOCKS ≡ r * ROW_BLOCKS = omega arith in
         omega (arith, gaps-split (filled t) 0 (r * ROW_BLOCKS) (ROW_BLOCKS + rest), ap (λ (x : ℕ). gaps (filled t) x (ROW_BLOCKS + rest)) at, gaps-split (filled t) (r * ROW_BLOCKS) ROW_BLOCKS rest, gaps_in_own_row t r)
 
     -- below a bound that the row lies under
-    in_reach : (bound : ℕ) → r < bound → gaps (filled n) 0 (bound * ROW_BLOCKS) ≡ gaps (filled m) 0 (bound * ROW_BLOCKS) + freed
+    in_reach : (bound : ℕ) → r < bound
+        → gaps (filled n) 0 (bound * ROW_BLOCKS) ≡ gaps (filled m) 0 (bound * ROW_BLOCKS) + freed
     in_reach bound l =
         let rest = (bound - r - 1) * ROW_BLOCKS in
         let whole : bound * ROW_BLOCKS ≡ r * ROW_BLOCKS + (ROW_BLOCKS + (bound - r - 1) * ROW_BLOCKS) = omega arith in
@@ -119,7 +128,8 @@ module _ {Z : Type 0} where
     }
 
   -- no block goes
-  pub Frees-none : (m n : Table Z) → ((k : ℕ) → filled n k ≡ filled m k) → ((q : ℕ) → has_row n q ≡ true → has_row m q ≡ true) → Frees m n 0
+  pub Frees-none : (m n : Table Z) → ((k : ℕ) → filled n k ≡ filled m k)
+      → ((q : ℕ) → has_row n q ≡ true → has_row m q ≡ true) → Frees m n 0
   Frees-none m n same fewer = record {
     fewer = fewer;
     count = λ bound within. omega (arith, gaps-same (filled m) (filled n) 0 (bound * ROW_BLOCKS) (λ k _ _. same k));
@@ -133,6 +143,7 @@ module _ {Z : Type 0} where
   }
 
   -- at most all blocks below the bound go
-  pub freed_le : (m n : Table Z) (freed bound : ℕ) → Frees m n freed → ((r : ℕ) → has_row m r ≡ true → r < bound) → freed ≤ bound * ROW_BLOCKS
+  pub freed_le : (m n : Table Z) (freed bound : ℕ) → Frees m n freed
+      → ((r : ℕ) → has_row m r ≡ true → r < bound) → freed ≤ bound * ROW_BLOCKS
   freed_le m n freed bound frees within =
       omega (arith, frees.count bound within, gaps_le (filled n) 0 (bound * ROW_BLOCKS))

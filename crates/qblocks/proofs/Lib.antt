@@ -6,4 +6,7 @@ pub mod Puts
 pub mod Reading
 pub mod Spans
 pub mod Table
+pub mod Touched
+pub mod Used
 pub mod View
+pub mod Whole

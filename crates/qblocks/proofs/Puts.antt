@@ -8,7 +8,9 @@ use Rattle.qblocks.specs.Row.{Overwrites, Puts, in_span, span_end, in_pieces, ga
 use Rattle.qblocks.proofs.Spans.{or_no, or_yes, in_span_yes, in_span_before, in_span_behind, in_span_none, in_span-more, span_end_none, span_end_some, gaps-same, gaps-split, gaps_none, gaps-next}
 
 -- what is written in two pieces is written
-Overwrites-more : (f g h : ℕ → ℕ) (off n m : ℕ) (input : List ℕ) → Overwrites f g off (take n input) → Overwrites g h (off + n) (take m (drop n input)) → n + m ≤ length input → Overwrites f h off (take (n + m) input)
+Overwrites-more : (f g h : ℕ → ℕ) (off n m : ℕ) (input : List ℕ) → Overwrites f g off (take n input)
+    → Overwrites g h (off + n) (take m (drop n input)) → n + m ≤ length input
+    → Overwrites f h off (take (n + m) input)
 Overwrites-more f g h off n m input first then' l =
     let front = length-take-le n input (omega arith) in
     let part = length-take-le m (drop n input) (omega (arith, length-drop n input)) in
@@ -31,7 +33,8 @@ Overwrites-more f g h off n m input first then' l =
     }
 
 -- nothing is written yet
-pub Puts-none : (f : ℕ → ℕ) (p : ℕ → Bool) (spare off n : ℕ) (input : List ℕ) → n ≡ 0 → Puts f f p p spare spare off (take n input)
+pub Puts-none : (f : ℕ → ℕ) (p : ℕ → Bool) (spare off n : ℕ) (input : List ℕ) → n ≡ 0
+    → Puts f f p p spare spare off (take n input)
 Puts-none f p spare off n input none =
     let short : length (take n input) ≡ 0 = ap (λ (x : ℕ). length (take x input)) none in
     let end = span_end_none BLOCK_SIZE off (length (take n input)) short in
@@ -47,7 +50,10 @@ Puts-none f p spare off n input none =
     }
 
 -- a write goes on where the one before it ended, at the start of a block
-pub Puts-more : (f g h : ℕ → ℕ) (p q r : ℕ → Bool) (a b c off n m : ℕ) (input : List ℕ) → Puts f g p q a b off (take n input) → Puts g h q r b c (off + n) (take m (drop n input)) → n + m ≤ length input → 0 < m → span_end BLOCK_SIZE off n ≡ (off + n) / BLOCK_SIZE → Puts f h p r a c off (take (n + m) input)
+pub Puts-more : (f g h : ℕ → ℕ) (p q r : ℕ → Bool) (a b c off n m : ℕ) (input : List ℕ)
+    → Puts f g p q a b off (take n input) → Puts g h q r b c (off + n) (take m (drop n input))
+    → n + m ≤ length input → 0 < m → span_end BLOCK_SIZE off n ≡ (off + n) / BLOCK_SIZE
+    → Puts f h p r a c off (take (n + m) input)
 Puts-more f g h p q r a b c off n m input first then' l some aligned =
     let from = off / BLOCK_SIZE in
     let mid = (off + n) / BLOCK_SIZE in
@@ -78,7 +84,8 @@ Puts-more f g h p q r a b c off n m input first then' l some aligned =
     }
 
 -- where a write has ended that goes up to the start of a block
-span_end_aligned : (off n : ℕ) → (0 < n → (off + n) % BLOCK_SIZE ≡ 0) → span_end BLOCK_SIZE off n ≡ (off + n) / BLOCK_SIZE
+span_end_aligned : (off n : ℕ) → (0 < n → (off + n) % BLOCK_SIZE ≡ 0)
+    → span_end BLOCK_SIZE off n ≡ (off + n) / BLOCK_SIZE
 span_end_aligned off n aligned =
     ⊎_elim
     (λ none. span_end_none BLOCK_SIZE off n (omega arith) ∙ ap (λ (x : ℕ). x / BLOCK_SIZE) (omega arith))
@@ -86,14 +93,19 @@ span_end_aligned off n aligned =
     (cases_lt n 1)
 
 -- the same, with the numbers as a loop has them: n bytes are written, and m more at s
-pub Puts-next : (f g h : ℕ → ℕ) (p q r : ℕ → Bool) (a b c off n m to s : ℕ) (input : List ℕ) → Puts f g p q a b off (take n input) → Puts g h q r b c s (take m (drop n input)) → s ≡ off + n → to ≡ n + m → n + m ≤ length input → 0 < m → (0 < n → (off + n) % BLOCK_SIZE ≡ 0) → Puts f h p r a c off (take to input)
+pub Puts-next : (f g h : ℕ → ℕ) (p q r : ℕ → Bool) (a b c off n m to s : ℕ) (input : List ℕ)
+    → Puts f g p q a b off (take n input) → Puts g h q r b c s (take m (drop n input)) → s ≡ off + n
+    → to ≡ n + m → n + m ≤ length input → 0 < m → (0 < n → (off + n) % BLOCK_SIZE ≡ 0)
+    → Puts f h p r a c off (take to input)
 Puts-next f g h p q r a b c off n m to s input first then' at ends l some aligned =
     let Then : ℕ → Type 0 = λ x. Puts g h q r b c x (take m (drop n input)) in
     let Both : ℕ → Type 0 = λ x. Puts f h p r a c off (take x input) in
     subst Both (sym ends) (Puts-more f g h p q r a b c off n m input first (subst Then at then') l some (span_end_aligned off n aligned))
 
 -- what is spare is enough for the next piece
-pub Puts-rest : (f g : ℕ → ℕ) (p q : ℕ → Bool) (a b off n m s : ℕ) (input : List ℕ) → Puts f g p q a b off (take n input) → gaps_in p off (length input) ≤ a → s ≡ off + n → n + m ≤ length input → 0 < m → (0 < n → (off + n) % BLOCK_SIZE ≡ 0) → gaps_in q s m ≤ b
+pub Puts-rest : (f g : ℕ → ℕ) (p q : ℕ → Bool) (a b off n m s : ℕ) (input : List ℕ)
+    → Puts f g p q a b off (take n input) → gaps_in p off (length input) ≤ a → s ≡ off + n
+    → n + m ≤ length input → 0 < m → (0 < n → (off + n) % BLOCK_SIZE ≡ 0) → gaps_in q s m ≤ b
 Puts-rest f g p q a b off n m s input first enough at l some aligned =
     let from = off / BLOCK_SIZE in
     let mid = (off + n) / BLOCK_SIZE in
@@ -122,7 +134,8 @@ apart k j first end ne from to =
     ⊎_elim (λ l. in_span_before first end k (omega arith)) (λ l. in_span_behind first end k (omega arith)) (cases_lt k j)
 
 -- how many blocks a write into one block takes
-pub gaps_in-block : (p : ℕ → Bool) (j at n : ℕ) → 0 < n → at + n ≤ BLOCK_SIZE → gaps_in p (j * BLOCK_SIZE + at) n ≡ cond (p j) 0 1
+pub gaps_in-block : (p : ℕ → Bool) (j at n : ℕ) → 0 < n → at + n ≤ BLOCK_SIZE
+    → gaps_in p (j * BLOCK_SIZE + at) n ≡ cond (p j) 0 1
 gaps_in-block p j at n some fits =
     let first = (j * BLOCK_SIZE + at) / BLOCK_SIZE in
     let end = span_end_some BLOCK_SIZE (j * BLOCK_SIZE + at) n some in
@@ -132,7 +145,11 @@ gaps_in-block p j at n some fits =
 -- a write into one block of a row
 module _ {Z : Type 0} (row new : List (Place Z)) (j at : ℕ) (part : List ℕ) (some : 0 < length part) (fits : at + length part ≤ BLOCK_SIZE) where
   -- as `Puts` says it
-  pub Puts-block : (a b : ℕ) → row_filled new j ≡ true → Overwrites (byte_of (place_at row j)) (byte_of (place_at new j)) at part → ((q : ℕ) → (q ≡ j → ⊥) → place_at new q ≡ place_at row q) → b + cond (row_filled row j) 0 1 ≡ a → Puts (row_byte row) (row_byte new) (row_filled row) (row_filled new) a b (j * BLOCK_SIZE + at) part
+  pub Puts-block : (a b : ℕ) → row_filled new j ≡ true
+      → Overwrites (byte_of (place_at row j)) (byte_of (place_at new j)) at part
+      → ((q : ℕ) → (q ≡ j → ⊥) → place_at new q ≡ place_at row q)
+      → b + cond (row_filled row j) 0 1 ≡ a
+      → Puts (row_byte row) (row_byte new) (row_filled row) (row_filled new) a b (j * BLOCK_SIZE + at) part
   Puts-block a b filled writes others left =
       let first : (j * BLOCK_SIZE + at) / BLOCK_SIZE ≡ j = omega arith in
       let end : span_end BLOCK_SIZE (j * BLOCK_SIZE + at) (length part) ≡ j + 1 = span_end_some BLOCK_SIZE (j * BLOCK_SIZE + at) (length part) some ∙ omega arith in

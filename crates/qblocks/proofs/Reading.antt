@@ -7,14 +7,16 @@ use Rattle.std.specs.List.{range_with_len}
 use Rattle.qblocks.proofs.Bytes.{zeros}
 
 -- the same bytes under other offsets
-pub reads_same : (f g : ℕ → ℕ) (a b n : ℕ) → ((i : ℕ) → i < n → f (a + i) ≡ g (b + i)) → map f (range_with_len a n) ≡ map g (range_with_len b n)
+pub reads_same : (f g : ℕ → ℕ) (a b n : ℕ) → ((i : ℕ) → i < n → f (a + i) ≡ g (b + i))
+    → map f (range_with_len a n) ≡ map g (range_with_len b n)
 reads_same f g a b n same =
     same_number_lists (map f (range_with_len a n)) (map g (range_with_len b n)) (length-map-range_with_len f a n ∙ sym (length-map-range_with_len g b n)) (λ i l.
     let low : i < n = omega (arith, length-map-range_with_len f a n) in
     get_or-map-range_with_len f a n i (a + i) 0 low refl ∙ same i low ∙ sym (get_or-map-range_with_len g b n i (b + i) 0 low refl))
 
 -- a part of a list
-pub reads-part : (xs : List ℕ) (a n : ℕ) → a + n ≤ length xs → take n (drop a xs) ≡ map (λ i. get_or xs i 0) (range_with_len a n)
+pub reads-part : (xs : List ℕ) (a n : ℕ) → a + n ≤ length xs
+    → take n (drop a xs) ≡ map (λ i. get_or xs i 0) (range_with_len a n)
 reads-part xs a n l =
     let long = length-take-le n (drop a xs) (omega (arith, length-drop a xs)) in
     same_number_lists (take n (drop a xs)) (map (λ i. get_or xs i 0) (range_with_len a n)) (long ∙ sym (length-map-range_with_len (λ i. get_or xs i 0) a n)) (λ i h.
@@ -28,14 +30,17 @@ reads-zeros f a n none =
     zeros n i ∙ sym (get_or-map-range_with_len f a n i (a + i) 0 (omega (arith, length-replicate {A = ℕ} n 0)) refl ∙ none (a + i)))
 
 -- a list that is made longer by zeros
-pub reads-resized : (f : ℕ → ℕ) (old new : List ℕ) (a n was long : ℕ) → new ≡ take long old ++ replicate (long - was) 0 → was ≡ length old → long ≡ was + n → ((o : ℕ) → f o ≡ 0) → new ≡ old ++ map f (range_with_len a n)
+pub reads-resized : (f : ℕ → ℕ) (old new : List ℕ) (a n was long : ℕ)
+    → new ≡ take long old ++ replicate (long - was) 0 → was ≡ length old → long ≡ was + n
+    → ((o : ℕ) → f o ≡ 0) → new ≡ old ++ map f (range_with_len a n)
 reads-resized f old new a n was long is known ends none =
     let count : long - was ≡ n = omega arith in
     is ∙ ap (λ xs. xs ++ replicate (long - was) 0) (take_all long old (omega arith))
     ∙ ap (λ (x : ℕ). old ++ replicate x 0) count ∙ ap (λ xs. old ++ xs) (reads-zeros f a n none)
 
 -- two pieces beside each other
-reads-append : (f : ℕ → ℕ) (a n m : ℕ) → map f (range_with_len a (n + m)) ≡ map f (range_with_len a n) ++ map f (range_with_len (a + n) m)
+reads-append : (f : ℕ → ℕ) (a n m : ℕ)
+    → map f (range_with_len a (n + m)) ≡ map f (range_with_len a n) ++ map f (range_with_len (a + n) m)
 reads-append f a zero m =
     let count : 0 + m ≡ m = omega arith in
     let at : a + 0 ≡ a = omega arith in
@@ -47,7 +52,10 @@ reads-append f a (suc n) m =
     ∙ ap (λ xs. f a ∷ xs) (reads-append f (a + 1) n m ∙ ap (λ (x : ℕ). map f (range_with_len (a + 1) n) ++ map f (range_with_len x m)) at)
 
 -- a piece more is read
-pub reads-next : (f g : ℕ → ℕ) (old now new : List ℕ) (a done b m to : ℕ) → now ≡ old ++ map f (range_with_len a done) → new ≡ now ++ map g (range_with_len b m) → ((i : ℕ) → i < m → g (b + i) ≡ f (a + done + i)) → to ≡ done + m → new ≡ old ++ map f (range_with_len a to)
+pub reads-next : (f g : ℕ → ℕ) (old now new : List ℕ) (a done b m to : ℕ)
+    → now ≡ old ++ map f (range_with_len a done) → new ≡ now ++ map g (range_with_len b m)
+    → ((i : ℕ) → i < m → g (b + i) ≡ f (a + done + i)) → to ≡ done + m
+    → new ≡ old ++ map f (range_with_len a to)
 reads-next f g old now new a done b m to so_far more same ends =
     more ∙ ap (λ xs. xs ++ map g (range_with_len b m)) so_far
     ∙ ap (λ xs. (old ++ map f (range_with_len a done)) ++ xs) (reads_same g f b (a + done) m same)
@@ -55,6 +63,7 @@ reads-next f g old now new a done b m to so_far more same ends =
     ∙ ap (λ xs. old ++ xs) (sym (reads-append f a done m) ∙ ap (λ (x : ℕ). map f (range_with_len a x)) (sym ends))
 
 -- how long a list is that grew by bytes that were read
-pub length-read : (f : ℕ → ℕ) (old new : List ℕ) (a n : ℕ) → new ≡ old ++ map f (range_with_len a n) → length new ≡ length old + n
+pub length-read : (f : ℕ → ℕ) (old new : List ℕ) (a n : ℕ) → new ≡ old ++ map f (range_with_len a n)
+    → length new ≡ length old + n
 length-read f old new a n e =
     ap length e ∙ length-append old (map f (range_with_len a n)) ∙ ap (λ (x : ℕ). length old + x) (length-map-range_with_len f a n)

@@ -36,7 +36,8 @@ in_span_none first end k l =
     ⊎_elim (λ before. in_span_before first end k before) (λ late. in_span_behind first end k (omega arith)) (cases_lt k first)
 
 -- the same span under other numbers
-pub same_span : (first end k first' end' k' a : ℕ) → first' ≡ a + first → end' ≡ a + end → k' ≡ a + k → in_span first end k ≡ in_span first' end' k'
+pub same_span : (first end k first' end' k' a : ℕ) → first' ≡ a + first → end' ≡ a + end
+    → k' ≡ a + k → in_span first end k ≡ in_span first' end' k'
 same_span first end k first' end' k' a from to at =
     ⊎_elim
     (λ l. in_span_before first end k l ∙ sym (in_span_before first' end' k' (omega arith)))
@@ -71,7 +72,8 @@ span_some size off n k l h =
     ⊎_elim (λ none. absurd (omega (arith, span_end_none size off n (omega arith)))) (λ some. omega arith) (cases_lt n 1)
 
 -- tests that agree on the span leave the same gaps
-pub gaps-same : (p q : ℕ → Bool) (first n : ℕ) → ((k : ℕ) → first ≤ k → k < first + n → q k ≡ p k) → gaps q first n ≡ gaps p first n
+pub gaps-same : (p q : ℕ → Bool) (first n : ℕ) → ((k : ℕ) → first ≤ k → k < first + n → q k ≡ p k)
+    → gaps q first n ≡ gaps p first n
 unfolding gaps
 gaps-same p q first zero same = refl
 gaps-same p q first (suc n) same =
@@ -79,7 +81,9 @@ gaps-same p q first (suc n) same =
     omega (arith, gaps-same p q first n (λ k l h. same k l (omega arith)), here)
 
 -- the same indexes under other numbers
-pub gaps-shift : (p q : ℕ → Bool) (a first n : ℕ) → ((k : ℕ) → first ≤ k → k < first + n → q (a + k) ≡ p k) → gaps q (a + first) n ≡ gaps p first n
+pub gaps-shift : (p q : ℕ → Bool) (a first n : ℕ)
+    → ((k : ℕ) → first ≤ k → k < first + n → q (a + k) ≡ p k)
+    → gaps q (a + first) n ≡ gaps p first n
 unfolding gaps
 gaps-shift p q a first zero same = refl
 gaps-shift p q a first (suc n) same =
@@ -103,7 +107,8 @@ unfolding gaps
 gaps_none p first n e = ap (gaps p first) e
 
 -- no index of the span passes
-pub gaps-all : (p : ℕ → Bool) (first n : ℕ) → ((k : ℕ) → first ≤ k → k < first + n → p k ≡ false) → gaps p first n ≡ n
+pub gaps-all : (p : ℕ → Bool) (first n : ℕ) → ((k : ℕ) → first ≤ k → k < first + n → p k ≡ false)
+    → gaps p first n ≡ n
 unfolding gaps
 gaps-all p first zero fails = refl
 gaps-all p first (suc n) fails =
@@ -111,7 +116,8 @@ gaps-all p first (suc n) fails =
     omega (arith, here, gaps-all p first n (λ k l h. fails k l (omega arith)))
 
 -- one index more
-pub gaps-next : (p : ℕ → Bool) (first n m k : ℕ) → m ≡ n + 1 → k ≡ first + n → gaps p first m ≡ gaps p first n + cond (p k) 0 1
+pub gaps-next : (p : ℕ → Bool) (first n m k : ℕ) → m ≡ n + 1 → k ≡ first + n
+    → gaps p first m ≡ gaps p first n + cond (p k) 0 1
 unfolding gaps
 gaps-next p first n m k e f =
     let more : m ≡ suc n = omega arith in
@@ -141,7 +147,8 @@ in_span_rest first n k in' ne =
     in_span_yes first n k (leb-true first k parts.0) (omega (arith, ltb-true k (n + 1) parts.1))
 
 -- out of a span with one index more, an index is neither
-pub in_span_out : (first n k : ℕ) → first ≤ n → in_span first (n + 1) k ≡ false → (k ≡ n → ⊥) × (in_span first n k ≡ false)
+pub in_span_out : (first n k : ℕ) → first ≤ n → in_span first (n + 1) k ≡ false
+    → (k ≡ n → ⊥) × (in_span first n k ≡ false)
 in_span_out first n k l out = (
   λ e. both_ways _ out (in_span_yes first (n + 1) k (omega (arith, e)) (omega (arith, e))),
   ⊎_elim (in_span_before first n k) (λ late. ⊎_elim (λ in'. absurd (both_ways _ out (in_span_yes first (n + 1) k late (omega (arith, in'))))) (in_span_behind first n k) (cases_lt k n)) (cases_lt k first),

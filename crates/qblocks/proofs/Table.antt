@@ -9,7 +9,8 @@ use Rattle.qblocks.proofs.Spans.{or_no, in_span_before, in_span_behind, span_end
 
 module _ {Z : Type 0} where
   -- a byte of the row r
-  pub byte_at-row : (m : Table Z) (r x : ℕ) → x < ROW_SIZE → byte_at m (r * ROW_SIZE + x) ≡ row_byte (row_of m r) x
+  pub byte_at-row : (m : Table Z) (r x : ℕ) → x < ROW_SIZE
+      → byte_at m (r * ROW_SIZE + x) ≡ row_byte (row_of m r) x
   byte_at-row m r x l =
       let o = r * ROW_SIZE + x in
       let row : (r * ROW_SIZE + x) / BLOCK_SIZE / ROW_BLOCKS ≡ r = omega arith in
@@ -20,29 +21,35 @@ module _ {Z : Type 0} where
       ∙ ap (byte_of (place_at (row_of m r) (x / BLOCK_SIZE))) byte
 
   -- the byte at an offset in the row r
-  pub byte_at-own : (m : Table Z) (r o : ℕ) → o / ROW_SIZE ≡ r → byte_at m o ≡ row_byte (row_of m r) (o % ROW_SIZE)
+  pub byte_at-own : (m : Table Z) (r o : ℕ) → o / ROW_SIZE ≡ r
+      → byte_at m o ≡ row_byte (row_of m r) (o % ROW_SIZE)
   byte_at-own m r o e =
       let whole : o ≡ r * ROW_SIZE + o % ROW_SIZE = omega (arith, e) in
       ap (byte_at m) whole ∙ byte_at-row m r (o % ROW_SIZE) (omega arith)
 
   -- two tables with the same row at an offset
-  pub byte_at-same : (m n : Table Z) (o : ℕ) → row_of n (o / BLOCK_SIZE / ROW_BLOCKS) ≡ row_of m (o / BLOCK_SIZE / ROW_BLOCKS) → byte_at n o ≡ byte_at m o
+  pub byte_at-same : (m n : Table Z) (o : ℕ)
+      → row_of n (o / BLOCK_SIZE / ROW_BLOCKS) ≡ row_of m (o / BLOCK_SIZE / ROW_BLOCKS)
+      → byte_at n o ≡ byte_at m o
   byte_at-same m n o same = ap (λ row. byte_of (place_at row (o / BLOCK_SIZE % ROW_BLOCKS)) (o % BLOCK_SIZE)) same
 
   -- a place of the row r
-  pub slot-row : (m : Table Z) (r j : ℕ) → j < ROW_BLOCKS → slot m (r * ROW_BLOCKS + j) ≡ place_at (row_of m r) j
+  pub slot-row : (m : Table Z) (r j : ℕ) → j < ROW_BLOCKS
+      → slot m (r * ROW_BLOCKS + j) ≡ place_at (row_of m r) j
   slot-row m r j l =
       let row : (r * ROW_BLOCKS + j) / ROW_BLOCKS ≡ r = omega arith in
       let place : (r * ROW_BLOCKS + j) % ROW_BLOCKS ≡ j = omega arith in
       ap (λ (q : ℕ). place_at (row_of m q) ((r * ROW_BLOCKS + j) % ROW_BLOCKS)) row ∙ ap (place_at (row_of m r)) place
 
   -- how many places of a row hold no block
-  pub gaps-row : (m : Table Z) (r first n : ℕ) → first + n ≤ ROW_BLOCKS → gaps (filled m) (r * ROW_BLOCKS + first) n ≡ gaps (row_filled (row_of m r)) first n
+  pub gaps-row : (m : Table Z) (r first n : ℕ) → first + n ≤ ROW_BLOCKS
+      → gaps (filled m) (r * ROW_BLOCKS + first) n ≡ gaps (row_filled (row_of m r)) first n
   gaps-row m r first n l =
       gaps-shift (row_filled (row_of m r)) (filled m) (r * ROW_BLOCKS) first n (λ k _ h. ap is_some (slot-row m r k (omega arith)))
 
   -- how many blocks a write into one row takes
-  pub gaps_in-row : (m : Table Z) (r at n : ℕ) → 0 < n → at + n ≤ ROW_SIZE → gaps_in (filled m) (r * ROW_SIZE + at) n ≡ gaps_in (row_filled (row_of m r)) at n
+  pub gaps_in-row : (m : Table Z) (r at n : ℕ) → 0 < n → at + n ≤ ROW_SIZE
+      → gaps_in (filled m) (r * ROW_SIZE + at) n ≡ gaps_in (row_filled (row_of m r)) at n
   gaps_in-row m r at n some fits =
       let first : (r * ROW_SIZE + at) / BLOCK_SIZE ≡ r * ROW_BLOCKS + at / BLOCK_SIZE = omega arith in
       let here = span_end_some BLOCK_SIZE at n some in
@@ -59,11 +66,15 @@ module _ {Z : Type 0} where
     other_byte o ne = byte_at-same m n o (others (o / BLOCK_SIZE / ROW_BLOCKS) (λ e. ne (omega (arith, e))))
 
     -- a byte of the row stays if it does in the row
-    own_byte : (o : ℕ) → o / ROW_SIZE ≡ r → row_byte (row_of n r) (o % ROW_SIZE) ≡ row_byte (row_of m r) (o % ROW_SIZE) → byte_at n o ≡ byte_at m o
+    own_byte : (o : ℕ) → o / ROW_SIZE ≡ r
+        → row_byte (row_of n r) (o % ROW_SIZE) ≡ row_byte (row_of m r) (o % ROW_SIZE)
+        → byte_at n o ≡ byte_at m o
     own_byte o e same = byte_at-own n r o e ∙ same ∙ sym (byte_at-own m r o e)
 
     -- what the row sees is what all rows see
-    pub Puts-row : (a b : ℕ) → Puts (row_byte (row_of m r)) (row_byte (row_of n r)) (row_filled (row_of m r)) (row_filled (row_of n r)) a b at part → Puts (byte_at m) (byte_at n) (filled m) (filled n) a b (r * ROW_SIZE + at) part
+    pub Puts-row : (a b : ℕ)
+        → Puts (row_byte (row_of m r)) (row_byte (row_of n r)) (row_filled (row_of m r)) (row_filled (row_of n r)) a b at part
+        → Puts (byte_at m) (byte_at n) (filled m) (filled n) a b (r * ROW_SIZE + at) part
     Puts-row a b puts = record {
       writes = record {
         inside = λ i l.

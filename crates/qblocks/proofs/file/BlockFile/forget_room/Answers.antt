@@ -4,7 +4,9 @@ use Rattle.qblocks.specs.Room.{Room, no_room}
 use Rattle.qblocks.specs.Row.{in_span}
 use Rattle.qblocks.specs.Rows.{is_used, filled}
 use Rattle.qblocks.proofs.Spans.{or_no}
-use Rattle.qblocks.proofs.View.{file_of-same, IsWhole-same, rows_forgotten, in_no_room}
+use Rattle.qblocks.proofs.Used.{in_no_room}
+use Rattle.qblocks.proofs.View.{file_of-same}
+use Rattle.qblocks.proofs.Whole.{IsWhole-same, rows_forgotten}
 use Rattle.qblocks.proofs.file.BlockFile.forget_room.Goals as goal
 
 pub invariant_of-self : goal.invariant_of-self

@@ -5,7 +5,9 @@ use Rattle.qblocks.specs.Room.{Room}
 use Rattle.qblocks.specs.Row.{in_span}
 use Rattle.qblocks.specs.Rows.{is_used, in_room, filled}
 use Rattle.qblocks.proofs.Spans.{or_no, in_span_none}
-use Rattle.qblocks.proofs.View.{file_of-same, IsWhole-same, rows_forgotten, rows_made, rows_used, in_no_room, used-same, used-touched, missing_blocks}
+use Rattle.qblocks.proofs.Used.{in_no_room, used-touched}
+use Rattle.qblocks.proofs.View.{file_of-same, missing_blocks}
+use Rattle.qblocks.proofs.Whole.{IsWhole-same, rows_forgotten, rows_made, rows_used, used-same}
 use Rattle.qblocks.proofs.file.BlockFile.make_room.Goals as goal
 use Rattle.qblocks.proofs.file.BlockFile.make_room.Goals.{then-missing-eq0, else-missing-eq0}
 

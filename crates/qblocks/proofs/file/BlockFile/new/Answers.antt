@@ -1,5 +1,6 @@
 use Rattle.qblocks.specs.Room.{no_room}
-use Rattle.qblocks.proofs.View.{file_of-empty, IsWhole-empty}
+use Rattle.qblocks.proofs.View.{file_of-empty}
+use Rattle.qblocks.proofs.Whole.{IsWhole-empty}
 use Rattle.qblocks.proofs.file.BlockFile.new.Goals as goal
 
 pub invariant_of-result : goal.invariant_of-result

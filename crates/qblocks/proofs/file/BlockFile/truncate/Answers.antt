@@ -1,6 +1,7 @@
 use Rattle.std.proofs.Common.{ap, arith, ◌∙◌, length}
 use Rattle.qblocks.specs.File.{after_truncate}
-use Rattle.qblocks.proofs.View.{file_of-grown, file_of-cut, IsWhole-grown, IsWhole-cut, row_below, rows_used}
+use Rattle.qblocks.proofs.View.{file_of-grown, file_of-cut}
+use Rattle.qblocks.proofs.Whole.{IsWhole-grown, IsWhole-cut, row_below, rows_used}
 use Rattle.qblocks.proofs.file.BlockFile.truncate.Goals as goal
 
 pub invariant_of-self : goal.invariant_of-self
