@@ -90,7 +90,8 @@ cond_other : (b : Bool) (x y : Option Inode) → b ≡ false → cond b x y ≡ 
 cond_other true x y h = cc
 cond_other false x y h = refl
 
-not_both : (b : Bool) → (b ≡ true → ⊥) → b ≡ false
+-- a test that is not true is false
+pub not_both : (b : Bool) → (b ≡ true → ⊥) → b ≡ false
 not_both true h = absurd (h refl)
 not_both false h = refl
 
@@ -146,7 +147,7 @@ module _ (S : State) (inode : Inode) (dir : ℕ) (name : List ℕ) (fits : FitsT
 -- ---- a changed file
 
 -- the owners of an inode that is there are known
-known-owners : (S : State) (number : ℕ) (inode : Inode) → FitsTogether S → inode_at S number ≡ Some inode → has_known_owners S inode ≡ true
+pub known-owners : (S : State) (number : ℕ) (inode : Inode) → FitsTogether S → inode_at S number ≡ Some inode → has_known_owners S inode ≡ true
 known-owners S number inode fits there =
     let known : IfSome (inode_at S number) (λ i. has_known_owners S i ≡ true) =
     IfSome-lookup_from_All (λ i. has_known_owners S i ≡ true) (is_at (nat_cmp number)) S.inodes fits.owners_known in
@@ -154,7 +155,8 @@ known-owners S number inode fits there =
     subst at there known
 
 module _ (S : State) (number : ℕ) (inode : Inode) (file : File) (there : inode_at S number ≡ Some inode) where
-  directory-same : (q : ℕ) → is_directory (with_file S number inode file) q ≡ is_directory S q
+  -- another file makes no directory and takes none
+  pub directory-same : (q : ℕ) → is_directory (with_file S number inode file) q ≡ is_directory S q
   directory-same q = seen-set_value is_dir (is_at (nat_cmp number)) S.inodes inode (record inode { file = file }) q there refl
 
   some-same : (q : ℕ) → is_some (inode_at (with_file S number inode file) q) ≡ is_some (inode_at S q)

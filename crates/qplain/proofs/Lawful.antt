@@ -31,7 +31,7 @@ ends_stand-after S moment =
     })
 
 -- a decision that grants
-not_full-granted : (full : Bool) (r : Option Refusal) → cond full (Some ENOSPC) r ≡ None → full ≡ false
+pub not_full-granted : (full : Bool) (r : Option Refusal) → cond full (Some ENOSPC) r ≡ None → full ≡ false
 not_full-granted true r h = cc
 not_full-granted false r h = refl
 

@@ -1,4 +1,4 @@
--- What the proofs of more than one file share: of setups, then of the plain machine's laws.
+-- What the proofs of more than one file share: of setups, then of the plain machine's laws, then what stores cite of it.
 pub mod Ordered
 pub mod Refused
 pub mod Within
@@ -10,3 +10,7 @@ pub mod Lawful
 pub mod Start
 pub mod Ends
 pub mod Kept
+pub mod Settling
+pub mod Rising
+pub mod Linking
+pub mod Walking

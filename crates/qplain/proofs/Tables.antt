@@ -1,7 +1,7 @@
 -- What a new entry and a changed one do to the tables of a state.
-use Rattle.std.proofs.Common.{◌≡◌, ℕ, Bool, true, false, ◌||◌, nat_lt, cond, List, [], ◌∷◌, All, Option, Some, None, refl, sym, ap, ◌∙◌, tests, arith}
+use Rattle.std.proofs.Common.{◌≡◌, ℕ, Bool, true, false, ◌||◌, nat_lt, cond, List, [], ◌∷◌, All, Option, Some, None, ◌+◌, sum_by, refl, sym, ap, ◌∙◌, tests, arith}
 use Rattle.std.specs.List.{list_any}
-use Rattle.std.specs.Map.{lookup, set_value}
+use Rattle.std.specs.Map.{lookup, set_value, values_of}
 use Rattle.std.specs.declared.cmp.Ordering.{Ordering}
 use Rattle.std.specs.declared.cmp.Ordering.TheVariants.{Less, Equal, Greater}
 use Rattle.std.specs.Ordering.{nat_cmp, is_eq, eq_by_cmp, match_ordering}
@@ -9,6 +9,7 @@ use Rattle.std.specs.BTreeMap.{insert_entry, is_at}
 use Rattle.std.specs.Cmp.{IsTotalOrder, IsEquivalence, eq_by_cmp_equiv, nat_cmp_total, unsigned_ties, then_total, on_total}
 use Rattle.std.specs.Cmp.Lexicographic.{nat_list_cmp_total}
 use Rattle.std.proofs.lemmas.Bool.{eqb-true}
+use Rattle.std.proofs.lemmas.List.Sums.{sum_by-cons}
 use Rattle.std.proofs.lemmas.List.Elements.{All-cons, All-head, All-nil, All-tail}
 use Rattle.qplain.specs.State.{Inode, name_key_cmp}
 
@@ -120,3 +121,27 @@ seen-set_value {X} g test (e ∷ es) v w q found same =
         → g (cond b (Some e.1) (lookup (is_at (nat_cmp q)) (set_value test es w))) ≡ g (cond b (Some e.1) (lookup (is_at (nat_cmp q)) es))
     seen_later true h = refl
     seen_later false h = h
+
+-- a new entry adds its own term to a sum over the entries
+pub sum_by-insert_new : {K X : Type 0} (f : K × X → ℕ) (R : K → K → Ordering) (es : List (K × X)) (k : K) (v : X)
+    → lookup (is_at (R k)) es ≡ None → sum_by f (insert_entry R es k v) ≡ sum_by f es + f (k, v)
+sum_by-insert_new f R [] k v none = refl
+sum_by-insert_new f R (e ∷ es) k v none =
+    elim (R k e.0) as (λ r. cond (is_eq r) (Some e.1) (lookup (is_at (R k)) es) ≡ None
+    → sum_by f (match_ordering r ((k, v) ∷ e ∷ es) ((e.0, v) ∷ es) (e ∷ insert_entry R es k v)) ≡ sum_by f (e ∷ es) + f (k, v)) [
+      | Less ↦ λ h. omega (arith, sum_by-cons f (k, v) (e ∷ es))
+      | Equal ↦ λ h. cc
+      | Greater ↦ λ h. omega (arith, sum_by-cons f e (insert_entry R es k v), sum_by-cons f e es, sum_by-insert_new f R es k v h)
+    ] none
+
+-- a new entry adds the term of its value to a sum over the values
+pub sum_by-values-insert_new : {K X : Type 0} (f : X → ℕ) (R : K → K → Ordering) (es : List (K × X)) (k : K) (v : X)
+    → lookup (is_at (R k)) es ≡ None → sum_by f (values_of (insert_entry R es k v)) ≡ sum_by f (values_of es) + f v
+sum_by-values-insert_new f R [] k v none = refl
+sum_by-values-insert_new {K} {X} f R (e ∷ es) k v none =
+    elim (R k e.0) as (λ r. cond (is_eq r) (Some e.1) (lookup (is_at (R k)) es) ≡ None
+    → sum_by f (values_of (match_ordering r ((k, v) ∷ e ∷ es) ((e.0, v) ∷ es) (e ∷ insert_entry R es k v))) ≡ sum_by f (values_of (e ∷ es)) + f v) [
+      | Less ↦ λ h. omega (arith, sum_by-cons f v (values_of (e ∷ es)))
+      | Equal ↦ λ h. cc
+      | Greater ↦ λ h. omega (arith, sum_by-cons f e.1 (values_of (insert_entry R es k v)), sum_by-cons f e.1 (values_of es), sum_by-values-insert_new f R es k v h)
+    ] none

@@ -13,6 +13,7 @@ pub mod Attempt
 pub mod Step
 pub mod Journal
 pub mod Laws
+pub mod Rises
 pub mod Examples
 pub mod KeptCred
 pub mod KeptSetup
