@@ -1,0 +1,75 @@
+-- The owners of a new store: each uses nothing, but user 0 and group 0 have the root directory.
+use Rattle.std.proofs.Common.{◌≡◌, ℕ, zero, suc, ◌+◌, Bool, true, false, cond, ◌==◌, List, [], ◌∷◌, map, All, None, refl, sym, tests, arith, zero-add}
+use Rattle.std.proofs.lemmas.List.Elements.{All-cons, All-nil}
+use Rattle.qrules.specs.declared.kind.Kind.{Kind}
+use Rattle.qrules.specs.declared.kind.Kind.TheVariants.{User, Group}
+use Rattle.qrules.specs.declared.graces.Graces.{Graces}
+use Rattle.qrules.specs.Sort.{Sort, Inodes, Blocks, is_over}
+use Rattle.qrules.specs.Account.{HasEnds}
+use Rattle.qrules.specs.Grace.{charged, next_end, unused}
+use Rattle.qplain.specs.declared.principal.Principal.{Principal}
+use Rattle.qplain.specs.Setups.{Setting}
+use Rattle.qplain.specs.State.{holder_of, root, start}
+use Rattle.qplain.specs.Use.{use_of, weight}
+use Rattle.qstore.specs.Owners.{IsCountedIn, charged_owner, holder_in, new_owner}
+use Rattle.qstore.proofs.Ends.{ends-charged}
+
+-- nothing is over a limit
+over-zero : (limit : ℕ) → is_over 0 limit ≡ false
+over-zero zero = refl
+over-zero (suc limit) = grind (arith, tests)
+
+-- one inode is over no limit, since a limit of 0 is none
+over-one : (limit : ℕ) → is_over 1 limit ≡ false
+over-one zero = refl
+over-one (suc limit) = grind (arith, tests)
+
+-- so no end begins
+no-end : (over : Bool) (new : ℕ) → over ≡ false → next_end over None new ≡ None
+no-end true new e = cc
+no-end false new e = refl
+
+module _ (graces : Graces) (moment : ℕ) where
+  -- the holder of a new owner, with the root directory or without it, is the declared one
+  holder-begun : (kind : Kind) (p : Principal) (b : Bool)
+      → holder_in kind (cond b (record (new_owner p) { account = charged (unused p.limits) graces moment 0 1 }) (new_owner p)) ≡ holder_of kind p
+  holder-begun kind p true =
+      let block : next_end (is_over 0 p.limits.block_soft) None (moment + graces.block) ≡ None = no-end _ (moment + graces.block) (over-zero p.limits.block_soft) in
+      let inode : next_end (is_over 1 p.limits.inode_soft) None (moment + graces.inode) ≡ None = no-end _ (moment + graces.inode) (over-one p.limits.inode_soft) in
+      λ i. record (holder_of kind p) { block_end = block i; inode_end = inode i }
+  holder-begun kind p false = refl
+
+  -- the holders of the owners of a new store are the declared principals
+  pub holders-begun : (kind : Kind) (ps : List Principal) → map (holder_in kind) (map (charged_owner 0 graces moment 0 1) (map new_owner ps)) ≡ map (holder_of kind) ps
+  holders-begun kind [] = refl
+  holders-begun kind (p ∷ ps) = λ i. holder-begun kind p (0 == p.id) i ∷ holders-begun kind ps i
+
+  -- the ends of new owners are where they should be
+  ends-new : (ps : List Principal) → All (λ o. HasEnds o.account) (map new_owner ps)
+  ends-new [] = All-nil (λ o. HasEnds o.account)
+  ends-new (p ∷ ps) =
+      All-cons (λ o. HasEnds o.account) (new_owner p) (map new_owner ps)
+      (record { inodes = sym (over-zero p.limits.inode_soft); blocks = sym (over-zero p.limits.block_soft) }) (ends-new ps)
+
+  -- and those of the owners of a new store
+  pub ends-begun : (ps : List Principal) → All (λ o. HasEnds o.account) (map (charged_owner 0 graces moment 0 1) (map new_owner ps))
+  ends-begun ps = ends-charged 0 graces moment 0 1 (map new_owner ps) (ends-new ps)
+
+-- the use in a new store: the root directory is user 0's and group 0's
+use_of-start : (s : Setting) (kind : Kind) (id : ℕ) (sort : Sort) → use_of (start s) kind id sort ≡ cond (0 == id) (weight sort root) 0
+use_of-start s User id sort = zero-add (cond (0 == id) (weight sort root) 0)
+use_of-start s Group id sort = zero-add (cond (0 == id) (weight sort root) 0)
+
+module _ (s : Setting) (kind : Kind) (graces : Graces) (moment : ℕ) where
+  -- an owner of a new store is counted
+  owner-counted-begun : (p : Principal) (b : Bool) → use_of (start s) kind p.id Blocks ≡ cond b (weight Blocks root) 0 → use_of (start s) kind p.id Inodes ≡ cond b (weight Inodes root) 0
+      → IsCountedIn (start s) kind (cond b (record (new_owner p) { account = charged (unused p.limits) graces moment 0 1 }) (new_owner p))
+  owner-counted-begun p true blocks inodes = record { blocks = sym blocks; inodes = sym inodes }
+  owner-counted-begun p false blocks inodes = record { blocks = sym blocks; inodes = sym inodes }
+
+  -- all owners of a new store are counted
+  pub counted-begun : (ps : List Principal) → All (IsCountedIn (start s) kind) (map (charged_owner 0 graces moment 0 1) (map new_owner ps))
+  counted-begun [] = All-nil (IsCountedIn (start s) kind)
+  counted-begun (p ∷ ps) =
+      All-cons (IsCountedIn (start s) kind) (charged_owner 0 graces moment 0 1 (new_owner p)) (map (charged_owner 0 graces moment 0 1) (map new_owner ps))
+      (owner-counted-begun p (0 == p.id) (use_of-start s kind p.id Blocks) (use_of-start s kind p.id Inodes)) (counted-begun ps)

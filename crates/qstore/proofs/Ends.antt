@@ -1,0 +1,87 @@
+-- Grace ends that are where they should be, and changes that move none.
+use Rattle.std.proofs.Common.{◌≡◌, ℕ, ◌+◌, Bool, true, false, cond, ◌==◌, List, [], ◌∷◌, map, All, Option, Some, None, is_some, refl}
+use Rattle.std.proofs.lemmas.List.Elements.{All-cons, All-head, All-nil, All-tail}
+use Rattle.qrules.specs.declared.graces.Graces.{Graces}
+use Rattle.qrules.specs.declared.limits.Limits.{Limits}
+use Rattle.qrules.specs.Sort.{Inodes, Blocks, grace_of}
+use Rattle.qrules.specs.Account.{Account, HasEnds, is_over_soft}
+use Rattle.qrules.specs.Grace.{end_after, next_end, with_ends}
+use Rattle.qplain.specs.State.{Holder, State}
+use Rattle.qplain.specs.Use.{account_of}
+use Rattle.qplain.specs.Decision.{with_ends_of}
+use Rattle.qstore.specs.declared.owner.Owner.{Owner}
+use Rattle.qstore.specs.Owners.{charged_owner, relimited_owner}
+
+-- an end that stands exactly where it should is the next one too
+next_end-same : (over : Bool) (end : Option ℕ) (new : ℕ) → is_some end ≡ over → next_end over end new ≡ end
+next_end-same false None new h = refl
+next_end-same false (Some end) new h = cc
+next_end-same true None new h = cc
+next_end-same true (Some end) new h = refl
+
+-- the next end stands exactly where it should
+next_end-stands : (over : Bool) (end : Option ℕ) (new : ℕ) → is_some (next_end over end new) ≡ over
+next_end-stands false end new = refl
+next_end-stands true None new = refl
+next_end-stands true (Some end) new = refl
+
+-- an account whose ends are where they should be keeps its block end
+pub block_end-same : (account : Account) (graces : Graces) (moment : ℕ) → HasEnds account → end_after Blocks account graces moment ≡ account.block_end
+block_end-same account graces moment ends = next_end-same (is_over_soft Blocks account) account.block_end (moment + grace_of Blocks graces) ends.blocks
+
+-- and its inode end
+pub inode_end-same : (account : Account) (graces : Graces) (moment : ℕ) → HasEnds account → end_after Inodes account graces moment ≡ account.inode_end
+inode_end-same account graces moment ends = next_end-same (is_over_soft Inodes account) account.inode_end (moment + grace_of Inodes graces) ends.inodes
+
+-- the ends that stand after any change are where they should be
+pub HasEnds-with_ends : (account : Account) (graces : Graces) (moment : ℕ) → HasEnds (with_ends account graces moment)
+HasEnds-with_ends account graces moment = record {
+  inodes = next_end-stands (is_over_soft Inodes account) account.inode_end (moment + grace_of Inodes graces);
+  blocks = next_end-stands (is_over_soft Blocks account) account.block_end (moment + grace_of Blocks graces);
+}
+
+-- a holder whose ends are where they should be keeps them
+pub with_ends_of-same : (S : State) (moment : ℕ) (h : Holder) → HasEnds (account_of S h) → with_ends_of S moment h ≡ h
+with_ends_of-same S moment h ends =
+    λ i. record h { block_end = block_end-same (account_of S h) S.graces moment ends i; inode_end = inode_end-same (account_of S h) S.graces moment ends i }
+
+-- and so do all such holders
+pub holders-same : (S : State) (moment : ℕ) (hs : List Holder) → All (λ h. HasEnds (account_of S h)) hs → map (with_ends_of S moment) hs ≡ hs
+holders-same S moment [] all = refl
+holders-same S moment (h ∷ hs) all =
+    let here : with_ends_of S moment h ≡ h = with_ends_of-same S moment h (All-head (λ g. HasEnds (account_of S g)) h hs all) in
+    let rest : map (with_ends_of S moment) hs ≡ hs = holders-same S moment hs (All-tail (λ g. HasEnds (account_of S g)) h hs all) in
+    λ i. here i ∷ rest i
+
+-- new graces alone move no end
+pub holders-graced : (S : State) (graces : Graces) (moment : ℕ) (hs : List Holder) → All (λ h. HasEnds (account_of S h)) hs
+    → map (with_ends_of (record S { graces = graces }) moment) hs ≡ hs
+holders-graced S graces moment hs all = holders-same (record S { graces = graces }) moment hs all
+
+-- ---- the ends of owners
+
+-- a change of some owners keeps what it gives, and what all of them have
+all-changed : (P : Owner → Type 0) (test : Owner → Bool) (f : Owner → Owner) (os : List Owner) → ((o : Owner) → P (f o)) → All P os
+    → All P (map (λ o. cond (test o) (f o) o) os)
+all-changed P test f [] gives all = All-nil P
+all-changed P test f (o ∷ os) gives all =
+    let rest : All P (map (λ p. cond (test p) (f p) p) os) = all-changed P test f os gives (All-tail P o os all) in
+    All-cons P (cond (test o) (f o) o) (map (λ p. cond (test p) (f p) p) os) (chosen (test o) (gives o) (All-head P o os all)) rest
+  where
+    chosen : (b : Bool) → P (f o) → P o → P (cond b (f o) o)
+    chosen true new old = new
+    chosen false new old = old
+
+-- a charge leaves each end where it should be
+pub ends-charged : (id : ℕ) (graces : Graces) (moment blocks inodes : ℕ) (os : List Owner) → All (λ o. HasEnds o.account) os
+    → All (λ o. HasEnds o.account) (map (charged_owner id graces moment blocks inodes) os)
+ends-charged id graces moment blocks inodes os all =
+    all-changed (λ o. HasEnds o.account) (λ o. id == o.id) _ os
+    (λ o. HasEnds-with_ends (record o.account { blocks = o.account.blocks + blocks; inodes = o.account.inodes + inodes }) graces moment) all
+
+-- and so do new limits
+pub ends-relimited : (id : ℕ) (limits : Limits) (graces : Graces) (moment : ℕ) (os : List Owner) → All (λ o. HasEnds o.account) os
+    → All (λ o. HasEnds o.account) (map (relimited_owner id limits graces moment) os)
+ends-relimited id limits graces moment os all =
+    all-changed (λ o. HasEnds o.account) (λ o. id == o.id) _ os
+    (λ o. HasEnds-with_ends (record o.account { limits = limits; block_end = None; inode_end = None }) graces moment) all

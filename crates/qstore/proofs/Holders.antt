@@ -1,0 +1,119 @@
+-- What is asked of the holders of a state, answered by the owners of a kind.
+use Rattle.std.proofs.Common.{◌≡◌, ℕ, zero, suc, Bool, true, false, cond, ◌&&◌, ◌||◌, ◌==◌, List, [], ◌∷◌, ◌++◌, map, Some, None, find, slice_get, refl, sym, ap, ◌∙◌}
+use Rattle.std.specs.List.{list_any}
+use Rattle.std.proofs.lemmas.Option.{same_Some}
+use Rattle.std.proofs.lemmas.List.{append-nil}
+use Rattle.qrules.specs.declared.kind.Kind.{Kind}
+use Rattle.qrules.specs.declared.kind.Kind.TheVariants.{User, Group}
+use Rattle.qplain.specs.State.{Holder}
+use Rattle.qplain.specs.Arguments.{is_holder, is_same_kind}
+use Rattle.qstore.specs.declared.owner.Owner.{Owner}
+use Rattle.qstore.specs.Owners.{AreById, holder_in, owners_of}
+use Rattle.qstore.proofs.ById.{by_id-rest, place-first, place-later, place-of}
+
+-- ---- lists one behind the other
+
+-- a test of two lists
+list_any-append : {X : Type 0} (test : X → Bool) (xs ys : List X) → list_any test (xs ++ ys) ≡ (list_any test xs || list_any test ys)
+list_any-append test [] ys = refl
+list_any-append test (x ∷ xs) ys = ap (λ b. test x || b) (list_any-append test xs ys) ∙ or_assoc (test x) (list_any test xs) (list_any test ys)
+  where
+    or_assoc : (a b c : Bool) → (a || (b || c)) ≡ ((a || b) || c)
+    or_assoc true b c = refl
+    or_assoc false b c = refl
+
+-- ---- one kind
+
+module _ (kind other : Kind) (id : ℕ) where
+  -- a holder of the other kind is not the one
+  other-kind : (b c : Bool) → b ≡ false → (b && c) ≡ false
+  other-kind true c apart = cc
+  other-kind false c apart = refl
+
+  -- no holder of the other kind is the one
+  any-other : is_same_kind kind other ≡ false → (os : List Owner) → list_any (is_holder kind id) (map (holder_in other) os) ≡ false
+  any-other apart [] = refl
+  any-other apart (o ∷ os) =
+      ap (λ b. b || list_any (is_holder kind id) (map (holder_in other) os)) (other-kind (is_same_kind kind other) (id == o.id) apart) ∙ any-other apart os
+
+  -- a holder of the kind is the one where its owner is
+  any-own : is_same_kind kind kind ≡ true → (os : List Owner) → list_any (is_holder kind id) (map (holder_in kind) os) ≡ list_any (λ o. id == o.id) os
+  any-own same [] = refl
+  any-own same (o ∷ os) = λ i. (same i && id == o.id) || any-own same os i
+
+  -- nor is one found
+  find-other : is_same_kind kind other ≡ false → (os : List Owner) (rest : List Holder)
+      → find (is_holder kind id) (map (holder_in other) os ++ rest) ≡ find (is_holder kind id) rest
+  find-other apart [] rest = refl
+  find-other apart (o ∷ os) rest =
+      ap (λ b. cond b (Some (holder_in other o)) (find (is_holder kind id) (map (holder_in other) os ++ rest))) (other-kind (is_same_kind kind other) (id == o.id) apart)
+      ∙ find-other apart os rest
+
+  -- nor behind the owners of whom none has the id
+  find-absent : is_same_kind kind kind ≡ true → (os : List Owner) (rest : List Holder) → list_any (λ o. id == o.id) os ≡ false
+      → find (is_holder kind id) (map (holder_in kind) os ++ rest) ≡ find (is_holder kind id) rest
+  find-absent same [] rest absent = refl
+  find-absent same (o ∷ os) rest absent =
+      ap (λ b. cond (b && id == o.id) (Some (holder_in kind o)) (find (is_holder kind id) (map (holder_in kind) os ++ rest))) same
+      ∙ ap (λ b. cond b (Some (holder_in kind o)) (find (is_holder kind id) (map (holder_in kind) os ++ rest))) (or-first (id == o.id) (list_any (λ p. id == p.id) os) absent)
+      ∙ find-absent same os rest (or-second (id == o.id) (list_any (λ p. id == p.id) os) absent)
+    where
+      or-first : (a b : Bool) → (a || b) ≡ false → a ≡ false
+      or-first true b e = cc
+      or-first false b e = refl
+
+      or-second : (a b : Bool) → (a || b) ≡ false → b ≡ false
+      or-second true b e = cc
+      or-second false b e = e
+
+  -- the holder of the owner at the place of the id is found
+  find-at : is_same_kind kind kind ≡ true → (os : List Owner) (place : ℕ) (o : Owner) (rest : List Holder) → AreById os → slice_get os place ≡ Some o → o.id ≡ id
+      → find (is_holder kind id) (map (holder_in kind) os ++ rest) ≡ Some (holder_in kind o)
+  find-at same [] place o rest by_id there is = cc
+  find-at same (p ∷ os) zero o rest by_id there is =
+      let own : (id == p.id) ≡ true = place-first id p os (place-of (p ∷ os) zero id o there is) in
+      (λ i. cond (same i && own i) (Some (holder_in kind p)) (find (is_holder kind id) (map (holder_in kind) os ++ rest)))
+      ∙ ap (λ q. Some (holder_in kind q)) (same_Some p o there)
+  find-at same (p ∷ os) (suc place) o rest by_id there is =
+      let apart : (id == p.id) ≡ false = place-later id p os place by_id (place-of os place id o there is) in
+      (λ i. cond (same i && apart i) (Some (holder_in kind p)) (find (is_holder kind id) (map (holder_in kind) os ++ rest)))
+      ∙ find-at same os place o rest (by_id-rest p os by_id) there is
+
+-- ---- users and groups
+
+-- a principal is declared where the owners of its kind have its id
+pub declared-owners : (kind : Kind) (id : ℕ) (us gs : List Owner)
+    → list_any (is_holder kind id) (map (holder_in User) us ++ map (holder_in Group) gs) ≡ list_any (λ o. id == o.id) (owners_of kind us gs)
+declared-owners User id us gs =
+    list_any-append (is_holder User id) (map (holder_in User) us) (map (holder_in Group) gs)
+    ∙ (λ i. any-own User User id refl us i || any-other User Group id refl gs i)
+    ∙ or-false (list_any (λ o. id == o.id) us)
+  where
+    or-false : (a : Bool) → (a || false) ≡ a
+    or-false true = refl
+    or-false false = refl
+declared-owners Group id us gs =
+    list_any-append (is_holder Group id) (map (holder_in User) us) (map (holder_in Group) gs)
+    ∙ (λ i. any-other Group User id refl us i || any-own Group Group id refl gs i)
+
+-- the holder of a principal is that of the owner at its place
+pub find-owner : (kind : Kind) (id : ℕ) (us gs : List Owner) (place : ℕ) (o : Owner) → AreById (owners_of kind us gs)
+    → slice_get (owners_of kind us gs) place ≡ Some o → o.id ≡ id
+    → find (is_holder kind id) (map (holder_in User) us ++ map (holder_in Group) gs) ≡ Some (holder_in kind o)
+find-owner User id us gs place o by_id there is = find-at User User id refl us place o (map (holder_in Group) gs) by_id there is
+find-owner Group id us gs place o by_id there is =
+    find-other Group User id refl us (map (holder_in Group) gs)
+    ∙ ap (find (is_holder Group id)) (sym (append-nil (map (holder_in Group) gs)))
+    ∙ find-at Group Group id refl gs place o [] by_id there is
+
+-- there is no holder of a principal whose id no owner has
+pub find-no-owner : (kind : Kind) (id : ℕ) (us gs : List Owner) → list_any (λ o. id == o.id) (owners_of kind us gs) ≡ false
+    → find (is_holder kind id) (map (holder_in User) us ++ map (holder_in Group) gs) ≡ None
+find-no-owner User id us gs absent =
+    find-absent User User id refl us (map (holder_in Group) gs) absent
+    ∙ ap (find (is_holder User id)) (sym (append-nil (map (holder_in Group) gs)))
+    ∙ find-other User Group id refl gs []
+find-no-owner Group id us gs absent =
+    find-other Group User id refl us (map (holder_in Group) gs)
+    ∙ ap (find (is_holder Group id)) (sym (append-nil (map (holder_in Group) gs)))
+    ∙ find-absent Group Group id refl gs [] absent

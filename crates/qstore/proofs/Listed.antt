@@ -1,0 +1,70 @@
+-- The rows of the inodes of a store: what is kept for each number is what its inode counts to.
+use Rattle.std.proofs.Common.{◌≡◌, ℕ, suc, ◌+◌, ◌≤◌, List, [], ◌∷◌, length, map, sum_by, All, Some, slice_get, Result, Ok, Err, IfOk, OnOk, refl, sym, ap, subst, ◌∙◌, arith}
+use Rattle.std.specs.Map.{keys_of, lookup, values_of}
+use Rattle.std.specs.BTreeMap.{is_at}
+use Rattle.std.specs.Ordering.{nat_cmp}
+use Rattle.std.specs.Cmp.{eq_by_cmp_equiv, nat_cmp_total}
+use Rattle.std.specs.FinMap.{nat_cmp-IsAntisymmetric}
+use Rattle.std.specs.Option.{option_map, unwrap_or}
+use Rattle.std.specs.List.Sorted.{IsStrictlySortedBy}
+use Rattle.std.proofs.lemmas.List.Elements.{All-cons, All-nil}
+use Rattle.std.proofs.lemmas.List.Sums.{sum_by-cons}
+use Rattle.std.proofs.lemmas.Map.Entries.{lookup_from_place}
+use Rattle.std.proofs.lemmas.Map.Keys.{IsDistinct-from_sorted}
+use Rattle.qrules.specs.Sort.{Blocks}
+use Rattle.qplain.specs.declared.setup.TheConstants.{MAX_BLOCKS}
+use Rattle.qplain.specs.State.{Inode, State, inode_at}
+use Rattle.qplain.specs.Use.{links_of, weight}
+use Rattle.qstore.specs.InOrder.{in_order, read_by}
+use Rattle.qstore.specs.Kept.{IsCounted}
+use Rattle.qstore.specs.Rows.{inode_row_of}
+use Rattle.qstore.specs.Tree.{kept_row}
+use Rattle.qstore.specs.declared.owner.Owner.{Owner}
+use Rattle.qstore.proofs.InOrder.{strictly-in_order}
+use Rattle.qstore.proofs.Rows.{HasFewBlocks}
+
+-- values that are read stand under the same keys
+keys_of-read_by : {X Y : Type 0} (f : X → Y) (es : List (ℕ × X)) → keys_of (read_by f es) ≡ keys_of es
+keys_of-read_by f [] = refl
+keys_of-read_by f (e ∷ es) = ap (λ ks. e.0 ∷ ks) (keys_of-read_by f es)
+
+-- what is seen of a table by number stands in the order of the numbers
+pub seen-by_number : {X Y : Type 0} (f : X → Y) (es : List (ℕ × X)) → IsStrictlySortedBy nat_cmp (keys_of (read_by f (in_order nat_cmp es)))
+seen-by_number f es = subst (IsStrictlySortedBy nat_cmp) (sym (keys_of-read_by f (in_order nat_cmp es))) (strictly-in_order nat_cmp_total nat_cmp-IsAntisymmetric es)
+
+-- blocks that are few in all are few in each inode
+few-of : (es : List (ℕ × Inode)) → sum_by (weight Blocks) (values_of es) ≤ MAX_BLOCKS → All HasFewBlocks es
+few-of [] low = All-nil HasFewBlocks
+few-of (e ∷ es) low =
+    let all : length e.1.file.allocated + sum_by (weight Blocks) (values_of es) ≤ MAX_BLOCKS = subst (λ n. n ≤ MAX_BLOCKS) (sum_by-cons (weight Blocks) e.1 (values_of es)) low in
+    All-cons HasFewBlocks e es (omega (arith, all)) (few-of es (omega (arith, all)))
+
+-- rows that are made where this holds are also these
+pub rows-where : {V E Row : Type 0} (items : V → List Row) (result : Result V E) (P : Type 0) (made wanted : List Row)
+    → IfOk result (λ rows. items rows ≡ made) → OnOk result P → (P → made ≡ wanted) → IfOk result (λ rows. items rows ≡ wanted)
+rows-where items (Ok rows) P made wanted is holds same = is ∙ same holds
+rows-where items (Err e) P made wanted is holds same = tt
+
+module _ {S : State} {users groups : List Owner} {links : List (ℕ × ℕ)} {blocks inodes : ℕ} (kept : IsCounted S users groups links blocks inodes) where
+  -- no inode of a store has more blocks than fit its row
+  pub few-blocks : All HasFewBlocks S.inodes
+  few-blocks = let fit = kept.sound.lawful.blocks_fit in let low = kept.size_bound in few-of S.inodes (omega (arith, fit, low))
+
+  -- the row with the kept links is the one with the counted links, for an inode that is found
+  row-counted : (e : ℕ × Inode) → inode_at S e.0 ≡ Some e.1 → kept_row links e ≡ inode_row_of S e
+  row-counted e found =
+      let same : unwrap_or (lookup (is_at (nat_cmp e.0)) links) 0 ≡ links_of S e.0 e.1.dir =
+      ap (λ o. unwrap_or o 0) (kept.links_counted e.0 ∙ ap (option_map (λ inode. links_of S e.0 inode.dir)) found) in
+      λ i. record (inode_row_of S e) { links = same i }
+
+  rows-counted : (es : List (ℕ × Inode)) → ((k : ℕ) (e : ℕ × Inode) → slice_get es k ≡ Some e → inode_at S e.0 ≡ Some e.1) → map (kept_row links) es ≡ map (inode_row_of S) es
+  rows-counted [] found = refl
+  rows-counted (e ∷ es) found =
+      let here : kept_row links e ≡ inode_row_of S e = row-counted e (found 0 e refl) in
+      let rest : map (kept_row links) es ≡ map (inode_row_of S) es = rows-counted es (λ k. found (suc k)) in
+      λ i. here i ∷ rest i
+
+  -- the rows with the kept links are those with the counted links
+  pub inode-rows-counted : IsStrictlySortedBy nat_cmp (keys_of S.inodes) → map (kept_row links) S.inodes ≡ map (inode_row_of S) S.inodes
+  inode-rows-counted sorted =
+      rows-counted S.inodes (λ k e there. lookup_from_place (eq_by_cmp_equiv nat_cmp_total) S.inodes k e.0 e.1 (IsDistinct-from_sorted nat_cmp (keys_of S.inodes) sorted) there)

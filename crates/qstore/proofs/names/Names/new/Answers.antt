@@ -1,0 +1,5 @@
+use Rattle.qstore.proofs.Bytes.{names_of-none}
+use Rattle.qstore.proofs.names.Names.new.Goals as goal
+
+pub returns : goal.returns
+returns c = names_of-none c.new.ensures.empty

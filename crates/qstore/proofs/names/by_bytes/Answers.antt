@@ -1,0 +1,23 @@
+use Rattle.std.proofs.Common.{◌≡◌, [], sym, ap, ◌∙◌}
+use Rattle.std.specs.Ordering.{nat_cmp}
+use Rattle.std.specs.Cmp.Lexicographic.{slice_cmp}
+use Rattle.std.specs.Map.Iter.{deref_pair}
+use Rattle.std.proofs.lemmas.Map.Iter.{rest_all, rest_more}
+use Rattle.qstore.specs.InOrder.{keyed_by}
+use Rattle.qstore.proofs.Bytes.{names_of-put_all}
+use Rattle.qstore.proofs.PutAll.{put_all, put_step}
+use Rattle.qstore.proofs.Read.{keyed_by-insert}
+use Rattle.qstore.proofs.names.by_bytes.Goals as goal
+
+pub loop-name-preserved : goal.loop-name-preserved
+loop-name-preserved c =
+    put_step (slice_cmp nat_cmp) (keyed_by (λ name. name.now.items) c.loop-name.numbers.entries) _ (keyed_by (λ name. name.items) c.loop-name.name-iterator) _ _ c.in-Some.name.now.items c.in-Some.number.now
+    (ap (keyed_by (λ name. name.items)) (rest_more deref_pair c.loop-name.name-iterator c.next.new.self c.next.result (c.in-Some.name, c.in-Some.number) c.in-Some.is c.next.ensures.steps))
+    (ap (keyed_by (λ name. name.now.items)) c.in_ok-insert.ensures.entries ∙ keyed_by-insert (λ name. name.now.items) (slice_cmp nat_cmp) c.loop-name.numbers.entries c.in-Some.name c.in-Some.number.now)
+    c.loop-name.invariant
+
+pub returns : goal.returns
+returns c =
+    let none : c.loop-name.name-iterator ≡ [] = rest_all deref_pair c.loop-name.name-iterator c.next.new.self c.next.result c.in-None.is c.next.ensures.steps in
+    ap (λ rest. put_all (slice_cmp nat_cmp) (keyed_by (λ name. name.now.items) c.loop-name.numbers.entries) (keyed_by (λ name. name.items) rest)) (sym none)
+    ∙ c.loop-name.invariant ∙ names_of-put_all c.args.table.now.entries c.iter-name-items.ensures.unique

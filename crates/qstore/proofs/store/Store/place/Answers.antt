@@ -1,0 +1,27 @@
+use Rattle.std.proofs.Common.{sym, ap, ◌∙◌}
+use Rattle.qrules.specs.declared.kind.Kind.TheVariants.{User, Group}
+use Rattle.qplain.specs.Arguments.{is_declared}
+use Rattle.qstore.specs.Stored.{Stored}
+use Rattle.qstore.proofs.Holders.{declared-owners}
+use Rattle.qstore.proofs.Stores.{id-at_place}
+use Rattle.qstore.proofs.store.Store.place.Goals as goal
+
+pub returns-in-User-clause-declared : goal.returns-in-User-clause-declared
+returns-in-User-clause-declared c =
+    let a = c.self.inside in
+    c.place.ensures.declared ∙ sym (declared-owners User c.args.id a.users a.groups)
+    ∙ ap (λ (v : Stored). is_declared v.state User c.args.id) c.self.view_is ∙ ap (λ k. is_declared c.args.self.now.state k c.args.id) (sym c.in-User.is)
+
+pub returns-in-User-clause-place : goal.returns-in-User-clause-place
+returns-in-User-clause-place c =
+    id-at_place User c.args.kind c.args.id c.self.inside.users c.args.self.now c.place.result (sym c.in-User.is) (ap (λ (v : Stored). v.users) c.self.view_is) c.place.ensures.place
+
+pub returns-in-Group-clause-declared : goal.returns-in-Group-clause-declared
+returns-in-Group-clause-declared c =
+    let a = c.self.inside in
+    c.place-in-Group.ensures.declared ∙ sym (declared-owners Group c.args.id a.users a.groups)
+    ∙ ap (λ (v : Stored). is_declared v.state Group c.args.id) c.self.view_is ∙ ap (λ k. is_declared c.args.self.now.state k c.args.id) (sym c.in-Group.is)
+
+pub returns-in-Group-clause-place : goal.returns-in-Group-clause-place
+returns-in-Group-clause-place c =
+    id-at_place Group c.args.kind c.args.id c.self.inside.groups c.args.self.now c.place-in-Group.result (sym c.in-Group.is) (ap (λ (v : Stored). v.groups) c.self.view_is) c.place-in-Group.ensures.place

@@ -1,0 +1,10 @@
+use Rattle.std.proofs.Common.{◌≡◌, [], ◌∷◌, rules, sym, ap, ◌∙◌}
+use Rattle.qplain.specs.Arguments.{paths_of}
+use Rattle.qstore.specs.Paths.{path_fault, paths_fault}
+use Rattle.qstore.proofs.Parts.{path_fault-one}
+use Rattle.qstore.proofs.store.arguments.paths_fault.Goals as goal
+
+pub returns-in-Create : goal.returns-in-Create
+returns-in-Create c =
+    let one : paths_of c.args.call.now ≡ c.in-Create.path ∷ [] = search rules in
+    c.fault_of.ensures ∙ ap path_fault c.bytes.ensures.bytes ∙ path_fault-one c.in-Create.path ∙ ap paths_fault (sym one)

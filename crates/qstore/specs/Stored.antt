@@ -1,0 +1,34 @@
+-- What a caller sees of a store: the plain machine's state, and beside it the room that `ready` makes and the ids by place.
+use Rattle.std.specs.Prelude.{◌≡◌, ℕ, ◌+◌, ◌≤◌, List, Some}
+use Rattle.std.specs.List.{slice_get}
+use Rattle.qrules.specs.declared.kind.Kind.{Kind}
+use Rattle.qrules.specs.declared.kind.Kind.TheVariants.{User, Group}
+use Rattle.qblocks.specs.declared.file.TheConstants.{MAX_SIZE}
+use Rattle.qplain.specs.declared.bounds.TheConstants.{MAX_NUMBER}
+use Rattle.qplain.specs.State.{State}
+use Rattle.qplain.specs.Laws.{IsLawful}
+use Rattle.qstore.specs.Room.{Room}
+use Rattle.qstore.specs.declared.places.Places.{Places}
+
+-- a state that a store can be in: a lawful one, whose numbers are within bounds
+pub record IsSound (S : State) : Type 0 where
+  pub lawful : IsLawful S
+  pub file_bound : S.file_limit ≤ MAX_SIZE
+  pub next_bound : S.next ≤ MAX_NUMBER + 1
+
+-- the state, the room that is made in it, and the ids of the users and of the groups in the order of their records
+pub record Stored : Type 0 where
+  pub state : State
+  pub room : Room
+  pub users : List ℕ
+  pub groups : List ℕ
+
+-- the ids of a kind
+abbrev pub ids_of : Stored → Kind → List ℕ
+ids_of s User = s.users
+ids_of s Group = s.groups
+
+-- the records of this user and this group stand at these places
+pub record HasPlaces (s : Stored) (places : Places) (uid gid : ℕ) : Type 0 where
+  pub user : slice_get s.users places.user ≡ Some uid
+  pub group : slice_get s.groups places.group ≡ Some gid

@@ -1,0 +1,18 @@
+//! The store: inodes, names and quota records in memory, proved to be the plain machine of `qplain`.
+#![tactic(auto)]
+
+pub use ready::Ready;
+pub use store::Store;
+
+mod changes;
+mod ledger;
+mod names;
+mod node;
+mod owner;
+mod path;
+mod places;
+mod ready;
+mod store;
+#[cfg(test)]
+mod tests;
+mod tree;

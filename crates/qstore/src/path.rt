@@ -1,0 +1,66 @@
+//! Paths as calls write them: what is wrong with one, and its components one after another.
+ghost use Rattle.std.specs.Prelude.{◌≡◌, ◌∷◌, ◌<◌, length, option_map, Some, IfSome};
+ghost use Rattle.std.specs.List.{position, slice_split};
+ghost use Rattle.qplain.specs.Walk.{components, is_name, is_slash};
+ghost use Rattle.qstore.specs.Paths.{parts_in, path_fault};
+
+use qplain::{MAX_NAME, MAX_PATH, Refusal};
+
+/// Where the first slash stands.
+fn slash_in(bytes: &[u8]) -> Option<usize>
+    ensures { result ≡ position is_slash bytes.now }
+{
+    bytes.iter().position(|byte| *byte == b'/')
+}
+
+/// The bytes before the first slash, and those behind it, if there is one.
+pub(crate) fn cut(bytes: &[u8]) -> (&[u8], Option<&[u8]>)
+    ensures parts { slice_split is_slash bytes.now ≡ result.0.now ∷ parts_in (option_map (λ rest. rest.now) result.1) }
+    ensures less { IfSome result.1 (λ rest. length rest.now < length bytes.now) }
+{
+    match slash_in(bytes) {
+        Some(slash) => (&bytes[..slash], Some(&bytes[slash + 1..])),
+        None => (bytes, None),
+    }
+}
+
+/// The components of a path, with slashes between them, if there are any.
+pub(crate) fn names_of(path: &[u8]) -> Option<&[u8]>
+    ensures { components path.now ≡ parts_in (option_map (λ names. names.now) result) }
+{
+    match path {
+        [b'/'] => None,
+        _ => cut(path).1,
+    }
+}
+
+/// Whether it may be a component: it is not empty, and neither `.` nor `..`.
+fn is_name(name: &[u8]) -> bool
+    ensures { result ≡ is_name name.now }
+{
+    !matches!(name, [] | [b'.'] | [b'.', b'.'])
+}
+
+/// What is wrong with a path: EINVAL for its form, else ENAMETOOLONG.
+pub(crate) fn fault_of(path: &[u8]) -> Option<Refusal>
+    ensures { result ≡ path_fault path.now }
+{
+    if path.first() != Some(&b'/') {
+        return Some(Refusal::EINVAL);
+    }
+    let mut is_too_long = path.len() > MAX_PATH;
+    let mut behind = names_of(path);
+    while let Some(names) = behind {
+        let (name, rest) = cut(names);
+        if !is_name(name) {
+            return Some(Refusal::EINVAL);
+        }
+        is_too_long = is_too_long || name.len() > MAX_NAME;
+        behind = rest;
+    }
+    if is_too_long {
+        Some(Refusal::ENAMETOOLONG)
+    } else {
+        None
+    }
+}

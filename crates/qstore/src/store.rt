@@ -1,0 +1,248 @@
+ghost use Rattle.std.specs.Prelude.{◌≡◌, ◌==◌, true, false, map, All, IfOk, OnOk, OnErr};
+ghost use Rattle.std.specs.List.{list_any};
+ghost use Rattle.qrules.specs.Range.{are_graces_in_range};
+ghost use Rattle.qrules.specs.Sort.{Blocks, Inodes};
+ghost use Rattle.qplain.specs.State.{State, start};
+ghost use Rattle.qplain.specs.Use.{total_of};
+ghost use Rattle.qplain.specs.Caller.{is_superuser};
+ghost use Rattle.qplain.specs.Laws.{IsLawful, PassesNoLimit};
+ghost use Rattle.qplain.specs.Step.{step};
+ghost use Rattle.qstore.specs.Owners.{charged_owner};
+ghost use Rattle.qstore.specs.Stored.{IsSound, Stored};
+ghost use Rattle.qstore.specs.Ready.{CanCarryOut, IsReady, bytes_of, effect, outcome};
+
+use crate::ledger::Ledger;
+use crate::ready::{Decided, Plan, Ready};
+use crate::tree::Tree;
+use qplain::{Call, Cred, FILE_LIMIT, NoMemory, Reply, Setup};
+use qrules::{Graces, Items};
+use std::alloc::Global;
+use std::marker::Model;
+
+mod admit;
+mod arguments;
+mod create;
+mod quota;
+mod read;
+mod rows;
+mod set_grace;
+mod set_quota;
+mod stat;
+mod walk;
+mod write;
+
+/// Inodes, names and quota records in memory, whose state and replies are those of the plain machine.
+///
+/// Every record's use, the totals and the link counts are kept, and no call walks the inodes or the names.
+#[derive(Drop)]
+pub struct Store {
+    alloc: Global,
+    size: u64,
+    most_inodes: u64,
+    file_limit: u64,
+    graces: Graces,
+    users: Ledger,
+    groups: Ledger,
+    tree: Tree,
+    next: u64,
+    blocks: u64,
+    inodes: u64,
+}
+
+impl Model for Store {
+    ghost use Rattle.qstore.specs.Stored.{Stored};
+
+    ghost Value = { Stored };
+
+    ghost use Rattle.qstore.specs.Kept.{IsCounted, state_of, stored_of};
+
+    ghost view = { stored_of };
+
+    ghost invariant = { λ a. IsCounted (state_of a) a.users a.groups a.tree.links a.blocks a.inodes };
+}
+
+/// The bytes of the call that its plan has to write.
+fn bytes_for<'a>(plan: &Plan, call: &'a Call) -> &'a [u8]
+    ensures effect { (S : State) → effect S plan.now result.now ≡ effect S plan.now (bytes_of call.now) }
+    ensures can { (s : Stored) → CanCarryOut s plan.now (bytes_of call.now) → CanCarryOut s plan.now result.now }
+{
+    match (plan, call) {
+        (Plan::Write { .. }, Call::Write { bytes, .. }) => bytes.as_slice(),
+        _ => &[],
+    }
+}
+
+/// Charges id 0, who is in every setup, with the root directory.
+fn charge_root(ledger: &mut Ledger, graces: Graces)
+    requires declared { list_any (λ o. 0 == o.id) ledger.old ≡ true }
+    requires unused { All (λ o. (o.account.blocks ≡ 0) × (o.account.inodes ≡ 0)) ledger.old }
+    requires range { are_graces_in_range graces ≡ true }
+    ensures { ledger.new ≡ map (charged_owner 0 graces 0 0 1) ledger.old }
+{
+    match ledger.place(0) {
+        Some(place) => ledger.charge(place, graces, 0, 0, 1),
+        None => unreachable!(),
+    }
+}
+
+impl Store {
+    /// A new store of a setup. It holds the root directory, inode 1 of user 0 and group 0; the next number is 2, and a
+    /// file has at most 2^30 bytes (tmpfs(5), profile).
+    ///
+    /// The allocator is kept for later growth. After an Err nothing was made. O(n), as many principals as there are.
+    pub fn new(alloc: Global, setup: Setup) -> Result<Store, NoMemory>
+        ensures { IfOk result (λ s. s.state ≡ start setup) }
+    {
+        let graces = setup.graces();
+        let mut users = Ledger::new(alloc, setup.users())?;
+        let mut groups = Ledger::new(alloc, setup.groups())?;
+        let tree = Tree::new(alloc)?;
+        charge_root(&mut users, graces);
+        charge_root(&mut groups, graces);
+        Ok(Store {
+            alloc,
+            size: setup.blocks(),
+            most_inodes: setup.inodes(),
+            file_limit: FILE_LIMIT,
+            graces,
+            users,
+            groups,
+            tree,
+            next: 2,
+            blocks: 0,
+            inodes: 1,
+        })
+    }
+
+    /// The allocated blocks of 4096 bytes. O(1).
+    pub fn blocks(&self) -> u64
+        ensures blocks { result ≡ total_of self.now.state Blocks }
+        ensures lawful { IsLawful self.now.state }
+    {
+        self.blocks
+    }
+
+    /// The inodes, the root among them. O(1).
+    pub fn inodes(&self) -> u64
+        ensures inodes { result ≡ total_of self.now.state Inodes }
+        ensures lawful { IsLawful self.now.state }
+    {
+        self.inodes
+    }
+
+    /// Decides a call, and makes every growth that it needs.
+    fn decide(&mut self, cred: &Cred, moment: u64, call: &Call) -> Result<Decided, NoMemory>
+        ensures state { self.new.state ≡ self.old.state }
+        ensures step { IfOk result (λ d. (effect self.old.state d.plan (bytes_of call.now), d.reply) ≡ step self.old.state cred.now moment call.now) }
+        ensures can { IfOk result (λ d. CanCarryOut self.new d.plan (bytes_of call.now)) }
+        ensures sound { IsSound self.old.state }
+    {
+        let places = match self.check(cred, moment, call) {
+            Ok(places) => places,
+            Err(refusal) => return Ok(Decided::refused(refusal)),
+        };
+        match call {
+            Call::Create { path } => self.decide_create(cred, places, moment, path.bytes()),
+            Call::Write { path, off, bytes } => {
+                self.decide_write(cred, moment, path.bytes(), *off, bytes.as_slice())
+            }
+            Call::Read { path, off, len } => {
+                Ok(Decided::answer(self.decide_read(path.bytes(), *off, *len)?))
+            }
+            Call::Stat { path } => Ok(Decided::answer(self.decide_stat(path.bytes()))),
+            Call::SetQuota { kind, id, limits } => {
+                Ok(self.decide_set_quota(cred, moment, *kind, *id, *limits))
+            }
+            Call::SetGrace { graces } => Ok(self.decide_set_grace(cred, *graces)),
+            Call::Quota { kind, id } => Ok(Decided::answer(self.decide_quota(cred, *kind, *id))),
+        }
+    }
+
+    /// Does what is decided. It takes no memory and always succeeds.
+    fn carry_out(&mut self, plan: Plan, bytes: &[u8])
+        requires can { CanCarryOut self.old plan bytes.now }
+        requires sound { IsSound (effect self.old.state plan bytes.now) }
+        ensures { self.new.state ≡ effect self.old.state plan bytes.now }
+    {
+        match plan {
+            Plan::Nothing => {}
+            Plan::Create {
+                dir,
+                name,
+                uid,
+                gid,
+                places,
+                moment,
+            } => self.commit_create(dir, name.into_vec(), uid, gid, places, moment),
+            Plan::Write {
+                number,
+                off,
+                spare,
+                places,
+                moment,
+            } => self.commit_write(number, off, spare, places, moment, bytes),
+            Plan::SetQuota {
+                kind,
+                id,
+                place,
+                limits,
+                moment,
+            } => self.commit_set_quota(kind, id, place, limits, moment),
+            Plan::SetGrace { graces } => self.commit_set_grace(graces),
+        }
+    }
+
+    /// Decides a call and makes every growth that it needs, and leaves the state as it was.
+    ///
+    /// `moment` is in seconds; above 2^40 the reply is EINVAL. A refusal is a reply, and takes no memory for what the
+    /// call would have done: EINVAL first, then ENAMETOOLONG, the call's own tests, ENOSPC, EDQUOT. Err is want of
+    /// memory alone, and leaves the state as it was, too. The bytes of a write are copied.
+    ///
+    /// The `Ready` is for `commit` of this store, before any other `ready`, `apply` or `commit` of it. It may be
+    /// dropped: a create's room serves the next create, a write's blocks go with it, and what is left in its file is
+    /// taken out by that file's next write.
+    pub fn ready(&mut self, cred: &Cred, moment: u64, call: &Call) -> Result<Ready, NoMemory>
+        ensures state { self.new.state ≡ self.old.state }
+        ensures step { IfOk result (λ r. outcome self.old.state r ≡ step self.old.state cred.now moment call.now) }
+        ensures ready { IfOk result (IsReady self.new) }
+    {
+        let Decided { reply, plan } = self.decide(cred, moment, call)?;
+        let bytes = Vec::from_slice(self.alloc, bytes_for(&plan, call))?;
+        Ok(Ready {
+            reply,
+            plan,
+            bytes: Items::new(bytes),
+        })
+    }
+
+    /// Does what is ready, and gives the reply. It takes no memory and always succeeds.
+    ///
+    /// The caller owes that this store had no other `ready`, `apply` or `commit` since.
+    pub fn commit(&mut self, ready: Ready) -> Reply
+        requires { IsReady self.old ready }
+        ensures { (self.new.state, result) ≡ outcome self.old.state ready }
+    {
+        let Ready { reply, plan, bytes } = ready;
+        self.carry_out(plan, bytes.as_slice());
+        reply
+    }
+
+    /// One call: the state and the reply are those of the plain machine's step. An Err leaves the state as it was.
+    ///
+    /// Moments and refusals are those of `ready`. O(bytes of the path and of the data), and O(log n) for each 64 KiB of
+    /// a file of n blocks, where names do not collide and no map has to grow. No bytes are copied beside the file.
+    pub fn apply(&mut self, cred: &Cred, moment: u64, call: &Call) -> Result<Reply, NoMemory>
+        ensures ok { IfOk result (λ reply. (self.new.state, reply) ≡ step self.old.state cred.now moment call.now) }
+        ensures err { OnErr result (self.new.state ≡ self.old.state) }
+
+        // In the words of the limits: nobody but the superuser raises a use past a hard limit, or past a soft one
+        // whose grace has ended.
+        ensures limits { OnOk result (is_superuser cred.now ≡ false
+            → All (PassesNoLimit self.old.state self.new.state moment) self.old.state.holders) }
+    {
+        let Decided { reply, plan } = self.decide(cred, moment, call)?;
+        let bytes = bytes_for(&plan, call);
+        self.carry_out(plan, bytes);
+        Ok(reply)
+    }
+}

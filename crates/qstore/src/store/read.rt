@@ -1,0 +1,31 @@
+//! To read from a file (read(2)).
+ghost use Rattle.std.specs.Prelude.{◌≡◌, ℕ, IfOk};
+ghost use Rattle.qplain.specs.Caller.{Caller};
+ghost use Rattle.qplain.specs.Attempt.{read_reached};
+ghost use Rattle.qplain.specs.Step.{settle};
+ghost use Rattle.qplain.specs.Walk.{components, walk};
+
+use crate::node::Content;
+use crate::store::Store;
+use qplain::{NoMemory, Refusal, Reply};
+use qrules::Items;
+
+impl Store {
+    /// The reply to a read.
+    pub(super) fn decide_read(&self, path: &[u8], off: u64, len: u64) -> Result<Reply, NoMemory>
+        ensures { IfOk result (λ reply. (cred : Caller) (moment : ℕ) → (self.now.state, reply)
+            ≡ settle self.now.state cred moment (read_reached self.now.state off len (walk self.now.state (components path.now)))) }
+    {
+        let number = match self.walk(path) {
+            Ok(number) => number,
+            Err(refusal) => return Ok(Reply::Refused(refusal)),
+        };
+        let Some(node) = self.tree.node(number) else {
+            return Ok(Reply::Refused(Refusal::ENOENT));
+        };
+        match &node.content {
+            Content::Directory(_) => Ok(Reply::Refused(Refusal::EISDIR)),
+            Content::File(file) => Ok(Reply::Bytes(Items::new(file.read(off, len)?))),
+        }
+    }
+}

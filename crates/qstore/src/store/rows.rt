@@ -1,0 +1,41 @@
+//! What audits and reports read: the records, the inodes and the names of a store, one row for each.
+ghost use Rattle.std.specs.Prelude.{◌≡◌, map, IfOk, OnOk};
+ghost use Rattle.std.specs.Ordering.{nat_cmp};
+ghost use Rattle.std.specs.List.Sorted.{IsStrictlySortedBy};
+ghost use Rattle.std.specs.Map.{keys_of};
+ghost use Rattle.qplain.specs.State.{name_key_cmp};
+ghost use Rattle.qstore.specs.Rows.{inode_row_of, name_row_of, record_row_of};
+
+use crate::store::Store;
+use qplain::NoMemory;
+use qrules::{InodeRow, Kind, NameRow, RecordRow};
+
+impl Store {
+    /// The quota records, in the order of the setup: users by id, then groups by id. Uses are in blocks of 4096 bytes,
+    /// block limits in KiB, ends in seconds. O(n), as many as are declared. An Err leaves nothing made.
+    pub fn record_rows(&self) -> Result<Vec<RecordRow>, NoMemory>
+        ensures { IfOk result (λ rows. rows.items ≡ map (record_row_of self.now.state) self.now.state.holders) }
+    {
+        let mut rows = Vec::new(self.alloc);
+        self.users.push_rows(self.alloc, Kind::User, &mut rows)?;
+        self.groups.push_rows(self.alloc, Kind::Group, &mut rows)?;
+        Ok(rows)
+    }
+
+    /// The inodes by number, each once, with its allocated blocks of 4096 bytes and the link count that is kept for it.
+    /// O(n log n). An Err leaves nothing made.
+    pub fn inode_rows(&self) -> Result<Vec<InodeRow>, NoMemory>
+        ensures rows { IfOk result (λ rows. rows.items ≡ map (inode_row_of self.now.state) self.now.state.inodes) }
+        ensures by_number { OnOk result (IsStrictlySortedBy nat_cmp (keys_of self.now.state.inodes)) }
+    {
+        self.tree.inode_rows(self.alloc)
+    }
+
+    /// The names by directory, and in each by their bytes, each once. O(n log n). An Err leaves nothing made.
+    pub fn name_rows(&self) -> Result<Vec<NameRow>, NoMemory>
+        ensures rows { IfOk result (λ rows. rows.items ≡ map name_row_of self.now.state.names) }
+        ensures by_key { OnOk result (IsStrictlySortedBy name_key_cmp (keys_of self.now.state.names)) }
+    {
+        self.tree.name_rows(self.alloc)
+    }
+}

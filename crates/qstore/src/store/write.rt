@@ -1,0 +1,161 @@
+//! To write into a file (write(2)).
+ghost use Rattle.std.specs.Prelude.{◌≡◌, ℕ, ◌+◌, ◌≤◌, ◌<◌, true, false, length, Some, IfOk, IfErr};
+ghost use Rattle.qblocks.specs.File.{Adds, after_write};
+ghost use Rattle.qplain.specs.Attempt.{may_write, write_into, write_reached};
+ghost use Rattle.qplain.specs.Decision.{ends_after};
+ghost use Rattle.qplain.specs.State.{inode_at};
+ghost use Rattle.qplain.specs.Step.{settle};
+ghost use Rattle.qplain.specs.Walk.{components, walk};
+ghost use Rattle.qstore.specs.Nodes.{inode_of};
+ghost use Rattle.qstore.specs.Ready.{CanCarryOut, WriteIsReady, effect, written_at};
+ghost use Rattle.qstore.specs.Stored.{IsSound};
+ghost use Rattle.qstore.specs.Writes.{IsTarget};
+
+use crate::changes::NO_CHANGE;
+use crate::node::{Content, Node};
+use crate::places::Places;
+use crate::ready::{Decided, Plan};
+use crate::store::Store;
+use qblocks::{BlockFile, Spare};
+use qplain::{Change, Cred, MAX_DATA, NoMemory, Refusal, Reply};
+use qrules::MAX_MOMENT;
+
+/// A file that may be written into: its owners, and how many blocks the write allocates.
+#[derive(Clone, Copy)]
+pub(super) struct Target {
+    pub(super) uid: u32,
+    pub(super) gid: u32,
+    pub(super) blocks: u64,
+}
+
+/// Whether the caller may change what the inode holds: its owner and the superuser may.
+fn may_write(cred: &Cred, node: &Node) -> bool
+    ensures { result ≡ may_write cred.now (inode_of node.now) }
+{
+    cred.uid() == 0 || cred.uid() == node.uid
+}
+
+impl Store {
+    /// Decides a write, and makes room for it.
+    pub(super) fn decide_write(
+        &mut self,
+        cred: &Cred,
+        moment: u64,
+        path: &[u8],
+        off: u64,
+        bytes: &[u8],
+    ) -> Result<Decided, NoMemory>
+        requires moment { moment ≤ MAX_MOMENT }
+        requires few { length bytes.now ≤ MAX_DATA }
+        ensures state { self.new.state ≡ self.old.state }
+        ensures step { IfOk result (λ d. (effect self.old.state d.plan bytes.now, d.reply)
+            ≡ settle self.old.state cred.now moment (write_reached self.old.state cred.now off bytes.now (walk self.old.state (components path.now)))) }
+        ensures ready { IfOk result (λ d. CanCarryOut self.new d.plan bytes.now) }
+    {
+        let number = match self.walk(path) {
+            Ok(number) => number,
+            Err(refusal) => return Ok(Decided::refused(refusal)),
+        };
+        match self.target(cred, number, off, bytes) {
+            Ok(target) => self.decide_put(cred, moment, number, off, bytes, target),
+            Err(reply) => Ok(Decided::answer(reply)),
+        }
+    }
+
+    /// The file of this number, if the write comes so far, or else its reply.
+    fn target(&self, cred: &Cred, number: u64, off: u64, bytes: &[u8]) -> Result<Target, Reply>
+        ensures granted { IfOk result (IsTarget self.now.state cred.now off bytes.now number) }
+        ensures refused { IfErr result (λ reply. (moment : ℕ) → settle self.now.state cred.now moment
+            (write_into self.now.state cred.now off bytes.now number (inode_at self.now.state number)) ≡ (self.now.state, reply)) }
+    {
+        let Some(node) = self.tree.node(number) else {
+            return Err(Reply::Refused(Refusal::ENOENT));
+        };
+        let Content::File(file) = &node.content else {
+            return Err(Reply::Refused(Refusal::EISDIR));
+        };
+        if !may_write(cred, node) {
+            return Err(Reply::Refused(Refusal::EACCES));
+        }
+        if bytes.is_empty() {
+            return Err(Reply::Done(number, NO_CHANGE));
+        }
+        let len = bytes.len() as u64;
+        if off > self.file_limit || off + len > self.file_limit {
+            return Err(Reply::Refused(Refusal::EFBIG));
+        }
+        Ok(Target {
+            uid: node.uid,
+            gid: node.gid,
+            blocks: file.missing(off, len),
+        })
+    }
+
+    /// Makes room for a write that passed all tests but those of space and quota, if it is granted.
+    fn decide_put(
+        &mut self,
+        cred: &Cred,
+        moment: u64,
+        number: u64,
+        off: u64,
+        bytes: &[u8],
+        target: Target,
+    ) -> Result<Decided, NoMemory>
+        requires moment { moment ≤ MAX_MOMENT }
+        requires target { IsTarget self.old.state cred.now off bytes.now number target }
+        ensures state { self.new.state ≡ self.old.state }
+        ensures step { IfOk result (λ d. (effect self.old.state d.plan bytes.now, d.reply)
+            ≡ settle self.old.state cred.now moment (write_into self.old.state cred.now off bytes.now number (inode_at self.old.state number))) }
+        ensures ready { IfOk result (λ d. CanCarryOut self.new d.plan bytes.now) }
+    {
+        let Some(places) = self.places(target.uid, target.gid) else {
+            unreachable!()
+        };
+        if let Some(refusal) = self.admit(cred, places, moment, target.blocks, 0) {
+            return Ok(Decided::refused(refusal));
+        }
+        let spare = self.tree.ready_write(number, off, bytes.len() as u64)?;
+        Ok(Decided {
+            reply: Reply::Done(number, written(target.blocks)),
+            plan: Plan::Write {
+                number,
+                off,
+                spare,
+                places,
+                moment,
+            },
+        })
+    }
+
+    /// Writes where room is made.
+    pub(super) fn commit_write(
+        &mut self,
+        number: u64,
+        off: u64,
+        spare: Spare,
+        places: Places,
+        moment: u64,
+        bytes: &[u8],
+    )
+        requires can { WriteIsReady self.old number off spare places moment bytes.now }
+        requires sound { IsSound (ends_after (written_at self.old.state number off bytes.now (inode_at self.old.state number)) moment) }
+        ensures { self.new.state ≡ ends_after (written_at self.old.state number off bytes.now (inode_at self.old.state number)) moment }
+    {
+        let blocks = self.tree.put(number, off, bytes, spare);
+        self.users
+            .charge(places.user, self.graces, moment, blocks, 0);
+        self.groups
+            .charge(places.group, self.graces, moment, blocks, 0);
+        self.blocks += blocks;
+    }
+}
+
+/// What a write of so many new blocks does to the totals.
+fn written(blocks: u64) -> Change
+    ensures { result ≡ record { blocks_charged = blocks; blocks_released = 0; inodes_charged = 0; inodes_released = 0 } }
+{
+    Change {
+        blocks_charged: blocks,
+        ..NO_CHANGE
+    }
+}

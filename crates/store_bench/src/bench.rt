@@ -1,0 +1,101 @@
+//! A store, the caller, and the calls of each kind.
+use crate::setting::{caller, setting};
+use qplain::{Call, Cred, NoMemory, Reply};
+use qstore::Store;
+use std::alloc::Global;
+use std::io;
+
+/// When all calls are made: the graces run.
+const MOMENT: u64 = 1000;
+
+/// What calls came to.
+#[derive(Clone, Copy)]
+pub(crate) struct Tally {
+    /// Of what kind they were.
+    pub(crate) kind: &'static str,
+    /// How many were not refused.
+    pub(crate) granted: u64,
+    /// How many blocks they were charged for.
+    pub(crate) blocks: u64,
+}
+
+impl Tally {
+    fn add(&mut self, reply: &Reply) {
+        let blocks = match reply {
+            Reply::Refused(_) => return,
+            Reply::Done(_, change) => change.blocks_charged,
+            _ => 0,
+        };
+        self.granted = self.granted.wrapping_add(1);
+        self.blocks = self.blocks.wrapping_add(blocks);
+    }
+}
+
+/// A store and who calls.
+#[derive(Drop)]
+pub(crate) struct Bench {
+    store: Store,
+    cred: Cred,
+}
+
+impl Bench {
+    pub(crate) fn new(alloc: Global) -> io::Result<Bench> {
+        Ok(Bench {
+            store: Store::new(alloc, setting(alloc)?)?,
+            cred: caller()?,
+        })
+    }
+
+    pub(crate) fn inodes(&self) -> u64 {
+        self.store.inodes()
+    }
+
+    pub(crate) fn blocks(&self) -> u64 {
+        self.store.blocks()
+    }
+
+    #[inline(never)]
+    fn apply_all(&mut self, kind: &'static str, calls: &[Call]) -> Result<Tally, NoMemory> {
+        let mut tally = Tally {
+            kind,
+            granted: 0,
+            blocks: 0,
+        };
+        for call in calls {
+            tally.add(&self.store.apply(&self.cred, MOMENT, call)?);
+        }
+        Ok(tally)
+    }
+
+    // The kinds also keep the compiler from making one function of the six below, which are counted apart.
+
+    #[inline(never)]
+    pub(crate) fn create_first(&mut self, calls: &[Call]) -> Result<Tally, NoMemory> {
+        self.apply_all("first creates", calls)
+    }
+
+    #[inline(never)]
+    pub(crate) fn create_last(&mut self, calls: &[Call]) -> Result<Tally, NoMemory> {
+        self.apply_all("last creates", calls)
+    }
+
+    #[inline(never)]
+    pub(crate) fn stat(&mut self, calls: &[Call]) -> Result<Tally, NoMemory> {
+        self.apply_all("stats", calls)
+    }
+
+    #[inline(never)]
+    pub(crate) fn write_first(&mut self, calls: &[Call]) -> Result<Tally, NoMemory> {
+        self.apply_all("first writes of 4 KiB", calls)
+    }
+
+    #[inline(never)]
+    pub(crate) fn write_block(&mut self, calls: &[Call]) -> Result<Tally, NoMemory> {
+        self.apply_all("writes of 4 KiB", calls)
+    }
+
+    #[inline(never)]
+    pub(crate) fn write_byte(&mut self, calls: &[Call]) -> Result<Tally, NoMemory> {
+        self.apply_all("writes of a byte", calls)
+    }
+}

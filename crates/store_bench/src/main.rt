@@ -1,0 +1,83 @@
+//! What the calls of a `Store` cost where many files stand in one directory: each kind of call stands in a function of
+//! its own, whose instructions `bench/store` counts.
+#![tactic(auto)]
+
+ghost use Rattle.std.specs.Prelude.{◌≤◌, IfOk};
+
+use crate::bench::{Bench, Tally};
+use crate::calls::{creates, stats, writes};
+use std::alloc::Global;
+use std::io;
+
+mod bench;
+mod calls;
+mod setting;
+
+/// How many files the store has, where no argument says it.
+const USUAL_FILES: u64 = 60_000;
+
+/// One inode is the root directory's.
+const MOST_FILES: u64 = 65_535;
+
+/// How many of the files are made last, when the others are there.
+const LAST: u64 = 100;
+
+/// How many calls of each other kind are made, if there are so many files.
+const CALLS: u64 = 1000;
+
+/// The number of files that the first argument says.
+fn files_asked(words: &[String]) -> io::Result<u64>
+    ensures { IfOk result (λ files. (1 ≤ files) × (files ≤ MOST_FILES)) }
+{
+    let files = match words {
+        [_, word, ..] => word.parse::<u64>().unwrap_or(0),
+        _ => USUAL_FILES,
+    };
+    if files < 1 || files > MOST_FILES {
+        return Err(io::Error::from(io::ErrorKind::InvalidInput));
+    }
+    Ok(files)
+}
+
+fn say(rt: &impl Print, tally: Tally) -> io::Result<()> {
+    let Tally {
+        kind,
+        granted,
+        blocks,
+    } = tally;
+    println!(rt; "{kind}: {granted} granted, {blocks} blocks")
+}
+
+fn make_files(rt: &impl Print, alloc: Global, bench: &mut Bench, files: u64) -> io::Result<()>
+    requires { (1 ≤ files) × (files ≤ MOST_FILES) }
+{
+    let most = files - files.min(LAST);
+    let first = creates(alloc, 0, most)?;
+    let last = creates(alloc, most, files)?;
+    say(rt, bench.create_first(&first)?)?;
+    say(rt, bench.create_last(&last)?)
+}
+
+fn use_files(rt: &impl Print, alloc: Global, bench: &mut Bench, files: u64) -> io::Result<()>
+    requires { (1 ≤ files) × (files ≤ MOST_FILES) }
+{
+    let calls = files.min(CALLS);
+    let block = vec![in alloc; 7u8; 4096]?;
+    let stats = stats(alloc, calls, files)?;
+    let writes_of_block = writes(alloc, calls, files, 0, &block)?;
+    let writes_of_byte = writes(alloc, calls, files, 2000, b"y")?;
+    say(rt, bench.stat(&stats)?)?;
+    say(rt, bench.write_first(&writes_of_block)?)?;
+    say(rt, bench.write_block(&writes_of_block)?)?;
+    say(rt, bench.write_byte(&writes_of_byte)?)
+}
+
+fn main(rt: HostRuntime) -> io::Result<()> {
+    let alloc = rt.alloc();
+    let words: Vec<String> = std::env::args(&rt)?.collect(alloc)?;
+    let files = files_asked(&words)?;
+    let mut bench = Bench::new(alloc)?;
+    make_files(&rt, alloc, &mut bench, files)?;
+    use_files(&rt, alloc, &mut bench, files)?;
+    println!(&rt; "{} inodes, {} blocks", bench.inodes(), bench.blocks())
+}
