@@ -1,0 +1,2 @@
+-- In reading order. A module that no public clause cites says so.
+pub mod Reading
