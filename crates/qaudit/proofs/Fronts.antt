@@ -25,9 +25,19 @@ front_of_first a b xs ys f = record { front = f.front; rest = f.rest ++ ys; part
 pub front_of_second : (a b c : Option (List ℕ)) (xs ys : List ℕ) → Appends a b xs → AppendsFront b c ys → AppendsFront a c (xs ++ ys)
 front_of_second a b c xs ys p f = record { front = xs ++ f.front; rest = f.rest; parts = ap (λ (l : List ℕ). xs ++ l) f.parts ∙ sym (append_assoc xs f.front f.rest); appends = appends_then a b c xs f.front p f.appends }
 
+-- a refusal in the first part ends the text
+pub refused_first : {T E : Type 0} (a b : Option (List ℕ)) (r : Result T E) (xs ys : List ℕ) → IsErr r → AppendsFront a b xs → Writes a b r (xs ++ ys)
+refused_first a b (Ok x) xs ys h f = absurd (cc)
+refused_first a b (Err e) xs ys h f = front_of_first a b xs ys f
+
 pub writes_then : {T E : Type 0} (a b c : Option (List ℕ)) (r : Result T E) (xs ys : List ℕ) → Appends a b xs → Writes b c r ys → Writes a c r (xs ++ ys)
 writes_then a b c (Ok x) xs ys p q = appends_then a b c xs ys p q
 writes_then a b c (Err e) xs ys p q = front_of_second a b c xs ys p q
+
+-- a refusal in the last part ends the text
+pub refused_last : {T E : Type 0} (a b c : Option (List ℕ)) (r : Result T E) (xs ys : List ℕ) → IsErr r → Appends a b xs → AppendsFront b c ys → Writes a c r (xs ++ ys)
+refused_last a b c (Ok x) xs ys h p f = absurd (cc)
+refused_last a b c (Err e) xs ys h p f = front_of_second a b c xs ys p f
 
 -- what is written so far, and what is left
 pub record Partly (old now : Option (List ℕ)) (text rest : List ℕ) : Type 0 where

@@ -1,0 +1,31 @@
+-- What a run of one worker comes to, put together of its parts.
+use Rattle.std.proofs.Common.{◌≡◌, ℕ, List, [], ◌∷◌, length, map, Result, sym, refl}
+use Rattle.qplain.specs.declared.line.Line.{Line}
+use Rattle.qplain.specs.Setups.{Setting}
+use Rattle.qplain.specs.Journal.{entries_of}
+use Rattle.qstore.specs.Rows.{record_row_of}
+use Rattle.qtool.specs.declared.call_fault.CallFault.{CallFault}
+use Rattle.qtool.specs.declared.receipt.Receipt.{Receipt}
+use Rattle.qtool.specs.declared.outcome.Outcome.{Outcome}
+use Rattle.qtool.specs.declared.transcript.Transcript.{Transcript}
+use Rattle.qtool.specs.Journaled.{IsPlayed, Journaled}
+use Rattle.qtool.specs.Runs.{AreTranscriptsOf, IsOutcomeOf, IsTranscriptOf, journaled_lines}
+
+-- the only worker's transcript
+abbrev pub only_transcript : List Line → List (Result Receipt CallFault) → Transcript
+only_transcript lines outcomes = record { worker = 1; lines = lines; outcomes = outcomes }
+
+-- the transcripts of one worker
+one_transcript : (lines : List Line) (j : Journaled) (outcomes : List (Result Receipt CallFault)) → length outcomes ≡ length lines → journaled_lines 1 lines outcomes ≡ entries_of j.journal 1 → AreTranscriptsOf 1 (lines ∷ []) j.journal (only_transcript lines outcomes ∷ [])
+unfolding AreTranscriptsOf
+one_transcript lines j outcomes each own = (record { worker_is = refl; lines_are = refl; each = each; own = own }, tt)
+
+-- the outcome of one worker
+pub alone : (setting : Setting) (lines : List Line) (j : Journaled) (outcomes : List (Result Receipt CallFault)) (o : Outcome) → IsPlayed j → j.setting ≡ setting → length outcomes ≡ length lines → journaled_lines 1 lines outcomes ≡ entries_of j.journal 1 → o.setup ≡ j.setting → o.store ≡ j.stored → o.journal ≡ j.journal → o.transcripts ≡ only_transcript lines outcomes ∷ [] → o.records ≡ map (record_row_of o.store.state) o.store.state.holders → IsOutcomeOf setting (lines ∷ []) o
+alone setting lines j outcomes o played same each own setup store journal transcripts records = record {
+      setup = rw (setup, same) refl;
+      legal = rw (journal, sym same) played.legal;
+      store = rw (store, journal, sym same) played.state;
+      transcripts = rw (transcripts, journal) (one_transcript lines j outcomes each own);
+      records = records;
+    }

@@ -1,0 +1,4 @@
+-- What the proofs of more than one file share.
+pub mod Journaling
+pub mod Telling
+pub mod Coming

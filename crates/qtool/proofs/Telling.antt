@@ -1,0 +1,48 @@
+-- A worker's lines told one after the other: each has an outcome, and the receipts are the worker's own entries.
+use Rattle.std.proofs.Common.{◌≡◌, ℕ, ◌+◌, ◌<◌, ◌≤◌, List, [], ◌∷◌, ◌++◌, length, take, get_or, Result, Ok, Err, IfOk, OnErr, refl, sym, ap, ◌∙◌, append_assoc, append-nil, arith, add-one}
+use Rattle.std.proofs.Math.Seq.{take-suc}
+use Rattle.std.proofs.lemmas.List.{length-append, length-take-le}
+use Rattle.qplain.specs.declared.entry.Entry.{Entry}
+use Rattle.qplain.specs.declared.line.Line.{Line}
+use Rattle.qplain.specs.Journal.{entries_of}
+use Rattle.qplain.proofs.Playing.{own-one_more}
+use Rattle.qtool.specs.declared.call_fault.CallFault.{CallFault}
+use Rattle.qtool.specs.declared.receipt.Receipt.{Receipt}
+use Rattle.qtool.specs.Journaled.{IsJournaled, entry_of}
+use Rattle.qtool.specs.Runs.{journaled_line, journaled_lines}
+
+-- the first lines are told
+pub record AreTold (worker : ℕ) (lines : List Line) (count : ℕ) (journal : List Entry) (outcomes : List (Result Receipt CallFault)) : Type 0 where
+  pub each : length outcomes ≡ count
+  pub own : journaled_lines worker (take count lines) outcomes ≡ entries_of journal worker
+
+-- at first none is
+pub none_told : (worker : ℕ) (lines : List Line) (journal : List Entry) → journal ≡ [] → AreTold worker lines 0 journal []
+unfolding journaled_lines
+none_told worker lines journal fresh = record { each = refl; own = rw fresh refl }
+
+-- one more line and its outcome
+more_lines : (worker : ℕ) (lines : List Line) (outcomes : List (Result Receipt CallFault)) (line : Line) (outcome : Result Receipt CallFault) → length outcomes ≡ length lines → journaled_lines worker (lines ++ line ∷ []) (outcomes ++ outcome ∷ []) ≡ journaled_lines worker lines outcomes ++ journaled_line worker line outcome
+unfolding journaled_lines
+more_lines worker [] [] line outcome same = append-nil (journaled_line worker line outcome)
+more_lines worker (l ∷ ls) (o ∷ os) line outcome same =
+    let fewer : length os ≡ length ls = omega arith in
+    ap (λ rest. journaled_line worker l o ++ rest) (more_lines worker ls os line outcome fewer) ∙ sym (append_assoc (journaled_line worker l o) (journaled_lines worker ls os) (journaled_line worker line outcome))
+more_lines worker [] (o ∷ os) line outcome same = absurd (cc)
+more_lines worker (l ∷ ls) [] line outcome same = absurd (cc)
+
+-- what an outcome adds to the worker's own entries
+own_after : (worker : ℕ) (line : Line) (outcome : Result Receipt CallFault) (old new : List Entry) → IfOk outcome (λ receipt. IsJournaled worker line receipt old new) → OnErr outcome (new ≡ old) → entries_of old worker ++ journaled_line worker line outcome ≡ entries_of new worker
+own_after worker line (Ok receipt) old new is same = rw (is.entry, is.place) (sym (own-one_more old (entry_of worker line receipt.reply) worker refl))
+own_after worker line (Err fault) old new is same = rw same (append-nil (entries_of old worker))
+
+-- one more line is told
+pub one_more_told : (worker : ℕ) (lines : List Line) (count : ℕ) (old new : List Entry) (outcomes after : List (Result Receipt CallFault)) (line d : Line) (outcome : Result Receipt CallFault) → AreTold worker lines count old outcomes → count < length lines → line ≡ get_or lines count d → IfOk outcome (λ receipt. IsJournaled worker line receipt old new) → OnErr outcome (new ≡ old) → after ≡ outcomes ++ outcome ∷ [] → AreTold worker lines (count + 1) new after
+one_more_told worker lines count old new outcomes after line d outcome told few is granted failed more =
+    let first : take (count + 1) lines ≡ take count lines ++ line ∷ [] = rw (add-one, is) (take-suc lines count d few) in
+    let same : length outcomes ≡ length (take count lines) = told.each ∙ sym (length-take-le count lines (omega arith)) in
+    let longer : length (outcomes ++ outcome ∷ []) ≡ length outcomes + 1 = length-append outcomes (outcome ∷ []) in
+    record {
+      each = rw (more, longer, told.each) refl;
+      own = rw (first, more) (more_lines worker (take count lines) outcomes line outcome same ∙ ap (λ es. es ++ journaled_line worker line outcome) told.own ∙ own_after worker line outcome old new granted failed);
+    }

@@ -1,0 +1,152 @@
+//! Replies as text.
+ghost use Rattle.std.specs.Prelude.{◌≡◌};
+ghost use Rattle.qaudit.specs.Written.{Writes};
+ghost use Rattle.qaudit.specs.Pieces.{piece_text};
+ghost use Rattle.qtool.specs.Replies.{done_text, end_text, over_text, quota_text, refusal_text, reply_text, stat_text};
+
+use qaudit::{Piece, RefusedWrite, kind_word, put, put_pieces};
+use qplain::{Change, Quota, Refusal, Reply, Stat};
+use qrules::Over;
+use std::io::Write;
+
+fn over_word(over: Over) -> &'static [u8]
+    ensures { result.now ≡ over_text over }
+{
+    match over {
+        Over::InodeHard => b"inode-hard",
+        Over::InodeSoft => b"inode-soft",
+        Over::BlockHard => b"block-hard",
+        Over::BlockSoft => b"block-soft",
+    }
+}
+
+fn end<'a>(end: Option<u64>) -> Piece<'a>
+    ensures { piece_text result ≡ end_text end }
+{
+    match end {
+        None => Piece::Text(b"-"),
+        Some(end) => Piece::Number(end),
+    }
+}
+
+fn put_refusal<W: Write>(out: &mut W, refusal: Refusal) -> Result<(), RefusedWrite>
+    ensures { Writes (W.contents out.old) (W.contents out.new) result (refusal_text refusal) }
+{
+    let name: &[u8] = match refusal {
+        Refusal::EINVAL => b"EINVAL",
+        Refusal::ENAMETOOLONG => b"ENAMETOOLONG",
+        Refusal::ENOENT => b"ENOENT",
+        Refusal::ENOTDIR => b"ENOTDIR",
+        Refusal::EEXIST => b"EEXIST",
+        Refusal::ENOSPC => b"ENOSPC",
+        Refusal::EDQUOT(kind, over) => {
+            let pieces = [
+                Piece::Text(b"EDQUOT "),
+                Piece::Text(kind_word(kind)),
+                Piece::Text(b" "),
+                Piece::Text(over_word(over)),
+            ];
+            return put_pieces(out, &pieces);
+        }
+        Refusal::EISDIR => b"EISDIR",
+        Refusal::EACCES => b"EACCES",
+        Refusal::EFBIG => b"EFBIG",
+        Refusal::EPERM => b"EPERM",
+        Refusal::EMLINK => b"EMLINK",
+        Refusal::ENOTEMPTY => b"ENOTEMPTY",
+        Refusal::EBUSY => b"EBUSY",
+        Refusal::ESRCH => b"ESRCH",
+    };
+    put_pieces(out, &[Piece::Text(name)])
+}
+
+fn put_done<W: Write>(out: &mut W, number: u64, change: &Change) -> Result<(), RefusedWrite>
+    ensures { Writes (W.contents out.old) (W.contents out.new) result (done_text number change.now) }
+{
+    let pieces = [
+        Piece::Text(b"done "),
+        Piece::Number(number),
+        Piece::Text(b" blocks +"),
+        Piece::Number(change.blocks_charged),
+        Piece::Text(b" -"),
+        Piece::Number(change.blocks_released),
+        Piece::Text(b" inodes +"),
+        Piece::Number(change.inodes_charged),
+        Piece::Text(b" -"),
+        Piece::Number(change.inodes_released),
+    ];
+    put_pieces(out, &pieces)
+}
+
+fn put_stat<W: Write>(out: &mut W, stat: &Stat) -> Result<(), RefusedWrite>
+    ensures { Writes (W.contents out.old) (W.contents out.new) result (stat_text stat.now) }
+{
+    let dir: &[u8] = if stat.dir { b" dir " } else { b" file " };
+    let space = Piece::Text(b" ");
+    let pieces = [
+        Piece::Text(b"stat "),
+        Piece::Number(stat.ino),
+        Piece::Text(dir),
+        Piece::Number(stat.uid as u64),
+        space,
+        Piece::Number(stat.gid as u64),
+        space,
+        Piece::Number(stat.size),
+        space,
+        Piece::Number(stat.blocks),
+        space,
+        Piece::Number(stat.links),
+    ];
+    put_pieces(out, &pieces)
+}
+
+fn put_quota<W: Write>(out: &mut W, quota: &Quota) -> Result<(), RefusedWrite>
+    ensures { Writes (W.contents out.old) (W.contents out.new) result (quota_text quota.now) }
+{
+    let space = Piece::Text(b" ");
+    let pieces = [
+        Piece::Text(b"quota "),
+        Piece::Number(quota.blocks),
+        space,
+        Piece::Number(quota.inodes),
+        space,
+        Piece::Number(quota.limits.block_soft),
+        space,
+        Piece::Number(quota.limits.block_hard),
+        space,
+        Piece::Number(quota.limits.inode_soft),
+        space,
+        Piece::Number(quota.limits.inode_hard),
+        space,
+        end(quota.block_end),
+        space,
+        end(quota.inode_end),
+    ];
+    put_pieces(out, &pieces)
+}
+
+#[tactic(auto, using(qaudit::proofs::Fronts::front_of_first, qaudit::proofs::Fronts::writes_then))]
+fn put_refused<W: Write>(out: &mut W, refusal: Refusal) -> Result<(), RefusedWrite>
+    ensures { Writes (W.contents out.old) (W.contents out.new) result (reply_text (Reply.Refused refusal)) }
+{
+    put_pieces(out, &[Piece::Text(b"refused ")])?;
+    put_refusal(out, refusal)
+}
+
+/// Writes a reply, with no line end.
+pub(crate) fn put_reply<W: Write>(out: &mut W, reply: &Reply) -> Result<(), RefusedWrite>
+    ensures { Writes (W.contents out.old) (W.contents out.new) result (reply_text reply.now) }
+{
+    match reply {
+        Reply::Done(number, change) => put_done(out, *number, change),
+        Reply::Bytes(bytes) => {
+            put_pieces(
+                out,
+                &[Piece::Text(b"bytes "), Piece::Data(bytes.as_slice())],
+            )
+        }
+        Reply::Stat(stat) => put_stat(out, stat),
+        Reply::Quota(quota) => put_quota(out, quota),
+        Reply::Refused(refusal) => put_refused(out, *refusal),
+    }
+}
