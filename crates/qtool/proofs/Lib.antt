@@ -2,3 +2,4 @@
 pub mod Journaling
 pub mod Telling
 pub mod Coming
+pub mod JobLaws

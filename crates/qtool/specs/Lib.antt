@@ -5,4 +5,6 @@ pub mod Journaled
 pub mod Runs
 pub mod Replies
 pub mod Outcomes
+pub mod Commands
+pub mod Jobs
 pub mod KeptJournaled

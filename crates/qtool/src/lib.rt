@@ -2,6 +2,8 @@
 #![tactic(auto)]
 
 pub use call_fault::CallFault;
+pub use job::Job;
+pub use line_fault::LineFault;
 pub use outcome::Outcome;
 pub use outcome_text::write_outcome;
 pub use receipt::Receipt;
@@ -10,7 +12,9 @@ pub use transcript::Transcript;
 pub use write_fault::WriteFault;
 
 mod call_fault;
+mod job;
 mod journaled_store;
+mod line_fault;
 mod outcome;
 mod outcome_text;
 mod receipt;

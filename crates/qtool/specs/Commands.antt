@@ -1,0 +1,34 @@
+-- The command line, as `clap` sees it.
+use Rattle.std.specs.Prelude.{ℕ, ◌-◌, ◌^◌, List, [], ◌∷◌, Some, true, codes}
+use Rattle.clap.specs.Words.{App, Rule, new_app as app_of_name, new_rule, with_rule, with_subcommand}
+use Rattle.clap.specs.declared.builder.ArgAction.TheVariants.{Set, Append}
+use Rattle.clap.specs.declared.builder.range.ValueRange.{ValueRange}
+use Rattle.clap.specs.declared.builder.value_parser.ValueParser.TheVariants.{Unsigned}
+
+-- a command of this name, with nothing to it
+abbrev pub new_app : List ℕ → App
+new_app name = app_of_name name
+
+-- `--config FILE`
+abbrev pub config : Rule
+config = record (new_rule (codes "config")) { long = Some (codes "config"); value_names = 1; required = true; action = Some Set }
+
+-- `--at MOMENT`, from 0 to 2^40, and 0 where it is not given
+abbrev pub at : Rule
+at = record (new_rule (codes "at")) { long = Some (codes "at"); value_names = 1; parser = Some (Unsigned 0 1099511627776); defaults = codes "0" ∷ []; action = Some Set }
+
+-- one or more scripts
+abbrev pub scripts : Rule
+scripts = record (new_rule (codes "scripts")) { value_names = 1; required = true; range = Some (record { start_inclusive = 1; end_inclusive = 2 ^ 64 - 1 }); action = Some Append }
+
+-- `run`
+abbrev pub run : App
+run = with_rule (with_rule (with_rule (new_app (codes "run")) config) at) scripts
+
+-- a command that does nothing of its own
+abbrev pub with_need : App → App
+with_need a = record a { top = record a.top { subcommand_required = true } }
+
+-- the command line
+abbrev pub quotafs : App
+quotafs = with_subcommand (with_need (new_app (codes "quotafs"))) run.top
