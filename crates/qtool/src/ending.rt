@@ -1,0 +1,126 @@
+//! How the program ends early, in one line.
+use crate::config_fault::ConfigFault;
+use crate::text_fault::TextFault;
+use qaudit::{Piece, RefusedWrite, put, put_pieces};
+use std::io::Write;
+
+/// Why the program ends before its work is done.
+#[derive(Debug, Drop)]
+pub(crate) enum Ending {
+    /// What `clap` says of the command line; help is for the output.
+    Line {
+        help: bool,
+        text: String,
+    },
+    /// No file of that name can be read.
+    File(String),
+    /// What is wrong with the configuration.
+    Config(ConfigFault),
+    /// There are more scripts than workers.
+    TooManyScripts,
+    /// What is wrong with the script of that number.
+    Script(u64, TextFault),
+    /// Memory was wanted and not there.
+    Memory,
+    /// The output refused.
+    Output,
+}
+
+impl Ending {
+    /// The exit status: 0 for help, 2 for what was asked, 3 for the machine, 4 for the output.
+    pub(crate) fn status(&self) -> u8 {
+        match self {
+            Ending::Line { help: true, .. } => 0,
+            Ending::Memory => 3,
+            Ending::Output => 4,
+            _ => 2,
+        }
+    }
+
+    /// Writes the line to the error output, or help to the output. A help that cannot be written is a refused output.
+    pub(crate) fn tell<O: Write, E: Write>(&self, out: &mut O, err: &mut E) -> u8 {
+        if let Ending::Line { help: true, text } = self {
+            if put(out, text.as_bytes()).is_ok() && out.flush().is_ok() {
+                return 0;
+            }
+            return Ending::Output.tell_line(err);
+        }
+        self.tell_line(err)
+    }
+
+    /// Writes the line, whatever becomes of it, and answers the status.
+    fn tell_line<E: Write>(&self, err: &mut E) -> u8 {
+        let _ = self.put_line(err);
+        self.status()
+    }
+
+    fn put_line<E: Write>(&self, err: &mut E) -> Result<(), RefusedWrite> {
+        match self {
+            Ending::Line { text, .. } => put(err, text.as_bytes()),
+            Ending::File(name) => put_fault(err, b"cannot read ", name.as_bytes()),
+            Ending::Config(fault) => put_config(err, fault),
+            Ending::TooManyScripts => put_fault(err, b"at most 16 scripts", b""),
+            Ending::Script(number, fault) => put_script(err, *number, fault),
+            Ending::Memory => put_fault(err, b"memory", b""),
+            Ending::Output => put_fault(err, b"output", b""),
+        }
+    }
+}
+
+fn put_fault<E: Write>(err: &mut E, words: &[u8], name: &[u8]) -> Result<(), RefusedWrite> {
+    let pieces = [
+        Piece::Text(b"quotafs: "),
+        Piece::Text(words),
+        Piece::Text(name),
+        Piece::Text(b"\n"),
+    ];
+    put_pieces(err, &pieces)
+}
+
+fn put_script<E: Write>(err: &mut E, number: u64, fault: &TextFault) -> Result<(), RefusedWrite> {
+    let pieces = [
+        Piece::Text(b"quotafs: script "),
+        Piece::Number(number),
+        Piece::Text(b": line "),
+        Piece::Number(fault.line),
+        Piece::Text(b": "),
+        Piece::Text(fault.kind.words().as_bytes()),
+        Piece::Text(b"\n"),
+    ];
+    put_pieces(err, &pieces)
+}
+
+fn put_config<E: Write>(err: &mut E, fault: &ConfigFault) -> Result<(), RefusedWrite> {
+    match fault {
+        ConfigFault::Text => put_fault(err, b"config: text", b""),
+        ConfigFault::Field(key) => {
+            put(err, b"quotafs: config: field ")?;
+            put_key(err, key.as_bytes())?;
+            put(err, b"\n")
+        }
+        ConfigFault::Range => put_fault(err, b"config: range", b""),
+        ConfigFault::Duplicate => put_fault(err, b"config: duplicate", b""),
+        ConfigFault::NoZero => put_fault(err, b"config: no zero", b""),
+        ConfigFault::Memory => put_fault(err, b"memory", b""),
+    }
+}
+
+/// Writes a key with its control bytes escaped as TOML does, so that a fault stays one line.
+fn put_key<E: Write>(err: &mut E, key: &[u8]) -> Result<(), RefusedWrite> {
+    for byte in key {
+        put_key_byte(err, *byte)?;
+    }
+    Ok(())
+}
+
+fn put_key_byte<E: Write>(err: &mut E, byte: u8) -> Result<(), RefusedWrite> {
+    match byte {
+        0x08 => put(err, b"\\b"),
+        b'\t' => put(err, b"\\t"),
+        b'\n' => put(err, b"\\n"),
+        0x0c => put(err, b"\\f"),
+        b'\r' => put(err, b"\\r"),
+        0..0x20 | 0x7f => put_pieces(err, &[Piece::Text(b"\\u00"), Piece::Data(&[byte])]),
+        _ => put(err, &[byte]),
+    }
+}

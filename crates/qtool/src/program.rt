@@ -1,0 +1,96 @@
+//! The whole program over files, output and fault lines.
+use crate::config::Config;
+use crate::config_fault::ConfigFault;
+use crate::ending::Ending;
+use crate::script::Script;
+use crate::text_fault::{TextFault, TextKind};
+use crate::{FileFault, Files, Job, LineFault, RunFault, run, write_outcome};
+use std::alloc::Global;
+use std::io::Write;
+
+/// The ending of a file that cannot be read.
+fn unreadable(alloc: Global, name: &str) -> Ending {
+    match String::from_str(alloc, name) {
+        Ok(name) => Ending::File(name),
+        Err(_) => Ending::Memory,
+    }
+}
+
+fn load<F: Files>(alloc: Global, files: &mut F, name: &str) -> Result<Vec<u8>, Ending> {
+    match files.read(name) {
+        Ok(bytes) => Ok(bytes),
+        Err(FileFault::Memory) => Err(Ending::Memory),
+        Err(FileFault::Fails) => Err(unreadable(alloc, name)),
+    }
+}
+
+/// Reads the configuration. One that is not UTF-8 cannot be read.
+fn configuration<F: Files>(alloc: Global, files: &mut F, name: &str) -> Result<Config, Ending> {
+    let bytes = load(alloc, files, name)?;
+    let Ok(text) = std::str::from_utf8(&bytes) else {
+        return Err(unreadable(alloc, name));
+    };
+    match Config::read(alloc, text) {
+        Ok(config) => Ok(config),
+        Err(ConfigFault::Memory) => Err(Ending::Memory),
+        Err(fault) => Err(Ending::Config(fault)),
+    }
+}
+
+/// Reads the script of that number.
+fn script<F: Files>(alloc: Global, files: &mut F, number: u64, name: &str) -> Result<Script, Ending> {
+    let bytes = load(alloc, files, name)?;
+    match Script::read(alloc, &bytes) {
+        Ok(script) => Ok(script),
+        Err(TextFault {
+            kind: TextKind::Memory,
+            ..
+        }) => Err(Ending::Memory),
+        Err(fault) => Err(Ending::Script(number, fault)),
+    }
+}
+
+/// Reads what the job names, in the order in which faults are told, runs it, and writes what came of it.
+fn do_job<F: Files, O: Write>(alloc: Global, job: Job, files: &mut F, out: &mut O) -> Result<(), Ending> {
+    let Job::Run {
+        config,
+        at,
+        scripts,
+    } = job;
+    let config = configuration(alloc, files, config.as_str())?;
+    let [name] = scripts.as_slice() else {
+        return Err(Ending::TooManyScripts);
+    };
+    let script = script(alloc, files, 1, name.as_str())?;
+    let outcome = match run(alloc, config, script) {
+        Ok(outcome) => outcome,
+        Err(RunFault::Memory) => return Err(Ending::Memory),
+    };
+    if write_outcome(&outcome, at, out).is_err() || out.flush().is_err() {
+        return Err(Ending::Output);
+    }
+    Ok(())
+}
+
+/// The whole program: reads the words of the command line, its own name the first of them, reads the files that they
+/// name, runs the job, writes what came of it to the output, and answers the exit status.
+///
+/// The first fault ends it with one line on the error output: 2 for the command line, the configuration or a script,
+/// 3 for want of memory, 4 for an output that refuses, also when it is flushed. Help goes to the output, with 0.
+pub fn tool<F: Files, O: Write, E: Write>(
+    alloc: Global,
+    words: &[String],
+    files: &mut F,
+    out: &mut O,
+    err: &mut E,
+) -> u8 {
+    let done = match Job::read(alloc, words) {
+        Ok(job) => do_job(alloc, job, files, out),
+        Err(LineFault::Line { help, text }) => Err(Ending::Line { help, text }),
+        Err(LineFault::Memory) => Err(Ending::Memory),
+    };
+    match done {
+        Ok(()) => 0,
+        Err(ending) => ending.tell(out, err),
+    }
+}
