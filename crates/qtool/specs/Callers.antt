@@ -7,12 +7,16 @@ use Rattle.qtool.specs.declared.text_fault.TextKind.TheVariants.{BadCred}
 use Rattle.qtool.specs.Reading.{◌>>=◌, each_of}
 use Rattle.qtool.specs.Words.{parts, id_of}
 
--- the uid and the gid
-unfoldable pub owner_of : List (List ℕ) → Result (ℕ × ℕ) TextKind
-owner_of (u ∷ g ∷ []) = do
+-- a uid and a gid
+unfoldable pub owner_in : List ℕ → List ℕ → Result (ℕ × ℕ) TextKind
+owner_in u g = do
   uid ← id_of BadCred u
   gid ← id_of BadCred g
   Ok (uid, gid)
+
+-- the uid and the gid whose words these are
+unfoldable pub owner_of : List (List ℕ) → Result (ℕ × ℕ) TextKind
+owner_of (u ∷ g ∷ []) = owner_in u g
 owner_of _ = Err BadCred
 
 -- the further groups
@@ -25,13 +29,17 @@ caller_with owner more =
     if nat_le (length more) MAX_MORE_GROUPS then Ok (record { uid = owner.0; gid = owner.1; more = more })
     else Err BadCred
 
--- the caller whose parts between commas these are
-unfoldable pub caller_in : List (List ℕ) → Result Caller TextKind
-caller_in [] = Err BadCred
-caller_in (first ∷ groups) = do
+-- the caller of an owner's text and the words of the further groups
+unfoldable pub caller_from : List ℕ → List (List ℕ) → Result Caller TextKind
+caller_from first groups = do
   owner ← owner_of (parts 58 first)
   more ← groups_of groups
   caller_with owner more
+
+-- the caller whose parts between commas these are
+unfoldable pub caller_in : List (List ℕ) → Result Caller TextKind
+caller_in [] = Err BadCred
+caller_in (first ∷ groups) = caller_from first groups
 
 -- the caller that a word spells
 abbrev pub caller_of : List ℕ → Result Caller TextKind

@@ -1,6 +1,5 @@
 -- What the parts of a reader answer. No public clause cites this module.
-use Rattle.std.specs.Prelude.{◌≡◌, ◌⊎◌, ℕ, List, Result, Ok, Err}
-use Rattle.std.specs.Vec.{Vec}
+use Rattle.std.specs.Prelude.{◌≡◌, ◌⊎◌, Result, Ok, Err}
 use Rattle.qtool.specs.declared.text_fault.TextKind.{TextKind}
 use Rattle.qtool.specs.declared.text_fault.TextFault.{TextFault}
 use Rattle.qtool.specs.declared.script.read_fault.ReadFault.{ReadFault}

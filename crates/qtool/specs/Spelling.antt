@@ -1,5 +1,5 @@
 -- How lines are spelled out: each number, caller, kind and call in its one spelling.
-use Rattle.std.specs.Prelude.{ℕ, ◌<◌, ◌≤◌, ◌^◌, List, [], ◌∷◌, ◌++◌, length, map, codes, decimal, concat}
+use Rattle.std.specs.Prelude.{ℕ, ◌<◌, ◌≤◌, ◌^◌, List, [], ◌∷◌, ◌++◌, length, map, codes, decimal}
 use Rattle.std.specs.List.{flat_map, join_with_byte, AllByRecursion}
 use Rattle.hex.specs.Hex.{encode_lower, IsBytes}
 use Rattle.qrules.specs.declared.kind.Kind.{Kind}

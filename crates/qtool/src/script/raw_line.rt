@@ -11,8 +11,9 @@ pub(crate) fn next_line(text: &[u8]) -> (&[u8], bool, &[u8])
         ≡ record { number = n; bytes = result.0.now; whole = result.1 } ∷ raw_lines_from (n + 1) (parts 10 result.2.now) }
     ensures shorter { length result.2.now < length text.now }
 {
-    match first_part(text, b'\n') {
-        (line, Some(after)) => (line, true, after),
-        (line, None) => (line, false, &[]),
+    let (line, after) = first_part(text, b'\n');
+    match after {
+        Some(after) => (line, true, after),
+        None => (line, false, &[]),
     }
 }

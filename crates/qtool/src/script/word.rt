@@ -1,4 +1,4 @@
-ghost use Rattle.std.specs.Prelude.{◌≡◌, ◌<◌, ◌∷◌, map, length, IfOk, IfSome};
+ghost use Rattle.std.specs.Prelude.{◌≡◌, ◌<◌, ◌∷◌, map, length, IfOk, IfSome, IsNone};
 ghost use Rattle.std.specs.Option.{option_map};
 ghost use Rattle.qtool.specs.Words.{parts, words, parts_after};
 
@@ -8,6 +8,7 @@ use std::alloc::{AllocError, Global};
 pub(crate) fn first_part(text: &[u8], separator: u8) -> (&[u8], Option<&[u8]>)
     ensures parts { parts separator text.now
         ≡ result.0.now ∷ parts_after separator (option_map (λ after. after.now) result.1) }
+    ensures whole { IsNone result.1 → result.0.now ≡ text.now }
     ensures shorter { IfSome result.1 (λ after. length after.now < length text.now) }
 {
     match text.iter().position(|byte| *byte == separator) {
