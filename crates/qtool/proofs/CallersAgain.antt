@@ -1,6 +1,6 @@
 -- Callers that are spelled out are read again.
-use Rattle.std.proofs.Common.{◌≡◌, ℕ, ◌+◌, ◌-◌, ◌≤◌, ◌<◌, ◌^◌, zero, suc, Bool, true, false, cond, not, ◌&&◌, eqb, ltb, leb, List, [], ◌∷◌, ◌++◌, length, map, get_or, Option, Some, None, Result, Ok, Err, refl, sym, ap, ◌∙◌, append_assoc, arith, rules, codes, decimal, inl, inr, lit<}
-use Rattle.std.specs.List.{join_with_byte, list_all, AllByRecursion}
+use Rattle.std.proofs.Common.{◌≡◌, ℕ, ◌-◌, ◌≤◌, ◌<◌, ◌^◌, true, not, eqb, leb, List, [], ◌∷◌, length, map, Ok, refl, ap, ◌∙◌, arith, decimal, lit<}
+use Rattle.std.specs.List.{list_all, AllByRecursion}
 use Rattle.std.specs.Char.{is_ascii_digit}
 use Rattle.std.proofs.lemmas.Bool.Decides.{nat_tests}
 use Rattle.qplain.specs.Caller.{Caller}
@@ -74,4 +74,3 @@ in_again c fits =
 pub caller_again : (c : Caller) → IsCaller c → caller_of (caller_text c) ≡ Ok c
 caller_again c fits =
     ap caller_in (parts_join 44 (owner_text c) (map decimal c.more) (owner_lacks c fits, lacking 44 (lit< tt) c.more fits.more)) ∙ in_again c fits
-

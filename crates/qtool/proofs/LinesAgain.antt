@@ -1,5 +1,5 @@
 -- Lines that are spelled out are read again.
-use Rattle.std.proofs.Common.{◌≡◌, ◌⊎◌, ℕ, ◌+◌, ◌-◌, ◌≤◌, ◌<◌, ◌^◌, zero, suc, Bool, true, false, cond, not, ◌&&◌, eqb, ltb, leb, List, [], ◌∷◌, ◌++◌, length, map, get_or, Option, Some, None, Result, Ok, Err, refl, sym, ap, ◌∙◌, append_assoc, arith, rules, codes, decimal, inl, inr, lit<}
+use Rattle.std.proofs.Common.{◌≡◌, ◌⊎◌, ℕ, ◌+◌, ◌-◌, ◌≤◌, ◌<◌, ◌^◌, Bool, true, false, not, eqb, ltb, List, [], ◌∷◌, ◌++◌, length, Result, Ok, Err, refl, sym, ap, ◌∙◌, append_assoc, arith, decimal, inl, inr}
 use Rattle.std.specs.List.{join_with_byte, list_all, AllByRecursion}
 use Rattle.std.proofs.lemmas.Bool.{le-ltb}
 use Rattle.qrules.specs.declared.limits.Limits.{Limits}
@@ -14,8 +14,8 @@ use Rattle.qtool.specs.Reading.{each_of}
 use Rattle.qtool.specs.Words.{parts, words, number, id_of}
 use Rattle.qtool.specs.Verbs.{verb_of}
 use Rattle.qtool.specs.Calls.{create_of, write_of, read_of, stat_of, limits_of, setquota_of, setgrace_of, quota_of, call_of}
-use Rattle.qtool.specs.Scripts.{RawLine, raw_lines_from, is_text_byte, line_in, line_of, at_line, script_of, want_of_memory}
-use Rattle.qtool.specs.Spelling.{caller_text, limits_words, call_words, line_words, line_text, spelling, IsCaller, AreLimits, IsCall, IsLine, AreLines}
+use Rattle.qtool.specs.Scripts.{raw_lines_from, is_text_byte, line_in, line_of, at_line, script_of, want_of_memory}
+use Rattle.qtool.specs.Spelling.{caller_text, limits_words, call_words, line_words, spelling, IsCaller, AreLimits, IsCall, IsLine, AreLines}
 use Rattle.qtool.proofs.Joining.{lacks, parts_join, parts_first, passes_join, passes_weaker}
 use Rattle.qtool.proofs.Splitting.{more_lines, some_part, no_line}
 use Rattle.qtool.proofs.WordsAgain.{number_again, path_again, data_again, kind_again, decimal_word, data_word, kind_word, word_lacks_space, word_is_text, text_lacks_feed}

@@ -1,7 +1,6 @@
-use Rattle.std.proofs.Common.{◌≡◌, ℕ, Bool, true, false, not, eqb, List, length, Result, Ok, Err, refl}
+use Rattle.std.proofs.Common.{◌≡◌, ℕ, Bool, true, false, not, eqb, List, length, Ok, Err, refl}
 use Rattle.std.specs.List.{list_all}
 use Rattle.qplain.specs.Paths.{ArePathBytes, is_path_byte}
-use Rattle.qtool.specs.declared.text_fault.TextKind.{TextKind}
 use Rattle.qtool.specs.declared.text_fault.TextKind.TheVariants.{BadWord}
 use Rattle.qtool.specs.Arguments.{path_of}
 use Rattle.qtool.proofs.script.argument.path_of.Goals as goal

@@ -1,4 +1,4 @@
-use Rattle.std.proofs.Common.{◌≡◌, ℕ, suc, List, Option, Some, None, length}
+use Rattle.std.proofs.Common.{◌≡◌}
 use Rattle.std.specs.Option.{option_map}
 use Rattle.qtool.specs.Words.{parts_after}
 use Rattle.qtool.specs.Callers.{groups_of}

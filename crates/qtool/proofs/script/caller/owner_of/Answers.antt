@@ -1,4 +1,4 @@
-use Rattle.std.proofs.Common.{◌≡◌, ℕ, ◌<◌, List, [], ◌∷◌, length, Result, Err, refl, arith}
+use Rattle.std.proofs.Common.{◌≡◌, ℕ, ◌<◌, List, [], ◌∷◌, length, Err, refl, arith}
 use Rattle.qtool.specs.declared.text_fault.TextKind.TheVariants.{BadCred}
 use Rattle.qtool.specs.Words.{parts}
 use Rattle.qtool.specs.Callers.{owner_of, owner_in}
