@@ -1,0 +1,112 @@
+ghost use Rattle.std.specs.Prelude.{◌≡◌, ◌≤◌, ◌⊎◌, List, Ok, Err, IfOk, length};
+ghost use Rattle.qplain.specs.declared.line.Line.{Line};
+ghost use Rattle.qtool.specs.Gives.{Reads};
+ghost use Rattle.qtool.specs.Scripts.{script_of};
+
+use crate::script::line::line_of;
+use crate::script::raw_line::next_line;
+use crate::script::read_fault::ReadFault;
+use crate::{TextFault, TextKind};
+use qplain::Line;
+use qrules::Items;
+use std::alloc::Global;
+use std::marker::Model;
+
+pub(crate) mod argument;
+pub(crate) mod call;
+pub(crate) mod caller;
+pub(crate) mod data;
+pub(crate) mod line;
+pub(crate) mod number;
+pub(crate) mod raw_line;
+pub(crate) mod read_fault;
+pub(crate) mod verb;
+pub(crate) mod word;
+
+/// The most lines that a script may have.
+pub const MAX_LINES: usize = 65_536;
+
+/// The lines of a script, as they were read.
+#[derive(Debug, PartialEq, Eq, Drop)]
+pub struct Script {
+    lines: Items<Line>,
+}
+
+impl Model for Script {
+    ghost use Rattle.std.specs.Prelude.{List, ◌≤◌, length};
+    ghost use Rattle.qplain.specs.declared.line.Line.{Line};
+    ghost use Rattle.qtool.specs.declared.script.TheConstants.{MAX_LINES};
+
+    ghost Value = { List Line };
+
+    ghost view = { λ s. s.lines };
+
+    ghost invariant = { λ s. length s.lines ≤ MAX_LINES };
+
+    ghost inverse = { λ lines. record { lines = lines } };
+}
+
+const WANT_OF_MEMORY: TextFault = TextFault {
+    line: 0,
+    kind: TextKind::Memory,
+};
+
+/// The lines of a script, or the first line at fault with the first thing wrong in it.
+fn lines_of(alloc: Global, text: &[u8]) -> Result<Items<Line>, TextFault>
+    ensures lines { Reads result (script_of text.now) }
+    ensures few { IfOk result (λ lines. length lines ≤ MAX_LINES) }
+{
+    let mut lines = Vec::new(alloc);
+    let mut rest = text;
+    let mut number = 0u64;
+    while !rest.is_empty() {
+        number += 1;
+        let (line, whole, after) = next_line(rest);
+        match line_of(alloc, number, line, whole) {
+            Ok(line) => match lines.push(line) {
+                Ok(()) => {}
+                Err(_) => return Err(WANT_OF_MEMORY),
+            },
+            Err(ReadFault::Memory) => return Err(WANT_OF_MEMORY),
+            Err(ReadFault::Fault(kind)) => return Err(TextFault { line: number, kind }),
+        }
+        rest = after;
+    }
+    Ok(Items::new(lines))
+}
+
+impl Script {
+    ghost use Rattle.qtool.specs.Scripts.{script_of, want_of_memory};
+    ghost use Rattle.qtool.specs.Spelling.{AreLines, spelling};
+
+    /// Reads a script: its lines, or the first line at fault with the first thing wrong in it.
+    ///
+    /// Line 0 is at fault where memory is wanting, whatever the text says.
+    pub fn read(alloc: Global, text: &[u8]) -> Result<Self, TextFault>
+        // What the text says, want of memory aside.
+        ensures exact { (result ≡ script_of text.now) ⊎ (result ≡ Err want_of_memory) }
+
+        // Lines that are spelled out are read again.
+        ensures again { (lines : List Line) → AreLines lines → text.now ≡ spelling lines
+            → (result ≡ Ok lines) ⊎ (result ≡ Err want_of_memory) }
+    {
+        let lines = lines_of(alloc, text)?;
+        Ok(Script { lines })
+    }
+
+    /// The lines, in their order.
+    pub fn lines(&self) -> &[Line]
+        ensures lines { result.now ≡ self.now }
+        ensures few { length result.now ≤ MAX_LINES }
+    {
+        self.lines.as_slice()
+    }
+
+    /// Gives the lines back.
+    pub fn into_lines(self) -> Vec<Line>
+        ensures lines { result.items ≡ self }
+        ensures few { length result.items ≤ MAX_LINES }
+    {
+        self.lines.into_vec()
+    }
+}

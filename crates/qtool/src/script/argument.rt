@@ -1,0 +1,33 @@
+ghost use Rattle.qtool.specs.Gives.{Gives};
+ghost use Rattle.qtool.specs.Arguments.{path_of, kind_of};
+
+use crate::TextKind;
+use crate::script::read_fault::ReadFault;
+use qplain::Path;
+use qrules::Kind;
+use std::alloc::{AllocError, Global};
+
+/// A path: whether it leads anywhere is for the store to say.
+pub(crate) fn path_of(alloc: Global, word: &[u8]) -> Result<Path, ReadFault>
+    ensures { Gives result (path_of word.now) }
+{
+    let bytes = Vec::from_slice(alloc, word)?;
+    match Path::new(bytes) {
+        Some(path) => Ok(path),
+        None => Err(ReadFault::Fault(TextKind::BadWord)),
+    }
+}
+
+/// `user` or `group`.
+#[tactic(auto, unfolding(crate::specs::Arguments::kind_of))]
+pub(crate) fn kind_of(word: &[u8]) -> Result<Kind, ReadFault>
+    ensures { Gives result (kind_of word.now) }
+{
+    if word == b"user".as_slice() {
+        return Ok(Kind::User);
+    }
+    if word == b"group".as_slice() {
+        return Ok(Kind::Group);
+    }
+    Err(ReadFault::Fault(TextKind::BadWord))
+}

@@ -1,0 +1,71 @@
+ghost use Rattle.std.specs.Prelude.{◌≡◌, ◌≤◌, map, IfOk};
+ghost use Rattle.std.specs.List.{list_all};
+ghost use Rattle.qtool.specs.Gives.{Gives};
+ghost use Rattle.qtool.specs.Scripts.{is_text_byte, line_in, line_of};
+
+use crate::TextKind;
+use crate::script::MAX_LINES;
+use crate::script::call::call_of;
+use crate::script::caller::caller_of;
+use crate::script::number::number;
+use crate::script::read_fault::ReadFault;
+use crate::script::verb::verb_of;
+use crate::script::word::words;
+use qplain::Line;
+use std::alloc::{AllocError, Global};
+
+/// `MOMENT CALLER CALL`.
+#[tactic(auto, unfolding(crate::specs::Scripts::line_in))]
+fn line_in(alloc: Global, words: &[&[u8]]) -> Result<Line, ReadFault>
+    ensures { Gives result (line_in (map (λ word. word.now) words.now)) }
+{
+    match words {
+        [] => Err(ReadFault::Fault(TextKind::BadNumber)),
+        [moment] => {
+            number(moment)?;
+            Err(ReadFault::Fault(TextKind::BadCred))
+        }
+        [moment, cred] => {
+            number(moment)?;
+            caller_of(alloc, cred)?;
+            Err(ReadFault::Fault(TextKind::BadVerb))
+        }
+        [moment, cred, verb, arguments @ ..] => {
+            let moment = number(moment)?;
+            let cred = caller_of(alloc, cred)?;
+            let verb = verb_of(verb)?;
+            let call = call_of(alloc, verb, arguments)?;
+            Ok(Line { cred, moment, call })
+        }
+    }
+}
+
+fn are_text_bytes(line: &[u8]) -> bool
+    ensures { result ≡ list_all is_text_byte line.now }
+{
+    line.iter().all(|byte| 0x20 <= *byte && *byte <= 0x7e)
+}
+
+/// The line of that number, which is whole where a line end stands behind it.
+#[tactic(auto, unfolding(crate::specs::Scripts::line_of))]
+pub(crate) fn line_of(
+    alloc: Global,
+    number: u64,
+    bytes: &[u8],
+    whole: bool,
+) -> Result<Line, ReadFault>
+    ensures reads { Gives result (line_of (record { number = number; bytes = bytes.now; whole = whole })) }
+    ensures few { IfOk result (λ _. number ≤ MAX_LINES) }
+{
+    if number > MAX_LINES as u64 {
+        return Err(ReadFault::Fault(TextKind::TooMany));
+    }
+    if !whole {
+        return Err(ReadFault::Fault(TextKind::Cut));
+    }
+    if !are_text_bytes(bytes) {
+        return Err(ReadFault::Fault(TextKind::BadByte));
+    }
+    let words = words(alloc, bytes)?;
+    line_in(alloc, &words)
+}
