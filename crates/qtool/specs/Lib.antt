@@ -1,2 +1,5 @@
 -- In reading order. A module that no public clause cites says so.
 pub mod Reading
+pub mod ConfigFaults
+pub mod ConfigFields
+pub mod ConfigSize
