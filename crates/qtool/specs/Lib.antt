@@ -3,3 +3,4 @@ pub mod Reading
 pub mod ConfigFaults
 pub mod ConfigFields
 pub mod ConfigSize
+pub mod ConfigPrincipals

@@ -1,6 +1,8 @@
 //! Configurations.
 
 mod field;
+mod principal;
+mod size;
 mod tables;
 
 /// A configuration.
