@@ -4,3 +4,4 @@ pub mod ConfigFaults
 pub mod ConfigFields
 pub mod ConfigSize
 pub mod ConfigPrincipals
+pub mod ConfigKeys

@@ -1,6 +1,7 @@
 //! Configurations.
 
 mod field;
+mod keys;
 mod principal;
 mod size;
 mod tables;
