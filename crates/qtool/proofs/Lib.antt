@@ -1,3 +1,4 @@
 pub mod EachLaws
 pub mod ConfigDigits
+pub mod ConfigKeyLaws
 pub mod ConfigLaws

@@ -66,11 +66,11 @@ fn unknown_of_tables<'a>(users: &[&'a Table], groups: &[&'a Table]) -> Option<&'
 }
 
 /// The least unknown key of these tables, or the least so far.
-fn unknown_after<'a>(least: Option<&'a str>, tables: &[&'a Table]) -> Option<&'a str>
-    ensures { option_map (λ key. key.now) result ≡ fold lesser_of (option_map (λ key. key.now) least.entry)
+fn unknown_after<'a>(so_far: Option<&'a str>, tables: &[&'a Table]) -> Option<&'a str>
+    ensures { option_map (λ key. key.now) result ≡ fold lesser_of (option_map (λ key. key.now) so_far.entry)
         (filter (is_unknown principal_keys) (flat_map keys_of (map (λ t. table_view t.now) tables.now))) }
 {
-    let mut least = least;
+    let mut least = so_far;
     for table in tables {
         least = least_unknown(least, table, &PRINCIPAL_KEYS);
     }
@@ -79,14 +79,14 @@ fn unknown_after<'a>(least: Option<&'a str>, tables: &[&'a Table]) -> Option<&'a
 
 /// The least unknown key of this table, or the least so far.
 fn least_unknown<'a>(
-    least: Option<&'a str>,
+    so_far: Option<&'a str>,
     table: &'a Table,
     known: &[&str],
 ) -> Option<&'a str>
-    ensures { option_map (λ key. key.now) result ≡ fold lesser_of (option_map (λ key. key.now) least.entry)
+    ensures { option_map (λ key. key.now) result ≡ fold lesser_of (option_map (λ key. key.now) so_far.entry)
         (filter (is_unknown (map (λ key. key.now) known.now)) (keys_of (table_view table.now))) }
 {
-    let mut least = least;
+    let mut least = so_far;
     for key in table.keys() {
         if is_unknown(known, key.as_str()) {
             least = Some(lesser_of(least, key.as_str()));
