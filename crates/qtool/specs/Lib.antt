@@ -5,3 +5,4 @@ pub mod ConfigFields
 pub mod ConfigSize
 pub mod ConfigPrincipals
 pub mod ConfigKeys
+pub mod Configs
