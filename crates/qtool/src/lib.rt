@@ -6,3 +6,5 @@ pub use config_fault::ConfigFault;
 
 mod config;
 mod config_fault;
+#[cfg(test)]
+mod tests;
