@@ -6,7 +6,6 @@ use Rattle.qrules.specs.declared.limits.Limits.{Limits}
 use Rattle.qplain.specs.declared.principal.Principal.{Principal}
 use Rattle.qplain.specs.declared.setup.SetupFault.{SetupFault}
 use Rattle.qplain.specs.Setups.{IsSetupOf, Setting, setting, setup_fault}
-use Rattle.qtool.specs.declared.config.Config.{Config}
 use Rattle.qtool.specs.declared.config.principal.WrittenPrincipal.{WrittenPrincipal}
 use Rattle.qtool.specs.declared.config.written.WrittenConfig.{WrittenConfig}
 use Rattle.qtool.specs.declared.config_fault.ConfigFault.{ConfigFault}
@@ -94,14 +93,8 @@ setting_in text = do
   _ ← known_keys document
   setting_of written
 
--- the setup is that of the setting; a fault is the cause for which there is none, or want of memory
-abbrev pub Makes : Result Setting ConfigFault → Result Setting Cause → Type 0
-Makes (Ok kept) (Ok given) = IsSetupOf given kept
-Makes (Ok kept) (Err cause) = ⊥
-Makes (Err fault) written = Fails fault written
-
--- the configuration read has the setup of the setting; a fault is the cause for which there is none, or want of memory
-abbrev pub Reads : Result Config ConfigFault → Result Setting Cause → Type 0
-Reads (Ok config) (Ok given) = IsSetupOf given config.setup
-Reads (Ok config) (Err cause) = ⊥
-Reads (Err fault) written = Fails fault written
+-- what is read has the setup of the setting that is written; a fault is the cause for which none is, or want of memory
+abbrev pub Reads : {A : Type 0} → (A → Setting) → Result A ConfigFault → Result Setting Cause → Type 0
+Reads setup_of (Ok read) (Ok given) = IsSetupOf given (setup_of read)
+Reads setup_of (Ok read) (Err cause) = ⊥
+Reads setup_of (Err fault) written = Fails fault written

@@ -43,7 +43,7 @@ impl Config {
     /// no zero, as for a `Setup`. An integer past 64 bits or a key given twice is no TOML.
     #[tactic(auto, unfolding(crate::specs::Configs::setting_in))]
     pub fn read(alloc: Global, text: &str) -> Result<Self, ConfigFault>
-        ensures exact { Reads result (setting_in text.now) }
+        ensures exact { Reads (λ config. config.setup) result (setting_in text.now) }
     {
         let document = document_of(alloc, text)?;
         let written = fields_of(alloc, &document)?;

@@ -3,7 +3,7 @@
 ghost use Rattle.std.specs.Prelude.{◌≡◌};
 ghost use Rattle.qtool.specs.Reading.{each_of};
 ghost use Rattle.qtool.specs.ConfigFaults.{Gives};
-ghost use Rattle.qtool.specs.Configs.{Makes, declared_of, id_of, limits_of, number_of, setting_of};
+ghost use Rattle.qtool.specs.Configs.{Reads, declared_of, id_of, limits_of, number_of, setting_of};
 
 use super::principal::WrittenPrincipal;
 use super::written::WrittenConfig;
@@ -15,7 +15,7 @@ use std::alloc::Global;
 /// The setup of these fields, whose numbers are tested first: range, then duplicate, then no zero.
 #[tactic(auto, unfolding(crate::specs::Configs::setting_of))]
 pub(super) fn setup_of(alloc: Global, written: WrittenConfig) -> Result<Setup, ConfigFault>
-    ensures { Makes result (setting_of written) }
+    ensures { Reads (λ setup. setup) result (setting_of written) }
 {
     let inodes = number_of(written.inodes)?;
     let block = number_of(written.block_grace)?;
