@@ -1,5 +1,5 @@
 -- The keys of tables beside the maps that hold them.
-use Rattle.std.proofs.Common.{◌≡◌, ℕ, Bool, ◌||◌, List, [], ◌∷◌, ◌++◌, map, Option, String, Global, string_bytes, fold, refl, sym, ap, ◌∙◌}
+use Rattle.std.proofs.Common.{◌≡◌, ℕ, Bool, ◌||◌, List, [], ◌∷◌, ◌++◌, map, Option, string_bytes, fold, refl, sym, ap, ◌∙◌}
 use Rattle.std.specs.List.{filter, flat_map, list_any}
 use Rattle.std.specs.Map.{keys_of as map_keys_of}
 use Rattle.std.proofs.lemmas.Grind.{flat_map-append, fold-append}
@@ -36,5 +36,5 @@ least-tables test least total table others rest cut so_far =
 -- the least of the keys of two lists of tables
 pub least-lists : (test : List ℕ → Bool) (least : Option (List ℕ)) (xs ys : List Members)
     → fold lesser_of least (filter test (flat_map keys_of (xs ++ ys)))
-      ≡ fold lesser_of (fold lesser_of least (filter test (flat_map keys_of xs))) (filter test (flat_map keys_of ys))
+    ≡ fold lesser_of (fold lesser_of least (filter test (flat_map keys_of xs))) (filter test (flat_map keys_of ys))
 least-lists test least xs ys = rw (flat_map-append keys_of xs ys) (least-append test least (flat_map keys_of xs) (flat_map keys_of ys))

@@ -1,5 +1,5 @@
 -- Reading one after the other, as a loop does.
-use Rattle.std.proofs.Common.{◌≡◌, ℕ, ◌<◌, ◌≤◌, ◌+◌, suc, List, [], ◌∷◌, ◌++◌, length, get_or, drop, map, Result, Ok, Err, refl, sym, ap, ◌∙◌, append_assoc, add-one, drop-cons}
+use Rattle.std.proofs.Common.{◌≡◌, ℕ, ◌<◌, ◌≤◌, ◌+◌, List, [], ◌∷◌, ◌++◌, length, get_or, drop, map, Result, Ok, Err, refl, sym, ap, ◌∙◌, append_assoc, add-one, drop-cons}
 use Rattle.std.proofs.lemmas.List.{append-nil, drop_all}
 use Rattle.qtool.specs.Reading.{◌>>=◌, each_of}
 
@@ -21,7 +21,7 @@ pub goes_on : {A B E : Type 0} (read : A → Result B E) (front : List B) (x : A
 unfolding each_of
 goes_on read front x xs rest y total h cut so_far =
     let one : with_front front (each_of read (x ∷ xs)) ≡ with_front (front ++ y ∷ []) (each_of read xs) =
-        rw h (regroup front y (each_of read xs)) in
+    rw h (regroup front y (each_of read xs)) in
     sym one ∙ (rw cut at so_far)
 
 -- the reading ends at a value that could not be read

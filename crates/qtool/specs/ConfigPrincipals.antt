@@ -1,5 +1,5 @@
 -- Users and groups as a configuration writes them.
-use Rattle.std.specs.Prelude.{List, ℕ, Option, Some, None, Bool, Result, Ok, Err, codes, if◌then◌else◌}
+use Rattle.std.specs.Prelude.{List, ℕ, Option, Some, None, Result, Ok, codes, if◌then◌else◌}
 use Rattle.toml.specs.Data.{Members}
 use Rattle.qplain.specs.Principals.{is_principal_name}
 use Rattle.qtool.specs.declared.config.principal.WrittenPrincipal.{WrittenPrincipal}
@@ -27,8 +27,13 @@ principal_of table = do
   inode_soft ← limit_at (codes "inode_soft") table
   inode_hard ← limit_at (codes "inode_hard") table
   Ok (record {
-    id = id; name = name; block_soft = block_soft; block_hard = block_hard;
-    inode_soft = inode_soft; inode_hard = inode_hard })
+    id = id;
+    name = name;
+    block_soft = block_soft;
+    block_hard = block_hard;
+    inode_soft = inode_soft;
+    inode_hard = inode_hard;
+  })
 
 -- the principals that the tables of the list at the key write
 unfoldable pub principals_at : List ℕ → Members → Result (List WrittenPrincipal) Cause

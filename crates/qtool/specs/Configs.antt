@@ -32,8 +32,13 @@ fields_of document = do
   users ← principals_at (codes "user") document
   groups ← principals_at (codes "group") document
   Ok (record {
-    blocks = blocks; inodes = inodes; block_grace = block_grace; inode_grace = inode_grace;
-    users = users; groups = groups })
+    blocks = blocks;
+    inodes = inodes;
+    block_grace = block_grace;
+    inode_grace = inode_grace;
+    users = users;
+    groups = groups;
+  })
 
 -- the number that an integer is; a negative one is out of range
 abbrev pub number_of : ℤ → Result ℕ Cause

@@ -26,11 +26,7 @@ pub(super) fn value_at<'a>(table: &'a Table, key: &str) -> Option<&'a Value>
     table.get(key)
 }
 
-fn text_of<'a>(
-    alloc: Global,
-    value: Option<&'a Value>,
-    key: &str,
-) -> Result<&'a str, ConfigFault>
+fn text_of<'a>(alloc: Global, value: Option<&'a Value>, key: &str) -> Result<&'a str, ConfigFault>
     ensures { Gives (λ text. text.now) result
         (found key.now (option_and_then as_str (option_map (λ value. view value.now) value.entry))) }
 {

@@ -78,11 +78,7 @@ fn unknown_after<'a>(so_far: Option<&'a str>, tables: &[&'a Table]) -> Option<&'
 }
 
 /// The least unknown key of this table, or the least so far.
-fn least_unknown<'a>(
-    so_far: Option<&'a str>,
-    table: &'a Table,
-    known: &[&str],
-) -> Option<&'a str>
+fn least_unknown<'a>(so_far: Option<&'a str>, table: &'a Table, known: &[&str]) -> Option<&'a str>
     ensures { option_map (λ key. key.now) result ≡ fold lesser_of (option_map (λ key. key.now) so_far.entry)
         (filter (is_unknown (map (λ key. key.now) known.now)) (keys_of (table_view table.now))) }
 {
@@ -107,12 +103,7 @@ fn lesser_of<'a>(least: Option<&'a str>, key: &'a str) -> &'a str
 {
     match least {
         None => key,
-        Some(least) => {
-            if key < least {
-                key
-            } else {
-                least
-            }
-        }
+        Some(least) if key < least => key,
+        Some(least) => least,
     }
 }

@@ -38,10 +38,7 @@ pub(super) fn principals_at(
     principals_of(alloc, &tables)
 }
 
-fn principals_of(
-    alloc: Global,
-    tables: &[&Table],
-) -> Result<Items<WrittenPrincipal>, ConfigFault>
+fn principals_of(alloc: Global, tables: &[&Table]) -> Result<Items<WrittenPrincipal>, ConfigFault>
     ensures { Gives (λ principals. principals) result (each_of principal_of (map (λ t. table_view t.now) tables.now)) }
 {
     let mut principals = Vec::new(alloc);

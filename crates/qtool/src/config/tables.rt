@@ -12,11 +12,7 @@ use std::alloc::Global;
 use toml::value::Array;
 use toml::{Table, Value};
 
-fn list_of<'a>(
-    alloc: Global,
-    value: Option<&'a Value>,
-    key: &str,
-) -> Result<&'a Array, ConfigFault>
+fn list_of<'a>(alloc: Global, value: Option<&'a Value>, key: &str) -> Result<&'a Array, ConfigFault>
     ensures { Gives (λ list. values_of (array_view list.now)) result
         (list_of key.now (option_map (λ value. view value.now) value.entry)) }
 {

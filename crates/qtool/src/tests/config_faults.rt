@@ -70,7 +70,11 @@ fn what_toml_refuses_is_text(rt: HostRuntime) -> Result<(), Fail> {
     let rows = [
         ("size = ", "size ", "51 text"),
         ("nr_inodes = 6", "nr_inodes = 06", "51 text"),
-        ("nr_inodes = 6", "nr_inodes = 9223372036854775808", "51 text"),
+        (
+            "nr_inodes = 6",
+            "nr_inodes = 9223372036854775808",
+            "51 text",
+        ),
         ("nr_inodes = 6", "nr_inodes = 6\nnr_inodes = 6", "51 text"),
         ("id = 1000,", "id = 1000, id = 1000,", "51 text"),
     ];
@@ -100,8 +104,16 @@ fn key_of_another_kind_is_field(rt: HostRuntime) -> Result<(), Fail> {
         ("\"40k\"", "40", "52 field size"),
         ("nr_inodes = 6", "nr_inodes = \"6\"", "52 field nr_inodes"),
         ("nr_inodes = 6", "nr_inodes = 6.0", "52 field nr_inodes"),
-        ("block_grace = 100", "block_grace = true", "52 field block_grace"),
-        ("inode_grace = 100", "inode_grace = 2026-01-01", "52 field inode_grace"),
+        (
+            "block_grace = 100",
+            "block_grace = true",
+            "52 field block_grace",
+        ),
+        (
+            "inode_grace = 100",
+            "inode_grace = 2026-01-01",
+            "52 field inode_grace",
+        ),
         ("user = [", "user = [1, ", "52 field user"),
         ("group = [", "group = 7 # [", "52 field group"),
         ("group = [", "group = {} # [", "52 field group"),
@@ -110,7 +122,11 @@ fn key_of_another_kind_is_field(rt: HostRuntime) -> Result<(), Fail> {
         ("block_soft = 8", "block_soft = 8.0", "52 field block_soft"),
         ("block_soft = 8", "block_hard = []", "52 field block_hard"),
         ("block_soft = 8", "inode_soft = {}", "52 field inode_soft"),
-        ("inode_hard = 2", "inode_hard = \"2\"", "52 field inode_hard"),
+        (
+            "inode_hard = 2",
+            "inode_hard = \"2\"",
+            "52 field inode_hard",
+        ),
     ];
     assert_eq!(rt; first_wrong(rt.alloc(), &rows)?, None);
     Ok(())
@@ -235,12 +251,24 @@ fn kind_without_id_0_is_no_zero(rt: HostRuntime) -> Result<(), Fail> {
 fn first_field_counts(rt: HostRuntime) -> Result<(), Fail> {
     let rows = [
         ([("40k", "x"), ("nr_inodes = 6", "")], "52 field size"),
-        ([("nr_inodes = 6", ""), ("block_grace = 100", "")], "52 field nr_inodes"),
-        ([("inode_grace = 100", ""), ("user = ", "x = ")], "52 field inode_grace"),
+        (
+            [("nr_inodes = 6", ""), ("block_grace = 100", "")],
+            "52 field nr_inodes",
+        ),
+        (
+            [("inode_grace = 100", ""), ("user = ", "x = ")],
+            "52 field inode_grace",
+        ),
         ([("ann", "Ann"), ("id = 100,", "")], "52 field name"),
-        ([("user = [", "user = [1, "), ("id = 1000,", "")], "52 field user"),
+        (
+            [("user = [", "user = [1, "), ("id = 1000,", "")],
+            "52 field user",
+        ),
         ([("id = 1000,", ""), ("group = ", "x = ")], "52 field id"),
-        ([("ann", "Ann"), ("block_soft = 8", "block_soft = []")], "52 field name"),
+        (
+            [("ann", "Ann"), ("block_soft = 8", "block_soft = []")],
+            "52 field name",
+        ),
     ];
     assert_eq!(rt; first_wrong_of_two(rt.alloc(), &rows)?, None);
     Ok(())
@@ -250,10 +278,31 @@ fn first_field_counts(rt: HostRuntime) -> Result<(), Fail> {
 #[test]
 fn unknown_keys_come_after_the_known_ones(rt: HostRuntime) -> Result<(), Fail> {
     let rows = [
-        ([("size = ", "a = 1\nsize = "), ("staff", "Staff")], "52 field name"),
-        ([("size = ", "z = 1\nsize = "), ("id = 1000,", "id = 1000, a = 1,")], "52 field z"),
-        ([("id = 1000,", "id = 1000, z = 1,"), ("id = 100,", "id = 100, a = 1,")], "52 field a"),
-        ([("id = 1000,", "id = 1000, a = 1,"), ("id = 100,", "id = 100, z = 1,")], "52 field a"),
+        (
+            [("size = ", "a = 1\nsize = "), ("staff", "Staff")],
+            "52 field name",
+        ),
+        (
+            [
+                ("size = ", "z = 1\nsize = "),
+                ("id = 1000,", "id = 1000, a = 1,"),
+            ],
+            "52 field z",
+        ),
+        (
+            [
+                ("id = 1000,", "id = 1000, z = 1,"),
+                ("id = 100,", "id = 100, a = 1,"),
+            ],
+            "52 field a",
+        ),
+        (
+            [
+                ("id = 1000,", "id = 1000, a = 1,"),
+                ("id = 100,", "id = 100, z = 1,"),
+            ],
+            "52 field a",
+        ),
     ];
     assert_eq!(rt; first_wrong_of_two(rt.alloc(), &rows)?, None);
     Ok(())
@@ -262,13 +311,34 @@ fn unknown_keys_come_after_the_known_ones(rt: HostRuntime) -> Result<(), Fail> {
 #[test]
 fn field_range_duplicate_and_no_zero_come_in_this_order(rt: HostRuntime) -> Result<(), Fail> {
     let rows = [
-        ([("nr_inodes = 6", "nr_inodes = 0"), ("staff", "Staff")], "52 field name"),
-        ([("nr_inodes = 6", "nr_inodes = -1"), ("id = 100,", "id = 100, x = 1,")], "52 field x"),
-        ([("nr_inodes = 6", "nr_inodes = 0"), ("staff", "root")], "53 range"),
+        (
+            [("nr_inodes = 6", "nr_inodes = 0"), ("staff", "Staff")],
+            "52 field name",
+        ),
+        (
+            [
+                ("nr_inodes = 6", "nr_inodes = -1"),
+                ("id = 100,", "id = 100, x = 1,"),
+            ],
+            "52 field x",
+        ),
+        (
+            [("nr_inodes = 6", "nr_inodes = 0"), ("staff", "root")],
+            "53 range",
+        ),
         ([("id = 1000,", "id = -1,"), ("staff", "root")], "53 range"),
-        ([("user = [{ id = 0", "user = [{ id = 5"), ("staff", "root")], "54 duplicate"),
-        ([("user = [{ id = 0", "user = [{ id = 1000"), ("staff", "s")], "54 duplicate"),
-        ([("user = [{ id = 0", "user = [{ id = 5"), ("staff", "s")], "55 no zero"),
+        (
+            [("user = [{ id = 0", "user = [{ id = 5"), ("staff", "root")],
+            "54 duplicate",
+        ),
+        (
+            [("user = [{ id = 0", "user = [{ id = 1000"), ("staff", "s")],
+            "54 duplicate",
+        ),
+        (
+            [("user = [{ id = 0", "user = [{ id = 5"), ("staff", "s")],
+            "55 no zero",
+        ),
     ];
     assert_eq!(rt; first_wrong_of_two(rt.alloc(), &rows)?, None);
     Ok(())

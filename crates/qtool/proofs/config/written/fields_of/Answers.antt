@@ -1,4 +1,4 @@
-use Rattle.std.proofs.Common.{◌≡◌, rules, w64}
+use Rattle.std.proofs.Common.{rules, w64}
 use mir.Val.{SFits}
 use Rattle.std.proofs.lemmas.Int.{to_z-of_z}
 use Rattle.qtool.specs.Configs.{fields_of}
