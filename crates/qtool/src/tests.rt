@@ -6,6 +6,8 @@ use qrules::{Graces, Items, Kind, Limits};
 use std::alloc::{AllocError, Global};
 use std::test::Fail;
 
+mod config_faults;
+mod configs;
 mod counts;
 mod faults;
 mod kinds;
