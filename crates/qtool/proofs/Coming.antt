@@ -23,9 +23,9 @@ one_transcript lines j outcomes each own = (record { worker_is = refl; lines_are
 -- the outcome of one worker
 pub alone : (setting : Setting) (lines : List Line) (j : Journaled) (outcomes : List (Result Receipt CallFault)) (o : Outcome) → IsPlayed j → j.setting ≡ setting → length outcomes ≡ length lines → journaled_lines 1 lines outcomes ≡ entries_of j.journal 1 → o.setup ≡ j.setting → o.store ≡ j.stored → o.journal ≡ j.journal → o.transcripts ≡ only_transcript lines outcomes ∷ [] → o.records ≡ map (record_row_of o.store.state) o.store.state.holders → IsOutcomeOf setting (lines ∷ []) o
 alone setting lines j outcomes o played same each own setup store journal transcripts records = record {
-      setup = rw (setup, same) refl;
-      legal = rw (journal, sym same) played.legal;
-      store = rw (store, journal, sym same) played.state;
-      transcripts = rw (transcripts, journal) (one_transcript lines j outcomes each own);
-      records = records;
-    }
+  setup = rw (setup, same) refl;
+  legal = rw (journal, sym same) played.legal;
+  store = rw (store, journal, sym same) played.state;
+  transcripts = rw (transcripts, journal) (one_transcript lines j outcomes each own);
+  records = records;
+}

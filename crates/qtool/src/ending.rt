@@ -1,6 +1,5 @@
 //! How the program ends early, in one line.
-use crate::config_fault::ConfigFault;
-use crate::text_fault::TextFault;
+use crate::{ConfigFault, TextFault};
 use qaudit::{Piece, RefusedWrite, put, put_pieces};
 use std::io::Write;
 
@@ -8,10 +7,7 @@ use std::io::Write;
 #[derive(Debug, Drop)]
 pub(crate) enum Ending {
     /// What `clap` says of the command line; help is for the output.
-    Line {
-        help: bool,
-        text: String,
-    },
+    Line { help: bool, text: String },
     /// No file of that name can be read.
     File(String),
     /// What is wrong with the configuration.
@@ -67,7 +63,7 @@ impl Ending {
     }
 }
 
-fn put_fault<E: Write>(err: &mut E, words: &[u8], name: &[u8]) -> Result<(), RefusedWrite> {
+fn put_fault<'a, E: Write>(err: &mut E, words: &'a [u8], name: &'a [u8]) -> Result<(), RefusedWrite> {
     let pieces = [
         Piece::Text(b"quotafs: "),
         Piece::Text(words),

@@ -8,10 +8,7 @@ use std::alloc::{AllocError, AllocFailed};
 #[derive(Debug, Drop)]
 pub enum LineFault {
     /// What `clap` says of the words; `help` where help was asked for.
-    Line {
-        help: bool,
-        text: String,
-    },
+    Line { help: bool, text: String },
     /// Memory was wanted and not there.
     Memory,
 }

@@ -1,10 +1,9 @@
 //! The whole program over files, output and fault lines.
-use crate::config::Config;
-use crate::config_fault::ConfigFault;
 use crate::ending::Ending;
-use crate::script::Script;
-use crate::text_fault::{TextFault, TextKind};
-use crate::{FileFault, Files, Job, LineFault, RunFault, run, write_outcome};
+use crate::{
+    Config, ConfigFault, FileFault, Files, Job, LineFault, Outcome, RunFault, Script, TextFault,
+    TextKind, run, write_outcome,
+};
 use std::alloc::Global;
 use std::io::Write;
 
@@ -38,20 +37,44 @@ fn configuration<F: Files>(alloc: Global, files: &mut F, name: &str) -> Result<C
 }
 
 /// Reads the script of that number.
-fn script<F: Files>(alloc: Global, files: &mut F, number: u64, name: &str) -> Result<Script, Ending> {
+fn script<F: Files>(
+    alloc: Global,
+    files: &mut F,
+    number: u64,
+    name: &str,
+) -> Result<Script, Ending> {
     let bytes = load(alloc, files, name)?;
     match Script::read(alloc, &bytes) {
         Ok(script) => Ok(script),
-        Err(TextFault {
-            kind: TextKind::Memory,
-            ..
-        }) => Err(Ending::Memory),
+        Err(
+            TextFault {
+                kind: TextKind::Memory,
+                ..
+            },
+        ) => Err(Ending::Memory),
         Err(fault) => Err(Ending::Script(number, fault)),
     }
 }
 
+/// Runs the only script.
+fn run_one(alloc: Global, config: Config, script: Script) -> Result<Outcome, Ending> {
+    let mut scripts = Vec::new(alloc);
+    if scripts.push(script).is_err() {
+        return Err(Ending::Memory);
+    }
+    match run(alloc, config, scripts) {
+        Ok(outcome) => Ok(outcome),
+        Err(RunFault::Memory) => Err(Ending::Memory),
+    }
+}
+
 /// Reads what the job names, in the order in which faults are told, runs it, and writes what came of it.
-fn do_job<F: Files, O: Write>(alloc: Global, job: Job, files: &mut F, out: &mut O) -> Result<(), Ending> {
+fn do_job<F: Files, O: Write>(
+    alloc: Global,
+    job: Job,
+    files: &mut F,
+    out: &mut O,
+) -> Result<(), Ending> {
     let Job::Run {
         config,
         at,
@@ -62,10 +85,7 @@ fn do_job<F: Files, O: Write>(alloc: Global, job: Job, files: &mut F, out: &mut 
         return Err(Ending::TooManyScripts);
     };
     let script = script(alloc, files, 1, name.as_str())?;
-    let outcome = match run(alloc, config, script) {
-        Ok(outcome) => outcome,
-        Err(RunFault::Memory) => return Err(Ending::Memory),
-    };
+    let outcome = run_one(alloc, config, script)?;
     if write_outcome(&outcome, at, out).is_err() || out.flush().is_err() {
         return Err(Ending::Output);
     }

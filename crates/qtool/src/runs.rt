@@ -1,11 +1,11 @@
 //! Runs: scripts played on a store of their own.
-ghost use Rattle.std.specs.Prelude.{◌≡◌, [], ◌∷◌, length, IfOk, map};
+ghost use Rattle.std.specs.Prelude.{◌≡◌, [], ◌∷◌, length, IfOk, map, vec_len};
 ghost use Rattle.qplain.specs.Journal.{entries_of};
 ghost use Rattle.qstore.specs.Rows.{record_row_of};
 ghost use Rattle.qtool.specs.Runs.{IsOutcomeOf, IsTranscriptOf, journaled_lines};
 
 use crate::journaled_store::{JournaledStore, append};
-use crate::{CallFault, Outcome, Receipt, Transcript};
+use crate::{CallFault, Config, Outcome, Receipt, Script, Transcript};
 use qplain::{Line, NoMemory, Setup};
 use qrules::Items;
 use std::alloc::{AllocError, AllocFailed, Global};
@@ -37,7 +37,7 @@ fn outcomes_of(
 }
 
 /// Plays the lines of one worker on a store of the setup.
-pub(crate) fn play_lines(alloc: Global, setup: Setup, lines: Vec<Line>) -> Result<Outcome, NoMemory>
+fn play_lines(alloc: Global, setup: Setup, lines: Vec<Line>) -> Result<Outcome, NoMemory>
     ensures { IfOk result (IsOutcomeOf setup (lines.items ∷ [])) }
 {
     let mut store = JournaledStore::new(alloc, setup)?;
@@ -58,4 +58,21 @@ pub(crate) fn play_lines(alloc: Global, setup: Setup, lines: Vec<Line>) -> Resul
         transcripts: Items::new(transcripts),
         records: Items::new(records),
     })
+}
+
+/// Runs scripts on a new store of the configuration: worker k makes the calls of script k one after the other, and goes
+/// on after any outcome.
+///
+/// The caller owes one script. O(lines), and what each call takes. After an Err the store is given up.
+pub fn run(alloc: Global, config: Config, mut scripts: Vec<Script>) -> Result<Outcome, RunFault>
+    requires one { vec_len scripts ≡ 1 }
+    ensures outcome { IfOk result (IsOutcomeOf config.setup scripts.items) }
+{
+    let Some(script) = scripts.pop() else {
+        unreachable!()
+    };
+    match play_lines(alloc, config.setup, script.into_lines()) {
+        Ok(outcome) => Ok(outcome),
+        Err(_) => Err(RunFault::Memory),
+    }
 }

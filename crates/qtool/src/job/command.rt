@@ -73,7 +73,11 @@ fn run<'a>(alloc: Global) -> Result<Command<'a>, AllocError>
     ensures app { IfOk result (λ c. app_of c ≡ line.run) }
     ensures local { IfOk result (λ c. (out-Command c).has_globals ≡ false) }
 {
-    let command = named(alloc, "run", "Runs scripts on a new store and prints what came of it");
+    let command = named(
+        alloc,
+        "run",
+        "Runs scripts on a new store and prints what came of it",
+    );
     let command = with_arg(command, config(alloc))?;
     let command = with_arg(command, at(alloc))?;
     with_arg(command, scripts(alloc))

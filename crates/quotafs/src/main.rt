@@ -1,0 +1,58 @@
+//! Runs scripts of calls on a shared store of files in memory, with user and group disk quotas.
+#![tactic(auto)]
+
+use qtool::{FileFault, Files, tool};
+use std::fs::{self, File};
+use std::io::{self, BufWriter, ErrorKind};
+use std::process::ExitCode;
+
+/// The machine's files.
+#[derive(Drop)]
+struct MachineFiles<'a> {
+    rt: &'a HostRuntime,
+}
+
+fn fault_of(error: &io::Error) -> FileFault {
+    if error.kind() == ErrorKind::OutOfMemory {
+        FileFault::Memory
+    } else {
+        FileFault::Fails
+    }
+}
+
+impl Files for MachineFiles<'_> {
+    type Out = File;
+
+    fn read(&mut self, name: &str) -> Result<Vec<u8>, FileFault> {
+        fs::read(self.rt, name).map_err(|error| fault_of(&error))
+    }
+
+    fn create(&mut self, name: &str) -> Result<File, FileFault> {
+        fs::create(self.rt, name).map_err(|error| fault_of(&error))
+    }
+}
+
+/// The words of the command line.
+fn words(rt: &HostRuntime) -> io::Result<Vec<String>> {
+    let words = std::env::args(rt)?.collect(rt.alloc())?;
+    Ok(words)
+}
+
+/// Ends for want of memory.
+fn out_of_memory(rt: &HostRuntime) -> ExitCode {
+    let _ = eprintln!(rt; "quotafs: memory");
+    ExitCode::from(3)
+}
+
+fn main(rt: HostRuntime) -> ExitCode {
+    let alloc = rt.alloc();
+    let Ok(words) = words(&rt) else {
+        return out_of_memory(&rt);
+    };
+    let Ok(mut out) = BufWriter::new(alloc, io::writer(&rt)) else {
+        return out_of_memory(&rt);
+    };
+    let mut files = MachineFiles { rt: &rt };
+    let mut err = rt.stderr();
+    ExitCode::from(tool(alloc, &words, &mut files, &mut out, &mut err))
+}
