@@ -38,6 +38,18 @@ fn put_number<W: Write>(out: &mut W, n: u64) -> Result<(), RefusedWrite>
     put(out, buffer.format(n).as_bytes())
 }
 
+/// Writes a space and a number at once.
+fn put_field<W: Write>(out: &mut W, n: u64) -> Result<(), RefusedWrite>
+    ensures { Writes (W.contents out.old) (W.contents out.new) result (32 ∷ decimal n) }
+{
+    let mut buffer = Buffer::new();
+    let digits = buffer.format(n).as_bytes();
+    let mut text = [b' '; 41];
+    let end = digits.len() + 1;
+    text[1..end].copy_from_slice(digits);
+    put(out, &text[..end])
+}
+
 fn hex_digits(byte: u8) -> [u8; 2]
     ensures { result ≡ encode_lower (byte ∷ []) }
 {
@@ -77,6 +89,7 @@ fn put_piece<W: Write>(out: &mut W, piece: Piece<'_>) -> Result<(), RefusedWrite
     match piece {
         Piece::Text(text) => put(out, text),
         Piece::Number(n) => put_number(out, n),
+        Piece::Field(n) => put_field(out, n),
         Piece::Data([]) => put(out, b"-"),
         Piece::Data(bytes) => put_hex(out, bytes),
         Piece::Left(text, places) => put_left(out, text, places),

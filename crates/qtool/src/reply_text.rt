@@ -64,8 +64,8 @@ fn put_done<W: Write>(out: &mut W, number: u64, change: &Change) -> Result<(), R
     ensures { Writes (W.contents out.old) (W.contents out.new) result (done_text number change.now) }
 {
     let pieces = [
-        Piece::Text(b"done "),
-        Piece::Number(number),
+        Piece::Text(b"done"),
+        Piece::Field(number),
         Piece::Text(b" blocks +"),
         Piece::Number(change.blocks_charged),
         Piece::Text(b" -"),
@@ -81,21 +81,16 @@ fn put_done<W: Write>(out: &mut W, number: u64, change: &Change) -> Result<(), R
 fn put_stat<W: Write>(out: &mut W, stat: &Stat) -> Result<(), RefusedWrite>
     ensures { Writes (W.contents out.old) (W.contents out.new) result (stat_text stat.now) }
 {
-    let dir: &[u8] = if stat.dir { b" dir " } else { b" file " };
-    let space = Piece::Text(b" ");
+    let dir: &[u8] = if stat.dir { b" dir" } else { b" file" };
     let pieces = [
-        Piece::Text(b"stat "),
-        Piece::Number(stat.ino),
+        Piece::Text(b"stat"),
+        Piece::Field(stat.ino),
         Piece::Text(dir),
-        Piece::Number(stat.uid as u64),
-        space,
-        Piece::Number(stat.gid as u64),
-        space,
-        Piece::Number(stat.size),
-        space,
-        Piece::Number(stat.blocks),
-        space,
-        Piece::Number(stat.links),
+        Piece::Field(stat.uid as u64),
+        Piece::Field(stat.gid as u64),
+        Piece::Field(stat.size),
+        Piece::Field(stat.blocks),
+        Piece::Field(stat.links),
     ];
     put_pieces(out, &pieces)
 }
@@ -105,18 +100,13 @@ fn put_quota<W: Write>(out: &mut W, quota: &Quota) -> Result<(), RefusedWrite>
 {
     let space = Piece::Text(b" ");
     let pieces = [
-        Piece::Text(b"quota "),
-        Piece::Number(quota.blocks),
-        space,
-        Piece::Number(quota.inodes),
-        space,
-        Piece::Number(quota.limits.block_soft),
-        space,
-        Piece::Number(quota.limits.block_hard),
-        space,
-        Piece::Number(quota.limits.inode_soft),
-        space,
-        Piece::Number(quota.limits.inode_hard),
+        Piece::Text(b"quota"),
+        Piece::Field(quota.blocks),
+        Piece::Field(quota.inodes),
+        Piece::Field(quota.limits.block_soft),
+        Piece::Field(quota.limits.block_hard),
+        Piece::Field(quota.limits.inode_soft),
+        Piece::Field(quota.limits.inode_hard),
         space,
         end(quota.block_end),
         space,
