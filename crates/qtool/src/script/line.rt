@@ -12,7 +12,7 @@ use crate::script::read_fault::ReadFault;
 use crate::script::verb::verb_of;
 use crate::script::word::put_words;
 use qplain::Line;
-use std::alloc::{AllocError, Global};
+use std::alloc::Global;
 
 /// `MOMENT CALLER CALL`.
 #[tactic(auto, unfolding(crate::specs::Scripts::line_in))]
