@@ -1,20 +1,13 @@
--- Lemmas on reading words.
-use Rattle.std.proofs.Common.{◌≡◌, ℕ, ◌<◌, ◌≤◌, ◌^◌, Bool, true, false, cond, List, [], ◌∷◌, length, get_or, Option, Some, None, Result, Ok, Err, refl, sym, ap, ◌∙◌, arith, rules, inl, inr, eqb}
+-- What decimal digits are worth, read from the left.
+use Rattle.std.proofs.Common.{◌≡◌, ◌≢◌, ℕ, ◌≤◌, ◌<◌, ◌+◌, ◌-◌, ◌*◌, ◌^◌, Bool, true, false, eqb, List, [], ◌∷◌, length, get_or, drop, Option, Some, None, refl, sym, ap, ◌∙◌, arith, rules, inl, inr, add-one, drop-cons}
 use Rattle.std.specs.Prelude.{IfSome, MatchOption}
 use Rattle.std.specs.List.{list_all}
-use Rattle.std.specs.Char.{is_ascii_digit}
-use Rattle.std.specs.Str.{IsUtf8}
-use Rattle.std.specs.Str.Parse.{digits_value, ParsesUnsigned}
-use Rattle.std.proofs.lemmas.Bool.{eqb-true, cases_lt}
+use Rattle.std.specs.Char.{is_ascii_digit, digit_value}
+use Rattle.std.specs.Str.Parse.{digits_value, digits_value_after}
+use Rattle.std.proofs.lemmas.Bool.{cases_lt}
 use Rattle.std.proofs.lemmas.Bool.Decides.{nat_tests}
-use Rattle.std.proofs.lemmas.Str.Parse.{IsNumeralModel, IsDigitsTest, numerals_by_value, parse_digits}
-use Rattle.std.proofs.lemmas.Str.{IsUtf8-from_ascii}
-use Rattle.std.proofs.lemmas.Fmt.{IsAscii-from_digits}
-use Rattle.std.proofs.lemmas.Result.{OkIff-at_ok, OkIff-at_err}
-use Rattle.qtool.specs.Words.{is_numeral, numeral}
-
-abbrev AreDigits : List ℕ → Type 0
-AreDigits ds = list_all is_ascii_digit ds ≡ true
+use Rattle.std.proofs.lemmas.Str.Parse.{IsNumeralModel, IsDigitsTest, numerals_by_value}
+use Rattle.qtool.specs.Words.{AreDigits, is_numeral, numeral}
 
 tells : IsDigitsTest AreDigits
 tells = search rules
@@ -22,64 +15,102 @@ tells = search rules
 pub own : IsNumeralModel AreDigits (digits_value 10)
 own = numerals_by_value AreDigits tells
 
--- the digit 0 alone is a numeral too
-one_zero : (word : List ℕ) → get_or word 0 0 ≡ 48 → length word ≡ 1 → AreDigits word
-one_zero [] z e = absurd (omega arith)
-one_zero (c ∷ []) z e = rw z refl
-one_zero (c ∷ d ∷ cs) z e = absurd (omega arith)
+-- what is read so far is worth so much, and the rest are digits where all are
+pub record IsSoFar (digits rest : List ℕ) (value : ℕ) : Type 0 where
+  pub same : list_all is_ascii_digit digits ≡ list_all is_ascii_digit rest
+  pub worth : AreDigits rest → digits_value_after 10 value rest ≡ digits_value 10 digits
 
-numeral_cases : (word : List ℕ) (a b : Bool) → cond a false (cond b (eqb (length word) 1) (list_all is_ascii_digit word)) ≡ true → (b ≡ true → get_or word 0 0 ≡ 48) → AreDigits word
-numeral_cases word true b e z = absurd cc
-numeral_cases word false true e z = one_zero word (z refl) (eqb-true _ _ e)
-numeral_cases word false false e z = e
+digit_of : (d : ℕ) → is_ascii_digit d ≡ true → digit_value d ≡ d - 48
+digit_of d e = grind (arith, nat_tests)
 
-pub numeral_digits : (word : List ℕ) → is_numeral word ≡ true → AreDigits word
-numeral_digits word e = numeral_cases word _ _ e (λ h. eqb-true _ _ h)
+le_after : (n : ℕ) (ds : List ℕ) → n ≤ digits_value_after 10 n ds
+le_after n [] = omega arith
+le_after n (c ∷ cs) = omega (arith, le_after (n * 10 + digit_value c) cs)
 
-numeral_nonempty_cases : (n : ℕ) (b : Bool) → cond (eqb n 0) false b ≡ true → 0 < n
-numeral_nonempty_cases n b e = grind (arith, nat_tests)
+all_at : (digits rest : List ℕ) (value d : ℕ) → IsSoFar digits (d ∷ rest) value → is_ascii_digit d ≡ true → list_all is_ascii_digit digits ≡ list_all is_ascii_digit rest
+all_at digits rest value d so is = so.same ∙ rw is refl
 
-pub numeral_nonempty : (word : List ℕ) → is_numeral word ≡ true → 0 < length word
-numeral_nonempty word e = numeral_nonempty_cases (length word) _ e
+worth_at : (digits rest : List ℕ) (value d : ℕ) → IsSoFar digits (d ∷ rest) value → is_ascii_digit d ≡ true → AreDigits rest → digits_value_after 10 (value * 10 + (d - 48)) rest ≡ digits_value 10 digits
+worth_at digits rest value d so is all =
+    let both : AreDigits (d ∷ rest) = rw is all in
+    rw (← digit_of d is) (so.worth both)
 
-abbrev some : ℕ → Option ℕ
-some n = Some n
+pub one_more : (digits rest left : List ℕ) (value d : ℕ) → left ≡ d ∷ rest → is_ascii_digit d ≡ true → IsSoFar digits left value → IsSoFar digits rest (value * 10 + (d - 48))
+one_more digits rest left value d e is so =
+    let here : IsSoFar digits (d ∷ rest) value = rw e at so in
+    record { same = all_at digits rest value d here is; worth = worth_at digits rest value d here is }
 
--- what `parse` says of a numeral
+pub no_digits : (digits rest left : List ℕ) (value d : ℕ) → left ≡ d ∷ rest → is_ascii_digit d ≡ false → IsSoFar digits left value → list_all is_ascii_digit digits ≡ false
+no_digits digits rest left value d e nope so =
+    let here : IsSoFar digits (d ∷ rest) value = rw e at so in
+    here.same ∙ rw nope refl
+
+pub too_large : (digits rest left : List ℕ) (value d most : ℕ) → left ≡ d ∷ rest → is_ascii_digit d ≡ true → most ≤ value * 10 + (d - 48) → IsSoFar digits left value → AreDigits digits → most ≤ digits_value 10 digits
+too_large digits rest left value d most e is le so all =
+    let here : IsSoFar digits (d ∷ rest) value = rw e at so in
+    let worth = worth_at digits rest value d here is (sym (all_at digits rest value d here is) ∙ all) in
+    omega (arith, worth, le_after (value * 10 + (d - 48)) rest, le)
+
+pub all_read : (digits left : List ℕ) (value : ℕ) → left ≡ [] → IsSoFar digits left value → AreDigits digits × (value ≡ digits_value 10 digits)
+all_read digits left value e so =
+    let here : IsSoFar digits [] value = rw e at so in
+    (here.same, here.worth refl)
+
+-- what is answered for a word that spells a number
 abbrev pub Read : List ℕ → Option ℕ → Type 0
 Read word o = MatchOption o (IfSome (numeral word) (λ n. 2 ^ 64 ≤ n)) (λ n. numeral word ≡ Some n)
 
-numeral_is : (word : List ℕ) → is_numeral word ≡ true → numeral word ≡ Some (digits_value 10 word)
+no_number : (word : List ℕ) → is_numeral word ≡ false → Read word None
 unfolding numeral
-numeral_is word e = rw e refl
+no_number word e = rw e tt
 
-pub no_numeral : (word : List ℕ) → is_numeral word ≡ false → Read word None
+a_number : (word : List ℕ) → is_numeral word ≡ true → numeral word ≡ Some (digits_value 10 word)
 unfolding numeral
-no_numeral word e = rw e tt
+a_number word e = rw e refl
 
-pub read_gave : (word : List ℕ) (n : ℕ) → is_numeral word ≡ true → n ≡ digits_value 10 word → Read word (Some n)
-read_gave word n e v = numeral_is word e ∙ ap (λ (k : ℕ). some k) (sym v)
+pub read_empty : (word : List ℕ) → length word ≡ 0 → Read word None
+read_empty word e = no_number word (rw e refl)
 
-pub read_refused : (word : List ℕ) → is_numeral word ≡ true → ((0 < length word) × (digits_value 10 word < 2 ^ 64) → ⊥) → Read word None
-read_refused word e large =
-    elim (cases_lt (digits_value 10 word) (2 ^ 64)) [
-      | inl lt ↦ absurd (large (numeral_nonempty word e, lt))
-      | inr le ↦ rw (numeral_is word e) le
-    ]
+pub read_zero : (word : List ℕ) → get_or word 0 0 ≡ 48 → length word ≡ 1 → Read word (Some 0)
+read_zero [] z e = absurd (omega arith)
+read_zero (c ∷ []) z e = rw z (a_number (48 ∷ []) refl)
+read_zero (c ∷ d ∷ cs) z e = absurd (omega arith)
 
-pub read_text : (word text : List ℕ) → text ≡ word → is_numeral word ≡ true → AreDigits text
-read_text word text same e = rw same (numeral_digits word e)
+pub read_longer_zero : (word : List ℕ) → 0 < length word → get_or word 0 0 ≡ 48 → length word ≢ 1 → Read word None
+read_longer_zero word lt z ne =
+    let some : eqb (length word) 0 ≡ false = grind (arith, nat_tests) in
+    let more : eqb (length word) 1 ≡ false = grind (arith, nat_tests) in
+    no_number word (rw (some, z) more)
 
-pub text_is_utf8 : (word : List ℕ) → is_numeral word ≡ true → IsUtf8 word
-text_is_utf8 word e = IsUtf8-from_ascii word (IsAscii-from_digits word (own.to word (numeral_digits word e)))
+told_digits : (word : List ℕ) → 0 < length word → get_or word 0 0 ≢ 48 → is_numeral word ≡ list_all is_ascii_digit word
+told_digits word lt ne =
+    let some : eqb (length word) 0 ≡ false = grind (arith, nat_tests) in
+    let first : eqb (get_or word 0 0) 48 ≡ false = grind (arith, nat_tests) in
+    rw (some, first) refl
 
--- what `parse` answers on a numeral
-pub parse_gave : {E : Type 0} (word text : List ℕ) (r : Result ℕ E) (n : ℕ) → text ≡ word → is_numeral word ≡ true → ParsesUnsigned 64 10 text r → r ≡ Ok n → Read word (Some n)
-parse_gave word text r n same e h is =
-    let told = parse_digits own 64 word r (rw same at h) (numeral_digits word e) in
-    read_gave word n e (OkIff-at_ok r _ _ n told is).1
+-- what `value_of` answers
+abbrev pub Values : List ℕ → Option ℕ → Type 0
+Values digits o = MatchOption o (AreDigits digits → 2 ^ 64 ≤ digits_value 10 digits) (λ n. AreDigits digits × (n ≡ digits_value 10 digits))
 
-pub parse_refused : {E : Type 0} (word text : List ℕ) (r : Result ℕ E) (d : E) → text ≡ word → is_numeral word ≡ true → ParsesUnsigned 64 10 text r → r ≡ Err d → Read word None
-parse_refused word text r d same e h is =
-    let told = parse_digits own 64 word r (rw same at h) (numeral_digits word e) in
-    read_refused word e (OkIff-at_err r _ _ d told is)
+refused : (word : List ℕ) (b : Bool) → is_numeral word ≡ b → (b ≡ true → 2 ^ 64 ≤ digits_value 10 word) → Read word None
+refused word false e le = no_number word e
+refused word true e le = rw (a_number word e) (le refl)
+
+abbrev some_number : ℕ → Option ℕ
+some_number n = Some n
+
+pub read_digits : (word : List ℕ) (o : Option ℕ) → 0 < length word → get_or word 0 0 ≢ 48 → Values word o → Read word o
+read_digits word None lt ne h = refused word _ (told_digits word lt ne) h
+read_digits word (Some n) lt ne h = a_number word (told_digits word lt ne ∙ h.0) ∙ ap some_number (sym h.1)
+
+pub some_length : (n : ℕ) → false ≡ eqb n 0 → 0 < n
+some_length n e = grind (arith, nat_tests)
+
+pub cut_at : (ds : List ℕ) (i : ℕ) → i < length ds → drop i ds ≡ get_or ds i 0 ∷ drop (i + 1) ds
+cut_at ds i lt = rw add-one (drop-cons ds i 0 lt)
+
+pub not_less : (a b : ℕ) → (a < b → ⊥) → b ≤ a
+not_less a b h = elim (cases_lt a b) [
+  | inl lt ↦ absurd (h lt)
+  | inr le ↦ le
+]

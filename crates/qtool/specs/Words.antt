@@ -1,5 +1,5 @@
 -- How a text comes apart, and the numbers that its words spell.
-use Rattle.std.specs.Prelude.{ℕ, ◌-◌, ◌^◌, ◌==◌, Bool, false, List, [], length, slice_index, Option, Some, None, Result, Ok, Err, nat_le, if◌then◌else◌}
+use Rattle.std.specs.Prelude.{◌≡◌, ℕ, ◌-◌, ◌^◌, ◌==◌, Bool, true, false, List, [], length, slice_index, Option, Some, None, Result, Ok, Err, nat_le, if◌then◌else◌}
 use Rattle.std.specs.List.{slice_split, list_all}
 use Rattle.std.specs.Char.{is_ascii_digit}
 use Rattle.std.specs.Str.Parse.{digits_value}
@@ -18,6 +18,10 @@ parts_after separator (Some text) = parts separator text
 -- the words of a line, with exactly one space between two of them
 abbrev pub words : List ℕ → List (List ℕ)
 words line = parts 0x20 line
+
+-- decimal digits alone
+abbrev pub AreDigits : List ℕ → Type 0
+AreDigits word = list_all is_ascii_digit word ≡ true
 
 -- the digit 0, or decimal digits of which the first is not 0
 abbrev pub is_numeral : List ℕ → Bool

@@ -57,12 +57,13 @@ fn lines_of(alloc: Global, text: &[u8]) -> Result<Items<Line>, TextFault>
     ensures few { IfOk result (λ lines. length lines ≤ MAX_LINES) }
 {
     let mut lines = Vec::new(alloc);
+    let mut room = Vec::new(alloc);
     let mut rest = text;
     let mut number = 0u64;
     while !rest.is_empty() {
         number += 1;
         let (line, whole, after) = next_line(rest);
-        match line_of(alloc, number, line, whole) {
+        match line_of(alloc, &mut room, number, line, whole) {
             Ok(line) => match lines.push(line) {
                 Ok(()) => {}
                 Err(_) => return Err(WANT_OF_MEMORY),

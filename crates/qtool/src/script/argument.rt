@@ -5,7 +5,7 @@ use crate::TextKind;
 use crate::script::read_fault::ReadFault;
 use qplain::Path;
 use qrules::Kind;
-use std::alloc::{AllocError, Global};
+use std::alloc::Global;
 
 /// A path: whether it leads anywhere is for the store to say.
 pub(crate) fn path_of(alloc: Global, word: &[u8]) -> Result<Path, ReadFault>

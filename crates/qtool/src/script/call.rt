@@ -24,12 +24,12 @@ fn create_of(alloc: Global, path: &[u8]) -> Result<Call, ReadFault>
 }
 
 #[tactic(auto, unfolding(crate::specs::Calls::write_of))]
-fn write_of(alloc: Global, path: &[u8], off: &[u8], data: &[u8]) -> Result<Call, ReadFault>
-    ensures { Gives result (write_of path.now off.now data.now) }
+fn write_of(alloc: Global, path: &[u8], off: &[u8], digits: &[u8]) -> Result<Call, ReadFault>
+    ensures { Gives result (write_of path.now off.now digits.now) }
 {
     let path = path_of(alloc, path)?;
     let off = number(off)?;
-    let bytes = data_of(alloc, data)?;
+    let bytes = data_of(alloc, digits)?;
     Ok(Call::Write { path, off, bytes })
 }
 

@@ -10,7 +10,7 @@ use crate::script::read_fault::ReadFault;
 use crate::script::word::first_part;
 use qplain::Cred;
 use qrules::Items;
-use std::alloc::{AllocError, Global};
+use std::alloc::Global;
 
 #[tactic(auto, unfolding(crate::specs::Callers::owner_in))]
 fn owner_in(uid: &[u8], gid: &[u8]) -> Result<(u32, u32), ReadFault>

@@ -5,7 +5,7 @@ use crate::TextKind;
 use crate::script::read_fault::ReadFault;
 use hex::FromHexError;
 use qrules::Items;
-use std::alloc::{AllocError, Global};
+use std::alloc::Global;
 
 /// A dash for no bytes, else two hexadecimal digits a byte, in either case.
 #[tactic(auto, unfolding(crate::specs::Data::data_of))]

@@ -10,9 +10,9 @@ use crate::script::caller::caller_of;
 use crate::script::number::number;
 use crate::script::read_fault::ReadFault;
 use crate::script::verb::verb_of;
-use crate::script::word::words;
+use crate::script::word::put_words;
 use qplain::Line;
-use std::alloc::{AllocError, Global};
+use std::alloc::Global;
 
 /// `MOMENT CALLER CALL`.
 #[tactic(auto, unfolding(crate::specs::Scripts::line_in))]
@@ -46,12 +46,14 @@ fn are_text_bytes(line: &[u8]) -> bool
     line.iter().all(|byte| 0x20 <= *byte && *byte <= 0x7e)
 }
 
-/// The line of that number, which is whole where a line end stands behind it.
+/// The line of that number, which is whole where a line end stands behind it. Its words are put
+/// into the room, whatever that holds, so that lines share one allocation.
 #[tactic(auto, unfolding(crate::specs::Scripts::line_of))]
-pub(crate) fn line_of(
+pub(crate) fn line_of<'a>(
     alloc: Global,
+    room: &mut Vec<&'a [u8]>,
     number: u64,
-    bytes: &[u8],
+    bytes: &'a [u8],
     whole: bool,
 ) -> Result<Line, ReadFault>
     ensures reads { Gives result (line_of (record { number = number; bytes = bytes.now; whole = whole })) }
@@ -66,6 +68,6 @@ pub(crate) fn line_of(
     if !are_text_bytes(bytes) {
         return Err(ReadFault::Fault(TextKind::BadByte));
     }
-    let words = words(alloc, bytes)?;
-    line_in(alloc, &words)
+    put_words(room, bytes)?;
+    line_in(alloc, room)
 }

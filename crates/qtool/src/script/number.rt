@@ -1,44 +1,39 @@
 ghost use Rattle.std.specs.Prelude.{◌≡◌, ◌≤◌, ◌^◌, Some, IfSome, MatchOption};
-ghost use Rattle.std.specs.List.{list_all};
-ghost use Rattle.std.specs.Char.{is_ascii_digit};
+ghost use Rattle.std.specs.Str.Parse.{digits_value};
 ghost use Rattle.qtool.specs.Gives.{Gives};
-ghost use Rattle.qtool.specs.Words.{is_numeral, numeral, number_of, number, id_of};
+ghost use Rattle.qtool.specs.Words.{AreDigits, numeral, number_of, number, id_of};
 
 use crate::TextKind;
 use crate::script::read_fault::ReadFault;
 
-fn are_digits(word: &[u8]) -> bool
-    ensures { result ≡ list_all is_ascii_digit word.now }
+/// The value of decimal digits, where it fits.
+fn value_of(digits: &[u8]) -> Option<u64>
+    ensures { MatchOption result (AreDigits digits.now → 2 ^ 64 ≤ digits_value 10 digits.now)
+        (λ n. AreDigits digits.now × (n ≡ digits_value 10 digits.now)) }
 {
-    word.iter().all(|byte| byte.is_ascii_digit())
-}
-
-fn is_numeral(word: &[u8]) -> bool
-    ensures { result ≡ is_numeral word.now }
-{
-    if word.is_empty() {
-        return false;
+    let mut value = 0u64;
+    for digit in digits {
+        if !digit.is_ascii_digit() {
+            return None;
+        }
+        value = value
+            .checked_mul(10)?
+            .checked_add(u64::from(*digit - b'0'))?;
     }
-    if word[0] == b'0' {
-        return word.len() == 1;
-    }
-    are_digits(word)
+    Some(value)
 }
 
 /// The number that a numeral spells, where it fits.
 fn numeral(word: &[u8]) -> Option<u64>
     ensures { MatchOption result (IfSome (numeral word.now) (λ n. 2 ^ 64 ≤ n)) (λ n. numeral word.now ≡ Some n) }
 {
-    if !is_numeral(word) {
+    if word.is_empty() {
         return None;
     }
-    let Ok(text) = std::str::from_utf8(word) else {
-        return None;
-    };
-    match text.parse::<u64>() {
-        Ok(n) => Some(n),
-        Err(_) => None,
+    if word[0] == b'0' {
+        return if word.len() == 1 { Some(0) } else { None };
     }
+    value_of(word)
 }
 
 /// A number of at most `most`, or the fault.

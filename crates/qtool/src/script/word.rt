@@ -1,8 +1,8 @@
-ghost use Rattle.std.specs.Prelude.{◌≡◌, ◌<◌, ◌∷◌, map, length, IfOk, IfSome, IsNone};
+ghost use Rattle.std.specs.Prelude.{◌≡◌, ◌<◌, ◌∷◌, map, length, OnOk, IfSome, IsNone};
 ghost use Rattle.std.specs.Option.{option_map};
 ghost use Rattle.qtool.specs.Words.{parts, words, parts_after};
 
-use std::alloc::{AllocError, Global};
+use std::alloc::AllocError;
 
 /// The part before the first separator, and what stands behind that separator where there is one.
 pub(crate) fn first_part(text: &[u8], separator: u8) -> (&[u8], Option<&[u8]>)
@@ -17,9 +17,16 @@ pub(crate) fn first_part(text: &[u8], separator: u8) -> (&[u8], Option<&[u8]>)
     }
 }
 
-/// The words of a line.
-pub(crate) fn words<'a>(alloc: Global, line: &'a [u8]) -> Result<Vec<&'a [u8]>, AllocError>
-    ensures { IfOk result (λ v. map (λ word. word.now) v.items ≡ words line.now) }
+/// Puts the words of a line in place of the old ones.
+pub(crate) fn put_words<'a>(room: &mut Vec<&'a [u8]>, line: &'a [u8]) -> Result<(), AllocError>
+    ensures { OnOk result (map (λ word. word.now) room.new.items ≡ words line.now) }
 {
-    line.split(|byte| *byte == b' ').collect(alloc)
+    room.clear();
+    let mut left = Some(line);
+    while let Some(rest) = left {
+        let (word, after) = first_part(rest, b' ');
+        room.push(word)?;
+        left = after;
+    }
+    Ok(())
 }

@@ -1,22 +1,16 @@
-use Rattle.std.proofs.Common.{◌≡◌, true, sym, ◌∙◌}
-use Rattle.qtool.specs.Words.{is_numeral}
-use Rattle.qtool.proofs.Numerals.{no_numeral, parse_gave, parse_refused, text_is_utf8}
+use Rattle.std.proofs.Common.{sym}
+use Rattle.std.proofs.lemmas.Bool.{eqb-true}
+use Rattle.qtool.proofs.Numerals.{read_empty, read_zero, read_longer_zero, read_digits, some_length}
 use Rattle.qtool.proofs.script.number.numeral.Goals as goal
 
-pub returns-then-not-is_numeral : goal.returns-then-not-is_numeral
-returns-then-not-is_numeral c = no_numeral c.args.word.now (sym c.is_numeral.ensures ∙ c.if-not-is_numeral.true)
+pub returns-then-is_empty : goal.returns-then-is_empty
+returns-then-is_empty c = read_empty c.args.word.now (eqb-true _ _ (sym c.if-is_empty.ensures))
 
-pub returns-in_default : goal.returns-in_default
-returns-in_default c =
-    let yes : is_numeral c.args.word.now ≡ true = sym c.is_numeral.ensures ∙ c.if-not-is_numeral.false in
-    absurd (c.in_default.ensures.cases.0 (text_is_utf8 c.args.word.now yes))
+pub returns-then-word-eq1 : goal.returns-then-word-eq1
+returns-then-word-eq1 c = read_zero c.args.word.now c.if-word-eq48.true c.if-word-eq1.true
 
-pub returns-in-Ok-parse : goal.returns-in-Ok-parse
-returns-in-Ok-parse c =
-    let yes : is_numeral c.args.word.now ≡ true = sym c.is_numeral.ensures ∙ c.if-not-is_numeral.false in
-    parse_gave c.args.word.now c.in-Ok.text.now c.parse.result c.in-Ok-parse.n c.in-Ok.ensures.cases.0 yes c.parse.ensures.value.0 c.in-Ok-parse.is
+pub returns-else-word-eq1 : goal.returns-else-word-eq1
+returns-else-word-eq1 c = read_longer_zero c.args.word.now (some_length _ c.if-is_empty.ensures) c.if-word-eq48.true c.if-word-eq1.false
 
-pub returns-in-Err : goal.returns-in-Err
-returns-in-Err c =
-    let yes : is_numeral c.args.word.now ≡ true = sym c.is_numeral.ensures ∙ c.if-not-is_numeral.false in
-    parse_refused c.args.word.now c.in-Ok.text.now c.parse.result c.in-Err.field-0 c.in-Ok.ensures.cases.0 yes c.parse.ensures.value.0 c.in-Err.is
+pub returns : goal.returns
+returns c = read_digits c.args.word.now _ (some_length _ c.if-is_empty.ensures) c.if-word-eq48.false c.value_of.ensures
