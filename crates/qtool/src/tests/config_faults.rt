@@ -34,7 +34,10 @@ pub(super) fn told_of(alloc: Global, changes: &[(&str, &str)]) -> Result<String,
 }
 
 /// The first row of which another fault is told than it says.
-pub(super) fn first_wrong(alloc: Global, rows: &[(&str, &str, &str)]) -> Result<Option<String>, AllocError> {
+pub(super) fn first_wrong(
+    alloc: Global,
+    rows: &[(&str, &str, &str)],
+) -> Result<Option<String>, AllocError> {
     for (old, new, wanted) in rows {
         let found = told_of(alloc, &[(*old, *new)])?;
         if found.as_str() != *wanted {
