@@ -1,6 +1,6 @@
 //! Texts that are no configurations: each row takes one piece of a good text away for another.
 
-use crate::Config;
+use crate::{Config, ConfigFault};
 use std::alloc::{AllocError, Global};
 use std::test::Fail;
 
@@ -50,6 +50,14 @@ pub(super) fn first_wrong(
 #[test]
 fn good_text_is_read(rt: HostRuntime) -> Result<(), Fail> {
     assert_eq!(rt; told(rt.alloc(), GOOD)?.as_str(), "read");
+    Ok(())
+}
+
+#[test]
+fn want_of_memory_is_memory(rt: HostRuntime) -> Result<(), Fail> {
+    let fault = ConfigFault::Memory;
+    let told = format!(in rt.alloc(); "{} {fault}", fault.number())?;
+    assert_eq!(rt; told.as_str(), "56 memory");
     Ok(())
 }
 
