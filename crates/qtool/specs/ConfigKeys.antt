@@ -12,12 +12,14 @@ use Rattle.qtool.specs.ConfigFields.{tables_at}
 -- the keys of a document
 abbrev pub document_keys : List (List ℕ)
 document_keys =
-    codes "size" ∷ codes "nr_inodes" ∷ codes "block_grace" ∷ codes "inode_grace" ∷ codes "user" ∷ codes "group" ∷ []
+    codes "size" ∷ codes "nr_inodes" ∷ codes "block_grace" ∷ codes "inode_grace" ∷ codes "user" ∷ codes "group"
+    ∷ []
 
 -- the keys of a user's or a group's table
 abbrev pub principal_keys : List (List ℕ)
 principal_keys =
-    codes "id" ∷ codes "name" ∷ codes "block_soft" ∷ codes "block_hard" ∷ codes "inode_soft" ∷ codes "inode_hard" ∷ []
+    codes "id" ∷ codes "name" ∷ codes "block_soft" ∷ codes "block_hard" ∷ codes "inode_soft"
+    ∷ codes "inode_hard" ∷ []
 
 -- the keys that stand in a table
 abbrev pub keys_of : Members → List (List ℕ)

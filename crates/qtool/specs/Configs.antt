@@ -90,7 +90,7 @@ abbrev pub document_of : Option Members → Result Members Cause
 document_of None = Err Text
 document_of (Some document) = Ok document
 
--- the setting that a text writes, or the first cause for which it writes none: its text, its fields, its keys, its setting
+-- the setting that a text writes, or the first cause for which it writes none: in its TOML, fields, keys or setting
 unfoldable pub setting_in : List ℕ → Result Setting Cause
 setting_in text = do
   document ← document_of (parse_document text)

@@ -33,14 +33,16 @@ impl Config {
 
     /// Reads a configuration, a TOML document: see setquota(8) and tmpfs(5) for the words.
     ///
-    /// `size` is a text, in bytes: 1 to 10 digits, the first not 0, then nothing, `k`, `m` or `g` for 2^10, 2^20 or
-    /// 2^30. It is rounded up to whole blocks of 4096 bytes. `nr_inodes` is an integer, and so are `block_grace` and
-    /// `inode_grace`, in seconds. `user` and `group` are lists of tables, each with `id`, `name` and optionally
-    /// `block_soft` and `block_hard`, in KiB, and `inode_soft` and `inode_hard`, 0 where absent, which is no limit.
+    /// `size` is a text, in bytes: 1 to 10 digits, the first not 0, then nothing, `k`, `m` or `g` for
+    /// 2^10, 2^20 or 2^30. It is rounded up to whole blocks of 4096 bytes. `nr_inodes` is an integer,
+    /// and so are `block_grace` and `inode_grace`, in seconds. `user` and `group` are lists of tables,
+    /// each with `id`, `name` and optionally `block_soft` and `block_hard`, in KiB, and `inode_soft` and
+    /// `inode_hard`, 0 where absent, which is no limit.
     ///
-    /// The first fault counts: that of the text; the first field that is missing, of another kind or of another form,
-    /// in the order above; the least unknown key, of the document and then of all its tables; range, duplicate and
-    /// no zero, as for a `Setup`. An integer past 64 bits or a key given twice is no TOML.
+    /// The first fault counts: that of the text; the first field that is missing, of another kind or of
+    /// another form, in the order above; the least unknown key, of the document and then of all its
+    /// tables; range, duplicate and no zero, as for a `Setup`. An integer past 64 bits or a key given
+    /// twice is no TOML.
     #[tactic(auto, unfolding(crate::specs::Configs::setting_in))]
     pub fn read(alloc: Global, text: &str) -> Result<Self, ConfigFault>
         ensures exact { Reads (λ config. config.setup) result (setting_in text.now) }

@@ -9,7 +9,7 @@ use thiserror::Error;
 /// Why a text is no configuration, in the order in which it is tested. Want of memory may come at any point.
 #[derive(Debug, PartialEq, Eq, Drop, Error)]
 pub enum ConfigFault {
-    /// The text is no TOML, or it has an integer past 64 bits or a key twice, which the grammar of TOML refuses too.
+    /// The text is no TOML: also where an integer is past 64 bits or a key is given twice.
     #[error("text")]
     Text,
     /// The value at this key is missing, of another kind or of another form, or the key is not known.

@@ -1,4 +1,5 @@
-//! Texts whose faults and lines were told by hand from the formats, and that reading succeeds with ample memory.
+//! What no clause says: that calls succeed with ample memory, what is printed, and that the clauses say what was
+//! meant, by texts whose faults and lines were told by hand from the formats.
 
 use crate::{Script, TextFault, TextKind};
 use qplain::{Call, Cred, Line, Path};
@@ -7,6 +8,8 @@ use std::alloc::{AllocError, Global};
 use std::test::Fail;
 
 mod config_faults;
+mod config_fields;
+mod config_orders;
 mod configs;
 mod counts;
 mod faults;

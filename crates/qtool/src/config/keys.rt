@@ -53,7 +53,8 @@ fn no_unknown(alloc: Global, key: Option<&str>) -> Result<(), ConfigFault>
 }
 
 fn unknown_of_document(document: &Table) -> Option<&str>
-    ensures { option_map (λ key. key.now) result ≡ least_unknown document_keys (keys_of (table_view document.now)) }
+    ensures { option_map (λ key. key.now) result
+        ≡ least_unknown document_keys (keys_of (table_view document.now)) }
 {
     least_unknown(None, document, &DOCUMENT_KEYS)
 }

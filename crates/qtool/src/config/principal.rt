@@ -39,7 +39,8 @@ pub(super) fn principals_at(
 }
 
 fn principals_of(alloc: Global, tables: &[&Table]) -> Result<Items<WrittenPrincipal>, ConfigFault>
-    ensures { Gives (λ principals. principals) result (each_of principal_of (map (λ t. table_view t.now) tables.now)) }
+    ensures { Gives (λ principals. principals) result
+        (each_of principal_of (map (λ t. table_view t.now) tables.now)) }
 {
     let mut principals = Vec::new(alloc);
     for table in tables {

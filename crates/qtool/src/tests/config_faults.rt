@@ -1,6 +1,6 @@
 //! Texts that are no configurations: each row takes one piece of a good text away for another.
 
-use crate::Config;
+use crate::{Config, ConfigFault};
 use std::alloc::{AllocError, Global};
 use std::test::Fail;
 
@@ -22,7 +22,7 @@ fn told(alloc: Global, text: &str) -> Result<String, AllocError> {
 }
 
 /// What is told of the good text with these pieces changed.
-fn told_of(alloc: Global, changes: &[(&str, &str)]) -> Result<String, AllocError> {
+pub(super) fn told_of(alloc: Global, changes: &[(&str, &str)]) -> Result<String, AllocError> {
     let mut text = String::from_str(alloc, GOOD)?;
     for (old, new) in changes {
         if !text.as_str().contains(*old) {
@@ -34,7 +34,10 @@ fn told_of(alloc: Global, changes: &[(&str, &str)]) -> Result<String, AllocError
 }
 
 /// The first row of which another fault is told than it says.
-fn first_wrong(alloc: Global, rows: &[(&str, &str, &str)]) -> Result<Option<String>, AllocError> {
+pub(super) fn first_wrong(
+    alloc: Global,
+    rows: &[(&str, &str, &str)],
+) -> Result<Option<String>, AllocError> {
     for (old, new, wanted) in rows {
         let found = told_of(alloc, &[(*old, *new)])?;
         if found.as_str() != *wanted {
@@ -44,23 +47,17 @@ fn first_wrong(alloc: Global, rows: &[(&str, &str, &str)]) -> Result<Option<Stri
     Ok(None)
 }
 
-/// The same of two changes at once.
-fn first_wrong_of_two(
-    alloc: Global,
-    rows: &[([(&str, &str); 2], &str)],
-) -> Result<Option<String>, AllocError> {
-    for (changes, wanted) in rows {
-        let found = told_of(alloc, changes)?;
-        if found.as_str() != *wanted {
-            return Ok(Some(format!(in alloc; "at {changes:?}: {found}")?));
-        }
-    }
-    Ok(None)
-}
-
 #[test]
 fn good_text_is_read(rt: HostRuntime) -> Result<(), Fail> {
     assert_eq!(rt; told(rt.alloc(), GOOD)?.as_str(), "read");
+    Ok(())
+}
+
+#[test]
+fn want_of_memory_is_memory(rt: HostRuntime) -> Result<(), Fail> {
+    let fault = ConfigFault::Memory;
+    let told = format!(in rt.alloc(); "{} {fault}", fault.number())?;
+    assert_eq!(rt; told.as_str(), "56 memory");
     Ok(())
 }
 
@@ -77,105 +74,6 @@ fn what_toml_refuses_is_text(rt: HostRuntime) -> Result<(), Fail> {
         ),
         ("nr_inodes = 6", "nr_inodes = 6\nnr_inodes = 6", "51 text"),
         ("id = 1000,", "id = 1000, id = 1000,", "51 text"),
-    ];
-    assert_eq!(rt; first_wrong(rt.alloc(), &rows)?, None);
-    Ok(())
-}
-
-#[test]
-fn missing_key_is_field(rt: HostRuntime) -> Result<(), Fail> {
-    let rows = [
-        ("size = \"40k\"", "", "52 field size"),
-        ("nr_inodes = 6", "", "52 field nr_inodes"),
-        ("block_grace = 100", "", "52 field block_grace"),
-        ("inode_grace = 100", "", "52 field inode_grace"),
-        ("user = ", "group_ = ", "52 field user"),
-        ("group = ", "user_ = ", "52 field group"),
-        ("id = 1000, ", "", "52 field id"),
-        (", name = \"staff\"", "", "52 field name"),
-    ];
-    assert_eq!(rt; first_wrong(rt.alloc(), &rows)?, None);
-    Ok(())
-}
-
-#[test]
-fn key_of_another_kind_is_field(rt: HostRuntime) -> Result<(), Fail> {
-    let rows = [
-        ("\"40k\"", "40", "52 field size"),
-        ("nr_inodes = 6", "nr_inodes = \"6\"", "52 field nr_inodes"),
-        ("nr_inodes = 6", "nr_inodes = 6.0", "52 field nr_inodes"),
-        (
-            "block_grace = 100",
-            "block_grace = true",
-            "52 field block_grace",
-        ),
-        (
-            "inode_grace = 100",
-            "inode_grace = 2026-01-01",
-            "52 field inode_grace",
-        ),
-        ("user = [", "user = [1, ", "52 field user"),
-        ("group = [", "group = 7 # [", "52 field group"),
-        ("group = [", "group = {} # [", "52 field group"),
-        ("id = 1000", "id = \"1000\"", "52 field id"),
-        ("\"staff\"", "100", "52 field name"),
-        ("block_soft = 8", "block_soft = 8.0", "52 field block_soft"),
-        ("block_soft = 8", "block_hard = []", "52 field block_hard"),
-        ("block_soft = 8", "inode_soft = {}", "52 field inode_soft"),
-        (
-            "inode_hard = 2",
-            "inode_hard = \"2\"",
-            "52 field inode_hard",
-        ),
-    ];
-    assert_eq!(rt; first_wrong(rt.alloc(), &rows)?, None);
-    Ok(())
-}
-
-#[test]
-fn size_of_another_form_is_field(rt: HostRuntime) -> Result<(), Fail> {
-    let rows = [
-        ("40k", "40K", "52 field size"),
-        ("40k", "040k", "52 field size"),
-        ("40k", "0", "52 field size"),
-        ("40k", "", "52 field size"),
-        ("40k", "k", "52 field size"),
-        ("40k", " 40k", "52 field size"),
-        ("40k", "40 k", "52 field size"),
-        ("40k", "40kk", "52 field size"),
-        ("40k", "+40k", "52 field size"),
-        ("40k", "12345678901", "52 field size"),
-        ("40k", "4t", "52 field size"),
-    ];
-    assert_eq!(rt; first_wrong(rt.alloc(), &rows)?, None);
-    Ok(())
-}
-
-#[test]
-fn name_of_another_form_is_field(rt: HostRuntime) -> Result<(), Fail> {
-    let rows = [
-        ("ann", "", "52 field name"),
-        ("ann", "Ann", "52 field name"),
-        ("ann", "1ann", "52 field name"),
-        ("ann", "a nn", "52 field name"),
-        ("ann", "seventeen_letters", "52 field name"),
-        ("ann", "sixteen_letters_", "read"),
-    ];
-    assert_eq!(rt; first_wrong(rt.alloc(), &rows)?, None);
-    Ok(())
-}
-
-// The least by bytes: capitals come before small letters, and a shorter key before one that it begins.
-#[test]
-fn least_unknown_key_is_field(rt: HostRuntime) -> Result<(), Fail> {
-    let rows = [
-        ("size = ", "sizes = 1\nsize_ = 1\nsize = ", "52 field size_"),
-        ("size = ", "b = 1\na = 1\nB = 1\nsize = ", "52 field B"),
-        ("size = ", "id = 1\nsize = ", "52 field id"),
-        ("id = 1000,", "id = 1000, size = 1,", "52 field size"),
-        ("id = 1000,", "id = 1000, x = 1, xy = 1,", "52 field x"),
-        ("id = 100,", "id = 100, \"a b\" = 1,", "52 field a b"),
-        ("id = 100,", "id = 100, \"\" = 1,", "52 field "),
     ];
     assert_eq!(rt; first_wrong(rt.alloc(), &rows)?, None);
     Ok(())
@@ -243,103 +141,5 @@ fn kind_without_id_0_is_no_zero(rt: HostRuntime) -> Result<(), Fail> {
         ("group = [{ id = 0", "group = [{ id = 5", "55 no zero"),
     ];
     assert_eq!(rt; first_wrong(rt.alloc(), &rows)?, None);
-    Ok(())
-}
-
-// The order of the keys, and of the tables: all of users before those of groups.
-#[test]
-fn first_field_counts(rt: HostRuntime) -> Result<(), Fail> {
-    let rows = [
-        ([("40k", "x"), ("nr_inodes = 6", "")], "52 field size"),
-        (
-            [("nr_inodes = 6", ""), ("block_grace = 100", "")],
-            "52 field nr_inodes",
-        ),
-        (
-            [("inode_grace = 100", ""), ("user = ", "x = ")],
-            "52 field inode_grace",
-        ),
-        ([("ann", "Ann"), ("id = 100,", "")], "52 field name"),
-        (
-            [("user = [", "user = [1, "), ("id = 1000,", "")],
-            "52 field user",
-        ),
-        ([("id = 1000,", ""), ("group = ", "x = ")], "52 field id"),
-        (
-            [("ann", "Ann"), ("block_soft = 8", "block_soft = []")],
-            "52 field name",
-        ),
-    ];
-    assert_eq!(rt; first_wrong_of_two(rt.alloc(), &rows)?, None);
-    Ok(())
-}
-
-// Keys of the document come before those of tables; the least of tables is taken over both lists.
-#[test]
-fn unknown_keys_come_after_the_known_ones(rt: HostRuntime) -> Result<(), Fail> {
-    let rows = [
-        (
-            [("size = ", "a = 1\nsize = "), ("staff", "Staff")],
-            "52 field name",
-        ),
-        (
-            [
-                ("size = ", "z = 1\nsize = "),
-                ("id = 1000,", "id = 1000, a = 1,"),
-            ],
-            "52 field z",
-        ),
-        (
-            [
-                ("id = 1000,", "id = 1000, z = 1,"),
-                ("id = 100,", "id = 100, a = 1,"),
-            ],
-            "52 field a",
-        ),
-        (
-            [
-                ("id = 1000,", "id = 1000, a = 1,"),
-                ("id = 100,", "id = 100, z = 1,"),
-            ],
-            "52 field a",
-        ),
-    ];
-    assert_eq!(rt; first_wrong_of_two(rt.alloc(), &rows)?, None);
-    Ok(())
-}
-
-#[test]
-fn field_range_duplicate_and_no_zero_come_in_this_order(rt: HostRuntime) -> Result<(), Fail> {
-    let rows = [
-        (
-            [("nr_inodes = 6", "nr_inodes = 0"), ("staff", "Staff")],
-            "52 field name",
-        ),
-        (
-            [
-                ("nr_inodes = 6", "nr_inodes = -1"),
-                ("id = 100,", "id = 100, x = 1,"),
-            ],
-            "52 field x",
-        ),
-        (
-            [("nr_inodes = 6", "nr_inodes = 0"), ("staff", "root")],
-            "53 range",
-        ),
-        ([("id = 1000,", "id = -1,"), ("staff", "root")], "53 range"),
-        (
-            [("user = [{ id = 0", "user = [{ id = 5"), ("staff", "root")],
-            "54 duplicate",
-        ),
-        (
-            [("user = [{ id = 0", "user = [{ id = 1000"), ("staff", "s")],
-            "54 duplicate",
-        ),
-        (
-            [("user = [{ id = 0", "user = [{ id = 5"), ("staff", "s")],
-            "55 no zero",
-        ),
-    ];
-    assert_eq!(rt; first_wrong_of_two(rt.alloc(), &rows)?, None);
     Ok(())
 }
