@@ -66,7 +66,8 @@ and_parts false b h = cc
 and_both : (a b : Bool) → a ≡ true → b ≡ true → (a && b) ≡ true
 and_both a b p q = rw (p, q) refl
 
-or_right : (a b : Bool) → b ≡ true → (a || b) ≡ true
+-- what holds is enough
+pub or_right : (a b : Bool) → b ≡ true → (a || b) ≡ true
 or_right true b h = refl
 or_right false b h = h
 
@@ -82,7 +83,8 @@ or_more false false c h = h
 later : (n next : ℕ) → nat_lt n next ≡ true → nat_lt n (next + 1) ≡ true
 later n next h = grind (arith, tests, h)
 
-some-is_dir : (o : Option Inode) → is_dir o ≡ true → is_some o ≡ true
+-- a directory is there
+pub some-is_dir : (o : Option Inode) → is_dir o ≡ true → is_some o ≡ true
 some-is_dir None h = cc
 some-is_dir (Some inode) h = refl
 

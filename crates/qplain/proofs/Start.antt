@@ -18,6 +18,7 @@ use Rattle.qplain.specs.State.{Holder, holder_of, root, start}
 use Rattle.qplain.specs.Use.{account_of}
 use Rattle.qplain.specs.Arguments.{is_declared, is_holder, is_same_kind}
 use Rattle.qplain.specs.Laws.{StartIsLawful, are_same, has_known_owners, has_name, leads}
+use Rattle.qplain.proofs.Fitting.{or_right}
 
 -- what a setting that is not refused has passed
 record HasPassed (in_range users_twice groups_twice user_zero group_zero : Bool) : Type 0 where
@@ -57,7 +58,8 @@ ends-start : (s : Setting) (kind : Kind) (p : Principal) → HasEnds (account_of
 ends-start s User p = record { inodes = sym (not_over-inodes (0 == p.id) p.limits.inode_soft); blocks = sym (not_over-blocks (0 == p.id) p.limits.block_soft) }
 ends-start s Group p = record { inodes = sym (not_over-inodes (0 == p.id) p.limits.inode_soft); blocks = sym (not_over-blocks (0 == p.id) p.limits.block_soft) }
 
-same_kind-refl : (kind : Kind) → is_same_kind kind kind ≡ true
+-- a kind is the same as itself
+pub same_kind-refl : (kind : Kind) → is_same_kind kind kind ≡ true
 same_kind-refl User = refl
 same_kind-refl Group = refl
 
@@ -105,10 +107,6 @@ distinct-append [] gs p q = q
 distinct-append (u ∷ us) gs p q =
     (apart-append (holder_of User u) (map (holder_of User) us) (map (holder_of Group) gs) p.0 (apart-kinds u gs), distinct-append us gs p.1 q)
 
-either_way : (a b : Bool) → b ≡ true → (a || b) ≡ true
-either_way true b h = refl
-either_way false b h = h
-
 pub start_is_lawful : StartIsLawful
 start_is_lawful s granted =
     let parts : HasPassed (is_in_range s) (has_duplicate s.users) (has_duplicate s.groups) (has_zero s.users) (has_zero s.groups) =
@@ -122,7 +120,7 @@ start_is_lawful s granted =
     let user : is_declared (start s) User 0 ≡ true =
     list_any-append (is_holder User 0) users groups ∙ rw (declared-zero User s.users, parts.user) refl in
     let group : is_declared (start s) Group 0 ≡ true =
-    list_any-append (is_holder Group 0) users groups ∙ either_way (list_any (is_holder Group 0) users) _ (declared-zero Group s.groups ∙ parts.group) in
+    list_any-append (is_holder Group 0) users groups ∙ or_right (list_any (is_holder Group 0) users) _ (declared-zero Group s.groups ∙ parts.group) in
     record {
       blocks_fit = omega arith;
       inodes_fit = grind (arith, tests, one);
