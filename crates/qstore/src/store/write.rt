@@ -135,7 +135,8 @@ impl Store {
         if let Some(refusal) = self.admit(cred, places, moment, target.blocks, 0) {
             return Ok(Decided::refused(refusal));
         }
-        let spare = self.tree.ready_write(number, off, bytes.len() as u64)?;
+        let len = bytes.len() as u64;
+        let spare = self.tree.ready_write(number, off, len, target.blocks)?;
         Ok(Decided {
             reply: Reply::Done(number, written(target.blocks)),
             plan: Plan::Write {
