@@ -18,7 +18,7 @@ use Rattle.qplain.specs.Decision.{ends_after}
 use Rattle.qplain.specs.Attempt.{created, with_file, with_limits_of}
 use Rattle.qplain.specs.Laws.{FitsTogether, leads}
 use Rattle.qplain.proofs.Tables.{absent-fresh, at-itself, lookup-insert_new, name_key_total, same-number, sum_by-insert_new}
-use Rattle.qplain.proofs.Fitting.{directory-same, not_both, some-is_dir}
+use Rattle.qplain.proofs.Fitting.{apart, directory-same, not_both, some-is_dir}
 
 -- ---- look-ups
 
@@ -94,15 +94,6 @@ count_by-none p (x ∷ xs) none =
     let here : p x ≡ false = All-head (λ y. p y ≡ false) x xs none in
     let rest : count_by p xs ≡ 0 = count_by-none p xs (All-tail (λ y. p y ≡ false) x xs none) in
     sum_by-cons (λ y. cond (p y) 1 0) x xs ∙ (λ i. cond (here i) 1 0 + rest i)
-
-same-is_some : (S : State) (m n : ℕ) → (m == n) ≡ true → is_some (inode_at S m) ≡ is_some (inode_at S n)
-same-is_some S m n same = let equal : m ≡ n = grind (arith, tests, same) in ap (λ q. is_some (inode_at S q)) equal
-
--- a number at which there is an inode is not one at which there is none
-apart : (S : State) (m n : ℕ) → is_some (inode_at S m) ≡ true → inode_at S n ≡ None → (m == n) ≡ false
-apart S m n there none = not_both (m == n) (λ same.
-    let gone : is_some (inode_at S m) ≡ false = same-is_some S m n same ∙ ap (λ o. is_some o) none in
-    cc)
 
 -- a file has one link more under the new name, if that is its own
 pub links_of-created-file : (S : State) (inode : Inode) (dir : ℕ) (name : List ℕ) (n : ℕ) → named S dir name ≡ None

@@ -1,5 +1,5 @@
 -- A new store of a setup that is not refused is lawful.
-use Rattle.std.proofs.Common.{◌≡◌, ℕ, ◌+◌, ◌*◌, ◌==◌, Bool, true, false, not, ◌&&◌, ◌||◌, nat_le, nat_lt, cond, List, [], ◌∷◌, ◌++◌, map, slice_index_or, Some, None, refl, sym, ◌∙◌, tests, arith}
+use Rattle.std.proofs.Common.{◌≡◌, ℕ, ◌+◌, ◌*◌, ◌==◌, Bool, true, false, not, ◌&&◌, ◌||◌, nat_le, nat_lt, cond, List, [], ◌∷◌, All, ◌++◌, map, slice_index_or, Some, None, refl, sym, ◌∙◌, tests, arith}
 use Rattle.std.specs.List.{AllByRecursion, IsDistinct, list_any}
 use Rattle.std.proofs.lemmas.List.Elements.{All-append, All-cons, All-map, All-nil}
 use Rattle.std.proofs.lemmas.List.Folds.{list_any-append}
@@ -17,7 +17,7 @@ use Rattle.qplain.specs.Setups.{Setting, is_in_range}
 use Rattle.qplain.specs.State.{Holder, holder_of, root, start}
 use Rattle.qplain.specs.Use.{account_of}
 use Rattle.qplain.specs.Arguments.{is_declared, is_holder, is_same_kind}
-use Rattle.qplain.specs.Laws.{StartIsLawful, are_same, has_known_owners, has_name, leads}
+use Rattle.qplain.specs.Laws.{StartIsLawful, are_same, has_known_owners, has_name, leads, share_no_directory}
 use Rattle.qplain.proofs.Fitting.{or_right}
 
 -- what a setting that is not refused has passed
@@ -134,6 +134,8 @@ start_is_lawful s granted =
         root_stands = refl;
         names_lead = All-nil (λ e. leads (start s) e ≡ true);
         all_named = All-cons (λ e. has_name (start s) e.0 ≡ true) (ROOT, root) [] refl (All-nil (λ e. has_name (start s) e.0 ≡ true));
+        one_name = All-nil (λ e. All (λ f. share_no_directory (start s) e f ≡ true) []);
+        root_unnamed = All-nil (λ e. (e.1 == ROOT) ≡ false);
         fresh = All-cons (λ e. nat_lt e.0 2 ≡ true) (ROOT, root) [] refl (All-nil (λ e. nat_lt e.0 2 ≡ true));
       };
     }
