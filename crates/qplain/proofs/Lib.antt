@@ -14,3 +14,4 @@ pub mod Settling
 pub mod Rising
 pub mod Linking
 pub mod Walking
+pub mod Playing

@@ -14,7 +14,7 @@ pub use laws::{
 };
 pub use line::Line;
 pub use path::Path;
-pub use principal::{MAX_PRINCIPALS, Principal};
+pub use principal::{MAX_PRINCIPALS, Principal, is_principal_name};
 pub use qblocks::NoMemory;
 pub use quota::Quota;
 pub use refusal::Refusal;

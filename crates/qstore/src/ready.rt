@@ -77,3 +77,12 @@ pub struct Ready {
     pub(crate) plan: Plan,
     pub(crate) bytes: Items<u8>,
 }
+
+impl Ready {
+    /// The reply that `commit` will give.
+    pub fn reply(&self) -> &Reply
+        ensures { result.now ≡ self.now.reply }
+    {
+        &self.reply
+    }
+}

@@ -1,0 +1,4 @@
+-- In reading order.
+pub mod Written
+pub mod Pieces
+pub mod Reports
