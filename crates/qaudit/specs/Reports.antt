@@ -1,5 +1,5 @@
 -- The report: one line a quota record (profile, after repquota(8)).
-use Rattle.std.specs.Prelude.{ℕ, ◌*◌, ◌-◌, Bool, true, false, List, [], ◌∷◌, codes, decimal, nat_lt, Option, Some, None, if◌then◌else◌}
+use Rattle.std.specs.Prelude.{ℕ, ◌-◌, Bool, List, [], ◌∷◌, codes, decimal, nat_lt, Option, Some, None, if◌then◌else◌}
 use Rattle.std.specs.List.{concat, flat_map}
 use Rattle.qrules.specs.Sort.{Inodes, Blocks, amount_of, is_over}
 use Rattle.qrules.specs.declared.kind.Kind.{Kind}

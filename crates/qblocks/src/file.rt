@@ -115,8 +115,20 @@ impl BlockFile {
         ensures ok { IfOk result (λ spare. IsReady self.new off len spare) }
         ensures err { OnErr result (self.new.room ≡ no_room) }
     {
-        self.forget_room();
         let missing = self.missing(off, len);
+        self.ready_for(off, len, missing)
+    }
+
+    /// `ready`, where `missing` has counted the blocks already.
+    pub fn ready_for(&mut self, off: u64, len: u64, missing: u64) -> Result<Spare, NoMemory>
+        requires bound { off + len ≤ MAX_SIZE }
+        requires missing { Adds self.old.file off len missing }
+        requires few { missing ≤ 2 ^ 28 }
+        ensures same { self.new.file ≡ self.old.file }
+        ensures ok { IfOk result (λ spare. IsReady self.new off len spare) }
+        ensures err { OnErr result (self.new.room ≡ no_room) }
+    {
+        self.forget_room();
         let spare = Spare::new(self.alloc, missing)?;
         self.make_room(off, len, missing)?;
         Ok(spare)

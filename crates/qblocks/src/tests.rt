@@ -1,5 +1,6 @@
 //! Worked examples, counted by hand, and each allocation refused in turn.
 use crate::{BlockFile, MAX_SIZE, NoMemory};
+use std::io::Print;
 use std::process::Abort;
 
 #[test]
@@ -76,26 +77,37 @@ fn check(rt: &impl Abort, file: &BlockFile, blocks: u64, bytes: &[u8]) -> Result
     Ok(())
 }
 
+/// Tells `checks/allocations` that this run has refused an allocation of the test.
+fn tell_refused(rt: &impl Print) {
+    let _ = println!(rt; "an allocation was refused");
+}
+
 // Run with the Nth allocation refused: the refused call leaves the file as it was, and the same
 // call then succeeds.
 #[test]
 fn a_refused_call_changes_nothing(rt: HostRuntime) -> Result<(), NoMemory> {
     let mut file = BlockFile::new(rt.alloc());
     if file.write(0, b"abc").is_err() {
+        tell_refused(&rt);
         check(&rt, &file, 0, b"")?;
         assert_eq!(rt; file.write(0, b"abc")?, 1);
     }
     if file.ready(65530, 12).is_err() {
+        tell_refused(&rt);
         check(&rt, &file, 1, b"abc")?;
         let _spare = file.ready(65530, 12)?;
     }
     if file.write(65530, b"abcdefghijkl").is_err() {
+        tell_refused(&rt);
         check(&rt, &file, 1, b"abc")?;
         assert_eq!(rt; file.write(65530, b"abcdefghijkl")?, 2);
     }
     let bytes = match file.read(65534, 3) {
         Ok(bytes) => bytes,
-        Err(_) => file.read(65534, 3)?,
+        Err(_) => {
+            tell_refused(&rt);
+            file.read(65534, 3)?
+        }
     };
     assert!(rt; bytes.as_slice() == b"efg".as_slice());
     assert_eq!(rt; file.allocated(), 3);

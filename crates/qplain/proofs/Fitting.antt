@@ -1,23 +1,24 @@
 -- What every plain result keeps of a lawful state, before its bounds and ends are looked at.
-use Rattle.std.proofs.Common.{◌≡◌, ℕ, ◌+◌, ◌==◌, Bool, true, false, ◌&&◌, ◌||◌, nat_lt, cond, List, [], ◌∷◌, map, IfSome, slice_index_or, Option, Some, None, is_some, refl, ap, subst, ◌∙◌, tests, arith}
+use Rattle.std.proofs.Common.{◌≡◌, ℕ, ◌+◌, ◌==◌, Bool, true, false, not, ◌&&◌, ◌||◌, nat_lt, cond, List, [], ◌∷◌, All, map, IfSome, slice_index_or, Option, Some, None, is_some, refl, ap, subst, ◌∙◌, tests, arith}
 use Rattle.std.specs.List.{AllByRecursion, IsDistinct, list_any, list_all}
 use Rattle.std.specs.Map.{values_of}
-use Rattle.std.specs.Ordering.{nat_cmp}
+use Rattle.std.specs.Ordering.{eq_by_cmp, nat_cmp}
 use Rattle.std.specs.BTreeMap.{is_at}
-use Rattle.std.specs.Cmp.{nat_cmp_total}
+use Rattle.std.specs.Cmp.{IsEquivalence, eq_by_cmp_equiv, nat_cmp_total}
 use Rattle.std.proofs.lemmas.Map.Views.{All-values-insert_entry, All-values-set_value, IfSome-lookup_from_All}
 use Rattle.qrules.specs.declared.kind.Kind.{Kind}
 use Rattle.qrules.specs.declared.kind.Kind.TheVariants.{User, Group}
 use Rattle.qrules.specs.declared.limits.Limits.{Limits}
+use Rattle.qrules.specs.declared.graces.Graces.{Graces}
 use Rattle.qblocks.specs.File.{File}
 use Rattle.qplain.specs.declared.bounds.TheConstants.{ROOT}
 use Rattle.qplain.specs.Caller.{Caller}
 use Rattle.qplain.specs.State.{Holder, Inode, NameKey, State, inode_at, is_dir, is_directory, name_key_cmp, named, new_file}
 use Rattle.qplain.specs.Arguments.{is_declared, is_holder, is_known, is_same_kind}
 use Rattle.qplain.specs.Attempt.{created, relimited, with_file}
-use Rattle.qplain.specs.Laws.{FitsTogether, are_same, has_known_owners, has_name, leads}
+use Rattle.qplain.specs.Laws.{FitsTogether, are_same, has_known_owners, has_name, leads, share_no_directory}
 use Rattle.qplain.proofs.Becoming.{HoldsOfResults}
-use Rattle.qplain.proofs.Tables.{All-insert_new, All-keys-set_value, list_any-insert_new, lookup-insert_new, absent-fresh, at-itself, same-number, seen-set_value}
+use Rattle.qplain.proofs.Tables.{All-insert_new, All-keys-set_value, list_any-insert_new, lookup-insert_new, absent-fresh, at-itself, name_key_total, same-number, seen-set_value}
 
 -- ---- holders that keep their kind and id
 
@@ -54,6 +55,8 @@ fits-map S f keeps fits = record {
   root_stands = fits.root_stands;
   names_lead = fits.names_lead;
   all_named = fits.all_named;
+  one_name = fits.one_name;
+  root_unnamed = fits.root_unnamed;
   fresh = fits.fresh;
 }
 
@@ -66,7 +69,8 @@ and_parts false b h = cc
 and_both : (a b : Bool) → a ≡ true → b ≡ true → (a && b) ≡ true
 and_both a b p q = rw (p, q) refl
 
-or_right : (a b : Bool) → b ≡ true → (a || b) ≡ true
+-- what holds is enough
+pub or_right : (a b : Bool) → b ≡ true → (a || b) ≡ true
 or_right true b h = refl
 or_right false b h = h
 
@@ -82,7 +86,8 @@ or_more false false c h = h
 later : (n next : ℕ) → nat_lt n next ≡ true → nat_lt n (next + 1) ≡ true
 later n next h = grind (arith, tests, h)
 
-some-is_dir : (o : Option Inode) → is_dir o ≡ true → is_some o ≡ true
+-- a directory is there
+pub some-is_dir : (o : Option Inode) → is_dir o ≡ true → is_some o ≡ true
 some-is_dir None h = cc
 some-is_dir (Some inode) h = refl
 
@@ -94,6 +99,23 @@ cond_other false x y h = refl
 pub not_both : (b : Bool) → (b ≡ true → ⊥) → b ≡ false
 not_both true h = absurd (h refl)
 not_both false h = refl
+
+same-is_some : (S : State) (m n : ℕ) → (m == n) ≡ true → is_some (inode_at S m) ≡ is_some (inode_at S n)
+same-is_some S m n same = let equal : m ≡ n = grind (arith, tests, same) in ap (λ q. is_some (inode_at S q)) equal
+
+-- a number at which there is an inode is not one at which there is none
+pub apart : (S : State) (m n : ℕ) → is_some (inode_at S m) ≡ true → inode_at S n ≡ None → (m == n) ≡ false
+apart S m n there none = not_both (m == n) (λ same.
+    let gone : is_some (inode_at S m) ≡ false = same-is_some S m n same ∙ ap (λ o. is_some o) none in
+    cc)
+
+-- names of different inodes share no directory
+share-apart : (S : State) (e f : NameKey × ℕ) → (e.1 == f.1) ≡ false → share_no_directory S e f ≡ true
+share-apart S e f differ = rw differ refl
+
+-- nor do names that are the same
+share-same : (S : State) (e f : NameKey × ℕ) → is_at (name_key_cmp e.0) f.0 ≡ true → share_no_directory S e f ≡ true
+share-same S e f same = or_right (not (e.1 == f.1 && is_directory S e.1)) (is_at (name_key_cmp e.0) f.0) same
 
 module _ (S : State) (inode : Inode) (dir : ℕ) (name : List ℕ) (fits : FitsTogether S) (stands : is_directory S dir ≡ true) (absent : named S dir name ≡ None) where
   -- what is at a number then
@@ -127,6 +149,40 @@ module _ (S : State) (inode : Inode) (dir : ℕ) (name : List ℕ) (fits : FitsT
   has_name-stays : (number : ℕ) → has_name S number ≡ true → has_name (created S inode dir name) number ≡ true
   has_name-stays number h = ap (λ b. number == ROOT || b) (named-after number) ∙ or_more (number == ROOT) (S.next == number) (list_any (λ e. e.1 == number) S.names) h
 
+  -- no name but the new one leads to the new inode
+  old-apart : (e : NameKey × ℕ) → leads S e ≡ true → (e.1 == S.next) ≡ false
+  old-apart e h = apart S e.1 S.next (and_parts (is_directory S e.0.0) (is_some (inode_at S e.1)) h).1 (absent-fresh S.inodes S.next fits.fresh)
+
+  share-stays : (e f : NameKey × ℕ) → leads S e ≡ true → share_no_directory S e f ≡ true → share_no_directory (created S inode dir name) e f ≡ true
+  share-stays e f h shares =
+      let there : is_some (inode_at S e.1) ≡ true = (and_parts (is_directory S e.0.0) (is_some (inode_at S e.1)) h).1 in
+      (λ i. not (e.1 == f.1 && is_dir (stays e.1 there i)) || is_at (name_key_cmp e.0) f.0) ∙ shares
+
+  -- an old name shares no directory with any
+  old-shares : (e : NameKey × ℕ) → leads S e ≡ true → All (λ f. share_no_directory S e f ≡ true) S.names
+      → All (λ f. share_no_directory (created S inode dir name) e f ≡ true) (created S inode dir name).names
+  old-shares e h shares =
+      All-insert_new (λ f. share_no_directory (created S inode dir name) e f ≡ true) name_key_cmp S.names (dir, name) S.next absent
+      (λ k d below. share-stays e (slice_index_or S.names k d) h (shares k d below))
+      (share-apart (created S inode dir name) e ((dir, name), S.next) (old-apart e h))
+
+  -- nor does the new one
+  new-shares : All (λ f. share_no_directory (created S inode dir name) ((dir, name), S.next) f ≡ true) (created S inode dir name).names
+  new-shares =
+      let laws : IsEquivalence (eq_by_cmp name_key_cmp) = eq_by_cmp_equiv name_key_total in
+      All-insert_new (λ f. share_no_directory (created S inode dir name) ((dir, name), S.next) f ≡ true) name_key_cmp S.names (dir, name) S.next absent
+      (λ k d below.
+      let f : NameKey × ℕ = slice_index_or S.names k d in
+      let differ : (f.1 == S.next) ≡ false = old-apart f (fits.names_lead k d below) in
+      share-apart (created S inode dir name) ((dir, name), S.next) f (grind (arith, tests, differ)))
+      (share-same (created S inode dir name) ((dir, name), S.next) ((dir, name), S.next) (laws.refl (dir, name)))
+
+  root-apart : (S.next == ROOT) ≡ false
+  root-apart =
+      let differ : (ROOT == S.next) ≡ false =
+      apart S ROOT S.next (some-is_dir (inode_at S ROOT) fits.root_stands) (absent-fresh S.inodes S.next fits.fresh) in
+      grind (arith, tests, differ)
+
   -- a new inode of known owners leaves parts that fit together
   pub created_fits : has_known_owners S inode ≡ true → FitsTogether (created S inode dir name)
   created_fits known = record {
@@ -140,6 +196,10 @@ module _ (S : State) (inode : Inode) (dir : ℕ) (name : List ℕ) (fits : FitsT
         (λ k d below. has_name-stays (slice_index_or S.inodes k d).0 (fits.all_named k d below))
         (or_right (S.next == ROOT) (list_any (λ e. e.1 == S.next) (created S inode dir name).names)
         (named-after S.next ∙ or_left (S.next == S.next) (list_any (λ e. e.1 == S.next) S.names) (grind (arith, tests))));
+    one_name = All-insert_new (λ e. All (λ f. share_no_directory (created S inode dir name) e f ≡ true) (created S inode dir name).names)
+        name_key_cmp S.names (dir, name) S.next absent
+        (λ k d below. old-shares (slice_index_or S.names k d) (fits.names_lead k d below) (fits.one_name k d below)) new-shares;
+    root_unnamed = All-insert_new (λ e. (e.1 == ROOT) ≡ false) name_key_cmp S.names (dir, name) S.next absent fits.root_unnamed root-apart;
     fresh = All-insert_new (λ e. nat_lt e.0 (S.next + 1) ≡ true) nat_cmp S.inodes S.next inode (absent-fresh S.inodes S.next fits.fresh)
         (λ k d below. later (slice_index_or S.inodes k d).0 S.next (fits.fresh k d below)) (grind (arith, tests));
   }
@@ -173,10 +233,28 @@ module _ (S : State) (number : ℕ) (inode : Inode) (file : File) (there : inode
         let e : NameKey × ℕ = slice_index_or S.names k d in
         (λ i. directory-same e.0.0 i && some-same e.1 i) ∙ fits.names_lead k d below;
     all_named = All-keys-set_value (λ n. has_name S n ≡ true) (is_at (nat_cmp number)) S.inodes (record inode { file = file }) fits.all_named;
+    one_name = λ k d below j c under.
+        let e : NameKey × ℕ = slice_index_or S.names k d in
+        let f : NameKey × ℕ = slice_index_or S.names j c in
+        (λ i. not (e.1 == f.1 && directory-same e.1 i) || is_at (name_key_cmp e.0) f.0) ∙ fits.one_name k d below j c under;
+    root_unnamed = fits.root_unnamed;
     fresh = All-keys-set_value (λ n. nat_lt n S.next ≡ true) (is_at (nat_cmp number)) S.inodes (record inode { file = file }) fits.fresh;
   }
 
 -- ---- the plain results of all calls
+
+-- new graces touch no part
+pub fits-graced : (S : State) (graces : Graces) → FitsTogether S → FitsTogether (record S { graces = graces })
+fits-graced S graces fits = record {
+  owners_known = fits.owners_known;
+  distinct = fits.distinct;
+  root_stands = fits.root_stands;
+  names_lead = fits.names_lead;
+  all_named = fits.all_named;
+  one_name = fits.one_name;
+  root_unnamed = fits.root_unnamed;
+  fresh = fits.fresh;
+}
 
 -- new limits are those of a holder who stays who it is
 relimited_keeps : (b : Bool) (limits : Limits) (h : Holder) → ((cond b (relimited limits h) h).kind ≡ h.kind) × ((cond b (relimited limits h) h).id ≡ h.id)
@@ -199,12 +277,5 @@ results_fit S cred fits = record {
   limited = λ kind id limits may.
       fits-map S (λ h. cond (is_holder kind id h) (relimited limits h) h)
       (λ h. (relimited_keeps (is_holder kind id h) limits h).0, λ h. (relimited_keeps (is_holder kind id h) limits h).1) fits;
-  graced = λ graces may. record {
-    owners_known = fits.owners_known;
-    distinct = fits.distinct;
-    root_stands = fits.root_stands;
-    names_lead = fits.names_lead;
-    all_named = fits.all_named;
-    fresh = fits.fresh;
-  };
+  graced = λ graces may. fits-graced S graces fits;
 }

@@ -1,9 +1,8 @@
 -- Every step of a lawful state leaves a lawful state.
-use Rattle.std.proofs.Common.{◌≡◌, ℕ, ◌+◌, ◌≤◌, Bool, true, false, ◌||◌, nat_lt, cond, All, slice_index_or, Option, Some, None, is_some, refl, tests, arith}
+use Rattle.std.proofs.Common.{◌≡◌, ℕ, ◌+◌, ◌≤◌, Bool, true, false, ◌||◌, nat_lt, cond, All, slice_index_or, Option, Some, None, refl, tests, arith}
 use Rattle.std.proofs.lemmas.List.Elements.{All-map}
 use Rattle.qrules.specs.Sort.{Inodes, Blocks}
 use Rattle.qrules.specs.Account.{HasEnds, is_over_soft}
-use Rattle.qrules.specs.Grace.{next_end}
 use Rattle.qplain.specs.declared.refusal.Refusal.{Refusal}
 use Rattle.qplain.specs.declared.refusal.Refusal.TheVariants.{ENOSPC}
 use Rattle.qplain.specs.declared.bounds.TheConstants.{MAX_NUMBER}
@@ -12,12 +11,8 @@ use Rattle.qplain.specs.Use.{account_of, total_of}
 use Rattle.qplain.specs.Decision.{ends_after, is_too_full, refusal_of_charge, with_ends_of}
 use Rattle.qplain.specs.Laws.{FitsTogether, IsLawful, StepsStayLawful}
 use Rattle.qplain.proofs.Becoming.{step-becomes}
+use Rattle.qplain.proofs.Ends.{next_end-stands}
 use Rattle.qplain.proofs.Fitting.{results_fit, fits-map}
-
-next_end-stands : (over : Bool) (end : Option ℕ) (new : ℕ) → is_some (next_end over end new) ≡ over
-next_end-stands false end new = refl
-next_end-stands true (Some end) new = refl
-next_end-stands true None new = refl
 
 -- after every change each end stands where it belongs
 ends_stand-after : (S : State) (moment : ℕ) → All (λ h. HasEnds (account_of (ends_after S moment) h)) (ends_after S moment).holders

@@ -4,7 +4,7 @@ use Rattle.std.specs.Option.{IsSome}
 use Rattle.std.specs.Ordering.{nat_cmp}
 use Rattle.std.specs.BTreeMap.{is_at}
 use Rattle.std.specs.Cmp.{nat_cmp_total, eq_by_cmp_equiv}
-use Rattle.std.proofs.lemmas.Bool.{and_parts}
+use Rattle.std.proofs.lemmas.Bool.{and_parts, cond-false, cond-true}
 use Rattle.std.proofs.lemmas.List.Elements.{All-head, All-tail}
 use Rattle.std.proofs.lemmas.List.Sums.{sum_by-cons}
 use Rattle.std.proofs.lemmas.Map.{lookup-set_value}
@@ -18,7 +18,7 @@ use Rattle.qplain.specs.Decision.{ends_after}
 use Rattle.qplain.specs.Attempt.{created, with_file, with_limits_of}
 use Rattle.qplain.specs.Laws.{FitsTogether, leads}
 use Rattle.qplain.proofs.Tables.{absent-fresh, at-itself, lookup-insert_new, name_key_total, same-number, sum_by-insert_new}
-use Rattle.qplain.proofs.Fitting.{directory-same, not_both}
+use Rattle.qplain.proofs.Fitting.{apart, directory-same, not_both, some-is_dir}
 
 -- ---- look-ups
 
@@ -42,14 +42,6 @@ pub inode_at-with_file : (S : State) (number : ℕ) (inode : Inode) (file : File
 inode_at-with_file S number inode file q there =
     lookup-set_value (eq_by_cmp_equiv nat_cmp_total) (is_at (nat_cmp number)) (λ x y e. (eq_by_cmp_equiv nat_cmp_total).congr number x y e)
     q (record inode { file = file }) S.inodes (there-some (inode_at S number) inode there)
-
-cond-true : {X : Type 0} (b : Bool) (x y : X) → b ≡ true → cond b x y ≡ x
-cond-true true x y e = refl
-cond-true false x y e = cc
-
-cond-false : {X : Type 0} (b : Bool) (x y : X) → b ≡ false → cond b x y ≡ y
-cond-false true x y e = cc
-cond-false false x y e = refl
 
 -- the new inode is at the next number
 pub inode_at-created-next : (S : State) (inode : Inode) (dir : ℕ) (name : List ℕ) → inode_at S S.next ≡ None
@@ -102,19 +94,6 @@ count_by-none p (x ∷ xs) none =
     let here : p x ≡ false = All-head (λ y. p y ≡ false) x xs none in
     let rest : count_by p xs ≡ 0 = count_by-none p xs (All-tail (λ y. p y ≡ false) x xs none) in
     sum_by-cons (λ y. cond (p y) 1 0) x xs ∙ (λ i. cond (here i) 1 0 + rest i)
-
-same-is_some : (S : State) (m n : ℕ) → (m == n) ≡ true → is_some (inode_at S m) ≡ is_some (inode_at S n)
-same-is_some S m n same = let equal : m ≡ n = grind (arith, tests, same) in ap (λ q. is_some (inode_at S q)) equal
-
--- a number at which there is an inode is not one at which there is none
-apart : (S : State) (m n : ℕ) → is_some (inode_at S m) ≡ true → inode_at S n ≡ None → (m == n) ≡ false
-apart S m n there none = not_both (m == n) (λ same.
-    let gone : is_some (inode_at S m) ≡ false = same-is_some S m n same ∙ ap (λ o. is_some o) none in
-    cc)
-
-some-is_dir : (o : Option Inode) → is_dir o ≡ true → is_some o ≡ true
-some-is_dir None h = cc
-some-is_dir (Some inode) h = refl
 
 -- a file has one link more under the new name, if that is its own
 pub links_of-created-file : (S : State) (inode : Inode) (dir : ℕ) (name : List ℕ) (n : ℕ) → named S dir name ≡ None

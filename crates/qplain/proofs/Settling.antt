@@ -23,6 +23,7 @@ use Rattle.qplain.specs.Attempt.{Becomes, attempt_of, no_change, unless, with_li
 use Rattle.qplain.specs.Step.{change_between, settle, settled, step}
 use Rattle.qplain.specs.Laws.{IsLawful, KeepsSetup}
 use Rattle.qplain.proofs.Tables.{absent-fresh}
+use Rattle.qplain.proofs.Fitting.{fits-graced}
 use Rattle.qplain.proofs.Becoming.{HoldsOfResults, step-becomes}
 use Rattle.qplain.proofs.Lawful.{not_full-granted, steps_stay_lawful}
 use Rattle.qplain.proofs.Ends.{ends_stay}
@@ -121,14 +122,7 @@ ends_after-graced S graces moment lawful = ends_stay (record S { graces = graces
   blocks_fit = lawful.blocks_fit;
   inodes_fit = lawful.inodes_fit;
   ends_stand = lawful.ends_stand;
-  parts = record {
-    owners_known = lawful.parts.owners_known;
-    distinct = lawful.parts.distinct;
-    root_stands = lawful.parts.root_stands;
-    names_lead = lawful.parts.names_lead;
-    all_named = lawful.parts.all_named;
-    fresh = lawful.parts.fresh;
-  };
+  parts = fits-graced S graces lawful.parts;
 })
 
 -- ---- what every step keeps

@@ -1,5 +1,5 @@
 -- A new store of a setup that is not refused is lawful.
-use Rattle.std.proofs.Common.{◌≡◌, ℕ, ◌+◌, ◌*◌, ◌==◌, Bool, true, false, not, ◌&&◌, ◌||◌, nat_le, nat_lt, cond, List, [], ◌∷◌, ◌++◌, map, slice_index_or, Some, None, refl, sym, ◌∙◌, tests, arith}
+use Rattle.std.proofs.Common.{◌≡◌, ℕ, ◌+◌, ◌*◌, ◌==◌, Bool, true, false, not, ◌&&◌, ◌||◌, nat_le, nat_lt, cond, List, [], ◌∷◌, All, ◌++◌, map, slice_index_or, Some, None, refl, sym, ◌∙◌, tests, arith}
 use Rattle.std.specs.List.{AllByRecursion, IsDistinct, list_any}
 use Rattle.std.proofs.lemmas.List.Elements.{All-append, All-cons, All-map, All-nil}
 use Rattle.std.proofs.lemmas.List.Folds.{list_any-append}
@@ -17,7 +17,8 @@ use Rattle.qplain.specs.Setups.{Setting, is_in_range}
 use Rattle.qplain.specs.State.{Holder, holder_of, root, start}
 use Rattle.qplain.specs.Use.{account_of}
 use Rattle.qplain.specs.Arguments.{is_declared, is_holder, is_same_kind}
-use Rattle.qplain.specs.Laws.{StartIsLawful, are_same, has_known_owners, has_name, leads}
+use Rattle.qplain.specs.Laws.{StartIsLawful, are_same, has_known_owners, has_name, leads, share_no_directory}
+use Rattle.qplain.proofs.Fitting.{or_right}
 
 -- what a setting that is not refused has passed
 record HasPassed (in_range users_twice groups_twice user_zero group_zero : Bool) : Type 0 where
@@ -57,7 +58,8 @@ ends-start : (s : Setting) (kind : Kind) (p : Principal) → HasEnds (account_of
 ends-start s User p = record { inodes = sym (not_over-inodes (0 == p.id) p.limits.inode_soft); blocks = sym (not_over-blocks (0 == p.id) p.limits.block_soft) }
 ends-start s Group p = record { inodes = sym (not_over-inodes (0 == p.id) p.limits.inode_soft); blocks = sym (not_over-blocks (0 == p.id) p.limits.block_soft) }
 
-same_kind-refl : (kind : Kind) → is_same_kind kind kind ≡ true
+-- a kind is the same as itself
+pub same_kind-refl : (kind : Kind) → is_same_kind kind kind ≡ true
 same_kind-refl User = refl
 same_kind-refl Group = refl
 
@@ -105,10 +107,6 @@ distinct-append [] gs p q = q
 distinct-append (u ∷ us) gs p q =
     (apart-append (holder_of User u) (map (holder_of User) us) (map (holder_of Group) gs) p.0 (apart-kinds u gs), distinct-append us gs p.1 q)
 
-either_way : (a b : Bool) → b ≡ true → (a || b) ≡ true
-either_way true b h = refl
-either_way false b h = h
-
 pub start_is_lawful : StartIsLawful
 start_is_lawful s granted =
     let parts : HasPassed (is_in_range s) (has_duplicate s.users) (has_duplicate s.groups) (has_zero s.users) (has_zero s.groups) =
@@ -122,7 +120,7 @@ start_is_lawful s granted =
     let user : is_declared (start s) User 0 ≡ true =
     list_any-append (is_holder User 0) users groups ∙ rw (declared-zero User s.users, parts.user) refl in
     let group : is_declared (start s) Group 0 ≡ true =
-    list_any-append (is_holder Group 0) users groups ∙ either_way (list_any (is_holder Group 0) users) _ (declared-zero Group s.groups ∙ parts.group) in
+    list_any-append (is_holder Group 0) users groups ∙ or_right (list_any (is_holder Group 0) users) _ (declared-zero Group s.groups ∙ parts.group) in
     record {
       blocks_fit = omega arith;
       inodes_fit = grind (arith, tests, one);
@@ -136,6 +134,8 @@ start_is_lawful s granted =
         root_stands = refl;
         names_lead = All-nil (λ e. leads (start s) e ≡ true);
         all_named = All-cons (λ e. has_name (start s) e.0 ≡ true) (ROOT, root) [] refl (All-nil (λ e. has_name (start s) e.0 ≡ true));
+        one_name = All-nil (λ e. All (λ f. share_no_directory (start s) e f ≡ true) []);
+        root_unnamed = All-nil (λ e. (e.1 == ROOT) ≡ false);
         fresh = All-cons (λ e. nat_lt e.0 2 ≡ true) (ROOT, root) [] refl (All-nil (λ e. nat_lt e.0 2 ≡ true));
       };
     }

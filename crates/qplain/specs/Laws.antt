@@ -2,6 +2,7 @@
 use Rattle.std.specs.Prelude.{◌≡◌, ℕ, ◌≤◌, Bool, true, false, not, ◌&&◌, ◌||◌, ◌==◌, nat_le, nat_lt, is_some, List, filter, map, sum_by, All, None}
 use Rattle.std.specs.List.{IsDistinct, list_any}
 use Rattle.std.specs.Map.{values_of}
+use Rattle.std.specs.BTreeMap.{is_at}
 use Rattle.qrules.specs.declared.kind.Kind.{Kind}
 use Rattle.qrules.specs.declared.kind.Kind.TheVariants.{User, Group}
 use Rattle.qrules.specs.Sort.{Sort, Inodes, Blocks, amount_of, hard_limit, soft_limit, is_over}
@@ -15,7 +16,7 @@ use Rattle.qplain.specs.declared.reply.Reply.TheVariants.{Refused}
 use Rattle.qplain.specs.declared.bounds.TheConstants.{ROOT}
 use Rattle.qplain.specs.Caller.{Caller, is_superuser}
 use Rattle.qplain.specs.Setups.{Setting, setup_fault}
-use Rattle.qplain.specs.State.{Holder, Inode, NameKey, State, inode_at, is_directory, start}
+use Rattle.qplain.specs.State.{Holder, Inode, NameKey, State, inode_at, is_directory, name_key_cmp, start}
 use Rattle.qplain.specs.Use.{account_of, total_of, use_of}
 use Rattle.qplain.specs.Arguments.{is_declared, is_holder, is_same_kind}
 use Rattle.qplain.specs.Decision.{ends_after, with_ends_of}
@@ -38,14 +39,21 @@ leads S e = is_directory S e.0.0 && is_some (inode_at S e.1)
 abbrev pub has_name : State → ℕ → Bool
 has_name S number = number == ROOT || list_any (λ e. e.1 == number) S.names
 
+-- the two names do not lead to the same directory, or they are the same name
+abbrev pub share_no_directory : State → NameKey × ℕ → NameKey × ℕ → Bool
+share_no_directory S e f = not (e.1 == f.1 && is_directory S e.1) || is_at (name_key_cmp e.0) f.0
+
 -- the parts of a state fit together: each inode is somebody's, no principal stands twice, the root is a directory, every
--- name stands in a directory and leads to an inode, every inode but the root has a name, the next number is above all
+-- name stands in a directory and leads to an inode, every inode but the root has a name, no directory has two names and
+-- the root has none, the next number is above all
 pub record FitsTogether (S : State) : Type 0 where
   pub owners_known : All (λ inode. has_known_owners S inode ≡ true) (values_of S.inodes)
   pub distinct : IsDistinct are_same S.holders
   pub root_stands : is_directory S ROOT ≡ true
   pub names_lead : All (λ e. leads S e ≡ true) S.names
   pub all_named : All (λ e. has_name S e.0 ≡ true) S.inodes
+  pub one_name : All (λ e. All (λ f. share_no_directory S e f ≡ true) S.names) S.names
+  pub root_unnamed : All (λ e. (e.1 == ROOT) ≡ false) S.names
   pub fresh : All (λ e. nat_lt e.0 S.next ≡ true) S.inodes
 
 -- what holds of every state that a store can be in: totals within the bounds, each grace end where it belongs, and parts

@@ -3,7 +3,7 @@ use Rattle.std.proofs.Common.{◌≡◌, ℕ, false, cond, List, [], ◌∷◌, 
 use Rattle.std.specs.declared.cmp.Ordering.{Ordering}
 use Rattle.std.specs.declared.cmp.Ordering.TheVariants.{Less, Equal, Greater}
 use Rattle.std.specs.Ordering.{is_eq, is_lt, nat_cmp, eq_by_cmp, ordering_then}
-use Rattle.std.specs.Cmp.{IsTotalOrder, nat_cmp_total, then_total, on_total, tied_itself, both_tied, unsigned_ties}
+use Rattle.std.specs.Cmp.{nat_cmp_total, tied_itself, both_tied, unsigned_ties}
 use Rattle.std.specs.Cmp.Lexicographic.{slice_cmp, nat_list_cmp_total}
 use Rattle.std.specs.FinMap.{IsAntisymmetric}
 use Rattle.std.specs.FinMap.Entries.{below_all, is_sorted}
@@ -13,6 +13,7 @@ use Rattle.std.specs.Map.{keys_of, lookup}
 use Rattle.std.specs.Option.{IfSome, option_copied}
 use Rattle.std.proofs.lemmas.Map.Lookups.{exact_pairs, exact_unsigned, exact_bytes}
 use Rattle.qplain.specs.State.{NameKey, name_key_cmp}
+use Rattle.qplain.proofs.Tables.{name_key_total}
 use Rattle.qstore.specs.declared.node.Node.{Node}
 use Rattle.qstore.specs.InOrder.{in_order}
 use Rattle.qstore.specs.Nodes.{names_in}
@@ -21,10 +22,6 @@ use Rattle.qstore.proofs.Bytes.{bytes_tie}
 use Rattle.qstore.proofs.InOrder.{both_of, first_of, less_from, lookup-in_order, same_sorted, second_of, sorted-in_order, sorted-insert, strictly}
 use Rattle.qstore.proofs.Numbered.{numbered-get, numbered-sorted}
 use Rattle.qstore.proofs.Read.{first_or_none, first_some, lookup-append, lookup-keyed_by}
-
--- the order of names' keys is total
-pub key_total : IsTotalOrder name_key_cmp
-key_total = then_total (on_total (λ t. t.0) nat_cmp_total) (on_total (λ t. t.1) nat_list_cmp_total)
 
 -- only equal keys tie
 pub key_exact : IsAntisymmetric name_key_cmp
@@ -122,11 +119,11 @@ named-in nodes names d (Some n) seen is = λ name. ap (name_at name) is ∙ sym 
 
 -- tables in which each name leads to the same
 pub named-same : (es fs : List (ℕ × Node)) → ((d : ℕ) (name : List ℕ) → name_at name (lookup (nat_eq d) fs) ≡ name_at name (lookup (nat_eq d) es)) → named fs ≡ named es
-named-same es fs is = same_sorted key_total key_exact (named fs) (named es) (sorted-all_names (in_order nat_cmp fs) (numbered-sorted fs)) (sorted-all_names (in_order nat_cmp es) (numbered-sorted es))
+named-same es fs is = same_sorted name_key_total key_exact (named fs) (named es) (sorted-all_names (in_order nat_cmp fs) (numbered-sorted fs)) (sorted-all_names (in_order nat_cmp es) (numbered-sorted es))
     (λ q. named-get fs q.0 q.1 ∙ is q.0 q.1 ∙ sym (named-get es q.0 q.1))
 
 -- a table with one name more
 pub named-insert : (es fs : List (ℕ × Node)) (dir : ℕ) (name : List ℕ) (v : ℕ) → ((d : ℕ) (n : List ℕ) → name_at n (lookup (nat_eq d) fs) ≡ cond (nat_eq dir d && bytes_tie name n) (Some v) (name_at n (lookup (nat_eq d) es))) → named fs ≡ insert_entry name_key_cmp (named es) (dir, name) v
-named-insert es fs dir name v is = sorted-insert key_total key_exact (named es) (named fs) (dir, name) v (sorted-all_names (in_order nat_cmp es) (numbered-sorted es)) (sorted-all_names (in_order nat_cmp fs) (numbered-sorted fs))
+named-insert es fs dir name v is = sorted-insert name_key_total key_exact (named es) (named fs) (dir, name) v (sorted-all_names (in_order nat_cmp es) (numbered-sorted es)) (sorted-all_names (in_order nat_cmp fs) (numbered-sorted fs))
     (λ q. named-get fs q.0 q.1 ∙ is q.0 q.1 ∙ ap (cond (nat_eq dir q.0 && bytes_tie name q.1) (Some v)) (sym (named-get es q.0 q.1))
     ∙ ap (λ b. cond b (Some v) (lookup (is_at (name_key_cmp q)) (named es))) (both_tied _ _ (nat_cmp dir q.0) (slice_cmp nat_cmp name q.1) (unsigned_ties dir q.0) refl))

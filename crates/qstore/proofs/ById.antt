@@ -2,6 +2,7 @@
 use Rattle.std.proofs.Common.{◌≡◌, ℕ, zero, suc, ◌+◌, ◌<◌, ◌==◌, Bool, true, false, cond, if◌then◌else◌, List, [], ◌∷◌, length, get_or, set, map, All, Some, option_map, slice_get, refl, sym, ap, subst, ◌∙◌, tests, arith}
 use Rattle.std.specs.List.{AllByRecursion}
 use Rattle.std.specs.List.Sorted.{IsStrictlyIncreasing}
+use Rattle.std.proofs.lemmas.Bool.{cond-false, cond-true}
 use Rattle.std.proofs.lemmas.List.Elements.{All-head, All-tail}
 use Rattle.std.proofs.lemmas.List.Kept.{AllPairs-from_increasing}
 use Rattle.qrules.specs.declared.limits.Limits.{Limits}
@@ -83,18 +84,10 @@ pub by_id-set : (os : List Owner) (place : ℕ) (old new : Owner) → old ≡ ge
 by_id-set os place old new there same by_id =
     subst (λ ids. (k : ℕ) → k + 1 < length ids → get_or ids k 0 < get_or ids (k + 1) 0) (sym (ids-set os place old new there same)) by_id
 
-cond-no : {A : Type 0} (b : Bool) (x y : A) → b ≡ false → cond b x y ≡ y
-cond-no true x y h = cc
-cond-no false x y h = refl
-
-cond-yes : {A : Type 0} (b : Bool) (x y : A) → b ≡ true → cond b x y ≡ x
-cond-yes true x y h = refl
-cond-yes false x y h = cc
-
 -- a change of the owner of one id leaves all others
 pub changed-others : (id : ℕ) (f : Owner → Owner) (os : List Owner) → AllByRecursion (λ o. (id == o.id) ≡ false) os → map (changed id f) os ≡ os
 changed-others id f [] others = refl
-changed-others id f (o ∷ os) others = λ i. cond-no (id == o.id) (f o) o others.0 i ∷ changed-others id f os others.1 i
+changed-others id f (o ∷ os) others = λ i. cond-false (id == o.id) (f o) o others.0 i ∷ changed-others id f os others.1 i
 
 -- a write at the place of an id is the change of its owner, wherever it stands
 pub set-changed : (id : ℕ) (f : Owner → Owner) (os : List Owner) (place : ℕ) (old new : Owner) → AreById os → IsPlaceOf os place id
@@ -102,11 +95,11 @@ pub set-changed : (id : ℕ) (f : Owner → Owner) (os : List Owner) (place : �
 set-changed id f [] place old new by_id there read written = refl
 set-changed id f (o ∷ os) zero old new by_id there read written =
     let same : o.id ≡ id = cc in
-    let here : new ≡ changed id f o = written ∙ ap f read ∙ sym (cond-yes (id == o.id) (f o) o (place-first id o os there)) in
+    let here : new ≡ changed id f o = written ∙ ap f read ∙ sym (cond-true (id == o.id) (f o) o (place-first id o os there)) in
     let rest : os ≡ map (changed id f) os = sym (changed-others id f os (above-others-of id o os by_id same)) in
     λ i. here i ∷ rest i
 set-changed id f (o ∷ os) (suc place) old new by_id there read written =
-    let here : o ≡ changed id f o = sym (cond-no (id == o.id) (f o) o (place-later id o os place by_id there)) in
+    let here : o ≡ changed id f o = sym (cond-false (id == o.id) (f o) o (place-later id o os place by_id there)) in
     let rest : set os place new ≡ map (changed id f) os = set-changed id f os place old new (by_id-rest o os by_id) there read written in
     λ i. here i ∷ rest i
 

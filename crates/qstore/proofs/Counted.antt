@@ -1,13 +1,12 @@
 -- Owners whose kept use is the recounted one.
-use Rattle.std.proofs.Common.{◌≡◌, ℕ, ◌≤◌, Bool, true, false, cond, ◌==◌, List, [], ◌∷◌, map, sum_by, All, refl, sym, ap, ◌∙◌, subst, arith}
+use Rattle.std.proofs.Common.{◌≡◌, ℕ, List, [], ◌∷◌, map, sum_by, All, refl, sym, ap, ◌∙◌, subst}
 use Rattle.std.specs.Map.{values_of}
 use Rattle.std.proofs.lemmas.List.Elements.{All-cons, All-head, All-nil, All-tail, All-weaker}
-use Rattle.std.proofs.lemmas.List.Sums.{sum_by-le-sum_by}
 use Rattle.qrules.specs.declared.kind.Kind.{Kind}
 use Rattle.qrules.specs.Sort.{Sort, Inodes, Blocks}
 use Rattle.qrules.specs.Account.{HasEnds}
 use Rattle.qplain.specs.State.{Holder, State}
-use Rattle.qplain.specs.Use.{account_of, charge_to, owner, total_of, use_of, weight}
+use Rattle.qplain.specs.Use.{account_of, charge_to, use_of}
 use Rattle.qstore.specs.declared.owner.Owner.{Owner}
 use Rattle.qstore.specs.Rows.{record_row_of}
 use Rattle.qstore.specs.Owners.{IsCountedIn, holder_in, owner_row}
@@ -54,12 +53,3 @@ rows-of-counted S kind (o ∷ os) all =
     let here : owner_row kind o ≡ record_row_of S (holder_in kind o) = λ i. record (owner_row kind o) { blocks = counted.blocks i; inodes = counted.inodes i } in
     let rest : map (owner_row kind) os ≡ map (record_row_of S) (map (holder_in kind) os) = rows-of-counted S kind os (All-tail (IsCountedIn S kind) o os all) in
     λ i. here i ∷ rest i
-
--- no use is more than the total
-pub use-le-total : (S : State) (kind : Kind) (id : ℕ) (sort : Sort) → use_of S kind id sort ≤ total_of S sort
-use-le-total S kind id sort =
-    sum_by-le-sum_by (charge_to kind id sort) (weight sort) (values_of S.inodes) (λ inode. part (owner kind inode == id) (weight sort inode))
-  where
-    part : (b : Bool) (n : ℕ) → cond b n 0 ≤ n
-    part true n = omega arith
-    part false n = omega arith

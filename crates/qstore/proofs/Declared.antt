@@ -9,11 +9,13 @@ use Rattle.qplain.specs.declared.principal.Principal.{Principal}
 use Rattle.qplain.specs.Principals.{collide, has_duplicate, has_zero}
 use Rattle.qstore.specs.Owners.{new_owner}
 
-or-first : (a b : Bool) → (a || b) ≡ false → a ≡ false
+-- of two that do not hold, the first does not
+pub or-first : (a b : Bool) → (a || b) ≡ false → a ≡ false
 or-first true b e = cc
 or-first false b e = refl
 
-or-second : (a b : Bool) → (a || b) ≡ false → b ≡ false
+-- and nor does the second
+pub or-second : (a b : Bool) → (a || b) ≡ false → b ≡ false
 or-second true b e = cc
 or-second false b e = e
 

@@ -1,29 +1,14 @@
 -- Grace ends that are where they should be, and changes that move none.
-use Rattle.std.proofs.Common.{◌≡◌, ℕ, ◌+◌, Bool, true, false, cond, ◌==◌, List, [], ◌∷◌, map, All, Option, Some, None, is_some, refl}
+use Rattle.std.proofs.Common.{◌≡◌, ℕ, ◌+◌, Bool, true, false, cond, ◌==◌, List, [], ◌∷◌, map, All, None}
 use Rattle.std.proofs.lemmas.List.Elements.{All-cons, All-head, All-nil, All-tail}
 use Rattle.qrules.specs.declared.graces.Graces.{Graces}
 use Rattle.qrules.specs.declared.limits.Limits.{Limits}
 use Rattle.qrules.specs.Sort.{Inodes, Blocks, grace_of}
 use Rattle.qrules.specs.Account.{Account, HasEnds, is_over_soft}
-use Rattle.qrules.specs.Grace.{end_after, next_end, with_ends}
-use Rattle.qplain.specs.State.{Holder, State}
-use Rattle.qplain.specs.Use.{account_of}
-use Rattle.qplain.specs.Decision.{with_ends_of}
+use Rattle.qrules.specs.Grace.{end_after, with_ends}
+use Rattle.qplain.proofs.Ends.{next_end-same, next_end-stands}
 use Rattle.qstore.specs.declared.owner.Owner.{Owner}
 use Rattle.qstore.specs.Owners.{charged_owner, relimited_owner}
-
--- an end that stands exactly where it should is the next one too
-next_end-same : (over : Bool) (end : Option ℕ) (new : ℕ) → is_some end ≡ over → next_end over end new ≡ end
-next_end-same false None new h = refl
-next_end-same false (Some end) new h = cc
-next_end-same true None new h = cc
-next_end-same true (Some end) new h = refl
-
--- the next end stands exactly where it should
-next_end-stands : (over : Bool) (end : Option ℕ) (new : ℕ) → is_some (next_end over end new) ≡ over
-next_end-stands false end new = refl
-next_end-stands true None new = refl
-next_end-stands true (Some end) new = refl
 
 -- an account whose ends are where they should be keeps its block end
 pub block_end-same : (account : Account) (graces : Graces) (moment : ℕ) → HasEnds account → end_after Blocks account graces moment ≡ account.block_end
@@ -39,24 +24,6 @@ HasEnds-with_ends account graces moment = record {
   inodes = next_end-stands (is_over_soft Inodes account) account.inode_end (moment + grace_of Inodes graces);
   blocks = next_end-stands (is_over_soft Blocks account) account.block_end (moment + grace_of Blocks graces);
 }
-
--- a holder whose ends are where they should be keeps them
-pub with_ends_of-same : (S : State) (moment : ℕ) (h : Holder) → HasEnds (account_of S h) → with_ends_of S moment h ≡ h
-with_ends_of-same S moment h ends =
-    λ i. record h { block_end = block_end-same (account_of S h) S.graces moment ends i; inode_end = inode_end-same (account_of S h) S.graces moment ends i }
-
--- and so do all such holders
-pub holders-same : (S : State) (moment : ℕ) (hs : List Holder) → All (λ h. HasEnds (account_of S h)) hs → map (with_ends_of S moment) hs ≡ hs
-holders-same S moment [] all = refl
-holders-same S moment (h ∷ hs) all =
-    let here : with_ends_of S moment h ≡ h = with_ends_of-same S moment h (All-head (λ g. HasEnds (account_of S g)) h hs all) in
-    let rest : map (with_ends_of S moment) hs ≡ hs = holders-same S moment hs (All-tail (λ g. HasEnds (account_of S g)) h hs all) in
-    λ i. here i ∷ rest i
-
--- new graces alone move no end
-pub holders-graced : (S : State) (graces : Graces) (moment : ℕ) (hs : List Holder) → All (λ h. HasEnds (account_of S h)) hs
-    → map (with_ends_of (record S { graces = graces }) moment) hs ≡ hs
-holders-graced S graces moment hs all = holders-same (record S { graces = graces }) moment hs all
 
 -- ---- the ends of owners
 

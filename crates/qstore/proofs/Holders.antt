@@ -10,6 +10,7 @@ use Rattle.qplain.specs.Arguments.{is_holder, is_same_kind}
 use Rattle.qstore.specs.declared.owner.Owner.{Owner}
 use Rattle.qstore.specs.Owners.{AreById, holder_in, owners_of}
 use Rattle.qstore.proofs.ById.{by_id-rest, place-first, place-later, place-of}
+use Rattle.qstore.proofs.Declared.{or-first, or-second}
 
 -- ---- lists one behind the other
 
@@ -57,14 +58,6 @@ module _ (kind other : Kind) (id : ℕ) where
       ap (λ b. cond (b && id == o.id) (Some (holder_in kind o)) (find (is_holder kind id) (map (holder_in kind) os ++ rest))) same
       ∙ ap (λ b. cond b (Some (holder_in kind o)) (find (is_holder kind id) (map (holder_in kind) os ++ rest))) (or-first (id == o.id) (list_any (λ p. id == p.id) os) absent)
       ∙ find-absent same os rest (or-second (id == o.id) (list_any (λ p. id == p.id) os) absent)
-    where
-      or-first : (a b : Bool) → (a || b) ≡ false → a ≡ false
-      or-first true b e = cc
-      or-first false b e = refl
-
-      or-second : (a b : Bool) → (a || b) ≡ false → b ≡ false
-      or-second true b e = cc
-      or-second false b e = e
 
   -- the holder of the owner at the place of the id is found
   find-at : is_same_kind kind kind ≡ true → (os : List Owner) (place : ℕ) (o : Owner) (rest : List Holder) → AreById os → slice_get os place ≡ Some o → o.id ≡ id

@@ -2,7 +2,6 @@
 use Rattle.std.proofs.Common.{◌≡◌, ℕ, Bool, true, false, cond, ◌&&◌, ◌==◌, List, [], ◌∷◌, map, All, None, refl, sym, ap, ◌∙◌, subst}
 use Rattle.std.proofs.lemmas.List.Elements.{All-cons, All-head, All-nil, All-tail}
 use Rattle.qrules.specs.declared.kind.Kind.{Kind}
-use Rattle.qrules.specs.declared.kind.Kind.TheVariants.{User, Group}
 use Rattle.qrules.specs.declared.limits.Limits.{Limits}
 use Rattle.qrules.specs.declared.graces.Graces.{Graces}
 use Rattle.qrules.specs.Sort.{Inodes, Blocks}
@@ -13,19 +12,15 @@ use Rattle.qplain.specs.Use.{account_of}
 use Rattle.qplain.specs.Arguments.{is_holder, is_same_kind}
 use Rattle.qplain.specs.Decision.{ends_after, with_ends_of}
 use Rattle.qplain.specs.Attempt.{relimited, with_limits_of}
+use Rattle.qplain.proofs.Ends.{holders-same, with_ends_of-same}
+use Rattle.qplain.proofs.Start.{same_kind-refl}
 use Rattle.qstore.specs.declared.owner.Owner.{Owner}
 use Rattle.qstore.specs.Owners.{IsCountedIn, holder_in, relimited_owner}
 use Rattle.qstore.proofs.Counted.{account_of-counted, counted-same, ends-in-counted}
-use Rattle.qstore.proofs.Ends.{holders-same, with_ends_of-same}
 
 -- the holder under new limits, where it is the one of this kind and id
 abbrev pub relimited_holder : Kind → ℕ → Limits → Holder → Holder
 relimited_holder kind id limits h = cond (is_holder kind id h) (relimited limits h) h
-
--- a kind is the same as itself
-same-kind : (kind : Kind) → is_same_kind kind kind ≡ true
-same-kind User = refl
-same-kind Group = refl
 
 -- a test of kind that fails leaves the holder
 untouched : (b c : Bool) (limits : Limits) (h : Holder) → b ≡ false → cond (b && c) (relimited limits h) h ≡ h
@@ -53,7 +48,7 @@ module _ (S : State) (kind : Kind) (id : ℕ) (limits : Limits) (moment : ℕ) w
       → holder_in kind (relimited_owner id limits S.graces moment o) ≡ with_ends_of after moment (relimited_holder kind id limits (holder_in kind o))
   holder-relimited o counted ends =
       holder-by o (id == o.id) counted ends
-      ∙ ap (λ b. with_ends_of after moment (cond (b && id == o.id) (relimited limits (holder_in kind o)) (holder_in kind o))) (sym (same-kind kind))
+      ∙ ap (λ b. with_ends_of after moment (cond (b && id == o.id) (relimited limits (holder_in kind o)) (holder_in kind o))) (sym (same_kind-refl kind))
 
   -- new limits of an owner are those of its holder, with the ends computed anew
   pub holders-relimited : (os : List Owner) → All (IsCountedIn S kind) os → All (λ o. HasEnds o.account) os

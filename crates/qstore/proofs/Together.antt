@@ -18,12 +18,13 @@ use Rattle.qplain.specs.Decision.{fault_of_holder, first_refusal, with_ends_of}
 use Rattle.qplain.specs.Attempt.{with_limits_of}
 use Rattle.qplain.specs.Rises.{Rises}
 use Rattle.qplain.specs.declared.refusal.Refusal.TheVariants.{EDQUOT}
+use Rattle.qplain.proofs.Rising.{use-le-total}
 use Rattle.qstore.specs.declared.owner.Owner.{Owner}
 use Rattle.qstore.specs.Rows.{record_row_of}
 use Rattle.qstore.specs.Owners.{AreById, IsCountedIn, IsPlaceOf, charged_owner, holder_in, holders_in, new_owner, owner_row, relimited_owner}
 use Rattle.qstore.proofs.Begun.{holders-begun}
 use Rattle.qstore.proofs.Charges.{blocks-risen, holders-charged, inodes-risen}
-use Rattle.qstore.proofs.Counted.{ends-of-counted, rows-of-counted, use-le-total}
+use Rattle.qstore.proofs.Counted.{ends-of-counted, rows-of-counted}
 use Rattle.qstore.proofs.ById.{place-first}
 use Rattle.qstore.proofs.Refusals.{first_refusal-append, first_refusal-charged}
 use Rattle.qstore.proofs.Relimits.{holders-relimited, other-holders-relimited, relimited_holder}

@@ -8,15 +8,16 @@ use Rattle.std.specs.BTreeMap.{insert_entry, is_at}
 use Rattle.std.specs.HashMap as hash
 use Rattle.std.specs.HashMap.{HashMap}
 use Rattle.std.specs.Map.{lookup}
-use Rattle.std.specs.Option.{IsSome, is_some, option_map, unwrap_or}
+use Rattle.std.specs.Option.{IfSome, IsSome, is_some, option_map, unwrap_or}
 use Rattle.std.proofs.lemmas.Map.Lookups.{exact_bytes}
 use Rattle.std.proofs.lemmas.Bool.{eqb-true}
+use Rattle.qblocks.specs.File.{Adds}
 use Rattle.qplain.specs.State.{name_key_cmp}
 use Rattle.qstore.specs.declared.node.Content.{Content}
 use Rattle.qstore.specs.declared.node.Content.TheVariants.{File as AFile, Directory}
 use Rattle.qstore.specs.declared.node.Node.{Node}
 use Rattle.qstore.specs.InOrder.{in_order}
-use Rattle.qstore.specs.Nodes.{IsSameNode, inode_of, is_dir_content, name_room_in, names_in, roomy_file_in}
+use Rattle.qstore.specs.Nodes.{IsSameNode, file_in, inode_of, is_dir_content, name_room_in, names_in, roomy_file_in}
 use Rattle.qstore.specs.Tree.{IsSameTree, RoomyTree, file_room, name_room, tree_of}
 use Rattle.qstore.proofs.AllNames.{name_at, named, named-get, named-insert, named-same}
 use Rattle.qstore.proofs.Bytes.{bytes_tie}
@@ -69,6 +70,11 @@ none_seen f (Some x) is = cc
 pub file_is : (content : Content) → is_dir_content content ≡ false → is_some (roomy_file_in content) ≡ true
 file_is (AFile f) is = refl
 file_is (Directory names) is = cc
+
+-- what a write adds to the file that an inode holds, it adds to that file with its room
+pub adds_in : (content : Content) (off n blocks : ℕ) → Adds (file_in content) off n blocks → IfSome (roomy_file_in content) (λ f. Adds f.file off n blocks)
+adds_in (AFile f) off n blocks adds = adds
+adds_in (Directory names) off n blocks adds = tt
 
 -- ---- a change of one node
 module _ (es fs : List (ℕ × Node)) (k : ℕ) (u v : Node) (found : lookup (nat_eq k) es ≡ Some u) (put : IsPut es fs k v) where

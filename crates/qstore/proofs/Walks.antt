@@ -8,11 +8,6 @@ use Rattle.qplain.specs.State.{State}
 use Rattle.qplain.specs.Walk.{follow}
 use Rattle.qstore.specs.Paths.{parent}
 
--- the first fault of a walk stays
-pub fold-fault : (S : State) (refusal : Refusal) (names : List (List ℕ)) → fold (follow S) (Err refusal) names ≡ Err refusal
-fold-fault S refusal [] = refl
-fold-fault S refusal (name ∷ names) = fold-fault S refusal names
-
 -- what is reached from here, where one name waits and the last of all is not followed
 abbrev pub parent_from : State → Result ℕ Refusal → List ℕ → List (List ℕ) → Result ℕ Refusal
 parent_from S reached name [] = reached

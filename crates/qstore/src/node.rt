@@ -4,7 +4,7 @@ ghost use Rattle.std.specs.Ordering.{nat_cmp};
 ghost use Rattle.std.specs.Cmp.Lexicographic.{slice_cmp};
 ghost use Rattle.std.specs.BTreeMap.{insert_entry, is_at};
 ghost use Rattle.std.specs.Map.{lookup};
-ghost use Rattle.qblocks.specs.File.{MoreBlocks, after_write};
+ghost use Rattle.qblocks.specs.File.{Adds, MoreBlocks, after_write};
 ghost use Rattle.qblocks.specs.Room.{IsReady};
 ghost use Rattle.qplain.specs.State.{new_file, root};
 ghost use Rattle.qstore.specs.InOrder.{in_order};
@@ -90,17 +90,24 @@ impl Node {
         }
     }
 
-    /// Makes the room of a write into this file.
-    pub(crate) fn ready_write(&mut self, off: u64, len: u64) -> Result<Spare, NoMemory>
+    /// Makes the room of a write for which so many blocks are missing in this file.
+    pub(crate) fn ready_write(
+        &mut self,
+        off: u64,
+        len: u64,
+        missing: u64,
+    ) -> Result<Spare, NoMemory>
         requires file { is_some (roomy_file_in self.old.content) ≡ true }
         requires bound { off + len ≤ MAX_SIZE }
+        requires missing { IfSome (roomy_file_in self.old.content) (λ f. Adds f.file off len missing) }
+        requires few { missing ≤ 2 ^ 28 }
         ensures same { IsSameNode self.old self.new }
         ensures there { is_some (roomy_file_in self.new.content) ≡ true }
         ensures room { IfOk result
             (λ spare. IfSome (roomy_file_in self.new.content) (λ f. IsReady f off len spare)) }
     {
         match &mut self.content {
-            Content::File(file) => file.ready(off, len),
+            Content::File(file) => file.ready_for(off, len, missing),
             Content::Directory(_) => unreachable!(),
         }
     }

@@ -144,7 +144,7 @@ impl Store {
         match call {
             Call::Create { path } => self.decide_create(cred, places, moment, path.bytes()),
             Call::Write { path, off, bytes } => {
-                self.decide_write(cred, moment, path.bytes(), *off, bytes.as_slice())
+                self.decide_write(cred, places, moment, path.bytes(), *off, bytes.as_slice())
             }
             Call::Read { path, off, len } => {
                 Ok(Decided::answer(self.decide_read(path.bytes(), *off, *len)?))

@@ -6,7 +6,7 @@ ghost use Rattle.std.specs.Cmp.Lexicographic.{slice_cmp};
 ghost use Rattle.std.specs.BTreeMap.{insert_entry, is_at};
 ghost use Rattle.std.specs.List.Sorted.{IsStrictlySortedBy};
 ghost use Rattle.std.specs.Map.{keys_of, lookup, set_value};
-ghost use Rattle.qblocks.specs.File.{MoreBlocks, after_write};
+ghost use Rattle.qblocks.specs.File.{Adds, MoreBlocks, after_write};
 ghost use Rattle.qblocks.specs.Room.{IsReady};
 ghost use Rattle.qplain.specs.State.{Inode, is_dir, name_key_cmp, new_file, root};
 ghost use Rattle.qstore.specs.InOrder.{in_order, read_by};
@@ -121,18 +121,25 @@ impl Tree {
         }
     }
 
-    /// Makes the room of a write into this file.
-    pub(crate) fn ready_write(&mut self, number: u64, off: u64, len: u64) -> Result<Spare, NoMemory>
-        requires file { (inode : Inode)
-            × (lookup (is_at (nat_cmp number)) self.old.inodes ≡ Some inode) × (inode.dir ≡ false) }
+    /// Makes the room of a write for which so many blocks are missing in this file.
+    pub(crate) fn ready_write(
+        &mut self,
+        number: u64,
+        off: u64,
+        len: u64,
+        missing: u64,
+    ) -> Result<Spare, NoMemory>
+        requires file { (inode : Inode) × (lookup (is_at (nat_cmp number)) self.old.inodes ≡ Some inode)
+            × (inode.dir ≡ false) × Adds inode.file off len missing }
         requires bound { off + len ≤ MAX_SIZE }
+        requires few { missing ≤ 2 ^ 28 }
         ensures same { IsSameTree self.old self.new }
         ensures there { is_some (file_room self.new.room number) ≡ true }
         ensures room { IfOk result
             (λ spare. IfSome (file_room self.new.room number) (λ f. IsReady f off len spare)) }
     {
         match self.nodes.get_mut(&number) {
-            Some(node) => node.ready_write(off, len),
+            Some(node) => node.ready_write(off, len, missing),
             None => unreachable!(),
         }
     }

@@ -1,6 +1,9 @@
 //! To write into a file (write(2)).
-ghost use Rattle.std.specs.Prelude.{◌≡◌, ℕ, ◌+◌, ◌≤◌, ◌<◌, true, false, length, Some, IfOk, IfErr};
+ghost use Rattle.std.specs.Prelude.{◌≡◌, ℕ, ◌+◌, ◌≤◌, ◌<◌, ◌&&◌, true, false, length, Some, IfOk, IfErr, IfSome};
+ghost use Rattle.std.specs.Option.{IsSome};
+ghost use Rattle.qrules.specs.declared.kind.Kind.TheVariants.{User, Group};
 ghost use Rattle.qblocks.specs.File.{Adds, after_write};
+ghost use Rattle.qplain.specs.Arguments.{is_declared};
 ghost use Rattle.qplain.specs.Attempt.{may_write, write_into, write_reached};
 ghost use Rattle.qplain.specs.Decision.{ends_after};
 ghost use Rattle.qplain.specs.State.{inode_at};
@@ -8,7 +11,7 @@ ghost use Rattle.qplain.specs.Step.{settle};
 ghost use Rattle.qplain.specs.Walk.{components, walk};
 ghost use Rattle.qstore.specs.Nodes.{inode_of};
 ghost use Rattle.qstore.specs.Ready.{CanCarryOut, WriteIsReady, effect, written_at};
-ghost use Rattle.qstore.specs.Stored.{IsSound};
+ghost use Rattle.qstore.specs.Stored.{HasPlaces, IsSound};
 ghost use Rattle.qstore.specs.Writes.{IsTarget};
 
 use crate::changes::NO_CHANGE;
@@ -40,11 +43,14 @@ impl Store {
     pub(super) fn decide_write(
         &mut self,
         cred: &Cred,
+        callers: Places,
         moment: u64,
         path: &[u8],
         off: u64,
         bytes: &[u8],
     ) -> Result<Decided, NoMemory>
+        requires callers { HasPlaces self.old callers cred.now.uid cred.now.gid }
+        requires sound { IsSound self.old.state }
         requires moment { moment ≤ MAX_MOMENT }
         requires few { length bytes.now ≤ MAX_DATA }
         ensures state { self.new.state ≡ self.old.state }
@@ -57,7 +63,7 @@ impl Store {
             Err(refusal) => return Ok(Decided::refused(refusal)),
         };
         match self.target(cred, number, off, bytes) {
-            Ok(target) => self.decide_put(cred, moment, number, off, bytes, target),
+            Ok(target) => self.decide_put(cred, callers, moment, number, off, bytes, target),
             Err(reply) => Ok(Decided::answer(reply)),
         }
     }
@@ -91,16 +97,31 @@ impl Store {
         })
     }
 
+    /// Where the records of the file's owners stand. Those of the caller are found already.
+    fn owners(&self, cred: &Cred, callers: Places, target: Target) -> Option<Places>
+        requires callers { HasPlaces self.now callers cred.now.uid cred.now.gid }
+        ensures declared { (is_declared self.now.state User target.uid && is_declared self.now.state Group target.gid) ≡ true → IsSome result }
+        ensures places { IfSome result (λ places. HasPlaces self.now places target.uid target.gid) }
+    {
+        if target.uid == cred.uid() && target.gid == cred.gid() {
+            return Some(callers);
+        }
+        self.places(target.uid, target.gid)
+    }
+
     /// Makes room for a write that passed all tests but those of space and quota, if it is granted.
     fn decide_put(
         &mut self,
         cred: &Cred,
+        callers: Places,
         moment: u64,
         number: u64,
         off: u64,
         bytes: &[u8],
         target: Target,
     ) -> Result<Decided, NoMemory>
+        requires callers { HasPlaces self.old callers cred.now.uid cred.now.gid }
+        requires sound { IsSound self.old.state }
         requires moment { moment ≤ MAX_MOMENT }
         requires target { IsTarget self.old.state cred.now off bytes.now number target }
         ensures state { self.new.state ≡ self.old.state }
@@ -108,13 +129,14 @@ impl Store {
             ≡ settle self.old.state cred.now moment (write_into self.old.state cred.now off bytes.now number (inode_at self.old.state number))) }
         ensures ready { IfOk result (λ d. CanCarryOut self.new d.plan bytes.now) }
     {
-        let Some(places) = self.places(target.uid, target.gid) else {
+        let Some(places) = self.owners(cred, callers, target) else {
             unreachable!()
         };
         if let Some(refusal) = self.admit(cred, places, moment, target.blocks, 0) {
             return Ok(Decided::refused(refusal));
         }
-        let spare = self.tree.ready_write(number, off, bytes.len() as u64)?;
+        let len = bytes.len() as u64;
+        let spare = self.tree.ready_write(number, off, len, target.blocks)?;
         Ok(Decided {
             reply: Reply::Done(number, written(target.blocks)),
             plan: Plan::Write {

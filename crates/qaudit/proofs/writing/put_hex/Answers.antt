@@ -1,7 +1,7 @@
-use Rattle.std.proofs.Common.{◌+◌, ◌≡◌, ◌<◌, ◌≤◌, ℕ, subst, suc, arith, List, [], ◌∷◌, ◌++◌, refl, ap, length, get_or, drop, add-one, drop-cons}
+use Rattle.std.proofs.Common.{◌+◌, ◌≡◌, ◌<◌, ◌≤◌, ℕ, List, [], ◌∷◌, ◌++◌, refl, length, get_or, drop, add-one, drop-cons}
 use Rattle.std.proofs.lemmas.List.{drop_all}
 use Rattle.hex.specs.Hex.{encode_lower, encode_with}
-use Rattle.qaudit.proofs.Fronts.{Partly, ends_refused, partly_next, partly_done}
+use Rattle.qaudit.proofs.Fronts.{ends_refused, partly_next, partly_done}
 use Rattle.qaudit.proofs.writing.put_hex.Goals as goal
 
 one_more : (bytes : List ℕ) (i : ℕ) → i < length bytes → encode_lower (drop i bytes) ≡ encode_lower (get_or bytes i 0 ∷ []) ++ encode_lower (drop (i + 1) bytes)

@@ -1,4 +1,4 @@
-use Rattle.std.proofs.Common.{◌-◌, ◌+◌, ◌≡◌, ◌<◌, ℕ, suc, arith, [], ◌∷◌, ◌++◌, refl, ap}
+use Rattle.std.proofs.Common.{◌-◌, ◌+◌, ◌≡◌, ◌<◌, ℕ, suc, arith, [], ◌∷◌, ◌++◌, refl}
 use Rattle.qaudit.specs.Pieces.{spaces}
 use Rattle.qaudit.proofs.Fronts.{ends_refused, partly_next}
 use Rattle.qaudit.proofs.writing.put_spaces.Goals as goal

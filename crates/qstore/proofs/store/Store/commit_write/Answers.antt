@@ -16,6 +16,14 @@ can-inside : (a : Inside) (s : Stored) (number off spare : ℕ) (places : Places
     → WriteIsReady s number off spare places moment bytes → WriteIsReady (stored_of a) number off spare places moment bytes
 can-inside a s number off spare places moment bytes view can = subst (λ (v : Stored). WriteIsReady v number off spare places moment bytes) (sym view) can
 
+pub charge-requires-clause-place : goal.charge-requires-clause-place
+charge-requires-clause-place c =
+    let x = c.args in
+    let a = c.self.inside in
+    let can = can-inside a x.self.now x.number x.off x.spare x.places x.moment x.bytes.now c.self.view_is c.requires.can in
+    let more = c.put-blocks.ensures.count can.inode can.there in
+    (can-charge-user a c.self.invariant x.number x.off x.spare x.places x.moment x.bytes.now can c.put-blocks.result more).below
+
 pub charge-requires-clause-blocks : goal.charge-requires-clause-blocks
 charge-requires-clause-blocks c =
     let x = c.args in

@@ -18,7 +18,7 @@ use Rattle.qstore.proofs.store.Store.decide_put.Goals as goal
 pub unreachable-requires : goal.unreachable-requires
 unreachable-requires c =
     let t = c.requires.target in
-    let known = known-owners c.args.self.now.state c.args.number t.inode c.places.ensures.sound.lawful.parts t.there in
+    let known = known-owners c.args.self.now.state c.args.number t.inode c.requires.sound.lawful.parts t.there in
     let uid = t.uid in
     let gid = t.gid in
     search (rules, known, uid, gid)

@@ -1,10 +1,10 @@
 use Rattle.std.proofs.Common.{rules, option_map}
+use Rattle.qplain.proofs.Walking.{walk-fault}
 use Rattle.qstore.specs.Paths.{parts_in}
-use Rattle.qstore.proofs.Walks.{fold-fault}
 use Rattle.qstore.proofs.store.Store.walk.Goals as goal
 
 pub returns-in_err-reached : goal.returns-in_err-reached
 returns-in_err-reached c =
     let S = c.args.self.now.state in
-    let fault = fold-fault S c.in_err-reached.field-0.0 (parts_in (option_map (λ r. r.now) c.cut.result.1)) in
+    let fault = walk-fault S c.in_err-reached.field-0.0 (parts_in (option_map (λ r. r.now) c.cut.result.1)) in
     search (rules, fault)
