@@ -1,5 +1,5 @@
 -- What a run of one worker comes to, put together of its parts.
-use Rattle.std.proofs.Common.{◌≡◌, ℕ, List, [], ◌∷◌, length, map, Result, sym, refl}
+use Rattle.std.proofs.Common.{◌≡◌, List, [], ◌∷◌, length, map, Result, sym, refl}
 use Rattle.qplain.specs.declared.line.Line.{Line}
 use Rattle.qplain.specs.Setups.{Setting}
 use Rattle.qplain.specs.Journal.{entries_of}
@@ -9,7 +9,7 @@ use Rattle.qtool.specs.declared.receipt.Receipt.{Receipt}
 use Rattle.qtool.specs.declared.outcome.Outcome.{Outcome}
 use Rattle.qtool.specs.declared.transcript.Transcript.{Transcript}
 use Rattle.qtool.specs.Journaled.{IsPlayed, Journaled}
-use Rattle.qtool.specs.Runs.{AreTranscriptsOf, IsOutcomeOf, IsTranscriptOf, journaled_lines}
+use Rattle.qtool.specs.Runs.{AreTranscriptsOf, IsOutcomeOf, journaled_lines}
 
 -- the only worker's transcript
 abbrev pub only_transcript : List Line → List (Result Receipt CallFault) → Transcript

@@ -7,7 +7,7 @@ use Rattle.qtool.specs.declared.config_fault.ConfigFault.{ConfigFault}
 use Rattle.qtool.specs.Reading.{each_of}
 use Rattle.qtool.specs.ConfigFaults.{Cause, Fails}
 use Rattle.qtool.specs.ConfigFields.{values_of}
-use Rattle.qtool.proofs.EachLaws.{ends, with_front}
+use Rattle.qtool.proofs.Loops.{ends, with_front}
 
 -- the values of an array's items are its elements' views
 pub values_of-items_view : (vs : List Value) → values_of (items_view vs) ≡ map view vs

@@ -1,8 +1,6 @@
 -- The job of the subcommand that was met.
-use Rattle.std.proofs.Common.{◌≡◌, ℕ, List, map, Option, Some, None, Result, Ok, Err, refl, sym, ap, ◌∙◌, subst}
+use Rattle.std.proofs.Common.{◌≡◌, List, Option, Some, None, Result, Ok, Err, refl, sym}
 use Rattle.std.specs.Prelude.{IfOk, option_map}
-use Rattle.std.specs.Global.{Box}
-use Rattle.std.specs.declared.alloc.Global.{Global}
 use Rattle.clap.specs.declared.parser.matches.Found.{Found}
 use Rattle.clap.specs.Words.{Row, Text, rows_of}
 use Rattle.qtool.specs.declared.job.Job.{Job}

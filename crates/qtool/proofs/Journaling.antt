@@ -1,10 +1,9 @@
 -- A journaled store that makes one more call is again what its journal leaves.
-use Rattle.std.proofs.Common.{◌≡◌, ℕ, ◌+◌, ◌<◌, List, [], ◌∷◌, ◌++◌, length, refl, sym, ap, ◌∙◌, subst, arith}
+use Rattle.std.proofs.Common.{◌≡◌, ℕ, ◌+◌, ◌<◌, [], ◌∷◌, ◌++◌, length, sym, ap, ◌∙◌, arith}
 use Rattle.std.proofs.lemmas.List.{length-append}
 use Rattle.qplain.specs.declared.entry.Entry.{Entry}
 use Rattle.qplain.specs.declared.line.Line.{Line}
 use Rattle.qplain.specs.declared.reply.Reply.{Reply}
-use Rattle.qplain.specs.Setups.{Setting}
 use Rattle.qplain.specs.State.{State, start}
 use Rattle.qplain.specs.Journal.{IsLegal, play, played}
 use Rattle.qplain.specs.Step.{step}

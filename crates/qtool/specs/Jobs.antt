@@ -1,5 +1,5 @@
 -- What a job names, as `clap`'s matches give it.
-use Rattle.std.specs.Prelude.{◌≡◌, ℕ, ◌<◌, ◌≤◌, ◌^◌, List, map, Option, Some, None, option_map, codes, vec_len, string_bytes}
+use Rattle.std.specs.Prelude.{◌≡◌, ◌<◌, ◌≤◌, ◌^◌, List, map, Option, Some, None, option_map, codes, vec_len, string_bytes}
 use Rattle.clap.specs.declared.parser.matches.Found.{Found}
 use Rattle.clap.specs.Matches.{first_value, matched_of, raw_values}
 use Rattle.clap.specs.Words.{Row, Text, rows_of}

@@ -1,6 +1,6 @@
 -- How a `JournaledStore` keeps its parts. No public clause cites this module.
 use Rattle.qtool.specs.declared.journaled_store.JournaledStore.TheInside.{Inside}
-use Rattle.qtool.specs.Journaled.{IsPlayed, Journaled}
+use Rattle.qtool.specs.Journaled.{Journaled}
 
 -- what the fields spell out
 abbrev pub journaled_of : Inside → Journaled

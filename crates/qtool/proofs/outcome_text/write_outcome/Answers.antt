@@ -1,4 +1,3 @@
-use Rattle.std.proofs.Common.{◌++◌}
 use Rattle.std.specs.List.{flat_map}
 use Rattle.qaudit.specs.Reports.{report_text}
 use Rattle.qaudit.proofs.Fronts.{appends_then, front_of_first, front_of_second, refused_first, refused_last}

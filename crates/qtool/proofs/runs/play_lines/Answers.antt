@@ -1,4 +1,4 @@
-use Rattle.std.proofs.Common.{◌≡◌, ◌∙◌, [], ◌∷◌, ap, refl}
+use Rattle.std.proofs.Common.{◌∙◌, refl}
 use Rattle.qtool.proofs.Coming.{alone}
 use Rattle.qtool.proofs.runs.play_lines.Goals as goal
 

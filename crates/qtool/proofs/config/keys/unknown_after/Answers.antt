@@ -1,7 +1,7 @@
 use Rattle.std.proofs.Common.{◌≡◌, [], drop, map}
 use Rattle.toml.specs.View.{table_view}
 use Rattle.qtool.specs.ConfigKeys.{is_unknown, principal_keys}
-use Rattle.qtool.proofs.EachLaws.{rest_at, rest_past}
+use Rattle.qtool.proofs.Loops.{rest_at, rest_past}
 use Rattle.qtool.proofs.ConfigKeyLaws.{least-tables}
 use Rattle.qtool.proofs.config.keys.unknown_after.Goals as goal
 

@@ -1,7 +1,7 @@
 use Rattle.std.proofs.lemmas.Result.{err_from_is_err_and}
 use Rattle.toml.specs.View.{table_view}
 use Rattle.qtool.specs.ConfigPrincipals.{principal_of}
-use Rattle.qtool.proofs.EachLaws.{goes_on, is_done, rest_at, rest_past}
+use Rattle.qtool.proofs.Loops.{goes_on, is_done, rest_at, rest_past}
 use Rattle.qtool.proofs.ConfigLaws.{fails}
 use Rattle.qtool.proofs.config.principal.principals_of.Goals as goal
 

@@ -2,7 +2,7 @@ use Rattle.std.proofs.Common.{◌≡◌, drop, map}
 use Rattle.toml.specs.View.{table_view}
 use Rattle.qtool.specs.Reading.{each_of}
 use Rattle.qtool.specs.ConfigPrincipals.{principal_of}
-use Rattle.qtool.proofs.EachLaws.{with_front}
+use Rattle.qtool.proofs.Loops.{with_front}
 use Rattle.qtool.proofs.config.principal.principals_of.Given as goal
 
 abbrev pub invariant-loop-table : goal.invariant-loop-table

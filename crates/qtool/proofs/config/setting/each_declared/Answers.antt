@@ -3,7 +3,7 @@ use Rattle.std.specs.Vec.Iter.{into_iter_items}
 use Rattle.std.proofs.lemmas.Grind.{common_steps}
 use Rattle.std.proofs.lemmas.Result.{err_from_is_err_and}
 use Rattle.qtool.specs.Configs.{declared_of}
-use Rattle.qtool.proofs.EachLaws.{goes_on, is_done}
+use Rattle.qtool.proofs.Loops.{goes_on, is_done}
 use Rattle.qtool.proofs.ConfigLaws.{fails}
 use Rattle.qtool.proofs.config.setting.each_declared.Goals as goal
 

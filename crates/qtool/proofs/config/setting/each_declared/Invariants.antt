@@ -2,7 +2,7 @@ use Rattle.std.proofs.Common.{◌≡◌}
 use Rattle.std.specs.Vec.Iter.{into_iter_items}
 use Rattle.qtool.specs.Reading.{each_of}
 use Rattle.qtool.specs.Configs.{declared_of}
-use Rattle.qtool.proofs.EachLaws.{with_front}
+use Rattle.qtool.proofs.Loops.{with_front}
 use Rattle.qtool.proofs.config.setting.each_declared.Given as goal
 
 abbrev pub invariant-loop-written : goal.invariant-loop-written

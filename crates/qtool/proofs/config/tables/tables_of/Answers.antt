@@ -3,7 +3,7 @@ use Rattle.std.proofs.lemmas.List.{map_push}
 use Rattle.std.proofs.lemmas.Result.{err_from_is_err_and}
 use Rattle.toml.specs.View.{table_view, view}
 use Rattle.qtool.specs.ConfigFields.{table_of}
-use Rattle.qtool.proofs.EachLaws.{goes_on, is_done, rest_at, rest_past}
+use Rattle.qtool.proofs.Loops.{goes_on, is_done, rest_at, rest_past}
 use Rattle.qtool.proofs.ConfigLaws.{fails, values_of-items_view}
 use Rattle.qtool.proofs.config.tables.tables_of.Goals as goal
 

@@ -2,7 +2,7 @@ use Rattle.std.proofs.Common.{◌≡◌, drop, map}
 use Rattle.toml.specs.View.{table_view, view}
 use Rattle.qtool.specs.Reading.{each_of}
 use Rattle.qtool.specs.ConfigFields.{table_of}
-use Rattle.qtool.proofs.EachLaws.{with_front}
+use Rattle.qtool.proofs.Loops.{with_front}
 use Rattle.qtool.proofs.config.tables.tables_of.Given as goal
 
 abbrev pub invariant-loop-value : goal.invariant-loop-value

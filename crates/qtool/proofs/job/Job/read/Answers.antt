@@ -1,6 +1,6 @@
-use Rattle.std.proofs.Common.{◌≡◌, true, refl, ap, ap₂, subst, ◌∙◌, rules, map, string_bytes}
+use Rattle.std.proofs.Common.{◌≡◌, true, refl, ap, subst, ◌∙◌, map, string_bytes}
 use Rattle.std.specs.Prelude.{IfOk}
-use Rattle.clap.specs.Words.{App, Text, app_of, is_simple, subcommand_of, subcommand_rows_of}
+use Rattle.clap.specs.Words.{App, app_of, is_simple, subcommand_of}
 use Rattle.clap.proofs.OnLiterals.{clap_on_literals}
 use Rattle.qtool.specs.Commands.{quotafs}
 use Rattle.qtool.specs.Jobs.{IsJobOf}

@@ -1,6 +1,4 @@
-use Rattle.std.proofs.Common.{◌≡◌, ◌<◌, [], ◌∷◌, ◌++◌, List, length, ap, sym, ◌∙◌, refl}
-use Rattle.qplain.specs.declared.entry.Entry.{Entry}
-use Rattle.qplain.specs.declared.call.Call.{Call}
+use Rattle.std.proofs.Common.{◌≡◌, ◌<◌, [], ◌∷◌, ◌++◌, length, ap, ◌∙◌, refl}
 use Rattle.qtool.specs.declared.journaled_store.TheConstants.{MAX_ENTRIES}
 use Rattle.qtool.specs.Journaled.{entry_of}
 use Rattle.qtool.specs.KeptJournaled.{journaled_of}

@@ -1,7 +1,7 @@
 use Rattle.std.proofs.lemmas.Result.{err_from_is_err_and}
 use Rattle.qtool.specs.declared.text_fault.TextKind.TheVariants.{BadCred}
 use Rattle.qtool.specs.Words.{id_of}
-use Rattle.qtool.proofs.Loops.{goes_on_at, ends_at, is_done_at}
+use Rattle.qtool.proofs.Loops.{goes_on, ends_at, is_done}
 use Rattle.qtool.proofs.Splitting.{left_parts, no_left}
 use Rattle.qtool.proofs.script.caller.groups_of.Goals as goal
 
@@ -14,7 +14,7 @@ returns-in_err-id_of c =
 pub loop-left-preserved : goal.loop-left-preserved
 loop-left-preserved c =
     let rest = left_parts (λ t. t.now) 44 _ _ _ c.first_part.result.1 c.in-Some.is c.first_part.ensures.parts in
-    rw c.in_ok-push.ensures.items (goes_on_at (id_of BadCred) c.loop-left.groups.items _ _ _ _ _ c.in_ok-id_of.ensures rest c.loop-left.invariant)
+    rw c.in_ok-push.ensures.items (goes_on (id_of BadCred) c.loop-left.groups.items _ _ _ _ _ c.in_ok-id_of.ensures rest c.loop-left.invariant)
 
 pub returns : goal.returns
-returns c = rw c.new.ensures (is_done_at (id_of BadCred) c.loop-left.groups.items _ _ (no_left (λ t. t.now) 44 _ c.in_default.is) c.loop-left.invariant)
+returns c = rw c.new.ensures (is_done (id_of BadCred) c.loop-left.groups.items _ _ (no_left (λ t. t.now) 44 _ c.in_default.is) c.loop-left.invariant)
