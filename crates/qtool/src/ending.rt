@@ -27,7 +27,7 @@ impl Ending {
     pub(crate) fn status(&self) -> u8 {
         match self {
             Ending::Line { help: true, .. } => 0,
-            Ending::Memory => 3,
+            Ending::Config(ConfigFault::Memory) | Ending::Memory => 3,
             Ending::Output => 4,
             _ => 2,
         }

@@ -17,6 +17,17 @@ pub enum RunFault {
     Memory,
 }
 
+impl RunFault {
+    /// The number under which it is reported.
+    pub fn number(self) -> u32
+        ensures { result ≡ 41 }
+    {
+        match self {
+            RunFault::Memory => 41,
+        }
+    }
+}
+
 /// Makes the calls of a worker's lines one after the other, and goes on after any outcome.
 fn outcomes_of(
     alloc: Global,
