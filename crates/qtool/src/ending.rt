@@ -53,28 +53,34 @@ impl Ending {
     fn put_line<E: Write>(&self, err: &mut E) -> Result<(), RefusedWrite> {
         match self {
             Ending::Line { text, .. } => put(err, text.as_bytes()),
-            Ending::File(name) => put_fault(err, b"cannot read ", name.as_bytes()),
+            Ending::File(name) => put_named(err, b"cannot read ", name.as_bytes()),
             Ending::Config(fault) => put_config(err, fault),
-            Ending::TooManyScripts => put_fault(err, b"at most 16 scripts", b""),
+            Ending::TooManyScripts => put_fault(err, b"at most 16 scripts"),
             Ending::Script(number, fault) => put_script(err, *number, fault),
-            Ending::Memory => put_fault(err, b"memory", b""),
-            Ending::Output => put_fault(err, b"output", b""),
+            Ending::Memory => put_fault(err, b"memory"),
+            Ending::Output => put_fault(err, b"output"),
         }
     }
 }
 
-fn put_fault<'a, E: Write>(
+fn put_fault<E: Write>(err: &mut E, words: &[u8]) -> Result<(), RefusedWrite> {
+    let pieces = [
+        Piece::Text(b"quotafs: "),
+        Piece::Text(words),
+        Piece::Text(b"\n"),
+    ];
+    put_pieces(err, &pieces)
+}
+
+/// Writes a fault of what has this name.
+fn put_named<'a, E: Write>(
     err: &mut E,
     words: &'a [u8],
     name: &'a [u8],
 ) -> Result<(), RefusedWrite> {
-    let pieces = [
-        Piece::Text(b"quotafs: "),
-        Piece::Text(words),
-        Piece::Text(name),
-        Piece::Text(b"\n"),
-    ];
-    put_pieces(err, &pieces)
+    put_pieces(err, &[Piece::Text(b"quotafs: "), Piece::Text(words)])?;
+    put_name(err, name)?;
+    put(err, b"\n")
 }
 
 fn put_script<E: Write>(err: &mut E, number: u64, fault: &TextFault) -> Result<(), RefusedWrite> {
@@ -92,28 +98,24 @@ fn put_script<E: Write>(err: &mut E, number: u64, fault: &TextFault) -> Result<(
 
 fn put_config<E: Write>(err: &mut E, fault: &ConfigFault) -> Result<(), RefusedWrite> {
     match fault {
-        ConfigFault::Text => put_fault(err, b"config: text", b""),
-        ConfigFault::Field(key) => {
-            put(err, b"quotafs: config: field ")?;
-            put_key(err, key.as_bytes())?;
-            put(err, b"\n")
-        }
-        ConfigFault::Range => put_fault(err, b"config: range", b""),
-        ConfigFault::Duplicate => put_fault(err, b"config: duplicate", b""),
-        ConfigFault::NoZero => put_fault(err, b"config: no zero", b""),
-        ConfigFault::Memory => put_fault(err, b"memory", b""),
+        ConfigFault::Text => put_fault(err, b"config: text"),
+        ConfigFault::Field(key) => put_named(err, b"config: field ", key.as_bytes()),
+        ConfigFault::Range => put_fault(err, b"config: range"),
+        ConfigFault::Duplicate => put_fault(err, b"config: duplicate"),
+        ConfigFault::NoZero => put_fault(err, b"config: no zero"),
+        ConfigFault::Memory => put_fault(err, b"memory"),
     }
 }
 
-/// Writes a key with its control bytes escaped as TOML does, so that a fault stays one line.
-fn put_key<E: Write>(err: &mut E, key: &[u8]) -> Result<(), RefusedWrite> {
-    for byte in key {
-        put_key_byte(err, *byte)?;
+/// Writes a name with its control bytes escaped as TOML does, so that a fault stays one line.
+fn put_name<E: Write>(err: &mut E, name: &[u8]) -> Result<(), RefusedWrite> {
+    for byte in name {
+        put_name_byte(err, *byte)?;
     }
     Ok(())
 }
 
-fn put_key_byte<E: Write>(err: &mut E, byte: u8) -> Result<(), RefusedWrite> {
+fn put_name_byte<E: Write>(err: &mut E, byte: u8) -> Result<(), RefusedWrite> {
     match byte {
         0x08 => put(err, b"\\b"),
         b'\t' => put(err, b"\\t"),

@@ -44,10 +44,20 @@ fn out_of_memory(rt: &HostRuntime) -> ExitCode {
     ExitCode::from(3)
 }
 
+/// Ends without the words of the command line: memory was wanted, or one of them is not UTF-8.
+fn without_words(rt: &HostRuntime, error: &io::Error) -> ExitCode {
+    if error.kind() == ErrorKind::OutOfMemory {
+        return out_of_memory(rt);
+    }
+    let _ = eprintln!(rt; "error: invalid UTF-8 was detected in one or more arguments");
+    ExitCode::from(2)
+}
+
 fn main(rt: HostRuntime) -> ExitCode {
     let alloc = rt.alloc();
-    let Ok(words) = words(&rt) else {
-        return out_of_memory(&rt);
+    let words = match words(&rt) {
+        Ok(words) => words,
+        Err(error) => return without_words(&rt, &error),
     };
     let Ok(mut out) = BufWriter::new(alloc, io::writer(&rt)) else {
         return out_of_memory(&rt);
