@@ -2,7 +2,6 @@
 use Rattle.std.specs.Prelude.{List, [], ◌∷◌, Result, Ok, Err}
 
 infixl 10 ◌>>=◌
-
 -- what follows a step that gave a value; a fault ends the reading
 abbrev pub ◌>>=◌ : {A B E : Type 0} → Result A E → (A → Result B E) → Result B E
 (Ok x) >>= f = f x

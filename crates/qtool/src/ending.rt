@@ -63,7 +63,11 @@ impl Ending {
     }
 }
 
-fn put_fault<'a, E: Write>(err: &mut E, words: &'a [u8], name: &'a [u8]) -> Result<(), RefusedWrite> {
+fn put_fault<'a, E: Write>(
+    err: &mut E,
+    words: &'a [u8],
+    name: &'a [u8],
+) -> Result<(), RefusedWrite> {
     let pieces = [
         Piece::Text(b"quotafs: "),
         Piece::Text(words),
