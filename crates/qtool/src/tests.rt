@@ -15,6 +15,12 @@ mod counts;
 mod faults;
 mod kinds;
 mod lines;
+mod memory_files;
+mod tool_faults;
+mod tool_lines;
+mod tool_outcomes;
+mod tool_rows;
+mod tool_writers;
 
 /// The fault of a script, if it has one.
 fn fault_of(alloc: Global, text: &[u8]) -> Option<TextFault> {
