@@ -1,5 +1,6 @@
 -- What a run of one worker comes to, put together of its parts.
-use Rattle.std.proofs.Common.{◌≡◌, List, [], ◌∷◌, length, map, Result, sym, refl}
+use Rattle.std.proofs.Common.{◌≡◌, List, [], ◌∷◌, length, map, All, Result, sym, refl, arith}
+use Rattle.qplain.specs.declared.entry.Entry.{Entry}
 use Rattle.qplain.specs.declared.line.Line.{Line}
 use Rattle.qplain.specs.Setups.{Setting}
 use Rattle.qplain.specs.Journal.{entries_of}
@@ -9,7 +10,8 @@ use Rattle.qtool.specs.declared.receipt.Receipt.{Receipt}
 use Rattle.qtool.specs.declared.outcome.Outcome.{Outcome}
 use Rattle.qtool.specs.declared.transcript.Transcript.{Transcript}
 use Rattle.qtool.specs.Journaled.{IsPlayed, Journaled}
-use Rattle.qtool.specs.Runs.{AreTranscriptsOf, IsOutcomeOf, journaled_lines}
+use Rattle.qtool.specs.Runs.{AreTranscriptsOf, Belongs, IsOutcomeOf, journaled_lines}
+use Rattle.qtool.proofs.Telling.{IsOf}
 
 -- the only worker's transcript
 abbrev pub only_transcript : List Line → List (Result Receipt CallFault) → Transcript
@@ -20,12 +22,17 @@ one_transcript : (lines : List Line) (j : Journaled) (outcomes : List (Result Re
 unfolding AreTranscriptsOf
 one_transcript lines j outcomes each own = (record { worker_is = refl; lines_are = refl; each = each; own = own }, tt)
 
+-- the entries of one worker belong to its transcript
+all_belong : (lines : List Line) (journal : List Entry) (outcomes : List (Result Receipt CallFault)) → All (IsOf 1) journal → All (Belongs (only_transcript lines outcomes ∷ [])) journal
+all_belong lines journal outcomes all k d less = (0, omega arith, sym (all k d less))
+
 -- the outcome of one worker
-pub alone : (setting : Setting) (lines : List Line) (j : Journaled) (outcomes : List (Result Receipt CallFault)) (o : Outcome) → IsPlayed j → j.setting ≡ setting → length outcomes ≡ length lines → journaled_lines 1 lines outcomes ≡ entries_of j.journal 1 → o.setup ≡ j.setting → o.store ≡ j.stored → o.journal ≡ j.journal → o.transcripts ≡ only_transcript lines outcomes ∷ [] → o.records ≡ map (record_row_of o.store.state) o.store.state.holders → IsOutcomeOf setting (lines ∷ []) o
-alone setting lines j outcomes o played same each own setup store journal transcripts records = record {
+pub alone : (setting : Setting) (lines : List Line) (j : Journaled) (outcomes : List (Result Receipt CallFault)) (o : Outcome) → IsPlayed j → j.setting ≡ setting → length outcomes ≡ length lines → journaled_lines 1 lines outcomes ≡ entries_of j.journal 1 → All (IsOf 1) j.journal → o.setup ≡ j.setting → o.store ≡ j.stored → o.journal ≡ j.journal → o.transcripts ≡ only_transcript lines outcomes ∷ [] → o.records ≡ map (record_row_of o.store.state) o.store.state.holders → IsOutcomeOf setting (lines ∷ []) o
+alone setting lines j outcomes o played same each own all setup store journal transcripts records = record {
   setup = rw (setup, same) refl;
   legal = rw (journal, sym same) played.legal;
   store = rw (store, journal, sym same) played.state;
   transcripts = rw (transcripts, journal) (one_transcript lines j outcomes each own);
+  belong = rw (transcripts, journal) (all_belong lines j.journal outcomes all);
   records = records;
 }

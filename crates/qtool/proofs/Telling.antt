@@ -1,7 +1,8 @@
--- A worker's lines told one after the other: each has an outcome, and the receipts are the worker's own entries.
-use Rattle.std.proofs.Common.{◌≡◌, ℕ, ◌+◌, ◌<◌, List, [], ◌∷◌, ◌++◌, length, take, get_or, Result, Ok, Err, IfOk, OnErr, refl, sym, ap, ◌∙◌, append_assoc, append-nil, arith, add-one}
+-- A worker's lines told one after the other: each has an outcome, the receipts are the worker's own entries, and there are no others.
+use Rattle.std.proofs.Common.{◌≡◌, ℕ, ◌+◌, ◌<◌, List, [], ◌∷◌, ◌++◌, length, take, get_or, All, Result, Ok, Err, IfOk, OnErr, refl, sym, ap, ◌∙◌, append_assoc, append-nil, arith, add-one}
 use Rattle.std.proofs.Math.Seq.{take-suc}
 use Rattle.std.proofs.lemmas.List.{length-append, length-take-le}
+use Rattle.std.proofs.lemmas.List.Elements.{All-nil, All-push}
 use Rattle.qplain.specs.declared.entry.Entry.{Entry}
 use Rattle.qplain.specs.declared.line.Line.{Line}
 use Rattle.qplain.specs.Journal.{entries_of}
@@ -11,15 +12,20 @@ use Rattle.qtool.specs.declared.receipt.Receipt.{Receipt}
 use Rattle.qtool.specs.Journaled.{IsJournaled, entry_of}
 use Rattle.qtool.specs.Runs.{journaled_line, journaled_lines}
 
+-- the entry is the worker's
+abbrev pub IsOf : ℕ → Entry → Type 0
+IsOf worker e = e.worker ≡ worker
+
 -- the first lines are told
 pub record AreTold (worker : ℕ) (lines : List Line) (count : ℕ) (journal : List Entry) (outcomes : List (Result Receipt CallFault)) : Type 0 where
   pub each : length outcomes ≡ count
   pub own : journaled_lines worker (take count lines) outcomes ≡ entries_of journal worker
+  pub all : All (IsOf worker) journal
 
 -- at first none is
 pub none_told : (worker : ℕ) (lines : List Line) (journal : List Entry) → journal ≡ [] → AreTold worker lines 0 journal []
 unfolding journaled_lines
-none_told worker lines journal fresh = record { each = refl; own = rw fresh refl }
+none_told worker lines journal fresh = record { each = refl; own = rw fresh refl; all = rw fresh (All-nil (IsOf worker)) }
 
 -- one more line and its outcome
 more_lines : (worker : ℕ) (lines : List Line) (outcomes : List (Result Receipt CallFault)) (line : Line) (outcome : Result Receipt CallFault) → length outcomes ≡ length lines → journaled_lines worker (lines ++ line ∷ []) (outcomes ++ outcome ∷ []) ≡ journaled_lines worker lines outcomes ++ journaled_line worker line outcome
@@ -36,6 +42,11 @@ own_after : (worker : ℕ) (line : Line) (outcome : Result Receipt CallFault) (o
 own_after worker line (Ok receipt) old new is same = rw (is.entry, is.place) (sym (own-one_more old (entry_of worker line receipt.reply) worker refl))
 own_after worker line (Err fault) old new is same = rw same (append-nil (entries_of old worker))
 
+-- an outcome adds none but the worker's
+all_after : (worker : ℕ) (line : Line) (outcome : Result Receipt CallFault) (old new : List Entry) → IfOk outcome (λ receipt. IsJournaled worker line receipt old new) → OnErr outcome (new ≡ old) → All (IsOf worker) old → All (IsOf worker) new
+all_after worker line (Ok receipt) old new is same all = rw is.entry (All-push (IsOf worker) old (entry_of worker line receipt.reply) all refl)
+all_after worker line (Err fault) old new is same all = rw same all
+
 -- one more line is told
 pub one_more_told : (worker : ℕ) (lines : List Line) (count : ℕ) (old new : List Entry) (outcomes after : List (Result Receipt CallFault)) (line d : Line) (outcome : Result Receipt CallFault) → AreTold worker lines count old outcomes → count < length lines → line ≡ get_or lines count d → IfOk outcome (λ receipt. IsJournaled worker line receipt old new) → OnErr outcome (new ≡ old) → after ≡ outcomes ++ outcome ∷ [] → AreTold worker lines (count + 1) new after
 one_more_told worker lines count old new outcomes after line d outcome told few is granted failed more =
@@ -45,4 +56,5 @@ one_more_told worker lines count old new outcomes after line d outcome told few 
     record {
       each = rw (more, longer, told.each) refl;
       own = rw (first, more) (more_lines worker (take count lines) outcomes line outcome same ∙ ap (λ es. es ++ journaled_line worker line outcome) told.own ∙ own_after worker line outcome old new granted failed);
+      all = all_after worker line outcome old new granted failed told.all;
     }

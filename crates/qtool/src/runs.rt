@@ -1,5 +1,5 @@
 //! Runs: scripts played on a store of their own.
-ghost use Rattle.std.specs.Prelude.{◌≡◌, [], ◌∷◌, length, IfOk, map, vec_len};
+ghost use Rattle.std.specs.Prelude.{◌≡◌, [], ◌∷◌, length, All, IfOk, OnOk, map, vec_len};
 ghost use Rattle.qplain.specs.Journal.{entries_of};
 ghost use Rattle.qstore.specs.Rows.{record_row_of};
 ghost use Rattle.qtool.specs.Runs.{IsOutcomeOf, IsTranscriptOf, journaled_lines};
@@ -39,6 +39,7 @@ fn outcomes_of(
     ensures setting { store.new.setting ≡ store.old.setting }
     ensures each { IfOk result (λ outcomes. length outcomes.items ≡ length lines.now) }
     ensures own { IfOk result (λ outcomes. journaled_lines worker lines.now outcomes.items ≡ entries_of store.new.journal worker) }
+    ensures all { OnOk result (All (λ e. e.worker ≡ worker) store.new.journal) }
 {
     let mut outcomes = Vec::with_capacity(alloc, lines.len())?;
     for line in lines {
