@@ -69,7 +69,20 @@ fn cred(rt: &impl Abort, who: Who) -> Cred {
     Cred::new(uid, gid, more).expect(rt, "a caller")
 }
 
-/// Fails where a row is told otherwise, or where a copy of its call or of its reply is not equal.
+/// The reply to a caller's call at a moment. Fails where a copy of the call is not equal.
+fn apply(
+    rt: &impl Abort,
+    alloc: Global,
+    store: &mut Store,
+    asked: (Who, u64, Ask<'_>),
+) -> Result<Reply, NoMemory> {
+    let (who, moment, ask) = asked;
+    let call = call(rt, alloc, ask)?;
+    assert!(rt; call.copy(alloc)? == call);
+    store.apply(&cred(rt, who), moment, &call)
+}
+
+/// Fails where a row is told otherwise, or where a copy of its reply is not equal.
 fn play(
     rt: &impl Abort,
     alloc: Global,
@@ -77,9 +90,7 @@ fn play(
     rows: &[Row<'_>],
 ) -> Result<(), NoMemory> {
     for (who, moment, ask, told) in rows {
-        let call = call(rt, alloc, *ask)?;
-        assert!(rt; call.copy(alloc)? == call);
-        let given = store.apply(&cred(rt, *who), *moment, &call)?;
+        let given = apply(rt, alloc, store, (*who, *moment, *ask))?;
         assert_eq!(rt; given, reply(alloc, *told)?, "at {moment} {ask:?}");
         assert!(rt; given.copy(alloc)? == given);
     }

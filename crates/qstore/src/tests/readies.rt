@@ -78,6 +78,19 @@ fn another_write_takes_the_place_of_a_dropped_one(rt: HostRuntime) -> Result<(),
     Ok(())
 }
 
+/// Makes a caller's call ready, and commits it.
+fn commit_ready(
+    rt: &impl Abort,
+    alloc: Global,
+    store: &mut Store,
+    asked: (Who, Ask<'_>),
+) -> Result<Reply, NoMemory> {
+    let (who, ask) = asked;
+    let call = call(rt, alloc, ask)?;
+    let ready = store.ready(&cred(rt, who), 0, &call)?;
+    Ok(store.commit(ready))
+}
+
 #[test]
 fn what_is_ready_is_committed(rt: HostRuntime) -> Result<(), Fail> {
     let alloc = rt.alloc();
@@ -93,9 +106,8 @@ fn what_is_ready_is_committed(rt: HostRuntime) -> Result<(), Fail> {
         (ROOT, SetUser(1001, four), Done(0, 0, 0)),
         (BOB, User(1001), BlockGrace(2, 1, four, 7)),
     ] {
-        let call = call(&rt, alloc, ask)?;
-        let ready = store.ready(&cred(&rt, who), 0, &call)?;
-        assert_eq!(rt; store.commit(ready), reply(alloc, told)?, "at {ask:?}");
+        let given = commit_ready(&rt, alloc, &mut store, (who, ask))?;
+        assert_eq!(rt; given, reply(alloc, told)?, "at {ask:?}");
     }
     check_totals(&rt, &store, 2, 2);
     Ok(())

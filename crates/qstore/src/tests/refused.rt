@@ -93,6 +93,14 @@ fn ask(
     Ok(())
 }
 
+/// How many record rows, inode rows and name rows a store has.
+fn count_rows(rt: &impl Print, store: &Store) -> Result<(usize, usize, usize), NoMemory> {
+    let records = again(rt, || store.record_rows())?;
+    let inodes = again(rt, || store.inode_rows())?;
+    let names = again(rt, || store.name_rows())?;
+    Ok((records.len(), inodes.len(), names.len()))
+}
+
 // Run with the Nth allocation refused: the refused call leaves the store as it was, and the same call then gets its
 // reply.
 #[test]
@@ -100,27 +108,18 @@ fn a_refused_call_changes_nothing(rt: HostRuntime) -> Result<(), NoMemory> {
     let alloc = rt.alloc();
     let mut store = again(&rt, || small_store(&rt, alloc))?;
     let low = [4, 0, 0, 0];
-    ask(&rt, alloc, &mut store, (Create("/a"), Done(2, 0, 1)))?;
-    ask(
-        &rt,
-        alloc,
-        &mut store,
+    for row in [
+        (Create("/a"), Done(2, 0, 1)),
         (Write("/a", 4095, b"xy"), Done(2, 2, 0)),
-    )?;
-    ask(
-        &rt,
-        alloc,
-        &mut store,
         (Read("/a", 4094, 9), Bytes(b"\0xy")),
-    )?;
-    ask(&rt, alloc, &mut store, (SetGrace(7, 8), Done(0, 0, 0)))?;
-    ask(&rt, alloc, &mut store, (SetUser(0, low), Done(0, 0, 0)))?;
-    ask(&rt, alloc, &mut store, (User(0), BlockGrace(2, 2, low, 7)))?;
-    ask(&rt, alloc, &mut store, (Stat("/a"), File(2, 0, 0, 4097, 2)))?;
-    let records = again(&rt, || store.record_rows())?;
-    let inodes = again(&rt, || store.inode_rows())?;
-    let names = again(&rt, || store.name_rows())?;
-    assert_eq!(rt; (records.len(), inodes.len(), names.len()), (2, 2, 1));
+        (SetGrace(7, 8), Done(0, 0, 0)),
+        (SetUser(0, low), Done(0, 0, 0)),
+        (User(0), BlockGrace(2, 2, low, 7)),
+        (Stat("/a"), File(2, 0, 0, 4097, 2)),
+    ] {
+        ask(&rt, alloc, &mut store, row)?;
+    }
+    assert_eq!(rt; count_rows(&rt, &store)?, (2, 2, 1));
     check_totals(&rt, &store, 2, 2);
     Ok(())
 }

@@ -14,14 +14,11 @@ fn store_of_two(rt: &impl Abort, alloc: Global) -> Result<Store, NoMemory> {
     )
 }
 
-fn record(
-    alloc: Global,
-    who: (Kind, u32, &str),
-    blocks: u64,
-    inodes: u64,
-    four: Four,
-) -> Result<RecordRow, NoMemory> {
-    let (kind, id, name) = who;
+/// A record's kind, id and name, its blocks and inodes, and its limits.
+type Recorded = (Kind, u32, &'static str, u64, u64, Four);
+
+fn record(alloc: Global, recorded: Recorded) -> Result<RecordRow, NoMemory> {
+    let (kind, id, name, blocks, inodes, four) = recorded;
     Ok(RecordRow {
         kind,
         id,
@@ -37,15 +34,18 @@ fn record(
 #[test]
 fn records_are_listed_users_first(rt: HostRuntime) -> Result<(), Fail> {
     let alloc = rt.alloc();
-    let store = store_of_two(&rt, alloc)?;
-    let expected = vec![in alloc;
-        record(alloc, (Kind::User, 0, "root"), 0, 1, NONE)?,
-        record(alloc, (Kind::User, 1000, "ann"), 1, 1, ANNS)?,
-        record(alloc, (Kind::User, 1001, "bob"), 0, 1, NONE)?,
-        record(alloc, (Kind::Group, 0, "root"), 0, 2, NONE)?,
-        record(alloc, (Kind::Group, 100, "staff"), 1, 1, NONE)?,
-    ]?;
-    assert!(rt; store.record_rows()?.as_slice() == expected.as_slice());
+    let rows = store_of_two(&rt, alloc)?.record_rows()?;
+    let expected = [
+        (Kind::User, 0, "root", 0, 1, NONE),
+        (Kind::User, 1000, "ann", 1, 1, ANNS),
+        (Kind::User, 1001, "bob", 0, 1, NONE),
+        (Kind::Group, 0, "root", 0, 2, NONE),
+        (Kind::Group, 100, "staff", 1, 1, NONE),
+    ];
+    assert_eq!(rt; rows.len(), expected.len());
+    for (row, recorded) in rows.iter().zip(expected) {
+        assert!(rt; *row == record(alloc, recorded)?);
+    }
     Ok(())
 }
 
