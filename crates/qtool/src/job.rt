@@ -1,7 +1,8 @@
-ghost use Rattle.std.specs.Prelude.{◌≡◌, ◌<◌, IfOk, Some, map, codes, option_map, vec_len, string_bytes};
-ghost use Rattle.clap.specs.Matches.{first_value, found_of, matched_of, raw_values};
-ghost use Rattle.clap.specs.Words.{subcommand_rows_of};
-ghost use Rattle.qtool.specs.Jobs.{IsJobOf, IsNamedBy};
+ghost use Rattle.std.specs.Prelude.{◌≡◌, ◌∷◌, [], ℕ, IfOk, IfErr, Some, List, map, codes, string_bytes};
+ghost use Rattle.clap.specs.Words.{first_of, found_of, kind_of, rows_of, subcommand_rows_of};
+ghost use Rattle.clap.specs.declared.error.kind.ErrorKind.TheVariants.{OutOfMemory};
+ghost use Rattle.qtool.specs.declared.line_fault.LineFault.TheVariants.{Memory};
+ghost use Rattle.qtool.specs.Jobs.{AreScriptsIn, FailsUnless, IsAskedBy, IsJobOf, IsMomentIn, IsNamedBy, IsRefusalOf, IsToldBy};
 
 use crate::LineFault;
 use clap::error::ErrorKind;
@@ -23,7 +24,11 @@ pub enum Job {
     },
 }
 
-fn fault(alloc: Global, error: &Error) -> LineFault {
+/// What an error of `clap` is told as.
+fn fault(alloc: Global, error: &Error) -> LineFault
+    ensures memory { kind_of error.now ≡ OutOfMemory → result ≡ Memory }
+    ensures told { IsToldBy (kind_of error.now ∷ []) result }
+{
     if matches!(error.kind(), ErrorKind::OutOfMemory) {
         return LineFault::Memory;
     }
@@ -36,8 +41,10 @@ fn fault(alloc: Global, error: &Error) -> LineFault {
     }
 }
 
-/// What no clause of `clap` rules out, and what it never answers.
-fn missing(alloc: Global) -> LineFault {
+/// For what no clause of `clap` rules out, and what it never answers: matches that name no job.
+fn missing(alloc: Global) -> LineFault
+    ensures { FailsUnless ⊥ result }
+{
     match String::from_str(alloc, "error: missing argument\n") {
         Ok(text) => LineFault::Line { help: false, text },
         Err(_) => LineFault::Memory,
@@ -45,7 +52,8 @@ fn missing(alloc: Global) -> LineFault {
 }
 
 fn named(alloc: Global, matches: &ArgMatches<'_>, id: &str) -> Result<String, LineFault>
-    ensures { IfOk result (λ s. first_value (found_of matches.now) id.now ≡ Some (string_bytes s)) }
+    ensures ok { IfOk result (λ s. first_of id.now (rows_of (found_of matches.now)) ≡ Some (string_bytes s)) }
+    ensures err { IfErr result (FailsUnless ((t : List ℕ) × (first_of id.now (rows_of (found_of matches.now)) ≡ Some t))) }
 {
     match matches.get_str(id) {
         Some(text) => Ok(String::from_str(alloc, text)?),
@@ -64,8 +72,8 @@ fn copies(alloc: Global, names: &[&str]) -> Result<Vec<String>, AllocError>
 }
 
 fn scripts(alloc: Global, matches: &ArgMatches<'_>) -> Result<Vec<String>, LineFault>
-    ensures all { IfOk result (λ v. option_map raw_values (matched_of (found_of matches.now) (codes "scripts")) ≡ Some (map (λ s. string_bytes s) v.items)) }
-    ensures some { IfOk result (λ v. 0 < vec_len v) }
+    ensures ok { IfOk result (λ v. AreScriptsIn (rows_of (found_of matches.now)) (map (λ s. string_bytes s) v.items)) }
+    ensures err { IfErr result (FailsUnless ((ts : List (List ℕ)) × AreScriptsIn (rows_of (found_of matches.now)) ts)) }
 {
     match matches.get_strs("scripts") {
         Some(names) if !names.is_empty() => Ok(copies(alloc, names)?),
@@ -73,14 +81,22 @@ fn scripts(alloc: Global, matches: &ArgMatches<'_>) -> Result<Vec<String>, LineF
     }
 }
 
+fn moment(alloc: Global, matches: &ArgMatches<'_>) -> Result<u64, LineFault>
+    ensures ok { IfOk result (IsMomentIn (rows_of (found_of matches.now))) }
+    ensures err { IfErr result (FailsUnless ((at : ℕ) × IsMomentIn (rows_of (found_of matches.now)) at)) }
+{
+    match matches.get_one::<u64>("at") {
+        Some(at) if at <= MAX_MOMENT => Ok(at),
+        _ => Err(missing(alloc)),
+    }
+}
+
 fn run(alloc: Global, matches: &ArgMatches<'_>) -> Result<Job, LineFault>
-    ensures { IfOk result (IsNamedBy (codes "run") (found_of matches.now)) }
+    ensures ok { IfOk result (IsNamedBy (codes "run") (rows_of (found_of matches.now))) }
+    ensures err { IfErr result (FailsUnless ((job : Job) × IsNamedBy (codes "run") (rows_of (found_of matches.now)) job)) }
 {
     let config = named(alloc, matches, "config")?;
-    let at = match matches.get_one::<u64>("at") {
-        Some(at) if at <= MAX_MOMENT => at,
-        _ => return Err(missing(alloc)),
-    };
+    let at = moment(alloc, matches)?;
     let scripts = scripts(alloc, matches)?;
     Ok(Job::Run {
         config,
@@ -90,7 +106,8 @@ fn run(alloc: Global, matches: &ArgMatches<'_>) -> Result<Job, LineFault>
 }
 
 fn job_of(alloc: Global, matches: &ArgMatches<'_>) -> Result<Job, LineFault>
-    ensures { IfOk result (IsJobOf (subcommand_rows_of matches.now)) }
+    ensures ok { IfOk result (IsJobOf (subcommand_rows_of matches.now)) }
+    ensures err { IfErr result (FailsUnless ((job : Job) × IsJobOf (subcommand_rows_of matches.now) job)) }
 {
     match matches.subcommand() {
         Some(("run", matches)) => run(alloc, matches),
@@ -99,14 +116,13 @@ fn job_of(alloc: Global, matches: &ArgMatches<'_>) -> Result<Job, LineFault>
 }
 
 impl Job {
-    ghost use Rattle.clap.specs.Words.{subcommand_of};
-    ghost use Rattle.qtool.specs.Commands as line;
-
-    /// Reads the program's words, its own name the first of them, by one `clap` command: the job that its matches name.
+    /// Reads the program's words, its own name the first of them, by one `clap` command: the job that its matches name,
+    /// with the moment that the word at `--at` spells, in seconds from 0 to 2^40, and 0 where there is none.
     ///
-    /// A request for help is a fault, too, whose text is for the output.
+    /// A request for help is a fault, too, whose text is for the output. Want of memory may come in place of any answer.
     pub fn read(alloc: Global, words: &[String]) -> Result<Job, LineFault>
-        ensures { IfOk result (IsJobOf (subcommand_of line.quotafs (map (λ w. string_bytes w) words.now))) }
+        ensures job { IfOk result (IsAskedBy (map (λ w. string_bytes w) words.now)) }
+        ensures refused { IfErr result (IsRefusalOf (map (λ w. string_bytes w) words.now)) }
     {
         let command = command(alloc)?;
         match command.try_get_matches_from(words) {
