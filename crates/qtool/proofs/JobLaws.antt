@@ -170,6 +170,6 @@ asked words rows (Ok job) free same h = (free, rw (← same) h)
 asked words rows (Err e) free same h = tt
 
 -- or they name none
-pub not_asked : (words : List Text) (rows : Option (Text × List Row)) (r : Result Job LineFault) → rows ≡ subcommand_of quotafs words → IfErr r (FailsUnless ((job : Job) × IsJobOf rows job)) → IfErr r (IsRefusalOf words)
-not_asked words rows (Ok job) same h = tt
-not_asked words rows (Err e) same h = inr (unless_weaker ((job : Job) × IsJobOf rows job) ((job : Job) × IsAskedBy words job) e (λ p. (p.0, rw same p.1.1)) h)
+pub not_asked : (words : List Text) (rows : Option (Text × List Row)) (r : Result Job LineFault) → fault_of quotafs words ≡ [] → rows ≡ subcommand_of quotafs words → IfErr r (FailsUnless ((job : Job) × IsJobOf rows job)) → IfErr r (IsRefusalOf words)
+not_asked words rows (Ok job) free same h = tt
+not_asked words rows (Err e) free same h = inr (free, rw (← same) h)

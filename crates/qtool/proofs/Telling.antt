@@ -1,5 +1,5 @@
 -- A worker's lines told one after the other: each has an outcome, the receipts are the worker's own entries, and there are no others.
-use Rattle.std.proofs.Common.{◌≡◌, ℕ, ◌+◌, ◌<◌, List, [], ◌∷◌, ◌++◌, length, take, get_or, All, Result, Ok, Err, IfOk, OnErr, refl, sym, ap, ◌∙◌, append_assoc, append-nil, arith, add-one}
+use Rattle.std.proofs.Common.{◌≡◌, ℕ, ◌+◌, ◌<◌, List, [], ◌∷◌, ◌++◌, ◌↔◌, length, take, get_or, All, Result, Ok, Err, IfOk, OnErr, refl, sym, ap, ◌∙◌, append_assoc, append-nil, arith, add-one}
 use Rattle.std.proofs.Math.Seq.{take-suc}
 use Rattle.std.proofs.lemmas.List.{length-append, length-take-le}
 use Rattle.std.proofs.lemmas.List.Elements.{All-nil, All-push}
@@ -10,7 +10,9 @@ use Rattle.qplain.proofs.Playing.{own-one_more}
 use Rattle.qtool.specs.declared.call_fault.CallFault.{CallFault}
 use Rattle.qtool.specs.declared.receipt.Receipt.{Receipt}
 use Rattle.qtool.specs.Journaled.{IsJournaled, entry_of}
-use Rattle.qtool.specs.Runs.{journaled_line, journaled_lines}
+use Rattle.qtool.specs.declared.call_fault.CallFault.TheVariants.{JournalFull}
+use Rattle.qtool.specs.declared.journaled_store.TheConstants.{MAX_ENTRIES}
+use Rattle.qtool.specs.Runs.{IsFullOf, journaled_line, journaled_lines}
 
 -- the entry is the worker's
 abbrev pub IsOf : ℕ → Entry → Type 0
@@ -21,11 +23,12 @@ pub record AreTold (worker : ℕ) (lines : List Line) (count : ℕ) (journal : L
   pub each : length outcomes ≡ count
   pub own : journaled_lines worker (take count lines) outcomes ≡ entries_of journal worker
   pub all : All (IsOf worker) journal
+  pub full : All (IsFullOf journal) outcomes
 
 -- at first none is
 pub none_told : (worker : ℕ) (lines : List Line) (journal : List Entry) → journal ≡ [] → AreTold worker lines 0 journal []
 unfolding journaled_lines
-none_told worker lines journal fresh = record { each = refl; own = rw fresh refl; all = rw fresh (All-nil (IsOf worker)) }
+none_told worker lines journal fresh = record { each = refl; own = rw fresh refl; all = rw fresh (All-nil (IsOf worker)); full = All-nil (IsFullOf journal) }
 
 -- one more line and its outcome
 more_lines : (worker : ℕ) (lines : List Line) (outcomes : List (Result Receipt CallFault)) (line : Line) (outcome : Result Receipt CallFault) → length outcomes ≡ length lines → journaled_lines worker (lines ++ line ∷ []) (outcomes ++ outcome ∷ []) ≡ journaled_lines worker lines outcomes ++ journaled_line worker line outcome
@@ -47,9 +50,19 @@ all_after : (worker : ℕ) (line : Line) (outcome : Result Receipt CallFault) (o
 all_after worker line (Ok receipt) old new is same all = rw is.entry (All-push (IsOf worker) old (entry_of worker line receipt.reply) all refl)
 all_after worker line (Err fault) old new is same all = rw same all
 
+-- a call that was journaled found the journal not full, so no call before it found it full
+still_full : (worker : ℕ) (line : Line) (outcome : Result Receipt CallFault) (old new : List Entry) (outcomes : List (Result Receipt CallFault)) → OnErr outcome (new ≡ old) → ((outcome ≡ Err JournalFull) ↔ (length old ≡ MAX_ENTRIES)) → All (IsFullOf old) outcomes → All (IsFullOf new) outcomes
+still_full worker line (Err fault) old new outcomes same is all = rw same all
+still_full worker line (Ok receipt) old new outcomes same is all = λ k d less told. let full : Ok receipt ≡ Err JournalFull = is.1 (all k d less told) in absurd cc
+
+-- nor does this one, where it tells of a full journal, change the journal
+now_full : (outcome : Result Receipt CallFault) (old new : List Entry) → OnErr outcome (new ≡ old) → ((outcome ≡ Err JournalFull) ↔ (length old ≡ MAX_ENTRIES)) → IsFullOf new outcome
+now_full (Ok receipt) old new same is told = absurd cc
+now_full (Err fault) old new same is told = rw same (is.0 told)
+
 -- one more line is told
-pub one_more_told : (worker : ℕ) (lines : List Line) (count : ℕ) (old new : List Entry) (outcomes after : List (Result Receipt CallFault)) (line d : Line) (outcome : Result Receipt CallFault) → AreTold worker lines count old outcomes → count < length lines → line ≡ get_or lines count d → IfOk outcome (λ receipt. IsJournaled worker line receipt old new) → OnErr outcome (new ≡ old) → after ≡ outcomes ++ outcome ∷ [] → AreTold worker lines (count + 1) new after
-one_more_told worker lines count old new outcomes after line d outcome told few is granted failed more =
+pub one_more_told : (worker : ℕ) (lines : List Line) (count : ℕ) (old new : List Entry) (outcomes after : List (Result Receipt CallFault)) (line d : Line) (outcome : Result Receipt CallFault) → AreTold worker lines count old outcomes → count < length lines → line ≡ get_or lines count d → IfOk outcome (λ receipt. IsJournaled worker line receipt old new) → OnErr outcome (new ≡ old) → ((outcome ≡ Err JournalFull) ↔ (length old ≡ MAX_ENTRIES)) → after ≡ outcomes ++ outcome ∷ [] → AreTold worker lines (count + 1) new after
+one_more_told worker lines count old new outcomes after line d outcome told few is granted failed full more =
     let first : take (count + 1) lines ≡ take count lines ++ line ∷ [] = rw (add-one, is) (take-suc lines count d few) in
     let same : length outcomes ≡ length (take count lines) = told.each ∙ sym (length-take-le count lines (omega arith)) in
     let longer : length (outcomes ++ outcome ∷ []) ≡ length outcomes + 1 = length-append outcomes (outcome ∷ []) in
@@ -57,4 +70,5 @@ one_more_told worker lines count old new outcomes after line d outcome told few 
       each = rw (more, longer, told.each) refl;
       own = rw (first, more) (more_lines worker (take count lines) outcomes line outcome same ∙ ap (λ es. es ++ journaled_line worker line outcome) told.own ∙ own_after worker line outcome old new granted failed);
       all = all_after worker line outcome old new granted failed told.all;
+      full = rw more (All-push (IsFullOf new) outcomes outcome (still_full worker line outcome old new outcomes failed full told.full) (now_full outcome old new failed full));
     }

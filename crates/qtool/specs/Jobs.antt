@@ -57,4 +57,5 @@ IsAskedBy words job = (fault_of quotafs words ≡ []) × IsJobOf (subcommand_of 
 -- memory ran out, or `clap` refuses the words, or it takes them and its matches name no job
 abbrev pub IsRefusalOf : List Text → LineFault → Type 0
 IsRefusalOf words fault =
-    IsToldBy (fault_of quotafs words) fault ⊎ FailsUnless ((job : Job) × IsAskedBy words job) fault
+    IsToldBy (fault_of quotafs words) fault
+    ⊎ ((fault_of quotafs words ≡ []) × FailsUnless ((job : Job) × IsJobOf (subcommand_of quotafs words) job) fault)

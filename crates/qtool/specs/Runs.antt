@@ -7,6 +7,8 @@ use Rattle.qplain.specs.State.{start}
 use Rattle.qplain.specs.Journal.{IsLegal, entries_of, play}
 use Rattle.qstore.specs.Rows.{record_row_of}
 use Rattle.qtool.specs.declared.call_fault.CallFault.{CallFault}
+use Rattle.qtool.specs.declared.call_fault.CallFault.TheVariants.{JournalFull}
+use Rattle.qtool.specs.declared.journaled_store.TheConstants.{MAX_ENTRIES}
 use Rattle.qtool.specs.declared.receipt.Receipt.{Receipt}
 use Rattle.qtool.specs.declared.transcript.Transcript.{Transcript}
 use Rattle.qtool.specs.declared.outcome.Outcome.{Outcome}
@@ -23,12 +25,17 @@ journaled_lines worker (line ∷ lines) (outcome ∷ outcomes) = journaled_line 
 journaled_lines worker [] outcomes = []
 journaled_lines worker (line ∷ lines) [] = []
 
+-- an outcome tells of a full journal only where the journal is full
+abbrev pub IsFullOf : List Entry → Result Receipt CallFault → Type 0
+IsFullOf journal outcome = outcome ≡ Err JournalFull → length journal ≡ MAX_ENTRIES
+
 -- a worker's transcript: its script's lines, one outcome for each, and the receipts are its own entries
 pub record IsTranscriptOf (worker : ℕ) (lines : List Line) (journal : List Entry) (t : Transcript) : Type 0 where
   pub worker_is : t.worker ≡ worker
   pub lines_are : t.lines ≡ lines
   pub each : length t.outcomes ≡ length lines
   pub own : journaled_lines worker lines t.outcomes ≡ entries_of journal worker
+  pub full : All (IsFullOf journal) t.outcomes
 
 -- worker by worker, from this number on, the transcripts are those of the scripts
 unfoldable pub AreTranscriptsOf : ℕ → List (List Line) → List Entry → List Transcript → Type 0

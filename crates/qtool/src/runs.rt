@@ -2,7 +2,7 @@
 ghost use Rattle.std.specs.Prelude.{◌≡◌, [], ◌∷◌, length, All, IfOk, OnOk, map, vec_len};
 ghost use Rattle.qplain.specs.Journal.{entries_of};
 ghost use Rattle.qstore.specs.Rows.{record_row_of};
-ghost use Rattle.qtool.specs.Runs.{IsOutcomeOf, IsTranscriptOf, journaled_lines};
+ghost use Rattle.qtool.specs.Runs.{IsFullOf, IsOutcomeOf, IsTranscriptOf, journaled_lines};
 
 use crate::journaled_store::{JournaledStore, append};
 use crate::{CallFault, Config, Outcome, Receipt, Script, Transcript};
@@ -40,6 +40,7 @@ fn outcomes_of(
     ensures each { IfOk result (λ outcomes. length outcomes.items ≡ length lines.now) }
     ensures own { IfOk result (λ outcomes. journaled_lines worker lines.now outcomes.items ≡ entries_of store.new.journal worker) }
     ensures all { OnOk result (All (λ e. e.worker ≡ worker) store.new.journal) }
+    ensures full { IfOk result (λ outcomes. All (IsFullOf store.new.journal) outcomes.items) }
 {
     let mut outcomes = Vec::with_capacity(alloc, lines.len())?;
     for line in lines {
