@@ -1,4 +1,5 @@
--- What a writer holds after a text was written to it.
+-- What a writer holds after a text was written to it, where it tells its bytes. Of one that does not (`None`), as
+-- standard output, these facts hold whatever it took, and so say nothing.
 use Rattle.std.specs.Prelude.{◌≡◌, ℕ, List, ◌++◌, Option, Result, MatchResult}
 use Rattle.std.specs.Io.KnownBytes.{Appends}
 

@@ -7,7 +7,7 @@ use crate::{Piece, RefusedWrite};
 use itoa::Buffer;
 use std::io::Write;
 
-/// Writes all of the text. A writer that takes nothing refuses.
+/// Writes all of the text. A writer that takes nothing refuses. After an Err some beginning of the text went out.
 pub fn put<W: Write>(out: &mut W, text: &[u8]) -> Result<(), RefusedWrite>
     ensures { Writes (W.contents out.old) (W.contents out.new) result text.now }
 {
@@ -101,7 +101,7 @@ fn put_piece<W: Write>(out: &mut W, piece: Piece<'_>) -> Result<(), RefusedWrite
     }
 }
 
-/// Writes the pieces one after the other.
+/// Writes the pieces one after the other. After an Err some beginning of their text went out.
 pub fn put_pieces<W: Write>(out: &mut W, pieces: &[Piece<'_>]) -> Result<(), RefusedWrite>
     ensures { Writes (W.contents out.old) (W.contents out.new) result (pieces_text pieces.now) }
 {

@@ -20,12 +20,14 @@ impl<T> Model for Items<T> {
 }
 
 impl<T> Items<T> {
+    /// The values of a `Vec`, in their order. It takes no memory.
     pub fn new(items: Vec<T>) -> Self
         ensures { result ≡ items.items }
     {
         Items { items }
     }
 
+    /// The values, in their order.
     pub fn as_slice(&self) -> &[T]
         ensures { result.now ≡ self.now }
     {

@@ -18,12 +18,14 @@ impl Model for PrincipalName {
 }
 
 impl PrincipalName {
+    /// The name that the text is, whatever it is: which names are taken is judged by a setup.
     pub fn new(text: String) -> Self
         ensures { result ≡ string_bytes text }
     {
         PrincipalName { text }
     }
 
+    /// The text of the name.
     pub fn as_str(&self) -> &str
         ensures { result.now ≡ self.now }
     {

@@ -39,6 +39,10 @@ impl Config {
     /// each with `id`, `name` and optionally `block_soft` and `block_hard`, in KiB, and `inode_soft` and
     /// `inode_hard`, 0 where absent, which is no limit.
     ///
+    /// In range are a size of 1 to 2^20 blocks, 1 to 65,536 inodes, graces of 1 to 2^32 - 1, limits of 0 to 2^40, ids
+    /// of 0 to 2^32 - 1, and 1 to 64 users and groups each, id 0 among them. A name is 1 to 16 bytes of `a` to `z`,
+    /// `0` to `9`, `_` and `-`, the first a letter.
+    ///
     /// The first fault counts: that of the text; the first field that is missing, of another kind or of
     /// another form, in the order above; the least unknown key, of the document and then of all its
     /// tables; range, duplicate and no zero, as for a `Setup`. An integer past 64 bits or a key given

@@ -13,9 +13,10 @@ pub enum FileFault {
 pub trait Files {
     type Out: Write + Drop;
 
-    /// The bytes of a file.
+    /// The bytes of a file. An Err gives none of them.
     fn read(&mut self, name: &str) -> Result<Vec<u8>, FileFault>;
 
-    /// A new file to be written to, in the place of one of that name.
+    /// A new file to be written to, in the place of one of that name. An Err gives no file to write to, and leaves open
+    /// what then stands under the name.
     fn create(&mut self, name: &str) -> Result<Self::Out, FileFault>;
 }

@@ -82,7 +82,12 @@ impl Script {
 
     /// Reads a script: its lines, or the first line at fault with the first thing wrong in it.
     ///
-    /// Line 0 is at fault where memory is wanting, whatever the text says.
+    /// A line is `MOMENT CALLER CALL`, with one space between two words and a line feed behind it. There are at most
+    /// 65,536, and a text of no bytes has none. They count from 1. In a line the first of these is told: too many lines,
+    /// no line feed, a byte outside 0x20 to 0x7E, the moment, the caller, the verb, the count of words, the arguments
+    /// from left to right. That a call is read says nothing of whether a store takes it.
+    ///
+    /// An Err gives none of the lines. Line 0 is at fault where memory is wanting, whatever the text says.
     pub fn read(alloc: Global, text: &[u8]) -> Result<Self, TextFault>
         // What the text says, want of memory aside.
         ensures exact { (result ≡ script_of text.now) ⊎ (result ≡ Err want_of_memory) }
