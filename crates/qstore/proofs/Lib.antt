@@ -8,7 +8,8 @@ pub mod Numbered
 pub mod Pushed
 pub mod PutAll
 pub mod Read
-pub mod Rows
+pub mod RecordOrder
+mod Rows
 pub mod ById
 pub mod Search
 pub mod Ends

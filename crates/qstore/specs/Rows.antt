@@ -1,6 +1,7 @@
 -- The rows of records, inodes and names, as reports and audits see a state.
 use Rattle.qrules.specs.declared.record_row.RecordRow.{RecordRow}
-use Rattle.std.specs.Prelude.{ℕ, length}
+use Rattle.std.specs.Prelude.{◌≡◌, ◌⊎◌, ◌<◌, ℕ, length}
+use Rattle.qrules.specs.declared.kind.Kind.TheVariants.{User, Group}
 use Rattle.qrules.specs.declared.inode_row.InodeRow.{InodeRow}
 use Rattle.qrules.specs.declared.name_row.NameRow.{NameRow}
 use Rattle.qplain.specs.State.{Holder, Inode, NameKey, State}
@@ -20,6 +21,10 @@ record_row_of S h =
       block_end = account.block_end;
       inode_end = account.inode_end;
     }
+
+-- users stand before groups, and of a kind the smaller id before the greater (profile)
+abbrev pub StandsBefore : Holder → Holder → Type 0
+StandsBefore g h = ((g.kind ≡ User) × (h.kind ≡ Group)) ⊎ ((g.kind ≡ h.kind) × (g.id < h.id))
 
 -- the row of an inode under its number, with its counted links
 abbrev pub inode_row_of : State → ℕ × Inode → InodeRow

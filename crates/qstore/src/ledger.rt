@@ -114,7 +114,8 @@ impl Ledger {
         kind: Kind,
         rows: &mut Vec<RecordRow>,
     ) -> Result<(), NoMemory>
-        ensures { OnOk result (rows.new.items ≡ rows.old.items ++ map (owner_row kind) self.now) }
+        ensures rows { OnOk result (rows.new.items ≡ rows.old.items ++ map (owner_row kind) self.now) }
+        ensures by_id { OnOk result (AreById self.now) }
     {
         for owner in &self.owners {
             rows.push(owner.row(alloc, kind)?)?;

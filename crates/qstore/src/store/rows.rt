@@ -1,20 +1,22 @@
 //! What audits and reports read: the records, the inodes and the names of a store, one row for each.
 ghost use Rattle.std.specs.Prelude.{◌≡◌, map, IfOk, OnOk};
 ghost use Rattle.std.specs.Ordering.{nat_cmp};
+ghost use Rattle.std.specs.List.{AllPairs};
 ghost use Rattle.std.specs.List.Sorted.{IsStrictlySortedBy};
 ghost use Rattle.std.specs.Map.{keys_of};
 ghost use Rattle.qplain.specs.State.{name_key_cmp};
-ghost use Rattle.qstore.specs.Rows.{inode_row_of, name_row_of, record_row_of};
+ghost use Rattle.qstore.specs.Rows.{StandsBefore, inode_row_of, name_row_of, record_row_of};
 
 use crate::store::Store;
 use qplain::NoMemory;
 use qrules::{InodeRow, Kind, NameRow, RecordRow};
 
 impl Store {
-    /// The quota records, in the order of the setup: users by id, then groups by id. Uses are in blocks of 4096 bytes,
+    /// The quota records, each once: users by id, then groups by id. Uses are in blocks of 4096 bytes,
     /// block limits in KiB, ends in seconds. O(n), as many as are declared. An Err leaves nothing made.
     pub fn record_rows(&self) -> Result<Vec<RecordRow>, NoMemory>
-        ensures { IfOk result (λ rows. rows.items ≡ map (record_row_of self.now.state) self.now.state.holders) }
+        ensures rows { IfOk result (λ rows. rows.items ≡ map (record_row_of self.now.state) self.now.state.holders) }
+        ensures by_id { OnOk result (AllPairs StandsBefore self.now.state.holders) }
     {
         let mut rows = Vec::new(self.alloc);
         self.users.push_rows(self.alloc, Kind::User, &mut rows)?;
