@@ -1,4 +1,1 @@
--- In reading order.
-pub mod Written
-pub mod Pieces
 pub mod Reports

@@ -2,15 +2,9 @@
 use Rattle.std.specs.Prelude.{ℕ, ◌-◌, Bool, List, [], ◌∷◌, codes, decimal, nat_lt, Option, Some, None, if◌then◌else◌}
 use Rattle.std.specs.List.{concat, flat_map}
 use Rattle.qrules.specs.Sort.{Inodes, Blocks, amount_of, is_over}
-use Rattle.qrules.specs.declared.kind.Kind.{Kind}
-use Rattle.qrules.specs.declared.kind.Kind.TheVariants.{User, Group}
 use Rattle.qrules.specs.declared.record_row.RecordRow.{RecordRow}
-use Rattle.qaudit.specs.Pieces.{left_in, right_in}
-
--- a kind's word
-abbrev pub kind_text : Kind → List ℕ
-kind_text User = codes "user"
-kind_text Group = codes "group"
+use Rattle.qtext.specs.Pieces.{left_in, right_in}
+use Rattle.qtext.specs.RuleWords.{kind_text}
 
 -- a plus where use is over its soft limit, else a dash
 abbrev pub flag_text : Bool → List ℕ

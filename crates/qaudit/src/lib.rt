@@ -1,14 +1,8 @@
 //! Reports as text, written to any writer without taking memory.
 #![tactic(auto)]
 
-pub use piece::Piece;
-pub use refused_write::RefusedWrite;
-pub use reports::{ReportFault, kind_word, report};
-pub use writing::{put, put_pieces};
+pub use reports::{ReportFault, report};
 
-mod piece;
-mod refused_write;
 mod reports;
 #[cfg(test)]
 mod tests;
-mod writing;

@@ -1,11 +1,11 @@
 ghost use Rattle.std.specs.Prelude.{◌≡◌, decimal};
 ghost use Rattle.qrules.specs.Sort.{is_over};
-ghost use Rattle.qaudit.specs.Written.{Writes};
-ghost use Rattle.qaudit.specs.Pieces.{piece_text, right_in};
-ghost use Rattle.qaudit.specs.Reports.{flag_text, grace_text, kind_text, report_text, row_text};
+ghost use Rattle.qtext.specs.Written.{Writes};
+ghost use Rattle.qtext.specs.Pieces.{piece_text, right_in};
+ghost use Rattle.qaudit.specs.Reports.{flag_text, grace_text, report_text, row_text};
 
-use crate::{Piece, RefusedWrite, put_pieces};
-use qrules::{KIB_PER_BLOCK, Kind, RecordRow};
+use qrules::{KIB_PER_BLOCK, RecordRow};
+use qtext::{Piece, RefusedWrite, kind_word, put_pieces};
 use std::io::Write;
 
 /// Why a report was not written whole.
@@ -23,16 +23,6 @@ impl ReportFault {
         match self {
             ReportFault::Write => 61,
         }
-    }
-}
-
-/// A kind's word, as reports and calls write it.
-pub fn kind_word(kind: Kind) -> &'static [u8]
-    ensures { result.now ≡ kind_text kind }
-{
-    match kind {
-        Kind::User => b"user",
-        Kind::Group => b"group",
     }
 }
 

@@ -3,6 +3,7 @@ pub mod Caller
 pub mod Paths
 pub mod Principals
 pub mod Setups
+pub mod CallFaults
 pub mod Numbers
 pub mod State
 pub mod Use

@@ -1,6 +1,6 @@
 //! How the program ends early, in one line.
 use crate::{ConfigFault, TextFault};
-use qaudit::{Piece, RefusedWrite, put, put_pieces};
+use qtext::{Piece, RefusedWrite, put, put_pieces};
 use std::io::Write;
 
 /// Why the program ends before its work is done.

@@ -1,5 +1,5 @@
 use Rattle.qaudit.specs.Reports.{row_text}
-use Rattle.qaudit.proofs.Fronts.{rows_end, rows_go_on, rows_refused}
+use Rattle.qtext.proofs.Fronts.{rows_end, rows_go_on, rows_refused}
 use Rattle.qaudit.proofs.reports.put_rows.Goals as goal
 
 pub loop-row-preserved : goal.loop-row-preserved

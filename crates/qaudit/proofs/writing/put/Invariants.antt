@@ -1,9 +1,0 @@
-use Rattle.std.proofs.Common.{length}
-use Rattle.qaudit.proofs.Fronts.{Partly}
-use Rattle.qaudit.proofs.writing.put.Given as goal
-
-abbrev pub invariant-loop-rest : goal.invariant-loop-rest
-invariant-loop-rest g l = Partly (g.W.Write.contents l.fn.out) (g.W.Write.contents l.out) l.fn.text l.rest
-
-abbrev pub decreases-loop-rest : goal.decreases-loop-rest
-decreases-loop-rest g l = length l.rest

@@ -1,0 +1,8 @@
+//! Configurations read from TOML: the setup that a text writes, or its first fault.
+#![tactic(auto)]
+
+pub use config::Config;
+pub use config_fault::ConfigFault;
+
+mod config;
+mod config_fault;

@@ -1,0 +1,2 @@
+-- What the matches of a command line say of a job.
+pub mod JobLaws

@@ -1,0 +1,4 @@
+-- In reading order: the numbers of faults, the command line, the job that it asks for.
+pub mod LineFaults
+pub mod Commands
+pub mod Jobs

@@ -1,0 +1,8 @@
+//! The command line: the job that its words ask for, or why they ask for none.
+#![tactic(auto)]
+
+pub use job::Job;
+pub use line_fault::LineFault;
+
+mod job;
+mod line_fault;

@@ -1,0 +1,25 @@
+use Rattle.std.proofs.Common.{◌≡◌, ℕ, Bool, true, false, not, eqb, List, length, Ok, Err, refl}
+use Rattle.std.specs.List.{list_all}
+use Rattle.qplain.specs.Paths.{ArePathBytes, is_path_byte}
+use Rattle.qtext.specs.declared.text_fault.TextKind.TheVariants.{BadWord}
+use Rattle.qline.specs.Arguments.{path_of}
+use Rattle.qline.proofs.argument.path_of.Goals as goal
+
+path_is : (w : List ℕ) → ArePathBytes w → path_of w ≡ Ok w
+unfolding path_of
+path_is w h = rw (h.some, h.each) refl
+
+no_path : (w : List ℕ) (some each : Bool) → not (eqb (length w) 0) ≡ some → list_all is_path_byte w ≡ each → (ArePathBytes w → ⊥) → path_of w ≡ Err BadWord
+unfolding path_of
+no_path w true true s e never = absurd (never (record { some = s; each = e }))
+no_path w true false s e never = rw (s, e) refl
+no_path w false each s e never = rw s refl
+
+untrue : false ≡ true → ⊥
+untrue e = cc
+
+pub returns-in-Some : goal.returns-in-Some
+returns-in-Some c = rw (← c.in_ok-bytes.ensures.items, c.in-Some.ensures.bytes) (path_is _ (c.in-Some.ensures.form.0 refl))
+
+pub returns-in-None : goal.returns-in-None
+returns-in-None c = rw (← c.in_ok-bytes.ensures.items) (no_path _ _ _ refl refl (λ h. untrue (c.in-None.ensures.form.1 h)))

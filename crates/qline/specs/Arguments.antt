@@ -1,0 +1,20 @@
+-- Paths and kinds as words.
+use Rattle.std.specs.Prelude.{ℕ, ◌==◌, ◌&&◌, not, List, length, codes, Result, Ok, Err, if◌then◌else◌}
+use Rattle.std.specs.List.{list_all}
+use Rattle.std.specs.Str.{bytes_eq}
+use Rattle.qrules.specs.declared.kind.Kind.{Kind}
+use Rattle.qrules.specs.declared.kind.Kind.TheVariants.{User, Group}
+use Rattle.qplain.specs.Paths.{is_path_byte}
+use Rattle.qtext.specs.declared.text_fault.TextKind.{TextKind}
+use Rattle.qtext.specs.declared.text_fault.TextKind.TheVariants.{BadWord}
+
+-- a path is any word that is not empty
+unfoldable pub path_of : List ℕ → Result (List ℕ) TextKind
+path_of word = if not (length word == 0) && list_all is_path_byte word then Ok word else Err BadWord
+
+-- the kind that a word spells
+unfoldable pub kind_of : List ℕ → Result Kind TextKind
+kind_of word =
+    if bytes_eq word (codes "user") then Ok User
+    else if bytes_eq word (codes "group") then Ok Group
+    else Err BadWord

@@ -1,0 +1,46 @@
+-- Callers: UID:GID, then at most 16 times a comma and a further group.
+use Rattle.std.specs.Prelude.{ℕ, List, [], ◌∷◌, length, Result, Ok, Err, nat_le, if◌then◌else◌}
+use Rattle.qplain.specs.Caller.{Caller}
+use Rattle.qplain.specs.declared.cred.TheConstants.{MAX_MORE_GROUPS}
+use Rattle.qtext.specs.declared.text_fault.TextKind.{TextKind}
+use Rattle.qtext.specs.declared.text_fault.TextKind.TheVariants.{BadCred}
+use Rattle.qtext.specs.Reading.{◌>>=◌, each_of}
+use Rattle.qtext.specs.Words.{parts, id_of}
+
+-- a uid and a gid
+unfoldable pub owner_in : List ℕ → List ℕ → Result (ℕ × ℕ) TextKind
+owner_in u g = do
+  uid ← id_of BadCred u
+  gid ← id_of BadCred g
+  Ok (uid, gid)
+
+-- the uid and the gid whose words these are
+unfoldable pub owner_of : List (List ℕ) → Result (ℕ × ℕ) TextKind
+owner_of (u ∷ g ∷ []) = owner_in u g
+owner_of _ = Err BadCred
+
+-- the further groups
+abbrev pub groups_of : List (List ℕ) → Result (List ℕ) TextKind
+groups_of words = each_of (id_of BadCred) words
+
+-- a caller of these ids, where the further groups are not too many
+abbrev pub caller_with : ℕ × ℕ → List ℕ → Result Caller TextKind
+caller_with owner more =
+    if nat_le (length more) MAX_MORE_GROUPS then Ok (record { uid = owner.0; gid = owner.1; more = more })
+    else Err BadCred
+
+-- the caller of an owner's text and the words of the further groups
+unfoldable pub caller_from : List ℕ → List (List ℕ) → Result Caller TextKind
+caller_from first groups = do
+  owner ← owner_of (parts 58 first)
+  more ← groups_of groups
+  caller_with owner more
+
+-- the caller whose parts between commas these are
+unfoldable pub caller_in : List (List ℕ) → Result Caller TextKind
+caller_in [] = Err BadCred
+caller_in (first ∷ groups) = caller_from first groups
+
+-- the caller that a word spells
+abbrev pub caller_of : List ℕ → Result Caller TextKind
+caller_of word = caller_in (parts 44 word)

@@ -1,0 +1,103 @@
+-- The call that a verb and its arguments spell. Arguments are read from left to right.
+use Rattle.std.specs.Prelude.{ℕ, List, [], ◌∷◌, Result, Ok, Err}
+use Rattle.qrules.specs.declared.limits.Limits.{Limits}
+use Rattle.qplain.specs.declared.call.Call.{Call}
+use Rattle.qplain.specs.declared.call.Call.TheVariants.{Create, Write, Read, Stat, SetQuota, SetGrace, Quota}
+use Rattle.qtext.specs.declared.text_fault.TextKind.{TextKind}
+use Rattle.qtext.specs.declared.text_fault.TextKind.TheVariants.{BadNumber, BadVerb, WordCount}
+use Rattle.qline.specs.declared.call.TheConstants.{MAX_FILL}
+use Rattle.qline.specs.declared.verb.Verb.{Verb}
+use Rattle.qline.specs.declared.verb.Verb.TheVariants as verb
+use Rattle.qtext.specs.Reading.{◌>>=◌}
+use Rattle.qtext.specs.Words.{number, number_of, id_of}
+use Rattle.qline.specs.Arguments.{path_of, kind_of}
+use Rattle.qline.specs.Verbs.{verb_of}
+use Rattle.qtext.specs.Data.{data_of, byte_of, copies_of}
+
+-- create PATH
+unfoldable pub create_of : List ℕ → Result Call TextKind
+create_of p = do
+  path ← path_of p
+  Ok (Create path)
+
+-- write PATH OFF DATA
+unfoldable pub write_of : List ℕ → List ℕ → List ℕ → Result Call TextKind
+write_of p o d = do
+  path ← path_of p
+  off ← number o
+  bytes ← data_of d
+  Ok (Write path off bytes)
+
+-- fill PATH OFF COUNT BYTE: a write of that many equal bytes
+unfoldable pub fill_of : List ℕ → List ℕ → List ℕ → List ℕ → Result Call TextKind
+fill_of p o c b = do
+  path ← path_of p
+  off ← number o
+  count ← number_of BadNumber MAX_FILL c
+  byte ← byte_of b
+  bytes ← copies_of count byte
+  Ok (Write path off bytes)
+
+-- read PATH OFF LEN
+unfoldable pub read_of : List ℕ → List ℕ → List ℕ → Result Call TextKind
+read_of p o l = do
+  path ← path_of p
+  off ← number o
+  len ← number l
+  Ok (Read path off len)
+
+-- stat PATH
+unfoldable pub stat_of : List ℕ → Result Call TextKind
+stat_of p = do
+  path ← path_of p
+  Ok (Stat path)
+
+-- BSOFT BHARD ISOFT IHARD
+unfoldable pub limits_of : List ℕ → List ℕ → List ℕ → List ℕ → Result Limits TextKind
+limits_of bs bh is ih = do
+  block_soft ← number bs
+  block_hard ← number bh
+  inode_soft ← number is
+  inode_hard ← number ih
+  Ok (record { block_soft = block_soft; block_hard = block_hard; inode_soft = inode_soft; inode_hard = inode_hard })
+
+-- setquota KIND ID BSOFT BHARD ISOFT IHARD
+unfoldable pub setquota_of : List ℕ → List ℕ → List ℕ → List ℕ → List ℕ → List ℕ → Result Call TextKind
+setquota_of k i bs bh is ih = do
+  kind ← kind_of k
+  id ← id_of BadNumber i
+  limits ← limits_of bs bh is ih
+  Ok (SetQuota kind id limits)
+
+-- setgrace BLOCK INODE
+unfoldable pub setgrace_of : List ℕ → List ℕ → Result Call TextKind
+setgrace_of b i = do
+  block ← number b
+  inode ← number i
+  Ok (SetGrace (record { block = block; inode = inode }))
+
+-- quota KIND ID
+unfoldable pub quota_of : List ℕ → List ℕ → Result Call TextKind
+quota_of k i = do
+  kind ← kind_of k
+  id ← id_of BadNumber i
+  Ok (Quota kind id)
+
+-- as many arguments as the verb takes, each in its place
+unfoldable pub call_of : Verb → List (List ℕ) → Result Call TextKind
+call_of verb.Create (p ∷ []) = create_of p
+call_of verb.Write (p ∷ o ∷ d ∷ []) = write_of p o d
+call_of verb.Fill (p ∷ o ∷ c ∷ b ∷ []) = fill_of p o c b
+call_of verb.Read (p ∷ o ∷ l ∷ []) = read_of p o l
+call_of verb.Stat (p ∷ []) = stat_of p
+call_of verb.SetQuota (k ∷ i ∷ bs ∷ bh ∷ is ∷ ih ∷ []) = setquota_of k i bs bh is ih
+call_of verb.SetGrace (b ∷ i ∷ []) = setgrace_of b i
+call_of verb.Quota (k ∷ i ∷ []) = quota_of k i
+call_of _ _ = Err WordCount
+
+-- the call that words spell, the first of them its verb
+unfoldable pub call_in : List (List ℕ) → Result Call TextKind
+call_in [] = Err BadVerb
+call_in (v ∷ arguments) = do
+  verb ← verb_of v
+  call_of verb arguments

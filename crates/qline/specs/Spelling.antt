@@ -1,0 +1,58 @@
+-- How calls and their callers are spelled out: each number, caller, kind and call in its one spelling.
+use Rattle.std.specs.Prelude.{ℕ, ◌<◌, ◌≤◌, ◌^◌, List, [], ◌∷◌, length, map, codes, decimal}
+use Rattle.std.specs.List.{join_with_byte, AllByRecursion}
+use Rattle.hex.specs.Hex.{IsBytes}
+use Rattle.qrules.specs.declared.limits.Limits.{Limits}
+use Rattle.qplain.specs.Caller.{Caller}
+use Rattle.qplain.specs.Paths.{ArePathBytes}
+use Rattle.qplain.specs.declared.cred.TheConstants.{MAX_MORE_GROUPS}
+use Rattle.qplain.specs.declared.call.Call.{Call}
+use Rattle.qplain.specs.declared.call.Call.TheVariants.{Create, Write, Read, Stat, SetQuota, SetGrace, Quota}
+use Rattle.qtext.specs.Pieces.{data_text}
+use Rattle.qtext.specs.RuleWords.{kind_text}
+
+-- UID:GID
+abbrev pub owner_text : Caller → List ℕ
+owner_text cred = join_with_byte 58 (decimal cred.uid ∷ decimal cred.gid ∷ [])
+
+-- UID:GID, then a comma before each further group
+abbrev pub caller_text : Caller → List ℕ
+caller_text cred = join_with_byte 44 (owner_text cred ∷ map decimal cred.more)
+
+-- BSOFT BHARD ISOFT IHARD
+abbrev pub limits_words : Limits → List (List ℕ)
+limits_words l = decimal l.block_soft ∷ decimal l.block_hard ∷ decimal l.inode_soft ∷ decimal l.inode_hard ∷ []
+
+-- a verb and its arguments
+abbrev pub call_words : Call → List (List ℕ)
+call_words (Create path) = codes "create" ∷ path ∷ []
+call_words (Write path off bytes) = codes "write" ∷ path ∷ decimal off ∷ data_text bytes ∷ []
+call_words (Read path off len) = codes "read" ∷ path ∷ decimal off ∷ decimal len ∷ []
+call_words (Stat path) = codes "stat" ∷ path ∷ []
+call_words (SetQuota kind id limits) = codes "setquota" ∷ kind_text kind ∷ decimal id ∷ limits_words limits
+call_words (SetGrace graces) = codes "setgrace" ∷ decimal graces.block ∷ decimal graces.inode ∷ []
+call_words (Quota kind id) = codes "quota" ∷ kind_text kind ∷ decimal id ∷ []
+
+-- the caller's ids are ids, and its further groups are not too many
+pub record IsCaller (cred : Caller) : Type 0 where
+  pub uid : cred.uid < 2 ^ 32
+  pub gid : cred.gid < 2 ^ 32
+  pub few : length cred.more ≤ MAX_MORE_GROUPS
+  pub more : AllByRecursion (λ g. g < 2 ^ 32) cred.more
+
+-- each limit is a number of 64 bits
+pub record AreLimits (l : Limits) : Type 0 where
+  pub block_soft : l.block_soft < 2 ^ 64
+  pub block_hard : l.block_hard < 2 ^ 64
+  pub inode_soft : l.inode_soft < 2 ^ 64
+  pub inode_hard : l.inode_hard < 2 ^ 64
+
+-- the parts of a call are what their types can hold
+abbrev pub IsCall : Call → Type 0
+IsCall (Create path) = ArePathBytes path
+IsCall (Write path off bytes) = ArePathBytes path × (off < 2 ^ 64) × IsBytes bytes
+IsCall (Read path off len) = ArePathBytes path × (off < 2 ^ 64) × (len < 2 ^ 64)
+IsCall (Stat path) = ArePathBytes path
+IsCall (SetQuota kind id limits) = (id < 2 ^ 32) × AreLimits limits
+IsCall (SetGrace graces) = (graces.block < 2 ^ 64) × (graces.inode < 2 ^ 64)
+IsCall (Quota kind id) = id < 2 ^ 32

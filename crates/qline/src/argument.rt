@@ -1,0 +1,32 @@
+ghost use Rattle.qtext.specs.Gives.{Gives};
+ghost use Rattle.qline.specs.Arguments.{path_of, kind_of};
+
+use qplain::Path;
+use qrules::Kind;
+use qtext::{ReadFault, TextKind};
+use std::alloc::Global;
+
+/// A path: whether it leads anywhere is for the store to say.
+pub(crate) fn path_of(alloc: Global, word: &[u8]) -> Result<Path, ReadFault>
+    ensures { Gives result (path_of word.now) }
+{
+    let bytes = Vec::from_slice(alloc, word)?;
+    match Path::new(bytes) {
+        Some(path) => Ok(path),
+        None => Err(ReadFault::Fault(TextKind::BadWord)),
+    }
+}
+
+/// `user` or `group`.
+#[tactic(auto, unfolding(crate::specs::Arguments::kind_of))]
+pub(crate) fn kind_of(word: &[u8]) -> Result<Kind, ReadFault>
+    ensures { Gives result (kind_of word.now) }
+{
+    if word == b"user".as_slice() {
+        return Ok(Kind::User);
+    }
+    if word == b"group".as_slice() {
+        return Ok(Kind::Group);
+    }
+    Err(ReadFault::Fault(TextKind::BadWord))
+}

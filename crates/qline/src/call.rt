@@ -1,0 +1,162 @@
+ghost use Rattle.std.specs.Prelude.{map};
+ghost use Rattle.qtext.specs.Gives.{Gives};
+ghost use Rattle.qline.specs.Calls.{create_of, write_of, fill_of, read_of, stat_of, limits_of, setquota_of, setgrace_of, quota_of, call_of, call_in};
+
+use crate::argument::{kind_of, path_of};
+use crate::verb::{Verb, verb_of};
+use qplain::Call;
+use qrules::{Graces, Limits};
+use qtext::{ReadFault, TextKind, byte_of, copies_of, data_of, id_of, number, number_of};
+use std::alloc::Global;
+
+/// The most bytes that `fill` may ask for.
+pub const MAX_FILL: u64 = 131_072;
+
+#[tactic(auto, unfolding(crate::specs::Calls::create_of))]
+fn create_of(alloc: Global, path: &[u8]) -> Result<Call, ReadFault>
+    ensures { Gives result (create_of path.now) }
+{
+    let path = path_of(alloc, path)?;
+    Ok(Call::Create { path })
+}
+
+#[tactic(auto, unfolding(crate::specs::Calls::write_of))]
+fn write_of(alloc: Global, path: &[u8], off: &[u8], digits: &[u8]) -> Result<Call, ReadFault>
+    ensures { Gives result (write_of path.now off.now digits.now) }
+{
+    let path = path_of(alloc, path)?;
+    let off = number(off)?;
+    let bytes = data_of(alloc, digits)?;
+    Ok(Call::Write { path, off, bytes })
+}
+
+#[tactic(auto, unfolding(crate::specs::Calls::fill_of))]
+fn fill_of(
+    alloc: Global,
+    path: &[u8],
+    off: &[u8],
+    count: &[u8],
+    byte: &[u8],
+) -> Result<Call, ReadFault>
+    ensures { Gives result (fill_of path.now off.now count.now byte.now) }
+{
+    let path = path_of(alloc, path)?;
+    let off = number(off)?;
+    let count = number_of(TextKind::BadNumber, MAX_FILL, count)?;
+    let byte = byte_of(byte)?;
+    let bytes = copies_of(alloc, count, byte)?;
+    Ok(Call::Write { path, off, bytes })
+}
+
+#[tactic(auto, unfolding(crate::specs::Calls::read_of))]
+fn read_of(alloc: Global, path: &[u8], off: &[u8], len: &[u8]) -> Result<Call, ReadFault>
+    ensures { Gives result (read_of path.now off.now len.now) }
+{
+    let path = path_of(alloc, path)?;
+    let off = number(off)?;
+    let len = number(len)?;
+    Ok(Call::Read { path, off, len })
+}
+
+#[tactic(auto, unfolding(crate::specs::Calls::stat_of))]
+fn stat_of(alloc: Global, path: &[u8]) -> Result<Call, ReadFault>
+    ensures { Gives result (stat_of path.now) }
+{
+    let path = path_of(alloc, path)?;
+    Ok(Call::Stat { path })
+}
+
+#[tactic(auto, unfolding(crate::specs::Calls::limits_of))]
+fn limits_of(
+    block_soft: &[u8],
+    block_hard: &[u8],
+    inode_soft: &[u8],
+    inode_hard: &[u8],
+) -> Result<Limits, ReadFault>
+    ensures { Gives result (limits_of block_soft.now block_hard.now inode_soft.now inode_hard.now) }
+{
+    let block_soft = number(block_soft)?;
+    let block_hard = number(block_hard)?;
+    let inode_soft = number(inode_soft)?;
+    let inode_hard = number(inode_hard)?;
+    Ok(Limits {
+        block_soft,
+        block_hard,
+        inode_soft,
+        inode_hard,
+    })
+}
+
+#[tactic(auto, unfolding(crate::specs::Calls::setquota_of))]
+fn setquota_of(
+    kind: &[u8],
+    id: &[u8],
+    block_soft: &[u8],
+    block_hard: &[u8],
+    inode_soft: &[u8],
+    inode_hard: &[u8],
+) -> Result<Call, ReadFault>
+    ensures { Gives result (setquota_of kind.now id.now block_soft.now block_hard.now inode_soft.now inode_hard.now) }
+{
+    let kind = kind_of(kind)?;
+    let id = id_of(TextKind::BadNumber, id)?;
+    let limits = limits_of(block_soft, block_hard, inode_soft, inode_hard)?;
+    Ok(Call::SetQuota { kind, id, limits })
+}
+
+#[tactic(auto, unfolding(crate::specs::Calls::setgrace_of))]
+fn setgrace_of(block: &[u8], inode: &[u8]) -> Result<Call, ReadFault>
+    ensures { Gives result (setgrace_of block.now inode.now) }
+{
+    let block = number(block)?;
+    let inode = number(inode)?;
+    Ok(Call::SetGrace {
+        graces: Graces { block, inode },
+    })
+}
+
+#[tactic(auto, unfolding(crate::specs::Calls::quota_of))]
+fn quota_of(kind: &[u8], id: &[u8]) -> Result<Call, ReadFault>
+    ensures { Gives result (quota_of kind.now id.now) }
+{
+    let kind = kind_of(kind)?;
+    let id = id_of(TextKind::BadNumber, id)?;
+    Ok(Call::Quota { kind, id })
+}
+
+/// The call of a verb and its arguments, of which there are as many as it takes.
+#[tactic(auto, unfolding(crate::specs::Calls::call_of))]
+fn call_of(alloc: Global, verb: Verb, arguments: &[&[u8]]) -> Result<Call, ReadFault>
+    ensures { Gives result (call_of verb (map (λ word. word.now) arguments.now)) }
+{
+    match (verb, arguments) {
+        (Verb::Create, [path]) => create_of(alloc, path),
+        (Verb::Write, [path, off, data]) => write_of(alloc, path, off, data),
+        (Verb::Fill, [path, off, count, byte]) => fill_of(alloc, path, off, count, byte),
+        (Verb::Read, [path, off, len]) => read_of(alloc, path, off, len),
+        (Verb::Stat, [path]) => stat_of(alloc, path),
+        (Verb::SetQuota, [kind, id, block_soft, block_hard, inode_soft, inode_hard]) => {
+            setquota_of(kind, id, block_soft, block_hard, inode_soft, inode_hard)
+        }
+        (Verb::SetGrace, [block, inode]) => setgrace_of(block, inode),
+        (Verb::Quota, [kind, id]) => quota_of(kind, id),
+        _ => Err(ReadFault::Fault(TextKind::WordCount)),
+    }
+}
+
+/// The call that words spell, the first of them its verb.
+///
+/// Of faults the first is told: the verb, the count of arguments, the arguments from left to right. That a call is read
+/// says nothing of whether a store takes it. An Err gives no call.
+#[tactic(auto, unfolding(crate::specs::Calls::call_in))]
+pub fn call_in(alloc: Global, words: &[&[u8]]) -> Result<Call, ReadFault>
+    ensures { Gives result (call_in (map (λ word. word.now) words.now)) }
+{
+    match words {
+        [] => Err(ReadFault::Fault(TextKind::BadVerb)),
+        [verb, arguments @ ..] => {
+            let verb = verb_of(verb)?;
+            call_of(alloc, verb, arguments)
+        }
+    }
+}

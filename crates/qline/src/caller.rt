@@ -1,0 +1,68 @@
+ghost use Rattle.std.specs.Prelude.{◌≡◌};
+ghost use Rattle.std.specs.Option.{option_map};
+ghost use Rattle.qtext.specs.Gives.{Gives};
+ghost use Rattle.qtext.specs.Words.{parts, parts_after};
+ghost use Rattle.qline.specs.Callers.{owner_in, owner_of, groups_of, caller_from, caller_of};
+
+use qplain::Cred;
+use qrules::Items;
+use qtext::{ReadFault, TextKind, first_part, id_of};
+use std::alloc::Global;
+
+#[tactic(auto, unfolding(crate::specs::Callers::owner_in))]
+fn owner_in(uid: &[u8], gid: &[u8]) -> Result<(u32, u32), ReadFault>
+    ensures { Gives result (owner_in uid.now gid.now) }
+{
+    let uid = id_of(TextKind::BadCred, uid)?;
+    let gid = id_of(TextKind::BadCred, gid)?;
+    Ok((uid, gid))
+}
+
+/// The uid and the gid of `UID:GID`.
+fn owner_of(text: &[u8]) -> Result<(u32, u32), ReadFault>
+    ensures { Gives result (owner_of (parts 58 text.now)) }
+{
+    let (uid, after) = first_part(text, b':');
+    let Some(after) = after else {
+        return Err(ReadFault::Fault(TextKind::BadCred));
+    };
+    let (gid, after) = first_part(after, b':');
+    match after {
+        None => owner_in(uid, gid),
+        Some(_) => Err(ReadFault::Fault(TextKind::BadCred)),
+    }
+}
+
+/// The further groups of a caller, where there are any.
+fn groups_of(alloc: Global, text: Option<&[u8]>) -> Result<Items<u32>, ReadFault>
+    ensures { Gives result (groups_of (parts_after 44 (option_map (λ t. t.now) text.entry))) }
+{
+    let mut groups = Vec::new(alloc);
+    let mut left = text;
+    while let Some(rest) = left {
+        let (group, after) = first_part(rest, b',');
+        groups.push(id_of(TextKind::BadCred, group)?)?;
+        left = after;
+    }
+    Ok(Items::new(groups))
+}
+
+#[tactic(auto, unfolding(crate::specs::Callers::caller_from))]
+fn caller_from(alloc: Global, owner: &[u8], groups: Option<&[u8]>) -> Result<Cred, ReadFault>
+    ensures { Gives result (caller_from owner.now (parts_after 44 (option_map (λ t. t.now) groups.entry))) }
+{
+    let (uid, gid) = owner_of(owner)?;
+    let more = groups_of(alloc, groups)?;
+    match Cred::new(uid, gid, more.as_slice()) {
+        Some(cred) => Ok(cred),
+        None => Err(ReadFault::Fault(TextKind::BadCred)),
+    }
+}
+
+/// `UID:GID`, then at most 16 times `,GROUP`.
+pub fn caller_of(alloc: Global, word: &[u8]) -> Result<Cred, ReadFault>
+    ensures { Gives result (caller_of word.now) }
+{
+    let (owner, groups) = first_part(word, b',');
+    caller_from(alloc, owner, groups)
+}

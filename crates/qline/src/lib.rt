@@ -1,0 +1,12 @@
+//! Calls, their callers and their replies as words: callers and calls read, replies written.
+#![tactic(auto)]
+
+pub use call::{MAX_FILL, call_in};
+pub use caller::caller_of;
+pub use reply_text::put_reply;
+
+mod argument;
+mod call;
+mod caller;
+mod reply_text;
+mod verb;

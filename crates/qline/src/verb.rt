@@ -1,0 +1,49 @@
+ghost use Rattle.qtext.specs.Gives.{Gives};
+ghost use Rattle.qline.specs.Verbs.{verb_of};
+
+use qtext::{ReadFault, TextKind};
+
+/// The first word of a call.
+#[derive(Clone, Copy, Debug, PartialEq, Eq)]
+pub(crate) enum Verb {
+    Create,
+    Write,
+    Fill,
+    Read,
+    Stat,
+    SetQuota,
+    SetGrace,
+    Quota,
+}
+
+/// The verb that is spelled so.
+#[tactic(auto, unfolding(crate::specs::Verbs::verb_of))]
+pub(crate) fn verb_of(word: &[u8]) -> Result<Verb, ReadFault>
+    ensures { Gives result (verb_of word.now) }
+{
+    if word == b"create".as_slice() {
+        return Ok(Verb::Create);
+    }
+    if word == b"write".as_slice() {
+        return Ok(Verb::Write);
+    }
+    if word == b"fill".as_slice() {
+        return Ok(Verb::Fill);
+    }
+    if word == b"read".as_slice() {
+        return Ok(Verb::Read);
+    }
+    if word == b"stat".as_slice() {
+        return Ok(Verb::Stat);
+    }
+    if word == b"setquota".as_slice() {
+        return Ok(Verb::SetQuota);
+    }
+    if word == b"setgrace".as_slice() {
+        return Ok(Verb::SetGrace);
+    }
+    if word == b"quota".as_slice() {
+        return Ok(Verb::Quota);
+    }
+    Err(ReadFault::Fault(TextKind::BadVerb))
+}

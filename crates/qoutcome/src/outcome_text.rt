@@ -1,0 +1,59 @@
+//! Outcomes as text.
+ghost use Rattle.std.specs.Prelude.{◌≡◌, codes, decimal, ◌∷◌, []};
+ghost use Rattle.std.specs.List.{concat};
+ghost use Rattle.qtext.specs.Written.{Writes};
+ghost use Rattle.qoutcome.specs.Outcomes.{moment_text, outcome_text, totals_text};
+
+use crate::WriteFault;
+use crate::transcript_text::put_transcripts;
+use qaudit::report;
+use qrun::Outcome;
+use qtext::{Piece, RefusedWrite, put_pieces};
+use std::io::Write;
+
+fn put_moment<W: Write>(out: &mut W, moment: u64) -> Result<(), RefusedWrite>
+    ensures { Writes (W.contents out.old) (W.contents out.new) result (moment_text moment) }
+{
+    let pieces = [
+        Piece::Text(b"quota at "),
+        Piece::Number(moment),
+        Piece::Text(b"\n"),
+    ];
+    put_pieces(out, &pieces)
+}
+
+fn put_totals<W: Write>(out: &mut W, outcome: &Outcome) -> Result<(), RefusedWrite>
+    ensures { Writes (W.contents out.old) (W.contents out.new) result (totals_text outcome.now) }
+{
+    let pieces = [
+        Piece::Text(b"totals blocks "),
+        Piece::Number(outcome.store.blocks()),
+        Piece::Text(b" of "),
+        Piece::Number(outcome.setup.blocks()),
+        Piece::Text(b" inodes "),
+        Piece::Number(outcome.store.inodes()),
+        Piece::Text(b" of "),
+        Piece::Number(outcome.setup.inodes()),
+        Piece::Text(b"\n"),
+    ];
+    put_pieces(out, &pieces)
+}
+
+/// Writes what a run came to: each worker's transcript, the quota report as of the moment, and the totals. It takes no
+/// memory.
+///
+/// Totals and bounds are in blocks of 4096 bytes and in inodes; the report is in KiB (profile, after repquota(8)).
+/// After an Err some beginning of the text went out.
+#[tactic(auto, using(qtext::proofs::Fronts::front_of_first, qtext::proofs::Fronts::writes_then))]
+pub fn write_outcome<W: Write>(
+    outcome: &Outcome,
+    moment: u64,
+    out: &mut W,
+) -> Result<(), WriteFault>
+    ensures { Writes (W.contents out.old) (W.contents out.new) result (outcome_text outcome.now moment) }
+{
+    put_transcripts(out, outcome.transcripts.as_slice())?;
+    put_moment(out, moment)?;
+    report(outcome.records.as_slice(), moment, out)?;
+    Ok(put_totals(out, outcome)?)
+}

@@ -1,0 +1,82 @@
+//! Transcripts as text.
+ghost use Rattle.std.specs.Prelude.{◌≡◌};
+ghost use Rattle.std.specs.List.{flat_map};
+ghost use Rattle.qtext.specs.Written.{Writes};
+ghost use Rattle.qoutcome.specs.Outcomes.{call_fault_text, line_text, transcript_text};
+
+use qline::put_reply;
+use qplain::{CallFault, Receipt, Transcript};
+use qtext::{Piece, RefusedWrite, put, put_pieces};
+use std::io::Write;
+
+fn fault_word(fault: CallFault) -> &'static [u8]
+    ensures { result.now ≡ call_fault_text fault }
+{
+    match fault {
+        CallFault::JournalFull => b"JournalFull",
+        CallFault::OutOfMemory => b"OutOfMemory",
+    }
+}
+
+#[tactic(auto, using(qtext::proofs::Fronts::front_of_first, qtext::proofs::Fronts::writes_then))]
+fn put_receipt<W: Write>(out: &mut W, receipt: &Receipt) -> Result<(), RefusedWrite>
+    ensures { Writes (W.contents out.old) (W.contents out.new) result (line_text (Ok receipt.now)) }
+{
+    put_pieces(out, &[Piece::Number(receipt.place), Piece::Text(b" ")])?;
+    put_reply(out, &receipt.reply)?;
+    put(out, b"\n")
+}
+
+fn put_line<W: Write>(out: &mut W, outcome: &Result<Receipt, CallFault>) -> Result<(), RefusedWrite>
+    ensures { Writes (W.contents out.old) (W.contents out.new) result (line_text outcome.now) }
+{
+    match outcome {
+        Ok(receipt) => put_receipt(out, receipt),
+        Err(fault) => {
+            let pieces = [
+                Piece::Text(b"- failed "),
+                Piece::Text(fault_word(*fault)),
+                Piece::Text(b"\n"),
+            ];
+            put_pieces(out, &pieces)
+        }
+    }
+}
+
+fn put_lines<W: Write>(
+    out: &mut W,
+    outcomes: &[Result<Receipt, CallFault>],
+) -> Result<(), RefusedWrite>
+    ensures { Writes (W.contents out.old) (W.contents out.new) result (flat_map line_text outcomes.now) }
+{
+    for outcome in outcomes {
+        put_line(out, outcome)?;
+    }
+    Ok(())
+}
+
+#[tactic(auto, using(qtext::proofs::Fronts::front_of_first, qtext::proofs::Fronts::writes_then))]
+fn put_transcript<W: Write>(out: &mut W, transcript: &Transcript) -> Result<(), RefusedWrite>
+    ensures { Writes (W.contents out.old) (W.contents out.new) result (transcript_text transcript.now) }
+{
+    let head = [
+        Piece::Text(b"worker "),
+        Piece::Number(transcript.worker),
+        Piece::Text(b"\n"),
+    ];
+    put_pieces(out, &head)?;
+    put_lines(out, transcript.outcomes.as_slice())
+}
+
+/// Writes the transcripts, one after the other.
+pub(crate) fn put_transcripts<W: Write>(
+    out: &mut W,
+    transcripts: &[Transcript],
+) -> Result<(), RefusedWrite>
+    ensures { Writes (W.contents out.old) (W.contents out.new) result (flat_map transcript_text transcripts.now) }
+{
+    for transcript in transcripts {
+        put_transcript(out, transcript)?;
+    }
+    Ok(())
+}

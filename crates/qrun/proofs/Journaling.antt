@@ -1,0 +1,35 @@
+-- A journaled store that makes one more call is again what its journal leaves.
+use Rattle.std.proofs.Common.{◌≡◌, ℕ, ◌+◌, ◌<◌, [], ◌∷◌, ◌++◌, length, sym, ap, ◌∙◌, arith}
+use Rattle.std.proofs.lemmas.List.{length-append}
+use Rattle.qplain.specs.declared.entry.Entry.{Entry}
+use Rattle.qplain.specs.declared.line.Line.{Line}
+use Rattle.qplain.specs.declared.reply.Reply.{Reply}
+use Rattle.qplain.specs.State.{State, start}
+use Rattle.qplain.specs.Journal.{IsLegal, play, played}
+use Rattle.qplain.specs.Step.{step}
+use Rattle.qplain.proofs.Playing.{legal-one_more, play-one_more}
+use Rattle.qstore.specs.declared.ready.Ready.{Ready}
+use Rattle.qstore.specs.Ready.{outcome}
+use Rattle.qrun.specs.declared.journaled_store.TheConstants.{MAX_ENTRIES}
+use Rattle.qrun.specs.Journaled.{IsPlayed, Journaled, entry_of}
+
+-- one more entry, whose reply and state are the plain machine's
+pub played_on : (old new : Journaled) (worker : ℕ) (line : Line) (reply : Reply) → IsPlayed old → length old.journal < MAX_ENTRIES → new.setting ≡ old.setting → new.journal ≡ old.journal ++ entry_of worker line reply ∷ [] → (new.stored.state, reply) ≡ step old.stored.state line.cred line.moment line.call → IsPlayed new
+played_on old new worker line reply is few setting journal stepped =
+    let e : Entry = entry_of worker line reply in
+    let S : State = start old.setting in
+    let next : (new.stored.state, reply) ≡ played (play S old.journal) e = stepped ∙ ap (λ T. step T line.cred line.moment line.call) is.state in
+    let legal : IsLegal S (old.journal ++ e ∷ []) = legal-one_more S old.journal e is.legal (ap (λ p. p.1) next) in
+    let state : new.stored.state ≡ play S (old.journal ++ e ∷ []) = ap (λ p. p.0) next ∙ sym (play-one_more S old.journal e) in
+    let count : length (old.journal ++ e ∷ []) ≡ length old.journal + 1 = length-append old.journal (e ∷ []) in
+    record {
+      legal = rw (setting, journal) legal;
+      state = rw (setting, journal) state;
+      few = rw (journal, count) (omega arith);
+    }
+
+-- what was ready and is carried out is the plain machine's step, with the reply that was copied beforehand
+pub carried_out : (before ready_state after : State) (r : Ready) (reply shown copy : Reply) (line : Line) → ready_state ≡ before → outcome before r ≡ step before line.cred line.moment line.call → (after, reply) ≡ outcome ready_state r → shown ≡ r.reply → copy ≡ shown → (after, copy) ≡ step before line.cred line.moment line.call
+carried_out before ready_state after r reply shown copy line same stepped done told copied =
+    let given : reply ≡ r.reply = ap (λ p. p.1) done in
+    ap (λ x. (after, x)) (copied ∙ told ∙ sym given) ∙ done ∙ ap (λ T. outcome T r) same ∙ stepped

@@ -1,0 +1,33 @@
+-- A store beside the journal that led to it.
+use Rattle.std.specs.Prelude.{◌≡◌, ℕ, ◌+◌, ◌≤◌, List, [], ◌∷◌, ◌++◌, length}
+use Rattle.qplain.specs.declared.entry.Entry.{Entry}
+use Rattle.qplain.specs.declared.line.Line.{Line}
+use Rattle.qplain.specs.declared.reply.Reply.{Reply}
+use Rattle.qplain.specs.Setups.{Setting}
+use Rattle.qplain.specs.State.{start}
+use Rattle.qplain.specs.Journal.{IsLegal, play}
+use Rattle.qstore.specs.Stored.{Stored}
+use Rattle.qplain.specs.declared.receipt.Receipt.{Receipt}
+use Rattle.qrun.specs.declared.journaled_store.TheConstants.{MAX_ENTRIES}
+
+-- the setup that a store began with, the store, and its journal
+pub record Journaled : Type 0 where
+  pub setting : Setting
+  pub stored : Stored
+  pub journal : List Entry
+
+-- the journal is legal from the start of the setup, leaves exactly the store's state, and is no longer than it may be
+pub record IsPlayed (j : Journaled) : Type 0 where
+  pub legal : IsLegal (start j.setting) j.journal
+  pub state : j.stored.state ≡ play (start j.setting) j.journal
+  pub few : length j.journal ≤ MAX_ENTRIES
+
+-- the entry of a worker's line that was given this reply
+abbrev pub entry_of : ℕ → Line → Reply → Entry
+entry_of worker line reply =
+    record { worker = worker; cred = line.cred; moment = line.moment; call = line.call; reply = reply }
+
+-- the receipt is that of the last entry, by which the journal grew
+pub record IsJournaled (worker : ℕ) (line : Line) (receipt : Receipt) (old new : List Entry) : Type 0 where
+  pub entry : new ≡ old ++ entry_of worker line receipt.reply ∷ []
+  pub place : receipt.place ≡ length old + 1

@@ -1,0 +1,59 @@
+-- What a run of scripts leaves.
+use Rattle.std.specs.Prelude.{◌≡◌, ℕ, ◌+◌, List, [], ◌∷◌, ◌++◌, length, map, All, Contains, Result, Ok, Err}
+use Rattle.qplain.specs.declared.entry.Entry.{Entry}
+use Rattle.qplain.specs.declared.line.Line.{Line}
+use Rattle.qplain.specs.Setups.{Setting}
+use Rattle.qplain.specs.State.{start}
+use Rattle.qplain.specs.Journal.{IsLegal, entries_of, play}
+use Rattle.qstore.specs.Rows.{record_row_of}
+use Rattle.qplain.specs.declared.call_fault.CallFault.{CallFault}
+use Rattle.qplain.specs.declared.call_fault.CallFault.TheVariants.{JournalFull}
+use Rattle.qrun.specs.declared.journaled_store.TheConstants.{MAX_ENTRIES}
+use Rattle.qplain.specs.declared.receipt.Receipt.{Receipt}
+use Rattle.qplain.specs.declared.transcript.Transcript.{Transcript}
+use Rattle.qrun.specs.declared.outcome.Outcome.{Outcome}
+use Rattle.qrun.specs.Journaled.{entry_of}
+
+-- the entry that a line's receipt stands for, with its place; a failed line stands for none
+abbrev pub journaled_line : ℕ → Line → Result Receipt CallFault → List (ℕ × Entry)
+journaled_line worker line (Ok receipt) = (receipt.place, entry_of worker line receipt.reply) ∷ []
+journaled_line worker line (Err fault) = []
+
+-- the entries that a worker's receipts stand for, line by line
+unfoldable pub journaled_lines : ℕ → List Line → List (Result Receipt CallFault) → List (ℕ × Entry)
+journaled_lines worker (line ∷ lines) (outcome ∷ outcomes) = journaled_line worker line outcome ++ journaled_lines worker lines outcomes
+journaled_lines worker [] outcomes = []
+journaled_lines worker (line ∷ lines) [] = []
+
+-- an outcome tells of a full journal only where the journal is full
+abbrev pub IsFullOf : List Entry → Result Receipt CallFault → Type 0
+IsFullOf journal outcome = outcome ≡ Err JournalFull → length journal ≡ MAX_ENTRIES
+
+-- a worker's transcript: its script's lines, one outcome for each, the receipts are its own entries, and no outcome tells
+-- of a full journal that is not full
+pub record IsTranscriptOf (worker : ℕ) (lines : List Line) (journal : List Entry) (t : Transcript) : Type 0 where
+  pub worker_is : t.worker ≡ worker
+  pub lines_are : t.lines ≡ lines
+  pub each : length t.outcomes ≡ length lines
+  pub own : journaled_lines worker lines t.outcomes ≡ entries_of journal worker
+  pub full : All (IsFullOf journal) t.outcomes
+
+-- worker by worker, from this number on, the transcripts are those of the scripts
+unfoldable pub AreTranscriptsOf : ℕ → List (List Line) → List Entry → List Transcript → Type 0
+AreTranscriptsOf worker [] journal [] = Unit {0}
+AreTranscriptsOf worker (lines ∷ scripts) journal (t ∷ ts) = IsTranscriptOf worker lines journal t × AreTranscriptsOf (worker + 1) scripts journal ts
+AreTranscriptsOf worker [] journal (t ∷ ts) = ⊥
+AreTranscriptsOf worker (lines ∷ scripts) journal [] = ⊥
+
+-- a transcript is that of the entry's worker
+abbrev pub Belongs : List Transcript → Entry → Type 0
+Belongs transcripts e = Contains (map (λ t. t.worker) transcripts) e.worker
+
+-- what a run of these scripts leaves, from this setup on; no entry belongs to anyone else
+pub record IsOutcomeOf (setting : Setting) (scripts : List (List Line)) (o : Outcome) : Type 0 where
+  pub setup : o.setup ≡ setting
+  pub legal : IsLegal (start setting) o.journal
+  pub store : o.store.state ≡ play (start setting) o.journal
+  pub transcripts : AreTranscriptsOf 1 scripts o.journal o.transcripts
+  pub belong : All (Belongs o.transcripts) o.journal
+  pub records : o.records ≡ map (record_row_of o.store.state) o.store.state.holders

@@ -1,0 +1,115 @@
+ghost use Rattle.std.specs.Prelude.{◌≡◌, ◌<◌, ◌≤◌, ◌+◌, ◌++◌, ◌∷◌, [], ◌↔◌, length, vec_len, vec_capacity, IfOk, OnErr, OnOk, Err};
+ghost use Rattle.qplain.specs.State.{start};
+ghost use Rattle.qstore.specs.Rows.{record_row_of};
+ghost use Rattle.qrun.specs.Journaled.{IsJournaled, IsPlayed};
+
+use qplain::{CallFault, Entry, Line, NoMemory, Receipt, Setup};
+use qstore::Store;
+use std::alloc::Global;
+use std::marker::Model;
+
+/// The most entries that a journal may hold.
+pub const MAX_ENTRIES: usize = 65_536;
+
+/// A store with the journal of its calls and the setup that it began with. It is always what the journal leaves.
+#[derive(Drop)]
+pub(crate) struct JournaledStore {
+    alloc: Global,
+    setup: Setup,
+    store: Store,
+    journal: Vec<Entry>,
+}
+
+impl Model for JournaledStore {
+    ghost use Rattle.qrun.specs.Journaled.{Journaled};
+
+    ghost Value = { Journaled };
+
+    ghost use Rattle.qrun.specs.KeptJournaled.{journaled_of};
+    ghost use Rattle.qrun.specs.Journaled.{IsPlayed};
+
+    ghost view = { journaled_of };
+
+    ghost invariant = { λ a. IsPlayed (journaled_of a) };
+}
+
+/// Appends to what has room for one more.
+pub(crate) fn append<T: Drop>(items: &mut Vec<T>, item: T)
+    requires room { vec_len items.old < vec_capacity items.old }
+    ensures items { items.new.items ≡ items.old.items ++ item ∷ [] }
+    ensures len { vec_len items.new ≡ vec_len items.old + 1 }
+    ensures capacity { vec_capacity items.old ≤ vec_capacity items.new }
+{
+    match items.push(item) {
+        Ok(()) => {}
+        Err(_) => unreachable!(),
+    }
+}
+
+impl JournaledStore {
+    /// A new store of the setup, with an empty journal. After an Err nothing was made.
+    pub(crate) fn new(alloc: Global, setup: Setup) -> Result<JournaledStore, NoMemory>
+        ensures setting { IfOk result (λ j. j.setting ≡ setup) }
+        ensures journal { IfOk result (λ j. j.journal ≡ []) }
+    {
+        let store = Store::new(alloc, setup.copy(alloc)?)?;
+        Ok(JournaledStore {
+            alloc,
+            setup,
+            store,
+            journal: Vec::new(alloc),
+        })
+    }
+
+    /// Makes the call of a line and journals it, with all that it needs made before its first change.
+    fn journal_call(&mut self, worker: u64, line: &Line) -> Result<Receipt, NoMemory>
+        requires few { length self.old.journal < MAX_ENTRIES }
+        ensures setting { self.new.setting ≡ self.old.setting }
+        ensures ok { IfOk result (λ receipt. IsJournaled worker line.now receipt self.old.journal self.new.journal) }
+        ensures err { OnErr result (self.new.journal ≡ self.old.journal) }
+    {
+        self.journal.reserve(1)?;
+        let call = line.call.copy(self.alloc)?;
+        let ready = self.store.ready(&line.cred, line.moment, &line.call)?;
+        let copy = ready.reply().copy(self.alloc)?;
+        let reply = self.store.commit(ready);
+        let entry = Entry {
+            worker,
+            cred: line.cred,
+            moment: line.moment,
+            call,
+            reply: copy,
+        };
+        append(&mut self.journal, entry);
+        Ok(Receipt {
+            place: self.journal.len() as u64,
+            reply,
+        })
+    }
+
+    /// One call of a worker, journaled. An Err changes nothing; a full journal is told before want of memory.
+    pub(crate) fn call(&mut self, worker: u64, line: &Line) -> Result<Receipt, CallFault>
+        ensures setting { self.new.setting ≡ self.old.setting }
+        ensures ok { IfOk result (λ receipt. IsJournaled worker line.now receipt self.old.journal self.new.journal) }
+        ensures err { OnErr result (self.new.journal ≡ self.old.journal) }
+        ensures full { (result ≡ Err CallFault.JournalFull) ↔ (length self.old.journal ≡ MAX_ENTRIES) }
+    {
+        if self.journal.len() >= MAX_ENTRIES {
+            return Err(CallFault::JournalFull);
+        }
+        match self.journal_call(worker, line) {
+            Ok(receipt) => Ok(receipt),
+            Err(_) => Err(CallFault::OutOfMemory),
+        }
+    }
+
+    /// The setup, the store and the journal.
+    pub(crate) fn into_parts(self) -> (Setup, Store, Vec<Entry>)
+        ensures setup { result.0 ≡ self.setting }
+        ensures store { result.1 ≡ self.stored }
+        ensures journal { result.2.items ≡ self.journal }
+        ensures played { IsPlayed self }
+    {
+        (self.setup, self.store, self.journal)
+    }
+}

@@ -1,0 +1,41 @@
+-- The lines of a text, one after the other.
+use Rattle.std.proofs.Common.{◌≡◌, ℕ, ◌<◌, ◌+◌, true, false, eqb, List, [], ◌∷◌, length, Ok, Err, refl, arith}
+use Rattle.std.proofs.lemmas.Bool.Decides.{nat_tests}
+use Rattle.qtext.specs.declared.text_fault.TextKind.{TextKind}
+use Rattle.qtext.specs.Words.{parts}
+use Rattle.qtext.proofs.Splitting.{some_part}
+use Rattle.qplain.specs.declared.line.Line.{Line}
+use Rattle.qscript.specs.Scripts.{RawLine, raw_lines_from, line_of, at_line}
+
+pub more_lines : (n : ℕ) (l : List ℕ) (ls : List (List ℕ)) → 0 < length ls → raw_lines_from n (l ∷ ls) ≡ record { number = n; bytes = l; whole = true } ∷ raw_lines_from (n + 1) ls
+unfolding raw_lines_from
+more_lines n l [] lt = absurd (omega arith)
+more_lines n l (m ∷ ls) lt = refl
+
+one_line : (n : ℕ) (l : List ℕ) → 0 < length l → raw_lines_from n (l ∷ []) ≡ record { number = n; bytes = l; whole = false } ∷ []
+unfolding raw_lines_from
+one_line n l lt = let some : eqb (length l) 0 ≡ false = grind (arith, nat_tests) in rw some refl
+
+pub no_line : (n : ℕ) → raw_lines_from n (parts 10 []) ≡ []
+unfolding raw_lines_from
+no_line n = refl
+
+pub no_line_of : (n : ℕ) (text : List ℕ) → length text ≡ 0 → raw_lines_from n (parts 10 text) ≡ []
+no_line_of n [] e = no_line n
+no_line_of n (b ∷ text) e = absurd (omega arith)
+
+pub ended_line : (n : ℕ) (text line after : List ℕ) → parts 10 text ≡ line ∷ parts 10 after
+    → raw_lines_from n (parts 10 text) ≡ record { number = n; bytes = line; whole = true } ∷ raw_lines_from (n + 1) (parts 10 after)
+ended_line n text line after e = rw e (more_lines n line (parts 10 after) (some_part 10 after))
+
+pub cut_line : (n : ℕ) (text line : List ℕ) → 0 < length line → parts 10 text ≡ line ∷ []
+    → raw_lines_from n (parts 10 text) ≡ record { number = n; bytes = line; whole = false } ∷ raw_lines_from (n + 1) (parts 10 [])
+cut_line n text line lt e = rw (e, no_line (n + 1)) (one_line n line lt)
+
+pub at_line_ok : (l : RawLine) (x : Line) → line_of l ≡ Ok x → at_line l ≡ Ok x
+unfolding at_line
+at_line_ok l x e = rw e refl
+
+pub at_line_err : (l : RawLine) (kind : TextKind) → line_of l ≡ Err kind → at_line l ≡ Err (record { line = l.number; kind = kind })
+unfolding at_line
+at_line_err l kind e = rw e refl

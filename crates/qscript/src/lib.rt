@@ -1,0 +1,8 @@
+//! Scripts read from text: their lines, or the first line at fault with the first thing wrong in it.
+#![tactic(auto)]
+
+pub use script::{MAX_LINES, Script};
+
+mod line;
+mod raw_line;
+mod script;

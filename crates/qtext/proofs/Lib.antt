@@ -1,0 +1,7 @@
+-- Texts written in parts; loops that read; numerals; how texts come apart, and that words spelled out are read again.
+pub mod Fronts
+pub mod Loops
+pub mod Numerals
+pub mod Splitting
+pub mod Joining
+pub mod WordsAgain

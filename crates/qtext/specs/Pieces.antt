@@ -1,0 +1,37 @@
+-- The text of a line's pieces.
+use Rattle.std.specs.Prelude.{ℕ, ◌-◌, List, [], ◌∷◌, ◌++◌, length, replicate, decimal}
+use Rattle.std.specs.List.{flat_map}
+use Rattle.hex.specs.Hex.{encode_lower}
+use Rattle.qtext.specs.declared.piece.Piece.{Piece}
+use Rattle.qtext.specs.declared.piece.Piece.TheVariants.{Text, Number, Field, Data, Left, Right, RightNumber}
+
+-- so many spaces
+abbrev pub spaces : ℕ → List ℕ
+spaces n = replicate n 32
+
+-- a text at the left of so many places; a longer one stands whole
+abbrev pub left_in : ℕ → List ℕ → List ℕ
+left_in places text = text ++ spaces (places - length text)
+
+-- a text at the right of so many places; a longer one stands whole
+abbrev pub right_in : ℕ → List ℕ → List ℕ
+right_in places text = spaces (places - length text) ++ text
+
+-- bytes as lower case hexadecimal digits, and none as a dash
+abbrev pub data_text : List ℕ → List ℕ
+data_text [] = 45 ∷ []
+data_text (b ∷ bs) = encode_lower (b ∷ bs)
+
+-- the text of a piece
+abbrev pub piece_text : Piece → List ℕ
+piece_text (Text t) = t.now
+piece_text (Number n) = decimal n
+piece_text (Field n) = 32 ∷ decimal n
+piece_text (Data bs) = data_text bs.now
+piece_text (Left t places) = left_in places t.now
+piece_text (Right t places) = right_in places t.now
+piece_text (RightNumber n places) = right_in places (decimal n)
+
+-- the text of the pieces, one after the other
+abbrev pub pieces_text : List Piece → List ℕ
+pieces_text ps = flat_map piece_text ps

@@ -1,0 +1,44 @@
+ghost use Rattle.qtext.specs.Gives.{Gives};
+ghost use Rattle.qtext.specs.Data.{data_of, byte_of, copies_of};
+
+use crate::{ReadFault, TextKind};
+use hex::FromHexError;
+use qrules::Items;
+use std::alloc::Global;
+
+/// A dash for no bytes, else two hexadecimal digits a byte, in either case.
+#[tactic(auto, unfolding(crate::specs::Data::data_of))]
+pub fn data_of(alloc: Global, word: &[u8]) -> Result<Items<u8>, ReadFault>
+    ensures { Gives result (data_of word.now) }
+{
+    if word == b"-".as_slice() {
+        return Ok(Items::new(Vec::new(alloc)));
+    }
+    if word.is_empty() {
+        return Err(ReadFault::Fault(TextKind::BadHex));
+    }
+    match hex::decode(alloc, word) {
+        Ok(bytes) => Ok(Items::new(bytes)),
+        Err(FromHexError::OutOfMemory) => Err(ReadFault::Memory),
+        Err(_) => Err(ReadFault::Fault(TextKind::BadHex)),
+    }
+}
+
+/// One byte in two hexadecimal digits.
+#[tactic(auto, unfolding(crate::specs::Data::byte_of))]
+pub fn byte_of(word: &[u8]) -> Result<u8, ReadFault>
+    ensures { Gives result (byte_of word.now) }
+{
+    let mut byte = [0u8; 1];
+    match hex::decode_to_slice(word, &mut byte) {
+        Ok(()) => Ok(byte[0]),
+        Err(_) => Err(ReadFault::Fault(TextKind::BadHex)),
+    }
+}
+
+/// That many copies of a byte.
+pub fn copies_of(alloc: Global, count: u64, byte: u8) -> Result<Items<u8>, ReadFault>
+    ensures { Gives result (copies_of count byte) }
+{
+    Ok(Items::new(vec![in alloc; byte; count as usize]?))
+}

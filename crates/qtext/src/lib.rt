@@ -1,0 +1,22 @@
+//! The words of all texts, written and read: pieces of lines for any writer, and the words of a line with their numbers and data.
+#![tactic(auto)]
+
+pub use data::{byte_of, copies_of, data_of};
+pub use numbers::{id_of, number, number_of};
+pub use piece::Piece;
+pub use read_fault::ReadFault;
+pub use refused_write::RefusedWrite;
+pub use rule_words::{kind_word, over_word};
+pub use text_fault::{TextFault, TextKind};
+pub use word::{are_text_bytes, first_part, put_words};
+pub use writing::{put, put_pieces};
+
+mod data;
+mod numbers;
+mod piece;
+mod read_fault;
+mod refused_write;
+mod rule_words;
+mod text_fault;
+mod word;
+mod writing;

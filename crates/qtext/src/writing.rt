@@ -1,0 +1,112 @@
+ghost use Rattle.std.specs.Prelude.{◌≡◌, ◌-◌, ◌++◌, ◌∷◌, [], length, decimal};
+ghost use Rattle.hex.specs.Hex.{encode_lower};
+ghost use Rattle.qtext.specs.Written.{Writes};
+ghost use Rattle.qtext.specs.Pieces.{spaces, left_in, right_in, data_text, piece_text, pieces_text};
+
+use crate::{Piece, RefusedWrite};
+use itoa::Buffer;
+use std::io::Write;
+
+/// Writes all of the text. A writer that takes nothing refuses. After an Err some beginning of the text went out.
+pub fn put<W: Write>(out: &mut W, text: &[u8]) -> Result<(), RefusedWrite>
+    ensures { Writes (W.contents out.old) (W.contents out.new) result text.now }
+{
+    let mut rest = text;
+    while !rest.is_empty() {
+        match out.write(rest) {
+            Ok(0) => return Err(RefusedWrite),
+            Ok(n) => rest = rest.split_at(n).1,
+            Err(_) => return Err(RefusedWrite),
+        }
+    }
+    Ok(())
+}
+
+fn put_spaces<W: Write>(out: &mut W, count: usize) -> Result<(), RefusedWrite>
+    ensures { Writes (W.contents out.old) (W.contents out.new) result (spaces count) }
+{
+    for _ in 0..count {
+        put(out, b" ")?;
+    }
+    Ok(())
+}
+
+fn put_number<W: Write>(out: &mut W, n: u64) -> Result<(), RefusedWrite>
+    ensures { Writes (W.contents out.old) (W.contents out.new) result (decimal n) }
+{
+    let mut buffer = Buffer::new();
+    put(out, buffer.format(n).as_bytes())
+}
+
+/// Writes a space and a number at once.
+fn put_field<W: Write>(out: &mut W, n: u64) -> Result<(), RefusedWrite>
+    ensures { Writes (W.contents out.old) (W.contents out.new) result (32 ∷ decimal n) }
+{
+    let mut buffer = Buffer::new();
+    let digits = buffer.format(n).as_bytes();
+    let mut text = [b' '; 41];
+    let end = digits.len() + 1;
+    text[1..end].copy_from_slice(digits);
+    put(out, &text[..end])
+}
+
+fn hex_digits(byte: u8) -> [u8; 2]
+    ensures { result ≡ encode_lower (byte ∷ []) }
+{
+    let mut digits = [0u8; 2];
+    hex::encode_to_slice([byte].as_slice(), &mut digits).unwrap();
+    digits
+}
+
+fn put_hex<W: Write>(out: &mut W, bytes: &[u8]) -> Result<(), RefusedWrite>
+    ensures { Writes (W.contents out.old) (W.contents out.new) result (encode_lower bytes.now) }
+{
+    for byte in bytes {
+        put(out, &hex_digits(*byte))?;
+    }
+    Ok(())
+}
+
+#[tactic(auto, using(crate::proofs::Fronts::front_of_first, crate::proofs::Fronts::writes_then))]
+fn put_left<W: Write>(out: &mut W, text: &[u8], places: usize) -> Result<(), RefusedWrite>
+    ensures { Writes (W.contents out.old) (W.contents out.new) result (left_in places text.now) }
+{
+    put(out, text)?;
+    put_spaces(out, places.saturating_sub(text.len()))
+}
+
+#[tactic(auto, using(crate::proofs::Fronts::front_of_first, crate::proofs::Fronts::writes_then))]
+fn put_right<W: Write>(out: &mut W, text: &[u8], places: usize) -> Result<(), RefusedWrite>
+    ensures { Writes (W.contents out.old) (W.contents out.new) result (right_in places text.now) }
+{
+    put_spaces(out, places.saturating_sub(text.len()))?;
+    put(out, text)
+}
+
+fn put_piece<W: Write>(out: &mut W, piece: Piece<'_>) -> Result<(), RefusedWrite>
+    ensures { Writes (W.contents out.old) (W.contents out.new) result (piece_text piece.entry) }
+{
+    match piece {
+        Piece::Text(text) => put(out, text),
+        Piece::Number(n) => put_number(out, n),
+        Piece::Field(n) => put_field(out, n),
+        Piece::Data([]) => put(out, b"-"),
+        Piece::Data(bytes) => put_hex(out, bytes),
+        Piece::Left(text, places) => put_left(out, text, places),
+        Piece::Right(text, places) => put_right(out, text, places),
+        Piece::RightNumber(n, places) => {
+            let mut buffer = Buffer::new();
+            put_right(out, buffer.format(n).as_bytes(), places)
+        }
+    }
+}
+
+/// Writes the pieces one after the other. After an Err some beginning of their text went out.
+pub fn put_pieces<W: Write>(out: &mut W, pieces: &[Piece<'_>]) -> Result<(), RefusedWrite>
+    ensures { Writes (W.contents out.old) (W.contents out.new) result (pieces_text pieces.now) }
+{
+    for piece in pieces {
+        put_piece(out, *piece)?;
+    }
+    Ok(())
+}

@@ -1,7 +1,0 @@
-use Rattle.std.proofs.Common.{◌≡◌, ◌≤◌, length}
-use Rattle.std.specs.Vec.{vec_capacity, vec_len}
-use Rattle.qtool.proofs.Telling.{AreTold}
-use Rattle.qtool.proofs.runs.outcomes_of.Given as goal
-
-abbrev pub invariant-loop-line : goal.invariant-loop-line
-invariant-loop-line l = AreTold l.worker l.lines l.line-index l.store.journal l.outcomes.items × (vec_len l.outcomes ≡ l.line-index) × (length l.lines ≤ vec_capacity l.outcomes) × (l.store.setting ≡ l.fn.store.setting)

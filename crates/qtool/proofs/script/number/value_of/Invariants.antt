@@ -1,6 +1,0 @@
-use Rattle.std.proofs.Common.{drop}
-use Rattle.qtool.proofs.Numerals.{IsSoFar}
-use Rattle.qtool.proofs.script.number.value_of.Given as goal
-
-abbrev pub invariant-loop-digit : goal.invariant-loop-digit
-invariant-loop-digit l = IsSoFar l.digits (drop l.digit-index l.digits) l.value

@@ -1,8 +1,0 @@
-use Rattle.std.proofs.Common.{drop}
-use Rattle.std.specs.List.{flat_map}
-use Rattle.qaudit.proofs.Fronts.{Partly}
-use Rattle.qtool.specs.Outcomes.{transcript_text}
-use Rattle.qtool.proofs.transcript_text.put_transcripts.Given as goal
-
-abbrev pub invariant-loop-transcript : goal.invariant-loop-transcript
-invariant-loop-transcript g l = Partly (g.W.Write.contents l.fn.out) (g.W.Write.contents l.out) (flat_map transcript_text l.transcripts) (flat_map transcript_text (drop l.transcript-index l.transcripts))
