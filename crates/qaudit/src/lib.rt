@@ -4,5 +4,3 @@
 pub use reports::{ReportFault, report};
 
 mod reports;
-#[cfg(test)]
-mod tests;

@@ -46,6 +46,4 @@ mod reply;
 mod setup;
 mod stat;
 mod tallies;
-#[cfg(test)]
-mod tests;
 mod transcript;

@@ -16,5 +16,3 @@ mod ending;
 mod files;
 mod program;
 mod runs;
-#[cfg(test)]
-mod tests;
