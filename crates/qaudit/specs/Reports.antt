@@ -23,8 +23,10 @@ column text = concat (codes " " ∷ right_in 10 text ∷ [])
 abbrev pub row_text : ℕ → RecordRow → List ℕ
 row_text moment r = concat (
     left_in 7 (kind_text r.kind) ∷ codes " " ∷ left_in 16 r.name ∷ codes " "
-    ∷ flag_text (is_over (amount_of Blocks r.blocks) r.limits.block_soft) ∷ flag_text (is_over (amount_of Inodes r.inodes) r.limits.inode_soft)
-    ∷ column (decimal (amount_of Blocks r.blocks)) ∷ column (decimal r.limits.block_soft) ∷ column (decimal r.limits.block_hard)
+    ∷ flag_text (is_over (amount_of Blocks r.blocks) r.limits.block_soft)
+    ∷ flag_text (is_over (amount_of Inodes r.inodes) r.limits.inode_soft)
+    ∷ column (decimal (amount_of Blocks r.blocks)) ∷ column (decimal r.limits.block_soft)
+    ∷ column (decimal r.limits.block_hard)
     ∷ column (grace_text moment r.block_end)
     ∷ column (decimal r.inodes) ∷ column (decimal r.limits.inode_soft) ∷ column (decimal r.limits.inode_hard)
     ∷ column (grace_text moment r.inode_end) ∷ codes "\n" ∷ [])

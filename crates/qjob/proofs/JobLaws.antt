@@ -27,7 +27,11 @@ row_at : (id : Text) (es : List Entry) → find (λ r. bytes_eq r.id id) (map ro
 row_at id [] = refl
 row_at id (e ∷ es) = go (bytes_eq e.0.now id) refl (row_at id es)
   where
-    go : (b : Bool) → bytes_eq e.0.now id ≡ b → find (λ r. bytes_eq r.id id) (map row_of es) ≡ option_map row_of (find (λ x. bytes_eq x.0.now id) es) → find (λ r. bytes_eq r.id id) (map row_of (e ∷ es)) ≡ option_map row_of (find (λ x. bytes_eq x.0.now id) (e ∷ es))
+    go : (b : Bool) → bytes_eq e.0.now id ≡ b
+        → find (λ r. bytes_eq r.id id) (map row_of es)
+        ≡ option_map row_of (find (λ x. bytes_eq x.0.now id) es)
+        → find (λ r. bytes_eq r.id id) (map row_of (e ∷ es))
+        ≡ option_map row_of (find (λ x. bytes_eq x.0.now id) (e ∷ es))
     go true is rest = rw is refl
     go false is rest = rw is rest
 
@@ -35,21 +39,25 @@ first_text : (vs : List (Bor (List ℕ))) → option_map (λ s. s.now) (slice_ge
 first_text [] = refl
 first_text (v ∷ vs) = refl
 
-first_read : (how : Reading) (vs : List (Bor (List ℕ))) → option_map (λ s. read_as how s.now) (slice_get vs 0) ≡ option_map (read_as how) (slice_get (texts vs) 0)
+first_read : (how : Reading) (vs : List (Bor (List ℕ)))
+    → option_map (λ s. read_as how s.now) (slice_get vs 0) ≡ option_map (read_as how) (slice_get (texts vs) 0)
 first_read how [] = refl
 first_read how (v ∷ vs) = refl
 
 pub first_in_rows : (f : Found) (id : Text) → first_value f id ≡ first_of id (rows_of f)
 first_in_rows f id = rw (row_at id f.entries.items) (go (find (λ e. bytes_eq e.0.now id) f.entries.items))
   where
-    go : (o : Option Entry) → option_and_then (λ a. option_map (λ s. s.now) (slice_get a.vals.items 0)) (option_map (λ e. e.1) o) ≡ option_and_then (λ r. slice_get r.values 0) (option_map row_of o)
+    go : (o : Option Entry) → option_and_then (λ a. option_map (λ s. s.now) (slice_get a.vals.items 0))
+        (option_map (λ e. e.1) o) ≡ option_and_then (λ r. slice_get r.values 0) (option_map row_of o)
     go None = refl
     go (Some e) = first_text e.1.vals.items
 
 pub one_in_rows : (f : Found) (id : Text) → one_text f id ≡ one_of id (rows_of f)
 one_in_rows f id = rw (row_at id f.entries.items) (go (find (λ e. bytes_eq e.0.now id) f.entries.items))
   where
-    go : (o : Option Entry) → option_and_then (λ a. option_map (λ s. read_as a.reading s.now) (slice_get a.vals.items 0)) (option_map (λ e. e.1) o) ≡ option_and_then row_text (option_map row_of o)
+    go : (o : Option Entry) → option_and_then
+        (λ a. option_map (λ s. read_as a.reading s.now) (slice_get a.vals.items 0)) (option_map (λ e. e.1) o)
+        ≡ option_and_then row_text (option_map row_of o)
     go None = refl
     go (Some e) = first_read e.1.reading e.1.vals.items
 
@@ -68,7 +76,9 @@ unless_weaker P Q (Line help text) weaker h = (h.0, λ q. h.1 (weaker q))
 
 -- ---- the job of the subcommand that was met
 
-pub job_at : (rows : Option (Text × List Row)) (name : Text) (own : List Row) (r : Result Job LineFault) → option_map (λ p. p.0) rows ≡ Some name → option_map (λ p. p.1) rows ≡ Some own → IfOk r (IsNamedBy name own) → IfOk r (IsJobOf rows)
+pub job_at : (rows : Option (Text × List Row)) (name : Text) (own : List Row) (r : Result Job LineFault)
+    → option_map (λ p. p.0) rows ≡ Some name → option_map (λ p. p.1) rows ≡ Some own
+    → IfOk r (IsNamedBy name own) → IfOk r (IsJobOf rows)
 job_at None name own r n e h = absurd cc
 job_at (Some p) name own (Ok job) n e h =
     let same : p.0 ≡ name = cc in
@@ -76,7 +86,10 @@ job_at (Some p) name own (Ok job) n e h =
     rw (same, entries) h
 job_at (Some p) name own (Err d) n e h = h
 
-pub no_job_at : (rows : Option (Text × List Row)) (name : Text) (own : List Row) (r : Result Job LineFault) → option_map (λ p. p.0) rows ≡ Some name → option_map (λ p. p.1) rows ≡ Some own → IfErr r (FailsUnless ((job : Job) × IsNamedBy name own job)) → IfErr r (FailsUnless ((job : Job) × IsJobOf rows job))
+pub no_job_at : (rows : Option (Text × List Row)) (name : Text) (own : List Row) (r : Result Job LineFault)
+    → option_map (λ p. p.0) rows ≡ Some name → option_map (λ p. p.1) rows ≡ Some own
+    → IfErr r (FailsUnless ((job : Job) × IsNamedBy name own job))
+    → IfErr r (FailsUnless ((job : Job) × IsJobOf rows job))
 no_job_at None name own r n e h = absurd cc
 no_job_at (Some p) name own (Err d) n e h =
     let same : p.0 ≡ name = cc in
@@ -110,15 +123,21 @@ no_names copied (name ∷ names) same none =
     absurd (omega arith)
 
 -- where no script stands there
-pub no_scripts : (rows : List Row) (fault : LineFault) → ((ts : List Text) → all_of (codes "scripts") rows ≡ Some ts → length ts ≡ 0) → FailsUnless ⊥ fault → FailsUnless ((ts : List Text) × AreScriptsIn rows ts) fault
-no_scripts rows fault empty h = unless_weaker ⊥ ((ts : List Text) × AreScriptsIn rows ts) fault (λ found. let none : length found.0 ≡ 0 = empty found.0 found.1.0 in let some : 0 < length found.0 = found.1.1 in omega arith) h
+pub no_scripts : (rows : List Row) (fault : LineFault)
+    → ((ts : List Text) → all_of (codes "scripts") rows ≡ Some ts → length ts ≡ 0) → FailsUnless ⊥ fault
+    → FailsUnless ((ts : List Text) × AreScriptsIn rows ts) fault
+no_scripts rows fault empty h =
+    unless_weaker ⊥ ((ts : List Text) × AreScriptsIn rows ts) fault (λ found. let none : length found.0
+    ≡ 0 = empty found.0 found.1.0 in let some : 0 < length found.0 = found.1.1 in omega arith) h
 
 -- how a `u64` is read from a text
 abbrev pub ReadsNumber : Text → Result ℕ ParseIntError → Type 0
 ReadsNumber t r = ParsesUnsigned 64 10 t r × ExplainsUnsignedError 10 t r × HasUnsignedDigitsIfOk t r
 
 -- the moment that was read
-pub moment_read : (f : Found) (r : Option ℕ) (at : ℕ) → (one_text f (codes "at") ≡ None → r ≡ None) → ((t : Text) → one_text f (codes "at") ≡ Some t → ReadsOne ReadsNumber t r) → r ≡ Some at → at ≤ 2 ^ 40 → IsMomentIn (rows_of f) at
+pub moment_read : (f : Found) (r : Option ℕ) (at : ℕ) → (one_text f (codes "at") ≡ None → r ≡ None)
+    → ((t : Text) → one_text f (codes "at") ≡ Some t → ReadsOne ReadsNumber t r) → r ≡ Some at → at ≤ 2 ^ 40
+    → IsMomentIn (rows_of f) at
 moment_read f r at none value got small = go (one_text f (codes "at")) refl
   where
     go : (o : Option Text) → one_text f (codes "at") ≡ o → IsMomentIn (rows_of f) at
@@ -130,8 +149,13 @@ moment_read f r at none value got small = go (one_text f (codes "at")) refl
         (t, sym (one_in_rows f (codes "at")) ∙ is, (read.0.0.0, read.0.1), small)
 
 -- no moment was read, or one that is too large
-pub no_moment : (f : Found) (r : Option ℕ) (fault : LineFault) → ((t : Text) → one_text f (codes "at") ≡ Some t → ReadsOne ReadsNumber t r) → ((n : ℕ) → r ≡ Some n → 2 ^ 40 < n) → FailsUnless ⊥ fault → FailsUnless ((at : ℕ) × IsMomentIn (rows_of f) at) fault
-no_moment f r fault value large h = unless_weaker ⊥ ((at : ℕ) × IsMomentIn (rows_of f) at) fault (λ m. go m.0 m.1.0 r refl (value m.1.0 (one_in_rows f (codes "at") ∙ m.1.1)) m.1.2 m.1.3) h
+pub no_moment : (f : Found) (r : Option ℕ) (fault : LineFault)
+    → ((t : Text) → one_text f (codes "at") ≡ Some t → ReadsOne ReadsNumber t r)
+    → ((n : ℕ) → r ≡ Some n → 2 ^ 40 < n) → FailsUnless ⊥ fault
+    → FailsUnless ((at : ℕ) × IsMomentIn (rows_of f) at) fault
+no_moment f r fault value large h =
+    unless_weaker ⊥ ((at : ℕ) × IsMomentIn (rows_of f) at) fault
+    (λ m. go m.0 m.1.0 r refl (value m.1.0 (one_in_rows f (codes "at") ∙ m.1.1)) m.1.2 m.1.3) h
   where
     go : (at : ℕ) (t : Text) (o : Option ℕ) → r ≡ o → ReadsOne ReadsNumber t o → Spells t at → at ≤ 2 ^ 40 → ⊥
     go at t (Some n) is read spelled small =
@@ -145,7 +169,9 @@ no_moment f r fault value large h = unless_weaker ⊥ ((at : ℕ) × IsMomentIn 
 -- ---- what is told of the words
 
 -- an error of this kind, told so
-pub told_among : (kinds : Kinds) (kind : ErrorKind) (fault : LineFault) → (kind ≡ OutOfMemory → fault ≡ Memory) → IsToldBy (kind ∷ []) fault → (kind ≡ OutOfMemory) ⊎ IsAmong kind kinds → IsToldBy kinds fault
+pub told_among : (kinds : Kinds) (kind : ErrorKind) (fault : LineFault)
+    → (kind ≡ OutOfMemory → fault ≡ Memory) → IsToldBy (kind ∷ []) fault
+    → (kind ≡ OutOfMemory) ⊎ IsAmong kind kinds → IsToldBy kinds fault
 told_among kinds kind Memory memory told has = tt
 told_among kinds kind (Line help text) memory told (inl out) =
     let no : Line help text ≡ Memory = memory out in
@@ -155,7 +181,8 @@ told_among kinds kind (Line help text) memory (k, inr none, told) (inr among) = 
 
 -- ---- a fault that is passed on
 
-pub passed_on : {T : Type 0} (r : Result T LineFault) (P Q : Type 0) (fault : LineFault) → IsErrAnd r (λ e. e ≡ fault) → FailsUnless P fault → (Q → P) → IfErr r (FailsUnless Q)
+pub passed_on : {T : Type 0} (r : Result T LineFault) (P Q : Type 0) (fault : LineFault)
+    → IsErrAnd r (λ e. e ≡ fault) → FailsUnless P fault → (Q → P) → IfErr r (FailsUnless Q)
 passed_on (Ok x) P Q fault is h weaker = tt
 passed_on (Err e) P Q fault is h weaker = rw is (unless_weaker P Q fault weaker h)
 
@@ -165,11 +192,15 @@ its_moment name rows (Run config at scripts) h = (at, h.2)
 -- ---- the words
 
 -- `clap` took the words, and its matches name the job
-pub asked : (words : List Text) (rows : Option (Text × List Row)) (r : Result Job LineFault) → fault_of quotafs words ≡ [] → rows ≡ subcommand_of quotafs words → IfOk r (IsJobOf rows) → IfOk r (IsAskedBy words)
+pub asked : (words : List Text) (rows : Option (Text × List Row)) (r : Result Job LineFault)
+    → fault_of quotafs words ≡ [] → rows ≡ subcommand_of quotafs words → IfOk r (IsJobOf rows)
+    → IfOk r (IsAskedBy words)
 asked words rows (Ok job) free same h = (free, rw (← same) h)
 asked words rows (Err e) free same h = tt
 
 -- or they name none
-pub not_asked : (words : List Text) (rows : Option (Text × List Row)) (r : Result Job LineFault) → fault_of quotafs words ≡ [] → rows ≡ subcommand_of quotafs words → IfErr r (FailsUnless ((job : Job) × IsJobOf rows job)) → IfErr r (IsRefusalOf words)
+pub not_asked : (words : List Text) (rows : Option (Text × List Row)) (r : Result Job LineFault)
+    → fault_of quotafs words ≡ [] → rows ≡ subcommand_of quotafs words
+    → IfErr r (FailsUnless ((job : Job) × IsJobOf rows job)) → IfErr r (IsRefusalOf words)
 not_asked words rows (Ok job) free same h = tt
 not_asked words rows (Err e) free same h = inr (free, rw (← same) h)

@@ -10,15 +10,31 @@ new_app name = app_of_name name
 
 -- `--config FILE`
 abbrev pub config : Rule
-config = record (new_rule (codes "config")) { long = Some (codes "config"); value_names = 1; required = true; action = Some Set }
+config = record (new_rule (codes "config")) {
+  long = Some (codes "config");
+  value_names = 1;
+  required = true;
+  action = Some Set;
+}
 
 -- `--at MOMENT`, from 0 to 2^40, and 0 where it is not given
 abbrev pub at : Rule
-at = record (new_rule (codes "at")) { long = Some (codes "at"); value_names = 1; parser = Some (Unsigned 0 1099511627776); defaults = codes "0" ∷ []; action = Some Set }
+at = record (new_rule (codes "at")) {
+  long = Some (codes "at");
+  value_names = 1;
+  parser = Some (Unsigned 0 1099511627776);
+  defaults = codes "0" ∷ [];
+  action = Some Set;
+}
 
 -- one or more scripts
 abbrev pub scripts : Rule
-scripts = record (new_rule (codes "scripts")) { value_names = 1; required = true; range = Some (record { start_inclusive = 1; end_inclusive = 2 ^ 64 - 1 }); action = Some Append }
+scripts = record (new_rule (codes "scripts")) {
+  value_names = 1;
+  required = true;
+  range = Some (record { start_inclusive = 1; end_inclusive = 2 ^ 64 - 1 });
+  action = Some Append;
+}
 
 -- `run`
 abbrev pub run : App

@@ -53,7 +53,8 @@ fn missing(alloc: Global) -> LineFault
 
 fn named(alloc: Global, matches: &ArgMatches<'_>, id: &str) -> Result<String, LineFault>
     ensures ok { IfOk result (λ s. first_of id.now (rows_of (found_of matches.now)) ≡ Some (string_bytes s)) }
-    ensures err { IfErr result (FailsUnless ((t : List ℕ) × (first_of id.now (rows_of (found_of matches.now)) ≡ Some t))) }
+    ensures err { IfErr result (FailsUnless
+        ((t : List ℕ) × (first_of id.now (rows_of (found_of matches.now)) ≡ Some t))) }
 {
     match matches.get_str(id) {
         Some(text) => Ok(String::from_str(alloc, text)?),
@@ -72,8 +73,10 @@ fn copies(alloc: Global, names: &[&str]) -> Result<Vec<String>, AllocError>
 }
 
 fn scripts(alloc: Global, matches: &ArgMatches<'_>) -> Result<Vec<String>, LineFault>
-    ensures ok { IfOk result (λ v. AreScriptsIn (rows_of (found_of matches.now)) (map (λ s. string_bytes s) v.items)) }
-    ensures err { IfErr result (FailsUnless ((ts : List (List ℕ)) × AreScriptsIn (rows_of (found_of matches.now)) ts)) }
+    ensures ok { IfOk result (λ v. AreScriptsIn (rows_of (found_of matches.now))
+        (map (λ s. string_bytes s) v.items)) }
+    ensures err { IfErr result (FailsUnless
+        ((ts : List (List ℕ)) × AreScriptsIn (rows_of (found_of matches.now)) ts)) }
 {
     match matches.get_strs("scripts") {
         Some(names) if !names.is_empty() => Ok(copies(alloc, names)?),
@@ -93,7 +96,8 @@ fn moment(alloc: Global, matches: &ArgMatches<'_>) -> Result<u64, LineFault>
 
 fn run(alloc: Global, matches: &ArgMatches<'_>) -> Result<Job, LineFault>
     ensures ok { IfOk result (IsNamedBy (codes "run") (rows_of (found_of matches.now))) }
-    ensures err { IfErr result (FailsUnless ((job : Job) × IsNamedBy (codes "run") (rows_of (found_of matches.now)) job)) }
+    ensures err { IfErr result (FailsUnless
+        ((job : Job) × IsNamedBy (codes "run") (rows_of (found_of matches.now)) job)) }
 {
     let config = named(alloc, matches, "config")?;
     let at = moment(alloc, matches)?;

@@ -19,7 +19,13 @@ IsWord w = list_all is_path_byte w ≡ true
 
 -- each word of a call
 limits_word : (l : Limits) → AreLimits l → AllByRecursion IsWord (limits_words l)
-limits_word l fits = (decimal_word l.block_soft fits.block_soft, (decimal_word l.block_hard fits.block_hard, (decimal_word l.inode_soft fits.inode_soft, (decimal_word l.inode_hard fits.inode_hard, tt))))
+limits_word l fits = (
+  decimal_word l.block_soft fits.block_soft,
+  (
+    decimal_word l.block_hard fits.block_hard,
+    (decimal_word l.inode_soft fits.inode_soft, (decimal_word l.inode_hard fits.inode_hard, tt)),
+  ),
+)
 
 id_word : (n : ℕ) → n < 2 ^ 32 → IsWord (decimal n)
 id_word n lt = decimal_word n (omega arith)
@@ -42,7 +48,12 @@ any_id n lt = number_again BadNumber (2 ^ 32 - 1) n (omega arith) (omega arith)
 
 limits_again : (l : Limits) → AreLimits l → limits_of (decimal l.block_soft) (decimal l.block_hard) (decimal l.inode_soft) (decimal l.inode_hard) ≡ Ok l
 unfolding limits_of
-limits_again l fits = rw (any_number l.block_soft fits.block_soft, any_number l.block_hard fits.block_hard, any_number l.inode_soft fits.inode_soft, any_number l.inode_hard fits.inode_hard) refl
+limits_again l fits = rw (
+  any_number l.block_soft fits.block_soft,
+  any_number l.block_hard fits.block_hard,
+  any_number l.inode_soft fits.inode_soft,
+  any_number l.inode_hard fits.inode_hard,
+) refl
 
 -- the call whose words these are
 pub call_again : (k : Call) → IsCall k → call_in (call_words k) ≡ Ok k

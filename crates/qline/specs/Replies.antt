@@ -43,7 +43,8 @@ done_text number c = concat (codes "done " ∷ decimal number
 -- the numbers of an inode
 abbrev pub stat_text : Stat → List ℕ
 stat_text s = concat (codes "stat " ∷ decimal s.ino ∷ (if s.dir then codes " dir " else codes " file ")
-    ∷ decimal s.uid ∷ codes " " ∷ decimal s.gid ∷ codes " " ∷ decimal s.size ∷ codes " " ∷ decimal s.blocks ∷ codes " " ∷ decimal s.links ∷ [])
+    ∷ decimal s.uid ∷ codes " " ∷ decimal s.gid ∷ codes " " ∷ decimal s.size ∷ codes " " ∷ decimal s.blocks
+    ∷ codes " " ∷ decimal s.links ∷ [])
 
 -- what a quota record holds: uses, limits and ends
 abbrev pub quota_text : Quota → List ℕ

@@ -35,8 +35,10 @@ transcript_text t = worker_text t.worker ++ flat_map line_text t.outcomes
 
 -- the totals, each beside its bound
 abbrev pub totals_text : Outcome → List ℕ
-totals_text o = concat (codes "totals blocks " ∷ decimal (total_of o.store.state Blocks) ∷ codes " of " ∷ decimal o.setup.blocks
-    ∷ codes " inodes " ∷ decimal (total_of o.store.state Inodes) ∷ codes " of " ∷ decimal o.setup.inodes ∷ codes "\n" ∷ [])
+totals_text o = concat (codes "totals blocks " ∷ decimal (total_of o.store.state Blocks) ∷ codes " of "
+    ∷ decimal o.setup.blocks
+    ∷ codes " inodes " ∷ decimal (total_of o.store.state Inodes) ∷ codes " of " ∷ decimal o.setup.inodes
+    ∷ codes "\n" ∷ [])
 
 -- the line over a report
 abbrev pub moment_text : ℕ → List ℕ

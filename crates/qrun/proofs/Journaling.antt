@@ -14,7 +14,10 @@ use Rattle.qrun.specs.declared.journaled_store.TheConstants.{MAX_ENTRIES}
 use Rattle.qrun.specs.Journaled.{IsPlayed, Journaled, entry_of}
 
 -- one more entry, whose reply and state are the plain machine's
-pub played_on : (old new : Journaled) (worker : ℕ) (line : Line) (reply : Reply) → IsPlayed old → length old.journal < MAX_ENTRIES → new.setting ≡ old.setting → new.journal ≡ old.journal ++ entry_of worker line reply ∷ [] → (new.stored.state, reply) ≡ step old.stored.state line.cred line.moment line.call → IsPlayed new
+pub played_on : (old new : Journaled) (worker : ℕ) (line : Line) (reply : Reply) → IsPlayed old
+    → length old.journal < MAX_ENTRIES → new.setting ≡ old.setting
+    → new.journal ≡ old.journal ++ entry_of worker line reply ∷ []
+    → (new.stored.state, reply) ≡ step old.stored.state line.cred line.moment line.call → IsPlayed new
 played_on old new worker line reply is few setting journal stepped =
     let e : Entry = entry_of worker line reply in
     let S : State = start old.setting in
@@ -29,7 +32,10 @@ played_on old new worker line reply is few setting journal stepped =
     }
 
 -- what was ready and is carried out is the plain machine's step, with the reply that was copied beforehand
-pub carried_out : (before ready_state after : State) (r : Ready) (reply shown copy : Reply) (line : Line) → ready_state ≡ before → outcome before r ≡ step before line.cred line.moment line.call → (after, reply) ≡ outcome ready_state r → shown ≡ r.reply → copy ≡ shown → (after, copy) ≡ step before line.cred line.moment line.call
+pub carried_out : (before ready_state after : State) (r : Ready) (reply shown copy : Reply) (line : Line)
+    → ready_state ≡ before → outcome before r ≡ step before line.cred line.moment line.call
+    → (after, reply) ≡ outcome ready_state r → shown ≡ r.reply → copy ≡ shown
+    → (after, copy) ≡ step before line.cred line.moment line.call
 carried_out before ready_state after r reply shown copy line same stepped done told copied =
     let given : reply ≡ r.reply = ap (λ p. p.1) done in
     ap (λ x. (after, x)) (copied ∙ told ∙ sym given) ∙ done ∙ ap (λ T. outcome T r) same ∙ stepped

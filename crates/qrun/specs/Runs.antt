@@ -21,7 +21,8 @@ journaled_line worker line (Err fault) = []
 
 -- the entries that a worker's receipts stand for, line by line
 unfoldable pub journaled_lines : ℕ → List Line → List (Result Receipt CallFault) → List (ℕ × Entry)
-journaled_lines worker (line ∷ lines) (outcome ∷ outcomes) = journaled_line worker line outcome ++ journaled_lines worker lines outcomes
+journaled_lines worker (line ∷ lines) (outcome ∷ outcomes) =
+    journaled_line worker line outcome ++ journaled_lines worker lines outcomes
 journaled_lines worker [] outcomes = []
 journaled_lines worker (line ∷ lines) [] = []
 
@@ -41,7 +42,8 @@ pub record IsTranscriptOf (worker : ℕ) (lines : List Line) (journal : List Ent
 -- worker by worker, from this number on, the transcripts are those of the scripts
 unfoldable pub AreTranscriptsOf : ℕ → List (List Line) → List Entry → List Transcript → Type 0
 AreTranscriptsOf worker [] journal [] = Unit {0}
-AreTranscriptsOf worker (lines ∷ scripts) journal (t ∷ ts) = IsTranscriptOf worker lines journal t × AreTranscriptsOf (worker + 1) scripts journal ts
+AreTranscriptsOf worker (lines ∷ scripts) journal (t ∷ ts) = IsTranscriptOf worker lines journal t
+    × AreTranscriptsOf (worker + 1) scripts journal ts
 AreTranscriptsOf worker [] journal (t ∷ ts) = ⊥
 AreTranscriptsOf worker (lines ∷ scripts) journal [] = ⊥
 

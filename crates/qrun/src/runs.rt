@@ -38,7 +38,8 @@ fn outcomes_of(
     requires fresh { store.old.journal ≡ [] }
     ensures setting { store.new.setting ≡ store.old.setting }
     ensures each { IfOk result (λ outcomes. length outcomes.items ≡ length lines.now) }
-    ensures own { IfOk result (λ outcomes. journaled_lines worker lines.now outcomes.items ≡ entries_of store.new.journal worker) }
+    ensures own { IfOk result (λ outcomes. journaled_lines worker lines.now outcomes.items
+        ≡ entries_of store.new.journal worker) }
     ensures all { OnOk result (All (λ e. e.worker ≡ worker) store.new.journal) }
     ensures full { IfOk result (λ outcomes. All (IsFullOf store.new.journal) outcomes.items) }
 {

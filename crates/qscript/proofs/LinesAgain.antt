@@ -35,7 +35,8 @@ in_again moment cred call lt c k = rw (any_number moment lt, caller_again cred c
 abbrev joined : Line → List ℕ
 joined l = join_with_byte 32 (line_words l)
 
-weaker_all : (p q : ℕ → Bool) (ws : List (List ℕ)) → ((b : ℕ) → p b ≡ true → q b ≡ true) → AllByRecursion (λ w. list_all p w ≡ true) ws → AllByRecursion (λ w. list_all q w ≡ true) ws
+weaker_all : (p q : ℕ → Bool) (ws : List (List ℕ)) → ((b : ℕ) → p b ≡ true → q b ≡ true)
+    → AllByRecursion (λ w. list_all p w ≡ true) ws → AllByRecursion (λ w. list_all q w ≡ true) ws
 weaker_all p q [] f h = tt
 weaker_all p q (w ∷ ws) f h = (passes_weaker p q w f h.0, weaker_all p q ws f h.1)
 
@@ -43,7 +44,8 @@ line_is_text : (l : Line) → IsLine l → list_all is_text_byte (joined l) ≡ 
 line_is_text l fits = passes_join is_text_byte 32 (line_words l) refl (weaker_all is_path_byte is_text_byte (line_words l) word_is_text (line_word l fits))
 
 line_parts : (l : Line) → IsLine l → words (joined l) ≡ line_words l
-line_parts l fits = parts_join 32 (decimal l.moment) (caller_text l.cred ∷ call_words l.call) (weaker_all is_path_byte (λ b. not (eqb b 32)) (line_words l) word_lacks_space (line_word l fits))
+line_parts l fits = parts_join 32 (decimal l.moment) (caller_text l.cred ∷ call_words l.call)
+    (weaker_all is_path_byte (λ b. not (eqb b 32)) (line_words l) word_lacks_space (line_word l fits))
 
 pub at_line_again : (n : ℕ) (l : Line) → n ≤ 65536 → IsLine l → at_line (record { number = n; bytes = joined l; whole = true }) ≡ Ok l
 unfolding at_line line_of
@@ -60,7 +62,8 @@ raw_again n l ls fits =
     ∙ ap (raw_lines_from n) (parts_first 10 (joined l) (spelling ls) lacking_feed)
     ∙ more_lines n (joined l) (parts 10 (spelling ls)) (some_part 10 (spelling ls))
 
-each_line_again : (n : ℕ) (ls : List Line) → n + length ls ≤ 65537 → AllByRecursion IsLine ls → each_of at_line (raw_lines_from n (parts 10 (spelling ls))) ≡ Ok ls
+each_line_again : (n : ℕ) (ls : List Line) → n + length ls ≤ 65537 → AllByRecursion IsLine ls
+    → each_of at_line (raw_lines_from n (parts 10 (spelling ls))) ≡ Ok ls
 unfolding each_of
 each_line_again n [] le fits = ap (each_of at_line) (no_line n)
 each_line_again n (l ∷ ls) le fits =

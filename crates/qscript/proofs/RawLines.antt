@@ -7,7 +7,8 @@ use Rattle.qtext.proofs.Splitting.{some_part}
 use Rattle.qplain.specs.declared.line.Line.{Line}
 use Rattle.qscript.specs.Scripts.{RawLine, raw_lines_from, line_of, at_line}
 
-pub more_lines : (n : ℕ) (l : List ℕ) (ls : List (List ℕ)) → 0 < length ls → raw_lines_from n (l ∷ ls) ≡ record { number = n; bytes = l; whole = true } ∷ raw_lines_from (n + 1) ls
+pub more_lines : (n : ℕ) (l : List ℕ) (ls : List (List ℕ)) → 0 < length ls
+    → raw_lines_from n (l ∷ ls) ≡ record { number = n; bytes = l; whole = true } ∷ raw_lines_from (n + 1) ls
 unfolding raw_lines_from
 more_lines n l [] lt = absurd (omega arith)
 more_lines n l (m ∷ ls) lt = refl

@@ -49,7 +49,8 @@ passes_append p (x ∷ xs) ys h k =
     let b = and_true (p x) (list_all p xs) h in
     and_both (p x) (list_all p (xs ++ ys)) b.0 (passes_append p xs ys b.1 k)
 
-pub passes_join : (p : ℕ → Bool) (s : ℕ) (ws : List (List ℕ)) → p s ≡ true → AllByRecursion (λ v. list_all p v ≡ true) ws → list_all p (join_with_byte s ws) ≡ true
+pub passes_join : (p : ℕ → Bool) (s : ℕ) (ws : List (List ℕ)) → p s ≡ true
+    → AllByRecursion (λ v. list_all p v ≡ true) ws → list_all p (join_with_byte s ws) ≡ true
 passes_join p s [] e h = refl
 passes_join p s (w ∷ []) e h = h.0
 passes_join p s (w ∷ v ∷ ws) e h = passes_append p w (s ∷ join_with_byte s (v ∷ ws)) h.0 (and_both (p s) _ e (passes_join p s (v ∷ ws) e h.1))

@@ -27,25 +27,31 @@ le_after : (n : ℕ) (ds : List ℕ) → n ≤ digits_value_after 10 n ds
 le_after n [] = omega arith
 le_after n (c ∷ cs) = omega (arith, le_after (n * 10 + digit_value c) cs)
 
-all_at : (digits rest : List ℕ) (value d : ℕ) → IsSoFar digits (d ∷ rest) value → is_ascii_digit d ≡ true → list_all is_ascii_digit digits ≡ list_all is_ascii_digit rest
+all_at : (digits rest : List ℕ) (value d : ℕ) → IsSoFar digits (d ∷ rest) value → is_ascii_digit d ≡ true
+    → list_all is_ascii_digit digits ≡ list_all is_ascii_digit rest
 all_at digits rest value d so is = so.same ∙ rw is refl
 
-worth_at : (digits rest : List ℕ) (value d : ℕ) → IsSoFar digits (d ∷ rest) value → is_ascii_digit d ≡ true → AreDigits rest → digits_value_after 10 (value * 10 + (d - 48)) rest ≡ digits_value 10 digits
+worth_at : (digits rest : List ℕ) (value d : ℕ) → IsSoFar digits (d ∷ rest) value → is_ascii_digit d ≡ true
+    → AreDigits rest → digits_value_after 10 (value * 10 + (d - 48)) rest ≡ digits_value 10 digits
 worth_at digits rest value d so is all =
     let both : AreDigits (d ∷ rest) = rw is all in
     rw (← digit_of d is) (so.worth both)
 
-pub one_more : (digits rest left : List ℕ) (value d : ℕ) → left ≡ d ∷ rest → is_ascii_digit d ≡ true → IsSoFar digits left value → IsSoFar digits rest (value * 10 + (d - 48))
+pub one_more : (digits rest left : List ℕ) (value d : ℕ) → left ≡ d ∷ rest → is_ascii_digit d ≡ true
+    → IsSoFar digits left value → IsSoFar digits rest (value * 10 + (d - 48))
 one_more digits rest left value d e is so =
     let here : IsSoFar digits (d ∷ rest) value = rw e at so in
     record { same = all_at digits rest value d here is; worth = worth_at digits rest value d here is }
 
-pub no_digits : (digits rest left : List ℕ) (value d : ℕ) → left ≡ d ∷ rest → is_ascii_digit d ≡ false → IsSoFar digits left value → list_all is_ascii_digit digits ≡ false
+pub no_digits : (digits rest left : List ℕ) (value d : ℕ) → left ≡ d ∷ rest → is_ascii_digit d ≡ false
+    → IsSoFar digits left value → list_all is_ascii_digit digits ≡ false
 no_digits digits rest left value d e nope so =
     let here : IsSoFar digits (d ∷ rest) value = rw e at so in
     here.same ∙ rw nope refl
 
-pub too_large : (digits rest left : List ℕ) (value d most : ℕ) → left ≡ d ∷ rest → is_ascii_digit d ≡ true → most ≤ value * 10 + (d - 48) → IsSoFar digits left value → AreDigits digits → most ≤ digits_value 10 digits
+pub too_large : (digits rest left : List ℕ) (value d most : ℕ) → left ≡ d ∷ rest → is_ascii_digit d ≡ true
+    → most ≤ value * 10 + (d - 48) → IsSoFar digits left value → AreDigits digits
+    → most ≤ digits_value 10 digits
 too_large digits rest left value d most e is le so all =
     let here : IsSoFar digits (d ∷ rest) value = rw e at so in
     let worth = worth_at digits rest value d here is (sym (all_at digits rest value d here is) ∙ all) in

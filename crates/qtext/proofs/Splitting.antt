@@ -36,14 +36,18 @@ pub some_part : (s : ℕ) (text : List ℕ) → 0 < length (parts s text)
 some_part s text = omega (arith, length-slice_split (λ b. eqb b s) text)
 
 -- what the answer of `first_part` says, by what stands behind the separator
-pub only_part : {A : Type 0} (now : A → List ℕ) (s : ℕ) (text first : List ℕ) (after : Option A) → parts s text ≡ first ∷ parts_after s (option_map now after) → after ≡ None → parts s text ≡ first ∷ []
+pub only_part : {A : Type 0} (now : A → List ℕ) (s : ℕ) (text first : List ℕ) (after : Option A)
+    → parts s text ≡ first ∷ parts_after s (option_map now after) → after ≡ None → parts s text ≡ first ∷ []
 only_part now s text first after h e = rw e at h
 
-pub next_part : {A : Type 0} (now : A → List ℕ) (s : ℕ) (text first : List ℕ) (after : Option A) (x : A) → parts s text ≡ first ∷ parts_after s (option_map now after) → after ≡ Some x → parts s text ≡ first ∷ parts s (now x)
+pub next_part : {A : Type 0} (now : A → List ℕ) (s : ℕ) (text first : List ℕ) (after : Option A) (x : A)
+    → parts s text ≡ first ∷ parts_after s (option_map now after) → after ≡ Some x
+    → parts s text ≡ first ∷ parts s (now x)
 next_part now s text first after x h e = rw e at h
 
 pub left_parts : {A : Type 0} (now : A → List ℕ) (s : ℕ) (left : Option A) (rest : A) (first : List ℕ) (after : Option A)
-    → left ≡ Some rest → parts s (now rest) ≡ first ∷ parts_after s (option_map now after) → parts_after s (option_map now left) ≡ first ∷ parts_after s (option_map now after)
+    → left ≡ Some rest → parts s (now rest) ≡ first ∷ parts_after s (option_map now after)
+    → parts_after s (option_map now left) ≡ first ∷ parts_after s (option_map now after)
 left_parts now s left rest first after e h = rw e h
 
 pub no_left : {A : Type 0} (now : A → List ℕ) (s : ℕ) (left : Option A) → left ≡ None → parts_after s (option_map now left) ≡ []

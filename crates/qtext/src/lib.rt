@@ -1,4 +1,4 @@
-//! The words of all texts, written and read: pieces of lines for any writer, and the words of a line with their numbers and data.
+//! The words of all texts, both ways: pieces of lines for any writer, and the words of a line with their numbers and data.
 #![tactic(auto)]
 
 pub use data::{byte_of, copies_of, data_of};

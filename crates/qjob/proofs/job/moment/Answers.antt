@@ -5,7 +5,9 @@ use Rattle.qjob.proofs.job.moment.Goals.{in_default-via-in-Some+else-at-le-MAX_M
 use Rattle.qjob.proofs.job.moment.Goals as goal
 
 pub returns-in-Some-clause-ok : goal.returns-in-Some-clause-ok
-returns-in-Some-clause-ok c = moment_read (found_of c.args.matches.now) c.get_one.result c.in-Some.at c.get_one.ensures.none c.get_one.ensures.value c.in-Some.is c.if-at-le-MAX_MOMENT.true
+returns-in-Some-clause-ok c =
+    moment_read (found_of c.args.matches.now) c.get_one.result c.in-Some.at c.get_one.ensures.none
+    c.get_one.ensures.value c.in-Some.is c.if-at-le-MAX_MOMENT.true
 
 pub returns-in_default-clause-err : goal.returns-in_default-clause-err
 returns-in_default-clause-err c = no_moment (found_of c.args.matches.now) c.get_one.result c.missing.result c.get_one.ensures.value

@@ -8,7 +8,9 @@ use Rattle.qline.proofs.caller.groups_of.Given as goal
 
 -- the groups so far, and what is still read
 abbrev pub invariant-loop-left : goal.invariant-loop-left
-invariant-loop-left l = with_front l.groups.items (groups_of (parts_after 44 (option_map (λ t. t.now) l.left))) ≡ groups_of (parts_after 44 (option_map (λ t. t.now) l.text))
+invariant-loop-left l = with_front l.groups.items
+    (groups_of (parts_after 44 (option_map (λ t. t.now) l.left)))
+    ≡ groups_of (parts_after 44 (option_map (λ t. t.now) l.text))
 
 abbrev pub decreases-loop-left : goal.decreases-loop-left
 decreases-loop-left l = size_of (option_map (λ t. t.now) l.left)

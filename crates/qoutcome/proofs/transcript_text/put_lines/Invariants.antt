@@ -5,4 +5,6 @@ use Rattle.qoutcome.specs.Outcomes.{line_text}
 use Rattle.qoutcome.proofs.transcript_text.put_lines.Given as goal
 
 abbrev pub invariant-loop-outcome : goal.invariant-loop-outcome
-invariant-loop-outcome g l = Partly (g.W.Write.contents l.fn.out) (g.W.Write.contents l.out) (flat_map line_text l.outcomes) (flat_map line_text (drop l.outcome-index l.outcomes))
+invariant-loop-outcome g l =
+    Partly (g.W.Write.contents l.fn.out) (g.W.Write.contents l.out) (flat_map line_text l.outcomes)
+    (flat_map line_text (drop l.outcome-index l.outcomes))

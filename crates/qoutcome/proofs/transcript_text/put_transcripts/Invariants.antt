@@ -5,4 +5,6 @@ use Rattle.qoutcome.specs.Outcomes.{transcript_text}
 use Rattle.qoutcome.proofs.transcript_text.put_transcripts.Given as goal
 
 abbrev pub invariant-loop-transcript : goal.invariant-loop-transcript
-invariant-loop-transcript g l = Partly (g.W.Write.contents l.fn.out) (g.W.Write.contents l.out) (flat_map transcript_text l.transcripts) (flat_map transcript_text (drop l.transcript-index l.transcripts))
+invariant-loop-transcript g l =
+    Partly (g.W.Write.contents l.fn.out) (g.W.Write.contents l.out) (flat_map transcript_text l.transcripts)
+    (flat_map transcript_text (drop l.transcript-index l.transcripts))

@@ -4,4 +4,6 @@ use Rattle.qrun.proofs.Telling.{AreTold}
 use Rattle.qrun.proofs.runs.outcomes_of.Given as goal
 
 abbrev pub invariant-loop-line : goal.invariant-loop-line
-invariant-loop-line l = AreTold l.worker l.lines l.line-index l.store.journal l.outcomes.items × (vec_len l.outcomes ≡ l.line-index) × (length l.lines ≤ vec_capacity l.outcomes) × (l.store.setting ≡ l.fn.store.setting)
+invariant-loop-line l = AreTold l.worker l.lines l.line-index l.store.journal l.outcomes.items
+    × (vec_len l.outcomes ≡ l.line-index) × (length l.lines ≤ vec_capacity l.outcomes)
+    × (l.store.setting ≡ l.fn.store.setting)

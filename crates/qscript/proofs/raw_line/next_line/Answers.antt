@@ -3,7 +3,9 @@ use Rattle.qscript.proofs.RawLines.{ended_line, cut_line}
 use Rattle.qscript.proofs.raw_line.next_line.Goals as goal
 
 pub returns-in-Some-clause-first : goal.returns-in-Some-clause-first
-returns-in-Some-clause-first c = λ n. ended_line n c.args.text.now _ c.in-Some.after.now (next_part (λ t. t.now) 10 c.args.text.now _ _ _ c.first_part.ensures.parts c.in-Some.is)
+returns-in-Some-clause-first c =
+    λ n. ended_line n c.args.text.now _ c.in-Some.after.now
+    (next_part (λ t. t.now) 10 c.args.text.now _ _ _ c.first_part.ensures.parts c.in-Some.is)
 
 pub returns-in-None-clause-first : goal.returns-in-None-clause-first
 returns-in-None-clause-first c = λ n.

@@ -9,10 +9,14 @@ unfolding encode_with
 one_more bytes i lt = rw (add-one, drop-cons bytes i 0) refl
 
 pub returns-in_err-put : goal.returns-in_err-put
-returns-in_err-put g c = ends_refused _ _ _ _ _ _ _ _ c.from_residual.ensures.0 c.loop-byte.invariant (rw c.hex_digits.ensures at c.in_err-put.ensures) (one_more c.args.bytes.now c.loop-byte.byte-index c.loop-byte-test.true)
+returns-in_err-put g c = ends_refused _ _ _ _ _ _ _ _ c.from_residual.ensures.0 c.loop-byte.invariant
+    (rw c.hex_digits.ensures at c.in_err-put.ensures)
+    (one_more c.args.bytes.now c.loop-byte.byte-index c.loop-byte-test.true)
 
 pub loop-byte-preserved : goal.loop-byte-preserved
-loop-byte-preserved g c = partly_next _ _ _ _ _ _ _ c.loop-byte.invariant (rw c.hex_digits.ensures at c.in_ok-put.ensures) (one_more c.args.bytes.now c.loop-byte.byte-index c.loop-byte-test.true)
+loop-byte-preserved g c =
+    partly_next _ _ _ _ _ _ _ c.loop-byte.invariant (rw c.hex_digits.ensures at c.in_ok-put.ensures)
+    (one_more c.args.bytes.now c.loop-byte.byte-index c.loop-byte-test.true)
 
 ended : (bytes : List ℕ) (i : ℕ) → length bytes ≤ i → encode_lower (drop i bytes) ≡ []
 unfolding encode_with

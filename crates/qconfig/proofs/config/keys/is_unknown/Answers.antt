@@ -7,4 +7,6 @@ use Rattle.qconfig.proofs.config.keys.is_unknown.Goals as goal
 
 pub returns : goal.returns
 returns c =
-    ap not (any_from_yields_List (λ k. bytes_eq c.args.key.now k.now) _ _ _ c.any.ensures.ran (YieldsList-from_slice c.args.known.now (search rules)) (λ x b q k. search (rules, tests)) ∙ list_any-map (bytes_eq c.args.key.now) (λ k. k.now) c.args.known.now)
+    ap not (any_from_yields_List (λ k. bytes_eq c.args.key.now k.now) _ _ _ c.any.ensures.ran
+    (YieldsList-from_slice c.args.known.now (search rules)) (λ x b q k. search (rules, tests))
+    ∙ list_any-map (bytes_eq c.args.key.now) (λ k. k.now) c.args.known.now)

@@ -6,5 +6,7 @@ use Rattle.qconfig.proofs.config.keys.unknown_after.Given as goal
 
 abbrev pub invariant-loop-table : goal.invariant-loop-table
 invariant-loop-table l =
-    fold lesser_of (option_map (λ key. key.now) l.least) (filter (is_unknown principal_keys) (flat_map keys_of (map (λ t. table_view t.now) (drop l.table-index l.tables))))
+    fold lesser_of (option_map (λ key. key.now) l.least)
+    (filter (is_unknown principal_keys)
+    (flat_map keys_of (map (λ t. table_view t.now) (drop l.table-index l.tables))))
     ≡ fold lesser_of (option_map (λ key. key.now) l.so_far) (filter (is_unknown principal_keys) (flat_map keys_of (map (λ t. table_view t.now) l.tables)))

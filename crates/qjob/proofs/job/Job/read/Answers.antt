@@ -32,7 +32,8 @@ returns-in-Ok-clause-job c =
     let shape : app_of c.in_ok-command.command ≡ quotafs = c.in_ok-command.ensures in
     let words : List Text = map (λ w. string_bytes w) c.args.words.now in
     let free : fault_of quotafs words ≡ [] = subst (λ (a : App). fault_of a words ≡ []) shape (c.in-Ok.ensures.kinds (ap is_simple_and_free shape ∙ is_free)) in
-    let rows = same_rows (subcommand_rows_of c.in-Ok.matches) (app_of c.in_ok-command.command) words shape (c.in-Ok.ensures.matches (ap is_simple shape ∙ is_plain)).1 in
+    let rows = same_rows (subcommand_rows_of c.in-Ok.matches) (app_of c.in_ok-command.command) words shape
+    (c.in-Ok.ensures.matches (ap is_simple shape ∙ is_plain)).1 in
     asked words (subcommand_rows_of c.in-Ok.matches) c.job_of.result free rows c.job_of.ensures.ok
 
 pub returns-in-Ok-clause-refused : goal.returns-in-Ok-clause-refused
@@ -40,5 +41,6 @@ returns-in-Ok-clause-refused c =
     let shape : app_of c.in_ok-command.command ≡ quotafs = c.in_ok-command.ensures in
     let words : List Text = map (λ w. string_bytes w) c.args.words.now in
     let free : fault_of quotafs words ≡ [] = subst (λ (a : App). fault_of a words ≡ []) shape (c.in-Ok.ensures.kinds (ap is_simple_and_free shape ∙ is_free)) in
-    let rows = same_rows (subcommand_rows_of c.in-Ok.matches) (app_of c.in_ok-command.command) words shape (c.in-Ok.ensures.matches (ap is_simple shape ∙ is_plain)).1 in
+    let rows = same_rows (subcommand_rows_of c.in-Ok.matches) (app_of c.in_ok-command.command) words shape
+    (c.in-Ok.ensures.matches (ap is_simple shape ∙ is_plain)).1 in
     not_asked words (subcommand_rows_of c.in-Ok.matches) c.job_of.result free rows c.job_of.ensures.err
