@@ -1,9 +1,10 @@
-ghost use Rattle.std.specs.Prelude.{◌≡◌, ◌<◌, ◌≤◌, ◌+◌, ◌++◌, ◌∷◌, [], ◌↔◌, length, vec_len, vec_capacity, IfOk, OnErr, OnOk, Err};
+ghost use Rattle.std.specs.Prelude.{◌≡◌, ◌<◌, ◌≤◌, ◌+◌, ◌++◌, ◌∷◌, [], ◌↔◌, length, map, vec_len, vec_capacity, IfOk, OnErr, OnOk, Err};
 ghost use Rattle.qplain.specs.State.{start};
 ghost use Rattle.qstore.specs.Rows.{record_row_of};
-ghost use Rattle.qrun.specs.Journaled.{IsJournaled, IsPlayed};
+ghost use Rattle.qrun.specs.Journaled.{IsJournaled, IsPlayed, entry_of};
 
-use qplain::{CallFault, Entry, Line, NoMemory, Receipt, Setup};
+use qplain::{CallFault, Entry, Line, NoMemory, Receipt, Reply, Setup};
+use qrules::RecordRow;
 use qstore::Store;
 use std::alloc::Global;
 use std::marker::Model;
@@ -46,6 +47,19 @@ pub(crate) fn append<T: Drop>(items: &mut Vec<T>, item: T)
     }
 }
 
+/// The entry of a worker's line that was given this reply.
+fn entry_of(alloc: Global, worker: u64, line: &Line, reply: &Reply) -> Result<Entry, NoMemory>
+    ensures { IfOk result (λ entry. entry ≡ entry_of worker line.now reply.now) }
+{
+    Ok(Entry {
+        worker,
+        cred: line.cred,
+        moment: line.moment,
+        call: line.call.copy(alloc)?,
+        reply: reply.copy(alloc)?,
+    })
+}
+
 impl JournaledStore {
     /// A new store of the setup, with an empty journal. After an Err nothing was made.
     pub(crate) fn new(alloc: Global, setup: Setup) -> Result<JournaledStore, NoMemory>
@@ -69,17 +83,9 @@ impl JournaledStore {
         ensures err { OnErr result (self.new.journal ≡ self.old.journal) }
     {
         self.journal.reserve(1)?;
-        let call = line.call.copy(self.alloc)?;
         let ready = self.store.ready(&line.cred, line.moment, &line.call)?;
-        let copy = ready.reply().copy(self.alloc)?;
+        let entry = entry_of(self.alloc, worker, line, ready.reply())?;
         let reply = self.store.commit(ready);
-        let entry = Entry {
-            worker,
-            cred: line.cred,
-            moment: line.moment,
-            call,
-            reply: copy,
-        };
         append(&mut self.journal, entry);
         Ok(Receipt {
             place: self.journal.len() as u64,
@@ -101,6 +107,14 @@ impl JournaledStore {
             Ok(receipt) => Ok(receipt),
             Err(_) => Err(CallFault::OutOfMemory),
         }
+    }
+
+    /// The quota records of the store.
+    pub(crate) fn record_rows(&self) -> Result<Vec<RecordRow>, NoMemory>
+        ensures { IfOk result (λ rows. rows.items
+            ≡ map (record_row_of self.now.stored.state) self.now.stored.state.holders) }
+    {
+        self.store.record_rows()
     }
 
     /// The setup, the store and the journal.

@@ -2,12 +2,13 @@
 ghost use Rattle.std.specs.Prelude.{◌≡◌, [], ◌∷◌, length, All, IfOk, OnOk, map, vec_len};
 ghost use Rattle.qplain.specs.Journal.{entries_of};
 ghost use Rattle.qstore.specs.Rows.{record_row_of};
-ghost use Rattle.qrun.specs.Runs.{IsFullOf, IsOutcomeOf, IsTranscriptOf, journaled_lines};
+ghost use Rattle.qrun.specs.Journaled.{IsPlayed};
+ghost use Rattle.qrun.specs.Runs.{AreTranscriptsOf, Belongs, IsFullOf, IsOutcomeOf, IsTranscriptOf, journaled_lines};
 
 use crate::Outcome;
 use crate::journaled_store::{JournaledStore, append};
 use qplain::{CallFault, Line, NoMemory, Receipt, Setup, Transcript};
-use qrules::Items;
+use qrules::{Items, RecordRow};
 use std::alloc::Global;
 
 /// Why a run has no outcome.
@@ -50,28 +51,73 @@ fn outcomes_of(
     Ok(outcomes)
 }
 
-/// Plays the lines of one worker on a store of the setup.
-fn play_lines(alloc: Global, setup: Setup, lines: Vec<Line>) -> Result<Outcome, NoMemory>
-    ensures { IfOk result (IsOutcomeOf setup (lines.items ∷ [])) }
+/// Makes the calls of the only worker's lines on a store that has just begun, and tells what each was answered.
+fn transcripts_of(
+    alloc: Global,
+    store: &mut JournaledStore,
+    lines: Vec<Line>,
+) -> Result<Items<Transcript>, NoMemory>
+    requires fresh { store.old.journal ≡ [] }
+    ensures setting { store.new.setting ≡ store.old.setting }
+    ensures transcripts { IfOk result (AreTranscriptsOf 1 (lines.items ∷ []) store.new.journal) }
+    ensures belong { IfOk result (λ transcripts. All (Belongs transcripts) store.new.journal) }
 {
-    let mut store = JournaledStore::new(alloc, setup)?;
-    let outcomes = outcomes_of(alloc, &mut store, 1, &lines)?;
-    let (setup, store, journal) = store.into_parts();
-    let records = store.record_rows()?;
     let mut transcripts = Vec::with_capacity(alloc, 1)?;
+    let outcomes = outcomes_of(alloc, store, 1, &lines)?;
     let transcript = Transcript {
         worker: 1,
         lines: Items::new(lines),
         outcomes: Items::new(outcomes),
     };
     append(&mut transcripts, transcript);
-    Ok(Outcome {
+    Ok(Items::new(transcripts))
+}
+
+/// What a run leaves of its store.
+fn outcome_of(
+    store: JournaledStore,
+    transcripts: Items<Transcript>,
+    records: Vec<RecordRow>,
+) -> Outcome
+    ensures setup { result.setup ≡ store.setting }
+    ensures store { result.store ≡ store.stored }
+    ensures journal { result.journal ≡ store.journal }
+    ensures transcripts { result.transcripts ≡ transcripts }
+    ensures records { result.records ≡ records.items }
+    ensures played { IsPlayed store }
+{
+    let (setup, store, journal) = store.into_parts();
+    Outcome {
         setup,
         store,
         journal: Items::new(journal),
-        transcripts: Items::new(transcripts),
+        transcripts,
         records: Items::new(records),
-    })
+    }
+}
+
+/// Plays the lines of one worker on a store that has just begun.
+fn play_lines(
+    alloc: Global,
+    mut store: JournaledStore,
+    lines: Vec<Line>,
+) -> Result<Outcome, NoMemory>
+    requires fresh { store.journal ≡ [] }
+    ensures { IfOk result (IsOutcomeOf store.setting (lines.items ∷ [])) }
+{
+    let transcripts = transcripts_of(alloc, &mut store, lines)?;
+    let records = store.record_rows()?;
+    Ok(outcome_of(store, transcripts, records))
+}
+
+/// Plays the lines of one worker on a new store of the setup.
+fn play(alloc: Global, setup: Setup, lines: Vec<Line>) -> Result<Outcome, NoMemory>
+    ensures { IfOk result (IsOutcomeOf setup (lines.items ∷ [])) }
+{
+    match JournaledStore::new(alloc, setup) {
+        Ok(store) => play_lines(alloc, store, lines),
+        Err(refused) => Err(refused),
+    }
 }
 
 /// Plays the lines of a script on a new store of the setup: the worker makes their calls one after the other, and goes
@@ -81,7 +127,7 @@ fn play_lines(alloc: Global, setup: Setup, lines: Vec<Line>) -> Result<Outcome, 
 pub fn run_lines(alloc: Global, setup: Setup, lines: Vec<Line>) -> Result<Outcome, RunFault>
     ensures outcome { IfOk result (IsOutcomeOf setup (lines.items ∷ [])) }
 {
-    match play_lines(alloc, setup, lines) {
+    match play(alloc, setup, lines) {
         Ok(outcome) => Ok(outcome),
         Err(_) => Err(RunFault::Memory),
     }

@@ -56,22 +56,35 @@ fn script<F: Files>(
     }
 }
 
-/// Runs the only script.
-fn run_one(alloc: Global, config: Config, script: Script) -> Result<Outcome, Ending> {
+/// Runs the only script, and writes what came of it.
+fn run_one<O: Write>(
+    alloc: Global,
+    config: Config,
+    script: Script,
+    at: u64,
+    out: &mut O,
+) -> Result<(), Ending> {
     let mut scripts = Vec::new(alloc);
     if scripts.push(script).is_err() {
         return Err(Ending::Memory);
     }
     match run(alloc, config, scripts) {
-        Ok(outcome) => Ok(outcome),
+        Ok(outcome) => put_outcome(&outcome, at, out),
         Err(RunFault::Memory) => Err(Ending::Memory),
     }
+}
+
+fn put_outcome<O: Write>(outcome: &Outcome, at: u64, out: &mut O) -> Result<(), Ending> {
+    if write_outcome(outcome, at, out).is_err() || out.flush().is_err() {
+        return Err(Ending::Output);
+    }
+    Ok(())
 }
 
 /// Reads what the job names, in the order in which faults are told, runs it, and writes what came of it.
 fn do_job<F: Files, O: Write>(
     alloc: Global,
-    job: Job,
+    job: &Job,
     files: &mut F,
     out: &mut O,
 ) -> Result<(), Ending> {
@@ -85,11 +98,7 @@ fn do_job<F: Files, O: Write>(
         return Err(Ending::TooManyScripts);
     };
     let script = script(alloc, files, 1, name.as_str())?;
-    let outcome = run_one(alloc, config, script)?;
-    if write_outcome(&outcome, at, out).is_err() || out.flush().is_err() {
-        return Err(Ending::Output);
-    }
-    Ok(())
+    run_one(alloc, config, script, *at, out)
 }
 
 /// The whole program: reads the words of the command line, its own name the first of them, reads the files that they
@@ -105,7 +114,7 @@ pub fn tool<F: Files, O: Write, E: Write>(
     err: &mut E,
 ) -> u8 {
     let done = match Job::read(alloc, words) {
-        Ok(job) => do_job(alloc, job, files, out),
+        Ok(job) => do_job(alloc, &job, files, out),
         Err(LineFault::Line { help, text }) => Err(Ending::Line { help, text }),
         Err(LineFault::Memory) => Err(Ending::Memory),
     };
