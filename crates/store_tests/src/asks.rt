@@ -25,7 +25,13 @@ pub(crate) enum Ask<'a> {
 fn root(alloc: Global) -> Result<Vec<Principal>, NoMemory> {
     let name = PrincipalName::new(String::from_str(alloc, "root")?);
     let limits = Limits::default();
-    Ok(vec![in alloc; Principal { id: 0, name, limits }]?)
+    Ok(vec![in alloc;
+        Principal {
+            id: 0,
+            name,
+            limits
+        },
+    ]?)
 }
 
 /// A new store that has room for 10 blocks and 6 inodes, and has user 0 and group 0 alone.

@@ -67,6 +67,12 @@ pub(crate) fn told_into<O: Write>(
         words.push(String::from_str(alloc, word)?)?;
     }
     let mut err = Vec::new(alloc);
-    let status = tool(alloc, &words, &mut MemoryFiles { alloc, short }, out, &mut err);
+    let status = tool(
+        alloc,
+        &words,
+        &mut MemoryFiles { alloc, short },
+        out,
+        &mut err,
+    );
     Ok((status, err))
 }

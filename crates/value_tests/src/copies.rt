@@ -29,7 +29,12 @@ fn copies_of_lines_are_equal(rt: HostRuntime) -> Result<(), Fail> {
     };
     let copy = line.copy(rt.alloc())?;
     assert!(rt; copy == line);
-    assert!(rt; Line { moment: 1100, ..copy } != line);
+    assert!(rt;
+        Line {
+            moment: 1100,
+            ..copy
+        } != line
+    );
     Ok(())
 }
 

@@ -9,11 +9,20 @@ const GRACES: Graces = Graces {
     inode: 100,
 };
 
+const NO_LIMITS: Limits = Limits {
+    block_soft: 0,
+    block_hard: 0,
+    inode_soft: 0,
+    inode_hard: 0,
+};
+
 /// A principal of this id and name, without limits.
 pub(crate) fn named(alloc: Global, id: u32, name: &str) -> Result<Principal, NoMemory> {
-    let name = PrincipalName::new(String::from_str(alloc, name)?);
-    let limits = Limits::default();
-    Ok(Principal { id, name, limits })
+    Ok(Principal {
+        id,
+        name: PrincipalName::new(String::from_str(alloc, name)?),
+        limits: NO_LIMITS,
+    })
 }
 
 /// A setup of so many blocks and 6 inodes, with two users and one group.
@@ -52,7 +61,11 @@ fn blocks_and_names_have_ranges(rt: HostRuntime) -> Result<(), NoMemory> {
         (1, 0, "root", "0", false),
     ] {
         let given = setup(alloc, blocks, [(0, "root"), (second, name)], group)?;
-        let wanted = if is_taken { None } else { Some(SetupFault::Range) };
+        let wanted = if is_taken {
+            None
+        } else {
+            Some(SetupFault::Range)
+        };
         assert_eq!(rt; given.err(), wanted, "at {blocks} {second} {name} {group}");
     }
     Ok(())
