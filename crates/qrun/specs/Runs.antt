@@ -30,8 +30,8 @@ journaled_lines worker (line ∷ lines) [] = []
 abbrev pub IsFullOf : List Entry → Result Receipt CallFault → Type 0
 IsFullOf journal outcome = outcome ≡ Err JournalFull → length journal ≡ MAX_ENTRIES
 
--- a worker's transcript: its script's lines, one outcome for each, the receipts are its own entries, and no outcome tells
--- of a full journal that is not full
+-- a worker's transcript: its script's lines, one outcome for each, the receipts are its own entries, and no outcome
+-- tells of a full journal that is not full
 pub record IsTranscriptOf (worker : ℕ) (lines : List Line) (journal : List Entry) (t : Transcript) : Type 0 where
   pub worker_is : t.worker ≡ worker
   pub lines_are : t.lines ≡ lines
