@@ -9,6 +9,4 @@ pub use writing::{put, put_pieces};
 mod piece;
 mod refused_write;
 mod reports;
-#[cfg(test)]
-mod tests;
 mod writing;

@@ -9,8 +9,6 @@ mod row;
 mod rows;
 mod span;
 mod spare;
-#[cfg(test)]
-mod tests;
 
 pub use block::BLOCK_SIZE;
 pub use file::{BlockFile, MAX_SIZE};

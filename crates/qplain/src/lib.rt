@@ -41,5 +41,3 @@ mod reply;
 mod setup;
 mod stat;
 mod tallies;
-#[cfg(test)]
-mod tests;

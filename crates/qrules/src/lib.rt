@@ -24,5 +24,3 @@ mod over;
 mod principal_name;
 mod record;
 mod record_row;
-#[cfg(test)]
-mod tests;

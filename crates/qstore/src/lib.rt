@@ -13,6 +13,4 @@ mod path;
 mod places;
 mod ready;
 mod store;
-#[cfg(test)]
-mod tests;
 mod tree;

@@ -32,8 +32,6 @@ mod receipt;
 mod reply_text;
 mod runs;
 mod script;
-#[cfg(test)]
-mod tests;
 mod text_fault;
 mod transcript;
 mod transcript_text;

@@ -1,0 +1,140 @@
+"""The rows of checking/, read: what the program is run on, and what it has to answer.
+
+- FOLDER/ROW.txt is a script, FOLDER/config.toml its configuration, and FOLDER/ROW.MOMENT.out the whole text that it
+  prints with the report at that moment. The folder `examples` has the answers for the scripts of examples/.
+- configs/THEME.rows: a line is a list of old and new pieces of configs/good.toml, in pairs, and last what is then told:
+  a fault, or a line that the outcome of the empty script has.
+- scripts/THEME.rows: a line is the bytes of a script, and its fault.
+- command_lines.rows: a line is the words, the status, the output and the error output, in the folder `a`. Two dots at
+  the end stand for any further text: what help and faults of the command line say is the library's.
+"""
+import json
+import subprocess
+from functools import cached_property
+from pathlib import Path
+
+ROOT = Path(__file__).resolve().parent.parent
+CHECKING = ROOT / "checking"
+BUILT = ROOT / "crates/quotafs/out/quotafs"
+EXAMPLE = CHECKING / "a/config.toml"
+EMPTY = CHECKING / "a/empty.txt"
+FAILED = b"- failed OutOfMemory\n"
+MEMORY = (3, b"", b"quotafs: memory\n")
+
+
+def call(words, program=BUILT, folder=ROOT, **further):
+    """Status, output and error output of a run."""
+    done = subprocess.run([program, *words], capture_output=True, cwd=folder, timeout=60, **further)
+    return done.returncode, done.stdout, done.stderr
+
+
+def is_as(text, wanted):
+    """Whether a text is the wanted one, or begins so and goes on where two dots stand at the end."""
+    if wanted.endswith(b".."):
+        return text.startswith(wanted[:-2]) and len(text) > len(wanted) - 2
+    return text == wanted
+
+
+class Case:
+    """A run of the program, and its answer. Where it `refuses`, each of its allocations is refused in turn, too."""
+
+    def __init__(self, name, words, status, out=b"", err=b"", folder=ROOT, refuses=False):
+        self.name, self.words, self.folder, self.refuses = name, words, folder, refuses
+        self.status, self.out, self.err = status, out, err
+
+    @cached_property
+    def answer(self):
+        return call(self.words, folder=self.folder)
+
+    def is_right(self):
+        status, out, err = self.answer
+        return status == self.status and is_as(out, self.out) and is_as(err, self.err)
+
+    def ending(self, answer):
+        """How a run ends in which one allocation was refused, or None where it may not end so."""
+        return {self.answer: "unchanged", MEMORY: "memory"}.get(answer)
+
+
+class Change(Case):
+    """A changed configuration that is read: the outcome of the empty script has this line."""
+
+    def is_right(self):
+        status, out, err = self.answer
+        return (status, err) == (0, b"") and self.out in out.splitlines()
+
+
+class Row(Case):
+    """A script at a moment, and the whole text that it prints."""
+
+    def __init__(self, out, config, script, refuses, work):
+        name, moment, _ = out.name.split(".")
+        self.head = ["run", "--config", config, "--at", moment]
+        self.lines = script.read_bytes().splitlines(keepends=True)
+        self.shorter = {}
+        self.work = work / f"{out.parent.name}.{name}.{moment}"
+        name = f"{out.parent.name}/{name} at {moment}"
+        super().__init__(name, [*self.head, script], 0, out.read_bytes(), refuses=refuses)
+
+    def without(self, failed):
+        """The answer to the script without a line, which is told as having failed."""
+        if failed not in self.shorter:
+            self.work.write_bytes(b"".join(self.lines[:failed] + self.lines[failed + 1 :]))
+            status, out, err = call([*self.head, self.work])
+            told = out.splitlines(keepends=True)
+            told.insert(1 + failed, FAILED)
+            self.shorter[failed] = (status, b"".join(told), err)
+        return self.shorter[failed]
+
+    def ending(self, answer):
+        told = answer[1].splitlines(keepends=True)
+        if FAILED in told:
+            return "a failed line" if answer == self.without(told.index(FAILED) - 1) else None
+        return super().ending(answer)
+
+
+def outcomes(work):
+    """The scripts that are run to their end. The allocations of the worked examples of the formats are refused."""
+    for out in sorted(CHECKING.glob("*/*.out")):
+        folder, script = out.parent, out.name.split(".")[0] + ".txt"
+        refuses = folder.name in ("a", "a0", "examples") or script == "one_call_of_each_kind.txt"
+        if folder.name == "examples":
+            yield Row(out, ROOT / "examples/farm.toml", ROOT / "examples" / script, refuses, work)
+        else:
+            yield Row(out, folder / "config.toml", folder / script, refuses, work)
+
+
+def listed(pattern):
+    """The name, the number and the content of each line of the tables, and a name of a file of its own."""
+    for table in sorted(CHECKING.glob(pattern)):
+        for number, line in enumerate(table.read_text().splitlines(), 1):
+            yield f"{table.parent.name}/{table.stem} {number}", number, json.loads(line), f"{table.stem}.{number}"
+
+
+def configs(work):
+    """Changes of the good configuration."""
+    for name, number, (*pieces, told), file in listed("configs/*.rows"):
+        text = (CHECKING / "configs/good.toml").read_text()
+        for old, new in zip(pieces[::2], pieces[1::2]):
+            if old not in text:
+                raise ValueError(f"{name}: no {old}")
+            text = text.replace(old, new, 1)
+        (work / file).write_text(text, newline="")
+        words, refuses = ["run", "--config", work / file, EMPTY], number == 1
+        if told.startswith("config: "):
+            yield Case(name, words, 2, err=f"quotafs: {told}\n".encode(), refuses=refuses)
+        else:
+            yield Change(name, words, 0, told.encode(), refuses=refuses)
+
+
+def scripts(work):
+    """Scripts that are refused."""
+    for name, number, (text, fault), file in listed("scripts/*.rows"):
+        (work / file).write_bytes(text.encode("latin-1"))
+        words = ["run", "--config", EXAMPLE, work / file]
+        yield Case(name, words, 2, err=f"quotafs: script 1: {fault}\n".encode(), refuses=number == 1)
+
+
+def command_lines():
+    """Command lines, with help, faults of each kind, and which of two is told."""
+    for name, _, (words, status, out, err), _ in listed("command_lines.rows"):
+        yield Case(name, words, status, out.encode(), err.encode(), CHECKING / "a", refuses=True)

@@ -1,2 +1,0 @@
-mod pieces;
-mod reports;

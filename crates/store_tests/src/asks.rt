@@ -1,0 +1,133 @@
+//! A small store, and calls and replies as the rows of a test write them.
+
+use Ask::{Create, Read, SetGrace, SetUser, Stat, User, Write};
+use qplain::{Call, Change, Cred, NoMemory, Path, Principal, Quota, Reply, Setup};
+use qrules::{Graces, Items, Kind, Limits, PrincipalName};
+use qstore::Store;
+use std::alloc::Global;
+use std::process::Abort;
+
+/// A call as a row asks it.
+#[derive(Clone, Copy, Debug)]
+pub(crate) enum Ask<'a> {
+    Create(&'a str),
+    Write(&'a str, u64, &'a [u8]),
+    Read(&'a str, u64, u64),
+    Stat(&'a str),
+    /// To set the soft limit of user 0 for blocks, in KiB.
+    SetUser(u64),
+    /// To set the grace for blocks and that for inodes.
+    SetGrace(u64, u64),
+    /// The quota record of user 0.
+    User,
+}
+
+fn root(alloc: Global) -> Result<Vec<Principal>, NoMemory> {
+    let name = PrincipalName::new(String::from_str(alloc, "root")?);
+    let limits = Limits::default();
+    Ok(vec![in alloc;
+        Principal {
+            id: 0,
+            name,
+            limits
+        },
+    ]?)
+}
+
+/// A new store that has room for 10 blocks and 6 inodes, and has user 0 and group 0 alone.
+pub(crate) fn new_store(rt: &impl Abort, alloc: Global) -> Result<Store, NoMemory> {
+    let graces = Graces {
+        block: 100,
+        inode: 100,
+    };
+    let setup = Setup::new(10, 6, graces, root(alloc)?, root(alloc)?).expect(rt, "a setup");
+    Store::new(alloc, setup)
+}
+
+/// The superuser, in group 0 alone.
+pub(crate) fn caller(rt: &impl Abort) -> Cred {
+    Cred::new(0, 0, &[]).expect(rt, "a caller")
+}
+
+fn path(rt: &impl Abort, alloc: Global, text: &str) -> Result<Path, NoMemory> {
+    Ok(Path::new(Vec::from_slice(alloc, text.as_bytes())?).expect(rt, "a path"))
+}
+
+fn limits(block_soft: u64) -> Limits {
+    Limits {
+        block_soft,
+        ..Limits::default()
+    }
+}
+
+pub(crate) fn call(rt: &impl Abort, alloc: Global, ask: Ask<'_>) -> Result<Call, NoMemory> {
+    Ok(match ask {
+        Create(text) => Call::Create {
+            path: path(rt, alloc, text)?,
+        },
+        Write(text, off, bytes) => Call::Write {
+            path: path(rt, alloc, text)?,
+            off,
+            bytes: Items::new(Vec::from_slice(alloc, bytes)?),
+        },
+        Read(text, off, len) => Call::Read {
+            path: path(rt, alloc, text)?,
+            off,
+            len,
+        },
+        Stat(text) => Call::Stat {
+            path: path(rt, alloc, text)?,
+        },
+        SetUser(block_soft) => Call::SetQuota {
+            kind: Kind::User,
+            id: 0,
+            limits: limits(block_soft),
+        },
+        SetGrace(block, inode) => Call::SetGrace {
+            graces: Graces { block, inode },
+        },
+        User => Call::Quota {
+            kind: Kind::User,
+            id: 0,
+        },
+    })
+}
+
+/// Done with an inode of this number, for so many new blocks and inodes.
+pub(crate) fn done(number: u64, blocks: u64, inodes: u64) -> Reply {
+    let change = Change {
+        blocks_charged: blocks,
+        blocks_released: 0,
+        inodes_charged: inodes,
+        inodes_released: 0,
+    };
+    Reply::Done(number, change)
+}
+
+pub(crate) fn bytes(alloc: Global, bytes: &[u8]) -> Result<Reply, NoMemory> {
+    Ok(Reply::Bytes(Items::new(Vec::from_slice(alloc, bytes)?)))
+}
+
+/// A file of the superuser's with one name.
+pub(crate) fn file(ino: u64, size: u64, blocks: u64) -> Reply {
+    Reply::Stat(qplain::Stat {
+        ino,
+        dir: false,
+        uid: 0,
+        gid: 0,
+        size,
+        blocks,
+        links: 1,
+    })
+}
+
+/// A record with a soft limit for blocks, and the end of the grace for blocks that runs.
+pub(crate) fn record(blocks: u64, inodes: u64, block_soft: u64, end: u64) -> Reply {
+    Reply::Quota(Quota {
+        blocks,
+        inodes,
+        limits: limits(block_soft),
+        block_end: Some(end),
+        inode_end: None,
+    })
+}

@@ -1,0 +1,11 @@
+//! Tests of the store that no script can make: a library with no function of its own.
+#![tactic(auto)]
+
+#[cfg(test)]
+mod asks;
+#[cfg(test)]
+mod dropped;
+#[cfg(test)]
+mod refused;
+#[cfg(test)]
+mod rows;

@@ -1,0 +1,156 @@
+//! Each allocation refused in turn: the store is as before, and the same call then gets its reply.
+
+use crate::asks::Ask::{Create, Read, SetGrace, SetUser, Stat, User, Write};
+use crate::asks::{Ask, bytes, call, caller, done, file, new_store, record};
+use Way::{Apply, Commit};
+use qplain::{Call, NoMemory, Reply};
+use qrules::Kind;
+use qstore::Store;
+use std::alloc::Global;
+use std::io::Print;
+use std::process::Abort;
+
+/// Tells `checks/allocations` that this run has refused an allocation of the test.
+fn tell_refused(rt: &impl Print) {
+    let _ = println!(rt; "an allocation was refused");
+}
+
+/// Makes a value. Where an allocation is refused, it is made once more.
+fn again<T, F: FnMut() -> Result<T, NoMemory>>(rt: &impl Print, mut make: F) -> Result<T, NoMemory>
+    requires { F.IsAlwaysCallable make }
+{
+    match make() {
+        Ok(made) => Ok(made),
+        Err(_) => {
+            tell_refused(rt);
+            make()
+        }
+    }
+}
+
+/// How a call is made.
+#[derive(Clone, Copy, Debug)]
+enum Way {
+    Apply,
+    /// It is made ready and then committed, which copies what it has to keep.
+    Commit,
+}
+
+fn answer(rt: &impl Abort, store: &mut Store, way: Way, call: &Call) -> Result<Reply, NoMemory> {
+    match way {
+        Apply => store.apply(&caller(rt), 0, call),
+        Commit => {
+            let ready = store.ready(&caller(rt), 0, call)?;
+            Ok(store.commit(ready))
+        }
+    }
+}
+
+/// What can be seen of a store without memory: its totals, `/a`, and the two records.
+#[derive(PartialEq, Drop)]
+struct Seen {
+    blocks: u64,
+    inodes: u64,
+    file: Reply,
+    user: Reply,
+    group: Reply,
+}
+
+fn quota(kind: Kind) -> Call {
+    Call::Quota { kind, id: 0 }
+}
+
+fn look(rt: &impl Abort, store: &mut Store, stat: &Call) -> Result<Seen, NoMemory> {
+    let root = caller(rt);
+    Ok(Seen {
+        blocks: store.blocks(),
+        inodes: store.inodes(),
+        file: store.apply(&root, 0, stat)?,
+        user: store.apply(&root, 0, &quota(Kind::User))?,
+        group: store.apply(&root, 0, &quota(Kind::Group))?,
+    })
+}
+
+/// The reply to a call. Where an allocation is refused, the store is to look as before, and is asked once more.
+fn insist(
+    rt: &(impl Abort + Print),
+    store: &mut Store,
+    stat: &Call,
+    way: Way,
+    call: &Call,
+) -> Result<Reply, NoMemory> {
+    let before = look(rt, store, stat)?;
+    match answer(rt, store, way, call) {
+        Ok(given) => Ok(given),
+        Err(_) => {
+            tell_refused(rt);
+            assert!(rt; look(rt, store, stat)? == before);
+            answer(rt, store, way, call)
+        }
+    }
+}
+
+/// What a row is told: what it charges, the bytes of `/b`, the file `/a`, or the record of user 0.
+#[derive(Clone, Copy, Debug)]
+enum Told<'a> {
+    Done(u64, u64, u64),
+    Bytes(&'a [u8]),
+    File,
+    Record,
+}
+
+fn reply(alloc: Global, told: Told<'_>) -> Result<Reply, NoMemory> {
+    Ok(match told {
+        Told::Done(number, blocks, inodes) => done(number, blocks, inodes),
+        Told::Bytes(text) => bytes(alloc, text)?,
+        Told::File => file(2, 4097, 2),
+        Told::Record => record(3, 3, 4, 7),
+    })
+}
+
+/// Fails where the reply to the call is another.
+fn ask(
+    rt: &(impl Abort + Print),
+    alloc: Global,
+    store: &mut Store,
+    row: (Way, Ask<'_>, Told<'_>),
+) -> Result<(), NoMemory> {
+    let (way, asked, told) = row;
+    let stat = again(rt, || call(rt, alloc, Stat("/a")))?;
+    let call = again(rt, || call(rt, alloc, asked))?;
+    let told = again(rt, || reply(alloc, told))?;
+    let given = insist(rt, store, &stat, way, &call)?;
+    assert!(rt; given == told, "at {asked:?}");
+    Ok(())
+}
+
+/// How many record rows, inode rows and name rows a store has.
+fn count_rows(rt: &impl Print, store: &Store) -> Result<(usize, usize, usize), NoMemory> {
+    let records = again(rt, || store.record_rows())?;
+    let inodes = again(rt, || store.inode_rows())?;
+    let names = again(rt, || store.name_rows())?;
+    Ok((records.len(), inodes.len(), names.len()))
+}
+
+#[test]
+fn a_refused_call_changes_nothing(rt: HostRuntime) -> Result<(), NoMemory> {
+    let alloc = rt.alloc();
+    let mut store = again(&rt, || new_store(&rt, alloc))?;
+    for row in [
+        (Apply, Create("/a"), Told::Done(2, 0, 1)),
+        (Commit, Create("/b"), Told::Done(3, 0, 1)),
+        (Commit, Write("/a", 4095, b"xy"), Told::Done(2, 2, 0)),
+        (Apply, Write("/b", 0, b"z"), Told::Done(3, 1, 0)),
+        (Apply, Read("/a", 4094, 9), Told::Bytes(b"\0xy")),
+        (Commit, Read("/b", 0, 9), Told::Bytes(b"z")),
+        (Apply, SetGrace(7, 8), Told::Done(0, 0, 0)),
+        (Commit, SetUser(4), Told::Done(0, 0, 0)),
+        (Apply, User, Told::Record),
+        (Commit, Stat("/a"), Told::File),
+    ] {
+        ask(&rt, alloc, &mut store, row)?;
+    }
+    assert_eq!(rt; count_rows(&rt, &store)?, (2, 3, 2));
+    assert_eq!(rt; (store.blocks(), store.inodes()), (3, 3));
+    Ok(())
+}

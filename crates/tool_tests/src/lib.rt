@@ -1,0 +1,13 @@
+//! Tests of texts and of the whole program that the built program cannot show: a library with no function of its own.
+#![tactic(auto)]
+
+#[cfg(test)]
+mod memory_files;
+#[cfg(test)]
+mod outputs;
+#[cfg(test)]
+mod reports;
+#[cfg(test)]
+mod short;
+#[cfg(test)]
+mod words;
