@@ -1,26 +1,25 @@
-ghost use Rattle.std.specs.Prelude.{◌≡◌, ◌==◌, true, false, map, All, IfOk, OnOk, OnErr};
-ghost use Rattle.std.specs.List.{list_any};
-ghost use Rattle.qrules.specs.Range.{are_graces_in_range};
+ghost use Rattle.std.specs.Prelude.{◌≡◌, false, All, IfOk, OnOk, OnErr};
 ghost use Rattle.qrules.specs.Sort.{Blocks, Inodes};
 ghost use Rattle.qplain.specs.State.{State, start};
 ghost use Rattle.qplain.specs.Use.{total_of};
 ghost use Rattle.qplain.specs.Caller.{is_superuser};
 ghost use Rattle.qplain.specs.Laws.{IsLawful, PassesNoLimit};
 ghost use Rattle.qplain.specs.Step.{step};
-ghost use Rattle.qstore.specs.Owners.{charged_owner};
 ghost use Rattle.qstore.specs.Stored.{IsSound, Stored};
 ghost use Rattle.qstore.specs.Ready.{CanCarryOut, IsReady, bytes_of, effect, outcome};
 
 use crate::ledger::Ledger;
 use crate::ready::{Decided, Plan, Ready};
+use crate::store::begin::{begun, ledger_of};
 use crate::tree::Tree;
-use qplain::{Call, Cred, FILE_LIMIT, NoMemory, Reply, Setup};
+use qplain::{Call, Cred, NoMemory, Reply, Setup};
 use qrules::{Graces, Items};
 use std::alloc::Global;
 use std::marker::Model;
 
 mod admit;
 mod arguments;
+mod begin;
 mod create;
 mod quota;
 mod read;
@@ -72,19 +71,6 @@ fn bytes_for<'a>(plan: &Plan, call: &'a Call) -> &'a [u8]
     }
 }
 
-/// Charges id 0, who is in every setup, with the root directory.
-fn charge_root(ledger: &mut Ledger, graces: Graces)
-    requires declared { list_any (λ o. 0 == o.id) ledger.old ≡ true }
-    requires unused { All (λ o. (o.account.blocks ≡ 0) × (o.account.inodes ≡ 0)) ledger.old }
-    requires range { are_graces_in_range graces ≡ true }
-    ensures { ledger.new ≡ map (charged_owner 0 graces 0 0 1) ledger.old }
-{
-    match ledger.place(0) {
-        Some(place) => ledger.charge(place, graces, 0, 0, 1),
-        None => unreachable!(),
-    }
-}
-
 impl Store {
     /// A new store of a setup. It holds the root directory, inode 1 of user 0 and group 0; the next number is 2, and a
     /// file has at most 2^30 bytes (tmpfs(5), profile).
@@ -93,25 +79,10 @@ impl Store {
     pub fn new(alloc: Global, setup: Setup) -> Result<Store, NoMemory>
         ensures { IfOk result (λ s. s.state ≡ start setup) }
     {
-        let graces = setup.graces();
-        let mut users = Ledger::new(alloc, setup.users())?;
-        let mut groups = Ledger::new(alloc, setup.groups())?;
+        let users = ledger_of(alloc, setup.users(), setup.graces())?;
+        let groups = ledger_of(alloc, setup.groups(), setup.graces())?;
         let tree = Tree::new(alloc)?;
-        charge_root(&mut users, graces);
-        charge_root(&mut groups, graces);
-        Ok(Store {
-            alloc,
-            size: setup.blocks(),
-            most_inodes: setup.inodes(),
-            file_limit: FILE_LIMIT,
-            graces,
-            users,
-            groups,
-            tree,
-            next: 2,
-            blocks: 0,
-            inodes: 1,
-        })
+        Ok(begun(alloc, &setup, users, groups, tree))
     }
 
     /// The allocated blocks of 4096 bytes. O(1).
