@@ -1,4 +1,8 @@
 //! How the program ends early, in one line.
+ghost use Rattle.std.specs.Prelude.{◌≡◌, ◌⊎◌, true};
+ghost use Rattle.qtool.specs.Endings.{IsStatus, IsUntouchedAt};
+ghost use Rattle.qtool.specs.declared.ending.Ending.TheVariants.{Output};
+
 use crate::{ConfigFault, TextFault};
 use qtext::{Piece, RefusedWrite, put, put_pieces};
 use std::io::Write;
@@ -24,7 +28,10 @@ pub(crate) enum Ending {
 
 impl Ending {
     /// The exit status: 0 for help, 2 for what was asked, 3 for the machine, 4 for the output.
-    pub(crate) fn status(&self) -> u8 {
+    pub(crate) fn status(&self) -> u8
+        ensures status { IsStatus result }
+        ensures output { self.now ≡ Output → result ≡ 4 }
+    {
         match self {
             Ending::Line { help: true, .. } => 0,
             Ending::Config(ConfigFault::Memory) | Ending::Memory => 3,
@@ -34,7 +41,11 @@ impl Ending {
     }
 
     /// Writes the line to the error output, or help to the output. A help that cannot be written is a refused output.
-    pub(crate) fn tell<O: Write, E: Write>(&self, out: &mut O, err: &mut E) -> u8 {
+    pub(crate) fn tell<O: Write, E: Write>(&self, out: &mut O, err: &mut E) -> u8
+        ensures status { IsStatus result }
+        ensures untouched { IsUntouchedAt result (O.contents out.old) (O.contents out.new) }
+        ensures output { self.now ≡ Output → result ≡ 4 }
+    {
         if let Ending::Line { help: true, text } = self {
             if put(out, text.as_bytes()).is_ok() && out.flush().is_ok() {
                 return 0;
@@ -45,7 +56,10 @@ impl Ending {
     }
 
     /// Writes the line, whatever becomes of it, and answers the status.
-    fn tell_line<E: Write>(&self, err: &mut E) -> u8 {
+    fn tell_line<E: Write>(&self, err: &mut E) -> u8
+        ensures status { IsStatus result }
+        ensures output { self.now ≡ Output → result ≡ 4 }
+    {
         let _ = self.put_line(err);
         self.status()
     }

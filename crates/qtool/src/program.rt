@@ -1,4 +1,8 @@
 //! The whole program over files, output and fault lines.
+ghost use Rattle.std.specs.Prelude.{◌≡◌, ◌⊎◌, IfErr};
+ghost use Rattle.qtool.specs.Endings.{IsStatus, IsUntouchedAt};
+ghost use Rattle.qtool.specs.declared.ending.Ending.TheVariants.{Output};
+
 use crate::ending::Ending;
 use crate::{
     Config, ConfigFault, FileFault, Files, Job, LineFault, Outcome, RunFault, Script, TextFault,
@@ -63,7 +67,9 @@ fn run_one<O: Write>(
     script: Script,
     at: u64,
     out: &mut O,
-) -> Result<(), Ending> {
+) -> Result<(), Ending>
+    ensures { IfErr result (λ ending. (ending ≡ Output) ⊎ (O.contents out.new ≡ O.contents out.old)) }
+{
     let mut scripts = Vec::new(alloc);
     if scripts.push(script).is_err() {
         return Err(Ending::Memory);
@@ -74,7 +80,9 @@ fn run_one<O: Write>(
     }
 }
 
-fn put_outcome<O: Write>(outcome: &Outcome, at: u64, out: &mut O) -> Result<(), Ending> {
+fn put_outcome<O: Write>(outcome: &Outcome, at: u64, out: &mut O) -> Result<(), Ending>
+    ensures { IfErr result (λ ending. ending ≡ Output) }
+{
     if write_outcome(outcome, at, out).is_err() || out.flush().is_err() {
         return Err(Ending::Output);
     }
@@ -87,7 +95,9 @@ fn do_job<F: Files, O: Write>(
     job: &Job,
     files: &mut F,
     out: &mut O,
-) -> Result<(), Ending> {
+) -> Result<(), Ending>
+    ensures { IfErr result (λ ending. (ending ≡ Output) ⊎ (O.contents out.new ≡ O.contents out.old)) }
+{
     let Job::Run {
         config,
         at,
@@ -112,7 +122,10 @@ pub fn tool<F: Files, O: Write, E: Write>(
     files: &mut F,
     out: &mut O,
     err: &mut E,
-) -> u8 {
+) -> u8
+    ensures status { IsStatus result }
+    ensures untouched { IsUntouchedAt result (O.contents out.old) (O.contents out.new) }
+{
     let done = match Job::read(alloc, words) {
         Ok(job) => do_job(alloc, &job, files, out),
         Err(LineFault::Line { help, text }) => Err(Ending::Line { help, text }),

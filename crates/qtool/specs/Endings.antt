@@ -1,0 +1,10 @@
+-- With which statuses the program ends, and what each leaves of its output.
+use Rattle.std.specs.Prelude.{◌≡◌, ◌⊎◌, ℕ, List, Option}
+
+-- done, or help was asked for; asked wrongly; the machine; the output
+abbrev pub IsStatus : ℕ → Type 0
+IsStatus status = (status ≡ 0) ⊎ (status ≡ 2) ⊎ (status ≡ 3) ⊎ (status ≡ 4)
+
+-- asked wrongly, or the machine: the output is as it was
+abbrev pub IsUntouchedAt : ℕ → Option (List ℕ) → Option (List ℕ) → Type 0
+IsUntouchedAt status old new = (status ≡ 2) ⊎ (status ≡ 3) → new ≡ old
