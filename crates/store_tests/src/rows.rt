@@ -4,6 +4,23 @@ use crate::asks::Ask::{Create, Write};
 use crate::asks::{call, caller, done, new_store};
 use qplain::NoMemory;
 use qrules::{InodeRow, NameRow};
+use qstore::Store;
+use std::alloc::Global;
+use std::process::Abort;
+
+/// Two files of the superuser's: the one that was made second is named first.
+fn two_files(rt: &impl Abort, alloc: Global) -> Result<Store, NoMemory> {
+    let mut store = new_store(rt, alloc)?;
+    for (ask, told) in [
+        (Create("/b"), done(2, 0, 1)),
+        (Create("/a"), done(3, 0, 1)),
+        (Write("/b", 0, b"x"), done(2, 1, 0)),
+    ] {
+        let call = call(rt, alloc, ask)?;
+        assert!(rt; store.apply(&caller(rt), 0, &call)? == told);
+    }
+    Ok(store)
+}
 
 /// A file of the superuser's with one name, or the root directory.
 fn inode(ino: u64, dir: bool, blocks: u32, links: u64) -> InodeRow {
@@ -17,25 +34,22 @@ fn inode(ino: u64, dir: bool, blocks: u32, links: u64) -> InodeRow {
     }
 }
 
-// The file that was made second is named first.
 #[test]
-fn inodes_are_listed_by_number_and_names_by_their_bytes(rt: HostRuntime) -> Result<(), NoMemory> {
-    let mut store = new_store(&rt, rt.alloc())?;
-    for (ask, told) in [
-        (Create("/b"), done(2, 0, 1)),
-        (Create("/a"), done(3, 0, 1)),
-        (Write("/b", 0, b"x"), done(2, 1, 0)),
-    ] {
-        let call = call(&rt, rt.alloc(), ask)?;
-        assert!(rt; store.apply(&caller(&rt), 0, &call)? == told);
-    }
-    let inodes = [
+fn inodes_are_listed_by_number(rt: HostRuntime) -> Result<(), NoMemory> {
+    let rows = two_files(&rt, rt.alloc())?.inode_rows()?;
+    let wanted = [
         inode(1, true, 0, 2),
         inode(2, false, 1, 1),
         inode(3, false, 0, 1),
     ];
-    assert!(rt; store.inode_rows()?.as_slice() == inodes.as_slice());
-    let names = [NameRow { dir: 1, ino: 3 }, NameRow { dir: 1, ino: 2 }];
-    assert!(rt; store.name_rows()?.as_slice() == names.as_slice());
+    assert!(rt; rows.as_slice() == wanted.as_slice());
+    Ok(())
+}
+
+#[test]
+fn names_are_listed_by_their_bytes(rt: HostRuntime) -> Result<(), NoMemory> {
+    let rows = two_files(&rt, rt.alloc())?.name_rows()?;
+    let wanted = [NameRow { dir: 1, ino: 3 }, NameRow { dir: 1, ino: 2 }];
+    assert!(rt; rows.as_slice() == wanted.as_slice());
     Ok(())
 }

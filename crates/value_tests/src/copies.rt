@@ -1,27 +1,26 @@
 //! Copies with ample memory. Calls and replies are copied by every line of a script.
 
 use crate::setups::setup;
-use qplain::{Call, Cred, Entry, Line, Path, Refusal, Reply};
+use qplain::{Call, Cred, Entry, Line, NoMemory, Path, Refusal, Reply};
 use qrules::Graces;
-use std::test::Fail;
 
 const SET_GRACE: Call = Call::SetGrace {
     graces: Graces { block: 7, inode: 8 },
 };
 
 #[test]
-fn copies_of_setups_and_paths_are_equal(rt: HostRuntime) -> Result<(), Fail> {
+fn copies_of_setups_and_paths_are_equal(rt: HostRuntime) -> Result<(), NoMemory> {
     let alloc = rt.alloc();
-    let setup = setup(alloc, 10, [(7, "ann"), (0, "root")], "root")??;
+    let setup = setup(alloc, 10, [(7, "ann"), (0, "root")], "root")?.expect(&rt, "a setup");
     assert!(rt; setup.copy(alloc)? == setup);
-    let path = Path::new(Vec::from_slice(alloc, b"/a")?).ok_or("a path")?;
+    let path = Path::new(Vec::from_slice(alloc, b"/a")?).expect(&rt, "a path");
     assert!(rt; path.copy(alloc)? == path);
     Ok(())
 }
 
 #[test]
-fn copies_of_lines_are_equal(rt: HostRuntime) -> Result<(), Fail> {
-    let cred = Cred::new(1001, 0, &[100]).ok_or("a caller")?;
+fn copies_of_lines_are_equal(rt: HostRuntime) -> Result<(), NoMemory> {
+    let cred = Cred::new(1001, 0, &[100]).expect(&rt, "a caller");
     let line = Line {
         cred,
         moment: 1099,
@@ -39,8 +38,8 @@ fn copies_of_lines_are_equal(rt: HostRuntime) -> Result<(), Fail> {
 }
 
 #[test]
-fn copies_of_entries_are_equal(rt: HostRuntime) -> Result<(), Fail> {
-    let cred = Cred::new(1001, 0, &[100]).ok_or("a caller")?;
+fn copies_of_entries_are_equal(rt: HostRuntime) -> Result<(), NoMemory> {
+    let cred = Cred::new(1001, 0, &[100]).expect(&rt, "a caller");
     let entry = Entry {
         worker: 1,
         cred,

@@ -1,7 +1,7 @@
 //! What no call of a script does with a record: a release, and a charge of blocks and inodes at once.
 
 use qrules::{Graces, Kind, Limits, Over, PrincipalName, Record};
-use std::test::Fail;
+use std::alloc::AllocError;
 
 const GRACES: Graces = Graces {
     block: 100,
@@ -45,7 +45,7 @@ fn users_come_before_groups(rt: HostRuntime) {
 }
 
 #[test]
-fn names_are_equal_where_their_texts_are(rt: HostRuntime) -> Result<(), Fail> {
+fn names_are_equal_where_their_texts_are(rt: HostRuntime) -> Result<(), AllocError> {
     let ann = PrincipalName::new(String::from_str(rt.alloc(), "ann")?);
     let bob = PrincipalName::new(String::from_str(rt.alloc(), "bob")?);
     assert!(rt; ann == PrincipalName::new(String::from_str(rt.alloc(), "ann")?));
