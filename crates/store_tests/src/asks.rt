@@ -1,6 +1,7 @@
 //! A small store, and calls and replies as the rows of a test write them.
 
 use Ask::{Create, Read, SetGrace, SetUser, Stat, User, Write};
+use Told::{Bytes, Done, File, Record};
 use qplain::{Call, Change, Cred, NoMemory, Path, Principal, Quota, Reply, Setup};
 use qrules::{Graces, Items, Kind, Limits, PrincipalName};
 use qstore::Store;
@@ -93,8 +94,19 @@ pub(crate) fn call(rt: &impl Abort, alloc: Global, ask: Ask<'_>) -> Result<Call,
     })
 }
 
-/// Done with an inode of this number, for so many new blocks and inodes.
-pub(crate) fn done(number: u64, blocks: u64, inodes: u64) -> Reply {
+/// What a row is told.
+#[derive(Clone, Copy, Debug)]
+pub(crate) enum Told<'a> {
+    /// The inode's number, and how many blocks and how many inodes were charged.
+    Done(u64, u64, u64),
+    Bytes(&'a [u8]),
+    /// A file of the superuser's with one name: its number, size and blocks.
+    File(u64, u64, u64),
+    /// The record of user 0: blocks, inodes, the soft limit for blocks, and the end of the grace for blocks that runs.
+    Record(u64, u64, u64, u64),
+}
+
+fn done(number: u64, blocks: u64, inodes: u64) -> Reply {
     let change = Change {
         blocks_charged: blocks,
         blocks_released: 0,
@@ -104,12 +116,7 @@ pub(crate) fn done(number: u64, blocks: u64, inodes: u64) -> Reply {
     Reply::Done(number, change)
 }
 
-pub(crate) fn bytes(alloc: Global, bytes: &[u8]) -> Result<Reply, NoMemory> {
-    Ok(Reply::Bytes(Items::new(Vec::from_slice(alloc, bytes)?)))
-}
-
-/// A file of the superuser's with one name.
-pub(crate) fn file(ino: u64, size: u64, blocks: u64) -> Reply {
+fn file(ino: u64, size: u64, blocks: u64) -> Reply {
     Reply::Stat(qplain::Stat {
         ino,
         dir: false,
@@ -121,8 +128,7 @@ pub(crate) fn file(ino: u64, size: u64, blocks: u64) -> Reply {
     })
 }
 
-/// A record with a soft limit for blocks, and the end of the grace for blocks that runs.
-pub(crate) fn record(blocks: u64, inodes: u64, block_soft: u64, end: u64) -> Reply {
+fn record(blocks: u64, inodes: u64, block_soft: u64, end: u64) -> Reply {
     Reply::Quota(Quota {
         blocks,
         inodes,
@@ -130,4 +136,31 @@ pub(crate) fn record(blocks: u64, inodes: u64, block_soft: u64, end: u64) -> Rep
         block_end: Some(end),
         inode_end: None,
     })
+}
+
+pub(crate) fn reply(alloc: Global, told: Told<'_>) -> Result<Reply, NoMemory> {
+    Ok(match told {
+        Done(number, blocks, inodes) => done(number, blocks, inodes),
+        Bytes(bytes) => Reply::Bytes(Items::new(Vec::from_slice(alloc, bytes)?)),
+        File(ino, size, blocks) => file(ino, size, blocks),
+        Record(blocks, inodes, block_soft, end) => record(blocks, inodes, block_soft, end),
+    })
+}
+
+/// A call of the superuser's at moment 0, and its reply.
+pub(crate) type Row<'a> = (Ask<'a>, Told<'a>);
+
+/// Fails where a row is told otherwise.
+pub(crate) fn play(
+    rt: &impl Abort,
+    alloc: Global,
+    store: &mut Store,
+    rows: &[Row<'_>],
+) -> Result<(), NoMemory> {
+    for (ask, told) in rows {
+        let call = call(rt, alloc, *ask)?;
+        let given = store.apply(&caller(rt), 0, &call)?;
+        assert!(rt; given == reply(alloc, *told)?, "at {ask:?}");
+    }
+    Ok(())
 }

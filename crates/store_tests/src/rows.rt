@@ -1,24 +1,24 @@
 //! Rows of inodes and of names, which no script asks for.
 
 use crate::asks::Ask::{Create, Write};
-use crate::asks::{call, caller, done, new_store};
+use crate::asks::Told::Done;
+use crate::asks::{Row, new_store, play};
 use qplain::NoMemory;
 use qrules::{InodeRow, NameRow};
 use qstore::Store;
 use std::alloc::Global;
 use std::process::Abort;
 
-/// Two files of the superuser's: the one that was made second is named first.
+// The file that was made second is named first.
+const TWO_FILES: [Row<'static>; 3] = [
+    (Create("/b"), Done(2, 0, 1)),
+    (Create("/a"), Done(3, 0, 1)),
+    (Write("/b", 0, b"x"), Done(2, 1, 0)),
+];
+
 fn two_files(rt: &impl Abort, alloc: Global) -> Result<Store, NoMemory> {
     let mut store = new_store(rt, alloc)?;
-    for (ask, told) in [
-        (Create("/b"), done(2, 0, 1)),
-        (Create("/a"), done(3, 0, 1)),
-        (Write("/b", 0, b"x"), done(2, 1, 0)),
-    ] {
-        let call = call(rt, alloc, ask)?;
-        assert!(rt; store.apply(&caller(rt), 0, &call)? == told);
-    }
+    play(rt, alloc, &mut store, &TWO_FILES)?;
     Ok(store)
 }
 
