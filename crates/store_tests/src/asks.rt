@@ -23,31 +23,29 @@ pub(crate) enum Ask<'a> {
     User,
 }
 
-fn root(alloc: Global) -> Result<Vec<Principal>, NoMemory> {
-    let name = PrincipalName::new(String::from_str(alloc, "root")?);
-    let limits = Limits::default();
-    Ok(vec![in alloc;
-        Principal {
-            id: 0,
-            name,
-            limits
-        },
-    ]?)
+fn principal(alloc: Global, id: u32, name: &str) -> Result<Principal, NoMemory> {
+    Ok(Principal {
+        id,
+        name: PrincipalName::new(String::from_str(alloc, name)?),
+        limits: Limits::default(),
+    })
 }
 
-/// A new store that has room for 10 blocks and 6 inodes, and has user 0 and group 0 alone.
+/// A new store that has room for 10 blocks and 6 inodes, and has user 0 and the groups 0 and 7 alone.
 pub(crate) fn new_store(rt: &impl Abort, alloc: Global) -> Result<Store, NoMemory> {
     let graces = Graces {
         block: 100,
         inode: 100,
     };
-    let setup = Setup::new(10, 6, graces, root(alloc)?, root(alloc)?).expect(rt, "a setup");
+    let users = vec![in alloc; principal(alloc, 0, "root")?]?;
+    let groups = vec![in alloc; principal(alloc, 0, "root")?, principal(alloc, 7, "staff")?]?;
+    let setup = Setup::new(10, 6, graces, users, groups).expect(rt, "a setup");
     Store::new(alloc, setup)
 }
 
-/// The superuser, in group 0 alone.
+/// The superuser, in group 7 alone.
 pub(crate) fn caller(rt: &impl Abort) -> Cred {
-    Cred::new(0, 0, &[]).expect(rt, "a caller")
+    Cred::new(0, 7, &[]).expect(rt, "a caller")
 }
 
 fn path(rt: &impl Abort, alloc: Global, text: &str) -> Result<Path, NoMemory> {
@@ -121,7 +119,7 @@ fn file(ino: u64, size: u64, blocks: u64) -> Reply {
         ino,
         dir: false,
         uid: 0,
-        gid: 0,
+        gid: 7,
         size,
         blocks,
         links: 1,

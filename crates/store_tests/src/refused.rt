@@ -57,8 +57,8 @@ struct Seen {
     group: Reply,
 }
 
-fn quota(kind: Kind) -> Call {
-    Call::Quota { kind, id: 0 }
+fn quota(kind: Kind, id: u32) -> Call {
+    Call::Quota { kind, id }
 }
 
 fn look(rt: &impl Abort, store: &mut Store, stat: &Call) -> Result<Seen, NoMemory> {
@@ -67,8 +67,8 @@ fn look(rt: &impl Abort, store: &mut Store, stat: &Call) -> Result<Seen, NoMemor
         blocks: store.blocks(),
         inodes: store.inodes(),
         file: store.apply(&root, 0, stat)?,
-        user: store.apply(&root, 0, &quota(Kind::User))?,
-        group: store.apply(&root, 0, &quota(Kind::Group))?,
+        user: store.apply(&root, 0, &quota(Kind::User, 0))?,
+        group: store.apply(&root, 0, &quota(Kind::Group, 7))?,
     })
 }
 
@@ -136,7 +136,7 @@ fn a_refused_call_changes_nothing(rt: HostRuntime) -> Result<(), NoMemory> {
     for (way, row) in ROWS {
         ask(&rt, alloc, &mut store, way, row)?;
     }
-    assert_eq!(rt; count_rows(&rt, &store)?, (2, 3, 2));
+    assert_eq!(rt; count_rows(&rt, &store)?, (3, 3, 2));
     assert_eq!(rt; (store.blocks(), store.inodes()), (3, 3));
     Ok(())
 }

@@ -22,13 +22,13 @@ fn two_files(rt: &impl Abort, alloc: Global) -> Result<Store, NoMemory> {
     Ok(store)
 }
 
-/// A file of the superuser's with one name, or the root directory.
-fn inode(ino: u64, dir: bool, blocks: u32, links: u64) -> InodeRow {
+/// An inode of user 0 and a group.
+fn inode(ino: u64, dir: bool, gid: u32, blocks: u32, links: u64) -> InodeRow {
     InodeRow {
         ino,
         dir,
         uid: 0,
-        gid: 0,
+        gid,
         blocks,
         links,
     }
@@ -38,9 +38,9 @@ fn inode(ino: u64, dir: bool, blocks: u32, links: u64) -> InodeRow {
 fn inodes_are_listed_by_number(rt: HostRuntime) -> Result<(), NoMemory> {
     let rows = two_files(&rt, rt.alloc())?.inode_rows()?;
     let wanted = [
-        inode(1, true, 0, 2),
-        inode(2, false, 1, 1),
-        inode(3, false, 0, 1),
+        inode(1, true, 0, 0, 2),
+        inode(2, false, 7, 1, 1),
+        inode(3, false, 7, 0, 1),
     ];
     assert!(rt; rows.as_slice() == wanted.as_slice());
     Ok(())
