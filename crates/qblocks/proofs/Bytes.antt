@@ -48,7 +48,13 @@ pub length-written : (bytes : List ℕ) (off : ℕ) (input : List ℕ)
     → length (written bytes off input) ≡ max (length bytes) (off + length input)
 unfolding written
 length-written bytes off input =
-    omega (arith, length-append (resized bytes off ++ input) (drop (off + length input) bytes), length-append (resized bytes off) input, length-resized bytes off, length-drop (off + length input) bytes)
+    omega (
+      arith,
+      length-append (resized bytes off ++ input) (drop (off + length input) bytes),
+      length-append (resized bytes off) input,
+      length-resized bytes off,
+      length-drop (off + length input) bytes,
+    )
 
 -- what the bytes after a write read as
 pub get_or-written : (bytes : List ℕ) (off : ℕ) (input : List ℕ)

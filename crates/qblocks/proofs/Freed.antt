@@ -61,7 +61,8 @@ module _ {Z : Type 0} where
       → (gaps (row_filled (row_of m r)) 0 ROW_BLOCKS ≡ ROW_BLOCKS → ⊥)
       → has_row m r ≡ is_used (filled m) r
   used_is_there m r used =
-      let yes = lt-ltb (gaps (filled m) (r * ROW_BLOCKS) ROW_BLOCKS) ROW_BLOCKS (omega (arith, gaps_in_own_row m r, gaps_le (row_filled (row_of m r)) 0 ROW_BLOCKS, used)) in
+      let yes = lt-ltb (gaps (filled m) (r * ROW_BLOCKS) ROW_BLOCKS) ROW_BLOCKS
+      (omega (arith, gaps_in_own_row m r, gaps_le (row_filled (row_of m r)) 0 ROW_BLOCKS, used)) in
       ⊎_elim (λ there. there ∙ sym yes) (λ absent. absurd (used (gaps_absent (tree.get nat_cmp m r) absent))) (cases_Bool (has_row m r))
 
   -- a row that holds no block may go
@@ -73,7 +74,10 @@ module _ {Z : Type 0} where
           ⊎_elim
           (λ e.
           let row : k / ROW_BLOCKS ≡ r = e in
-          let none : place_at (row_of m r) (k % ROW_BLOCKS) ≡ None = no_block (place_at (row_of m r) (k % ROW_BLOCKS)) (gap_at (row_filled (row_of m r)) 0 ROW_BLOCKS (k % ROW_BLOCKS) unused (omega arith) (omega arith)) in
+          let none : place_at (row_of m r) (k % ROW_BLOCKS) ≡ None =
+          no_block (place_at (row_of m r) (k % ROW_BLOCKS))
+          (gap_at (row_filled (row_of m r)) 0 ROW_BLOCKS (k % ROW_BLOCKS) unused (omega arith)
+          (omega arith)) in
           ap (λ (q : ℕ). place_at (row_of n q) (k % ROW_BLOCKS)) row ∙ ap (λ o. place_at (places_of o) (k % ROW_BLOCKS)) update.1
           ∙ sym (ap (λ (q : ℕ). place_at (row_of m q) (k % ROW_BLOCKS)) row ∙ none))
           (λ ne. ap (λ o. place_at (places_of o) (k % ROW_BLOCKS)) (other_rows m n r None update (k / ROW_BLOCKS) ne))
@@ -87,17 +91,27 @@ module _ {Z : Type 0} where
         ap is_some update.1 ∙ sym (le-ltb (gaps (filled n) (r * ROW_BLOCKS) ROW_BLOCKS) ROW_BLOCKS (omega (arith, gaps_in_own_row n r, all)))
 
   -- of a change of one row
-  module _ (m n : Table Z) (r freed : ℕ) (others : (q : ℕ) → (q ≡ r → ⊥) → row_of n q ≡ row_of m q) (count : gaps (row_filled (row_of n r)) 0 ROW_BLOCKS ≡ gaps (row_filled (row_of m r)) 0 ROW_BLOCKS + freed) where
+  module _ (m n : Table Z) (r freed : ℕ) (others : (q : ℕ) → (q ≡ r → ⊥)
+      → row_of n q ≡ row_of m q) (count : gaps (row_filled (row_of n r)) 0 ROW_BLOCKS
+      ≡ gaps (row_filled (row_of m r)) 0 ROW_BLOCKS + freed) where
     -- the places of other rows stay as they are
     other_filled : (k : ℕ) → (k / ROW_BLOCKS ≡ r → ⊥) → filled n k ≡ filled m k
     other_filled k ne = ap (λ row. is_some (place_at row (k % ROW_BLOCKS))) (others (k / ROW_BLOCKS) ne)
 
     -- the rows below, the row itself, and the rows behind
     three : (t : Table Z) (rest : ℕ)
-        → gaps (filled t) 0 (r * ROW_BLOCKS + (ROW_BLOCKS + rest)) ≡ gaps (filled t) 0 (r * ROW_BLOCKS) + gaps (row_filled (row_of t r)) 0 ROW_BLOCKS + gaps (filled t) (r * ROW_BLOCKS + ROW_BLOCKS) rest
+        → gaps (filled t) 0 (r * ROW_BLOCKS + (ROW_BLOCKS + rest))
+        ≡ gaps (filled t) 0 (r * ROW_BLOCKS) + gaps (row_filled (row_of t r)) 0 ROW_BLOCKS + gaps
+        (filled t) (r * ROW_BLOCKS + ROW_BLOCKS) rest
     three t rest =
         let at : 0 + r * ROW_BLOCKS ≡ r * ROW_BLOCKS = omega arith in
-        omega (arith, gaps-split (filled t) 0 (r * ROW_BLOCKS) (ROW_BLOCKS + rest), ap (λ (x : ℕ). gaps (filled t) x (ROW_BLOCKS + rest)) at, gaps-split (filled t) (r * ROW_BLOCKS) ROW_BLOCKS rest, gaps_in_own_row t r)
+        omega (
+          arith,
+          gaps-split (filled t) 0 (r * ROW_BLOCKS) (ROW_BLOCKS + rest),
+          ap (λ (x : ℕ). gaps (filled t) x (ROW_BLOCKS + rest)) at,
+          gaps-split (filled t) (r * ROW_BLOCKS) ROW_BLOCKS rest,
+          gaps_in_own_row t r,
+        )
 
     -- below a bound that the row lies under
     in_reach : (bound : ℕ) → r < bound

@@ -75,7 +75,8 @@ has-with_index (x ∷ xs) k q =
     elim (nat_lt k x) as (λ t. has (cond t (k ∷ x ∷ xs) (cond (x == k) (x ∷ xs) (x ∷ with_index xs k))) q ≡ ((k == q) || has (x ∷ xs) q)) [
       | true ↦ refl
       | false ↦ elim (x == k) as (λ t. (x == k) ≡ t → has (cond t (x ∷ xs) (x ∷ with_index xs k)) q ≡ ((k == q) || has (x ∷ xs) q)) [
-        | true ↦ λ e. ap (λ (y : ℕ). (y == q) || has xs q) (eqb-true x k e) ∙ or_twice (k == q) (has xs q) ∙ ap (λ (y : ℕ). (k == q) || ((y == q) || has xs q)) (sym (eqb-true x k e))
+        | true ↦ λ e. ap (λ (y : ℕ). (y == q) || has xs q) (eqb-true x k e) ∙ or_twice (k == q) (has xs q)
+            ∙ ap (λ (y : ℕ). (k == q) || ((y == q) || has xs q)) (sym (eqb-true x k e))
         | false ↦ λ _. ap (λ t. (x == q) || t) (has-with_index xs k q) ∙ or_swap (x == q) (k == q) (has xs q)
       ] refl
     ]
@@ -99,7 +100,9 @@ pub length-with_index : (b : ℕ) (xs : List ℕ) (k : ℕ) → Rises b xs
 unfolding with_index
 length-with_index b [] k rises = refl
 length-with_index b (x ∷ xs) k rises =
-    elim (nat_lt k x) as (λ t. nat_lt k x ≡ t → length (cond t (k ∷ x ∷ xs) (cond (x == k) (x ∷ xs) (x ∷ with_index xs k))) ≡ length (x ∷ xs) + cond (has (x ∷ xs) k) 0 1) [
+    elim (nat_lt k x) as (λ t. nat_lt k x ≡ t
+    → length (cond t (k ∷ x ∷ xs) (cond (x == k) (x ∷ xs) (x ∷ with_index xs k)))
+    ≡ length (x ∷ xs) + cond (has (x ∷ xs) k) 0 1) [
       | true ↦ λ e.
           let none = ap {B = ℕ} (λ t. cond t 0 1) (has_below x (x ∷ xs) k (omega arith, rises.1) (ltb-true k x e)) in
           omega (arith, none)
@@ -124,7 +127,8 @@ has-filter test [] q = refl
 has-filter test (x ∷ xs) q =
     elim (test x) as (λ t. test x ≡ t → has (cond t (x ∷ filter test xs) (filter test xs)) q ≡ (has (x ∷ xs) q && test q)) [
       | true ↦ λ e. ⊎_elim
-          (λ here. ap (λ t. t || has (filter test xs) q) (eq-eqb x q here) ∙ sym (and_from _ _ (ap (λ t. t || has xs q) (eq-eqb x q here)) (ap test (sym here) ∙ e)))
+          (λ here. ap (λ t. t || has (filter test xs) q) (eq-eqb x q here)
+          ∙ sym (and_from _ _ (ap (λ t. t || has xs q) (eq-eqb x q here)) (ap test (sym here) ∙ e)))
           (λ ne. has_later x q (filter test xs) ne ∙ has-filter test xs q ∙ ap (λ t. t && test q) (sym (has_later x q xs ne)))
           (cases_eq x q)
       | false ↦ λ e. ⊎_elim
@@ -168,11 +172,14 @@ length-filter_range test a zero = omega (arith, gaps_none test a 0 refl)
 length-filter_range test a (suc n) =
     let one : 1 + n ≡ suc n = omega arith in
     let at : a + 0 ≡ a = omega arith in
-    let first : gaps test a 1 ≡ cond (test a) 0 1 = gaps-next test a 0 1 a (omega arith) (omega arith) ∙ ap (λ (x : ℕ). x + cond (test a) 0 1) (gaps_none test a 0 refl) ∙ omega arith in
+    let first : gaps test a 1 ≡ cond (test a) 0 1 = gaps-next test a 0 1 a (omega arith) (omega arith)
+    ∙ ap (λ (x : ℕ). x + cond (test a) 0 1) (gaps_none test a 0 refl) ∙ omega arith in
     let split = gaps-split test a 1 n in
     let rest = length-filter_range test (a + 1) n in
     let count = ap (gaps test a) one in
-    elim (test a) as (λ t. gaps test a 1 ≡ cond t 0 1 → length (cond t (a ∷ filter test (range_with_len (a + 1) n)) (filter test (range_with_len (a + 1) n))) + gaps test a (suc n) ≡ suc n) [
+    elim (test a) as (λ t. gaps test a 1 ≡ cond t 0 1
+    → length (cond t (a ∷ filter test (range_with_len (a + 1) n))
+    (filter test (range_with_len (a + 1) n))) + gaps test a (suc n) ≡ suc n) [
       | true ↦ λ here. omega (arith, split, rest, count, here)
       | false ↦ λ here. omega (arith, split, rest, count, here)
     ] first

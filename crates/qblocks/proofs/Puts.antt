@@ -66,11 +66,19 @@ Puts-more f g h p q r a b c off n m input first then' l some aligned =
     let last = span_end_some BLOCK_SIZE (off + n) m some in
     let same_end : span_end BLOCK_SIZE (off + n) m ≡ end = last ∙ ap (λ (x : ℕ). (x - 1) / BLOCK_SIZE + 1) (omega arith) ∙ sym end_is in
     let within : mid ≤ end = omega arith in
-    let fills1 : (k : ℕ) → q k ≡ (p k || in_span from mid k) = λ k. first.fills k ∙ ap (λ (x : ℕ). p k || in_pieces BLOCK_SIZE off x k) front ∙ ap (λ (e : ℕ). p k || in_span from e k) aligned in
-    let fills2 : (k : ℕ) → r k ≡ (q k || in_span mid end k) = λ k. then'.fills k ∙ ap (λ (x : ℕ). q k || in_pieces BLOCK_SIZE (off + n) x k) part ∙ ap (λ (e : ℕ). q k || in_span mid e k) same_end in
-    let spare1 : b + gaps p from (mid - from) ≡ a = ap (λ (e : ℕ). b + gaps p from (e - from)) (sym aligned) ∙ ap (λ (x : ℕ). b + gaps_in p off x) (sym front) ∙ first.spare in
-    let spare2 : c + gaps q mid (end - mid) ≡ b = ap (λ (e : ℕ). c + gaps q mid (e - mid)) (sym same_end) ∙ ap (λ (x : ℕ). c + gaps_in q (off + n) x) (sym part) ∙ then'.spare in
-    let later : gaps q mid (end - mid) ≡ gaps p mid (end - mid) = gaps-same p q mid (end - mid) (λ k low _. fills1 k ∙ sym (or_no (p k) _ (in_span_behind from mid k low))) in
+    let fills1 : (k : ℕ) → q k ≡ (p k || in_span from mid k) =
+    λ k. first.fills k ∙ ap (λ (x : ℕ). p k || in_pieces BLOCK_SIZE off x k) front
+    ∙ ap (λ (e : ℕ). p k || in_span from e k) aligned in
+    let fills2 : (k : ℕ) → r k ≡ (q k || in_span mid end k) =
+    λ k. then'.fills k ∙ ap (λ (x : ℕ). q k || in_pieces BLOCK_SIZE (off + n) x k) part
+    ∙ ap (λ (e : ℕ). q k || in_span mid e k) same_end in
+    let spare1 : b + gaps p from (mid - from) ≡ a = ap (λ (e : ℕ). b + gaps p from (e - from)) (sym aligned)
+    ∙ ap (λ (x : ℕ). b + gaps_in p off x) (sym front) ∙ first.spare in
+    let spare2 : c + gaps q mid (end - mid) ≡ b = ap (λ (e : ℕ). c + gaps q mid (e - mid)) (sym same_end)
+    ∙ ap (λ (x : ℕ). c + gaps_in q (off + n) x) (sym part) ∙ then'.spare in
+    let later : gaps q mid (end - mid) ≡ gaps p mid (end - mid) =
+    gaps-same p q mid (end - mid) (λ k low _. fills1 k
+    ∙ sym (or_no (p k) _ (in_span_behind from mid k low))) in
     let counts : mid - from + (end - mid) ≡ end - from = omega arith in
     let start : from + (mid - from) ≡ mid = omega arith in
     let split = gaps-split p from (mid - from) (end - mid) in
@@ -80,7 +88,16 @@ Puts-more f g h p q r a b c off n m input first then' l some aligned =
           fills2 k ∙ ap (λ t. t || in_span mid end k) (fills1 k) ∙ or_assoc (p k) (in_span from mid k) (in_span mid end k)
           ∙ ap (λ t. p k || t) (in_span-more from mid end k up within)
           ∙ ap (λ (x : ℕ). p k || in_pieces BLOCK_SIZE off x k) (sym both);
-      spare = ap (λ (x : ℕ). c + gaps_in p off x) both ∙ omega (arith, spare1, spare2, later, split, ap (gaps p from) counts, ap (λ (x : ℕ). gaps p x (end - mid)) start);
+      spare = ap (λ (x : ℕ). c + gaps_in p off x) both
+          ∙ omega (
+            arith,
+            spare1,
+            spare2,
+            later,
+            split,
+            ap (gaps p from) counts,
+            ap (λ (x : ℕ). gaps p x (end - mid)) start,
+          );
     }
 
 -- where a write has ended that goes up to the start of a block
@@ -114,7 +131,9 @@ Puts-rest f g p q a b off n m s input first enough at l some aligned =
     let written = ap (span_end BLOCK_SIZE off) (length-take-le n input (omega arith)) ∙ span_end_aligned off n aligned in
     let fills : (k : ℕ) → q k ≡ (p k || in_span from mid k) = λ k. first.fills k ∙ ap (λ (e : ℕ). p k || in_span from e k) written in
     let spare : b + gaps p from (mid - from) ≡ a = ap (λ (e : ℕ). b + gaps p from (e - from)) (sym written) ∙ first.spare in
-    let later : gaps q mid (next - mid) ≡ gaps p mid (next - mid) = gaps-same p q mid (next - mid) (λ k low _. fills k ∙ sym (or_no (p k) _ (in_span_behind from mid k low))) in
+    let later : gaps q mid (next - mid) ≡ gaps p mid (next - mid) =
+    gaps-same p q mid (next - mid) (λ k low _. fills k
+    ∙ sym (or_no (p k) _ (in_span_behind from mid k low))) in
     let piece : gaps_in q s m ≡ gaps q mid (next - mid) =
     ap (λ (x : ℕ). gaps_in q x m) at ∙ ap (λ (e : ℕ). gaps q mid (e - mid)) (span_end_some BLOCK_SIZE (off + n) m some) in
     let all : gaps_in p off (length input) ≡ gaps p from (end - from) =
@@ -152,9 +171,12 @@ module _ {Z : Type 0} (row new : List (Place Z)) (j at : ℕ) (part : List ℕ) 
       → Puts (row_byte row) (row_byte new) (row_filled row) (row_filled new) a b (j * BLOCK_SIZE + at) part
   Puts-block a b filled writes others left =
       let first : (j * BLOCK_SIZE + at) / BLOCK_SIZE ≡ j = omega arith in
-      let end : span_end BLOCK_SIZE (j * BLOCK_SIZE + at) (length part) ≡ j + 1 = span_end_some BLOCK_SIZE (j * BLOCK_SIZE + at) (length part) some ∙ omega arith in
-      let here : (o : ℕ) → o / BLOCK_SIZE ≡ j → row_byte new o ≡ byte_of (place_at new j) (o % BLOCK_SIZE) = λ o e. ap (λ (x : ℕ). byte_of (place_at new x) (o % BLOCK_SIZE)) e in
-      let was : (o : ℕ) → o / BLOCK_SIZE ≡ j → row_byte row o ≡ byte_of (place_at row j) (o % BLOCK_SIZE) = λ o e. ap (λ (x : ℕ). byte_of (place_at row x) (o % BLOCK_SIZE)) e in
+      let end : span_end BLOCK_SIZE (j * BLOCK_SIZE + at) (length part) ≡ j + 1 =
+      span_end_some BLOCK_SIZE (j * BLOCK_SIZE + at) (length part) some ∙ omega arith in
+      let here : (o : ℕ) → o / BLOCK_SIZE ≡ j → row_byte new o ≡ byte_of (place_at new j) (o % BLOCK_SIZE) =
+      λ o e. ap (λ (x : ℕ). byte_of (place_at new x) (o % BLOCK_SIZE)) e in
+      let was : (o : ℕ) → o / BLOCK_SIZE ≡ j → row_byte row o ≡ byte_of (place_at row j) (o % BLOCK_SIZE) =
+      λ o e. ap (λ (x : ℕ). byte_of (place_at row x) (o % BLOCK_SIZE)) e in
       record {
         writes = record {
           inside = λ i l.

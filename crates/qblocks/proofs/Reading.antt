@@ -10,7 +10,8 @@ use Rattle.qblocks.proofs.Bytes.{zeros}
 pub reads_same : (f g : ℕ → ℕ) (a b n : ℕ) → ((i : ℕ) → i < n → f (a + i) ≡ g (b + i))
     → map f (range_with_len a n) ≡ map g (range_with_len b n)
 reads_same f g a b n same =
-    same_number_lists (map f (range_with_len a n)) (map g (range_with_len b n)) (length-map-range_with_len f a n ∙ sym (length-map-range_with_len g b n)) (λ i l.
+    same_number_lists (map f (range_with_len a n)) (map g (range_with_len b n))
+    (length-map-range_with_len f a n ∙ sym (length-map-range_with_len g b n)) (λ i l.
     let low : i < n = omega (arith, length-map-range_with_len f a n) in
     get_or-map-range_with_len f a n i (a + i) 0 low refl ∙ same i low ∙ sym (get_or-map-range_with_len g b n i (b + i) 0 low refl))
 
@@ -19,7 +20,8 @@ pub reads-part : (xs : List ℕ) (a n : ℕ) → a + n ≤ length xs
     → take n (drop a xs) ≡ map (λ i. get_or xs i 0) (range_with_len a n)
 reads-part xs a n l =
     let long = length-take-le n (drop a xs) (omega (arith, length-drop a xs)) in
-    same_number_lists (take n (drop a xs)) (map (λ i. get_or xs i 0) (range_with_len a n)) (long ∙ sym (length-map-range_with_len (λ i. get_or xs i 0) a n)) (λ i h.
+    same_number_lists (take n (drop a xs)) (map (λ i. get_or xs i 0) (range_with_len a n)) (long
+    ∙ sym (length-map-range_with_len (λ i. get_or xs i 0) a n)) (λ i h.
     let low : i < n = omega (arith, long) in
     get_or-take n (drop a xs) i 0 low ∙ get_or-drop a xs i 0 ∙ sym (get_or-map-range_with_len (λ i. get_or xs i 0) a n i (a + i) 0 low refl))
 

@@ -52,7 +52,9 @@ same_span first end k first' end' k' a from to at =
 pub in_span-more : (a b c k : ℕ) → a ≤ b → b ≤ c → (in_span a b k || in_span b c k) ≡ in_span a c k
 in_span-more a b c k l h =
     ⊎_elim
-    (λ before. ap (λ t. in_span a b k || t) (in_span_before b c k before) ∙ sym (or_no (in_span a b k) false refl) ∙ ap (λ t. nat_le a k && t) (lt-ltb k b before ∙ sym (lt-ltb k c (omega arith))))
+    (λ before. ap (λ t. in_span a b k || t) (in_span_before b c k before)
+    ∙ sym (or_no (in_span a b k) false refl)
+    ∙ ap (λ t. nat_le a k && t) (lt-ltb k b before ∙ sym (lt-ltb k c (omega arith))))
     (λ late. ap (λ t. t || in_span b c k) (in_span_behind a b k late) ∙ ap (λ t. t && nat_lt k c) (le-leb b k late ∙ sym (le-leb a k (omega arith))))
     (cases_lt k b)
 
@@ -137,7 +139,8 @@ gap_at p first zero k all l h = absurd (omega arith)
 gap_at p first (suc n) k all l h =
     elim (p (first + n)) as (λ t. p (first + n) ≡ t → gaps p first n + cond t 0 1 ≡ suc n → p k ≡ false) [
       | true ↦ λ _ e. absurd (omega (arith, gaps_le p first n))
-      | false ↦ λ last e. ⊎_elim (λ below. gap_at p first n k (omega arith) l below) (λ at. let here : k ≡ first + n = omega arith in ap p here ∙ last) (cases_lt k (first + n))
+      | false ↦ λ last e. ⊎_elim (λ below. gap_at p first n k (omega arith) l below) (λ at. let here : k
+          ≡ first + n = omega arith in ap p here ∙ last) (cases_lt k (first + n))
     ] refl all
 
 -- in a span with one index more, an index is the last or in the rest
@@ -151,7 +154,10 @@ pub in_span_out : (first n k : ℕ) → first ≤ n → in_span first (n + 1) k 
     → (k ≡ n → ⊥) × (in_span first n k ≡ false)
 in_span_out first n k l out = (
   λ e. both_ways _ out (in_span_yes first (n + 1) k (omega (arith, e)) (omega (arith, e))),
-  ⊎_elim (in_span_before first n k) (λ late. ⊎_elim (λ in'. absurd (both_ways _ out (in_span_yes first (n + 1) k late (omega (arith, in'))))) (in_span_behind first n k) (cases_lt k n)) (cases_lt k first),
+  ⊎_elim (in_span_before first n k)
+      (λ late. ⊎_elim (λ in'. absurd
+      (both_ways _ out (in_span_yes first (n + 1) k late (omega (arith, in'))))) (in_span_behind first n k)
+      (cases_lt k n)) (cases_lt k first),
 )
 
 -- where no index fails, each passes
@@ -160,6 +166,7 @@ unfolding gaps
 no_gap_at p first zero k none l h = absurd (omega arith)
 no_gap_at p first (suc n) k none l h =
     elim (p (first + n)) as (λ t. p (first + n) ≡ t → gaps p first n + cond t 0 1 ≡ 0 → p k ≡ true) [
-      | true ↦ λ last e. ⊎_elim (λ below. no_gap_at p first n k (omega arith) l below) (λ at. let here : k ≡ first + n = omega arith in ap p here ∙ last) (cases_lt k (first + n))
+      | true ↦ λ last e. ⊎_elim (λ below. no_gap_at p first n k (omega arith) l below) (λ at. let here : k
+          ≡ first + n = omega arith in ap p here ∙ last) (cases_lt k (first + n))
       | false ↦ λ _ e. absurd (omega arith)
     ] refl none

@@ -60,7 +60,8 @@ module _ {Z : Type 0} where
       ∙ gaps-row m r (at / BLOCK_SIZE) (span_end BLOCK_SIZE at n - at / BLOCK_SIZE) (omega arith)
 
   -- a write into one row
-  module _ (m n : Table Z) (r at : ℕ) (part : List ℕ) (some : 0 < length part) (fits : at + length part ≤ ROW_SIZE) (others : (q : ℕ) → q ≢ r → row_of n q ≡ row_of m q) where
+  module _ (m n : Table Z) (r at : ℕ) (part : List ℕ) (some : 0 < length part)
+      (fits : at + length part ≤ ROW_SIZE) (others : (q : ℕ) → q ≢ r → row_of n q ≡ row_of m q) where
     -- a byte outside of the row stays
     other_byte : (o : ℕ) → (o / ROW_SIZE ≡ r → ⊥) → byte_at n o ≡ byte_at m o
     other_byte o ne = byte_at-same m n o (others (o / BLOCK_SIZE / ROW_BLOCKS) (λ e. ne (omega (arith, e))))
@@ -99,11 +100,14 @@ module _ {Z : Type 0} where
           let j = k % ROW_BLOCKS in
           let row : k / ROW_BLOCKS ≡ r = e in
           ap (λ (q : ℕ). is_some (place_at (row_of n q) j)) row ∙ puts.fills j
-          ∙ ap (λ t. row_filled (row_of m r) j || t) (same_span (at / BLOCK_SIZE) (span_end BLOCK_SIZE at (length part)) j _ _ k (r * ROW_BLOCKS) (omega arith) (omega arith) (omega arith))
+          ∙ ap (λ t. row_filled (row_of m r) j || t)
+          (same_span (at / BLOCK_SIZE) (span_end BLOCK_SIZE at (length part)) j _ _ k (r * ROW_BLOCKS)
+          (omega arith) (omega arith) (omega arith))
           ∙ ap (λ (q : ℕ). is_some (place_at (row_of m q) j) || in_pieces BLOCK_SIZE (r * ROW_SIZE + at) (length part) k) (sym row))
           (λ ne.
           ap (λ row. is_some (place_at row (k % ROW_BLOCKS))) (others (k / ROW_BLOCKS) ne)
-          ∙ or_no (filled m k) _ (⊎_elim (λ l. in_span_before _ _ k (omega arith)) (λ l. in_span_behind _ _ k (omega (arith, ne))) (cases_lt k (r * ROW_BLOCKS))))
+          ∙ or_no (filled m k) _ (⊎_elim (λ l. in_span_before _ _ k (omega arith))
+          (λ l. in_span_behind _ _ k (omega (arith, ne))) (cases_lt k (r * ROW_BLOCKS))))
           (cases_eq (k / ROW_BLOCKS) r);
       spare = omega (arith, gaps_in-row m r at (length part) some fits, puts.spare);
     }

@@ -87,9 +87,11 @@ length-with_touched xs off n rises =
     let first = off / BLOCK_SIZE in
     let count = span_end BLOCK_SIZE off n - off / BLOCK_SIZE in
     let up : first ≤ span_end BLOCK_SIZE off n =
-    ⊎_elim (λ none. omega (arith, span_end_none BLOCK_SIZE off n (omega arith))) (λ some. omega (arith, span_end_some BLOCK_SIZE off n (omega arith))) (cases_lt n 1) in
+    ⊎_elim (λ none. omega (arith, span_end_none BLOCK_SIZE off n (omega arith)))
+    (λ some. omega (arith, span_end_some BLOCK_SIZE off n (omega arith))) (cases_lt n 1) in
     let end : span_end BLOCK_SIZE off n ≡ first + count = omega arith in
-    ap length (same_indexes 0 (with_touched xs off n) (with_span xs first count) (Rises-with_touched xs off n rises) (Rises-with_span xs first count rises) (λ q.
+    ap length (same_indexes 0 (with_touched xs off n) (with_span xs first count)
+    (Rises-with_touched xs off n rises) (Rises-with_span xs first count rises) (λ q.
     has-with_touched xs off n q ∙ ap (λ (e : ℕ). has xs q || in_span first e q) end ∙ sym (has-with_span xs first count q)))
     ∙ length-with_span xs first count rises
 
@@ -104,7 +106,9 @@ touches_is off n q =
     (λ before. in_span_before _ _ q before ∙ sym (and_left _ _ (and_right _ _ (le-ltb off (q * BLOCK_SIZE + BLOCK_SIZE) (omega arith)))))
     (λ late.
     ⊎_elim
-    (λ in'. in_span_yes _ _ q late in' ∙ sym (and_from _ _ (and_from _ _ (lt-ltb (q * BLOCK_SIZE) (off + n) (omega arith)) (lt-ltb off (q * BLOCK_SIZE + BLOCK_SIZE) (omega arith))) (lt-ltb 0 n (omega arith))))
+    (λ in'. in_span_yes _ _ q late in'
+    ∙ sym (and_from _ _ (and_from _ _ (lt-ltb (q * BLOCK_SIZE) (off + n) (omega arith))
+    (lt-ltb off (q * BLOCK_SIZE + BLOCK_SIZE) (omega arith))) (lt-ltb 0 n (omega arith))))
     (λ past. in_span_behind _ _ q past ∙ sym (and_left _ _ (and_left _ _ (le-ltb (q * BLOCK_SIZE) (off + n) (omega arith)))))
     (cases_lt q (span_end BLOCK_SIZE off n)))
     (cases_lt q (off / BLOCK_SIZE)))

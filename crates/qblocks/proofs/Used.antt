@@ -31,7 +31,9 @@ used_below test size r below used =
     ⊎_elim
     (λ l. l)
     (λ past.
-    let all = gaps-all test (r * ROW_BLOCKS) ROW_BLOCKS (λ k low high. ⊎_elim (λ yes. absurd (omega (arith, below k yes))) (λ fails. fails) (cases_Bool (test k))) in
+    let all = gaps-all test (r * ROW_BLOCKS) ROW_BLOCKS
+    (λ k low high. ⊎_elim (λ yes. absurd (omega (arith, below k yes))) (λ fails. fails)
+    (cases_Bool (test k))) in
     absurd (omega (arith, ltb-true (gaps test (r * ROW_BLOCKS) ROW_BLOCKS) ROW_BLOCKS used)))
     (cases_lt (r * ROW_SIZE) size)
 
@@ -56,7 +58,13 @@ used-written p q off n r fills =
     let here : q (max (off / BLOCK_SIZE) (r * ROW_BLOCKS)) ≡ true = fills k ∙ or_yes (p k) _ (in_span_yes _ _ k (omega arith) (omega arith)) in
     let used : is_used q r ≡ true = ⊎_elim
     (λ yes. yes)
-    (λ none. absurd (both_ways _ (gap_at q (r * ROW_BLOCKS) ROW_BLOCKS k (omega (arith, gaps_le q (r * ROW_BLOCKS) ROW_BLOCKS, ltb-false (gaps q (r * ROW_BLOCKS) ROW_BLOCKS) ROW_BLOCKS none)) (omega arith) (omega arith)) here))
+    (λ none. absurd (both_ways _
+    (gap_at q (r * ROW_BLOCKS) ROW_BLOCKS k
+    (omega (
+      arith,
+      gaps_le q (r * ROW_BLOCKS) ROW_BLOCKS,
+      ltb-false (gaps q (r * ROW_BLOCKS) ROW_BLOCKS) ROW_BLOCKS none,
+    )) (omega arith) (omega arith)) here))
     (cases_Bool (is_used q r)) in
     used ∙ sym (or_yes (is_used p r) _ (in_span_yes _ _ r late in')))
     (λ past. unused (λ k low high. behind k low past) (in_span_behind _ _ r past))
@@ -87,7 +95,12 @@ used-touched test off n r none =
     ⊎_elim
     (λ in'.
     let parts = and_parts (nat_le (off / BLOCK_SIZE) k) (nat_lt k (span_end BLOCK_SIZE off n)) in' in
-    let there = no_gap_at test (off / BLOCK_SIZE) (span_end BLOCK_SIZE off n - off / BLOCK_SIZE) k none (leb-true _ _ parts.0) (omega (arith, leb-true (off / BLOCK_SIZE) k parts.0, ltb-true k (span_end BLOCK_SIZE off n) parts.1)) in
+    let there = no_gap_at test (off / BLOCK_SIZE) (span_end BLOCK_SIZE off n - off / BLOCK_SIZE) k none
+    (leb-true _ _ parts.0) (omega (
+      arith,
+      leb-true (off / BLOCK_SIZE) k parts.0,
+      ltb-true k (span_end BLOCK_SIZE off n) parts.1,
+    )) in
     there ∙ sym (or_yes (test k) _ in'))
     (or_no (test k) _)
     (cases_Bool (in_pieces BLOCK_SIZE off n k)))

@@ -40,7 +40,9 @@ module _ {Z : Type 0} where
       → length (allocated_of m size) + gaps (filled m) 0 bound ≡ bound
   length-allocated_of m size bound below l =
       let passing = filter (filled m) (range_with_len 0 bound) in
-      let same : allocated_of m size ≡ passing = same_indexes 0 (allocated_of m size) passing (Rises-allocated_of m size) (Rises-filter 0 (filled m) (range_with_len 0 bound) (Rises-range 0 bound)) (λ q.
+      let same : allocated_of m size ≡ passing =
+      same_indexes 0 (allocated_of m size) passing (Rises-allocated_of m size)
+      (Rises-filter 0 (filled m) (range_with_len 0 bound) (Rises-range 0 bound)) (λ q.
       has-allocated_of m size below q ∙ sym (has-passing (filled m) bound (λ k yes. omega (arith, below k yes)) q)) in
       omega (arith, ap length same, length-filter_range (filled m) 0 bound)
 
@@ -63,7 +65,12 @@ module _ {Z : Type 0} where
   missing_blocks m size off n below =
       let first = off / BLOCK_SIZE in
       let count = span_end BLOCK_SIZE off n - off / BLOCK_SIZE in
-      omega (arith, length-with_touched (allocated_of m size) off n (Rises-allocated_of m size), gaps-same (filled m) (has (allocated_of m size)) first count (λ k _ _. has-allocated_of m size below k))
+      omega (
+        arith,
+        length-with_touched (allocated_of m size) off n (Rises-allocated_of m size),
+        gaps-same (filled m) (has (allocated_of m size)) first count
+            (λ k _ _. has-allocated_of m size below k),
+      )
 
   -- a file after a write
   pub file_of-written : (m n : Table Z) (size a b off : ℕ) (input : List ℕ) (to : ℕ)
@@ -75,7 +82,9 @@ module _ {Z : Type 0} where
   file_of-written m n size a b off [] to puts some ends below tail below' = absurd (omega arith)
   file_of-written m n size a b off (d ∷ ds) to puts some ends below tail below' =
       let bytes = bytes-written (byte_at m) (byte_at n) size tail off (d ∷ ds) to puts.writes ends in
-      let allocated = same_indexes 0 (allocated_of n to) (with_touched (allocated_of m size) off (length (d ∷ ds))) (Rises-allocated_of n to) (Rises-with_touched (allocated_of m size) off (length (d ∷ ds)) (Rises-allocated_of m size)) (λ q.
+      let allocated = same_indexes 0 (allocated_of n to)
+      (with_touched (allocated_of m size) off (length (d ∷ ds))) (Rises-allocated_of n to)
+      (Rises-with_touched (allocated_of m size) off (length (d ∷ ds)) (Rises-allocated_of m size)) (λ q.
       has-allocated_of n to below' q ∙ puts.fills q ∙ ap (λ t. t || in_pieces BLOCK_SIZE off (length (d ∷ ds)) q) (sym (has-allocated_of m size below q))
       ∙ sym (has-with_touched (allocated_of m size) off (length (d ∷ ds)) q)) in
       λ i. record { bytes = bytes i; allocated = allocated i }
@@ -90,8 +99,11 @@ module _ {Z : Type 0} where
       let bytes = bytes-resized (byte_at m) (byte_at n) size tail to before in
       let a = allocated_of m size in
       let below' : Below (filled n) to = λ k yes. ltb-true (k * BLOCK_SIZE) to (and_parts (filled m k) _ (sym (kept k) ∙ yes)).1 in
-      let cut = same_indexes 0 (allocated_of n to) (filter (begins_below to) a) (Rises-allocated_of n to) (Rises-filter 0 (begins_below to) a (Rises-allocated_of m size)) (λ q.
-      has-allocated_of n to below' q ∙ kept q ∙ ap (λ t. t && begins_below to q) (sym (has-allocated_of m size below q)) ∙ sym (has-filter (begins_below to) a q)) in
+      let cut = same_indexes 0 (allocated_of n to) (filter (begins_below to) a) (Rises-allocated_of n to)
+      (Rises-filter 0 (begins_below to) a (Rises-allocated_of m size)) (λ q.
+      has-allocated_of n to below' q ∙ kept q
+      ∙ ap (λ t. t && begins_below to q) (sym (has-allocated_of m size below q))
+      ∙ sym (has-filter (begins_below to) a q)) in
       let smaller = lt-leb (length (bytes_of m size)) to (omega (arith, length-bytes_of m size)) in
       let allocated = cut ∙ sym (ap (λ t. cond t a (filter (begins_below to) a)) smaller) in
       λ i. record { bytes = bytes i; allocated = allocated i }
@@ -135,9 +147,12 @@ module _ {Z : Type 0} where
       let all = map (byte_at m) (range_with_len 0 size) in
       let long = length-map-range_with_len (byte_at m) 0 size in
       let read = length-map-range_with_len (byte_at m) off n in
-      same_number_lists (map (byte_at m) (range_with_len off n)) (take len (drop off all)) (omega (arith, read, long, length-take len (drop off all), length-drop off all)) (λ i l.
+      same_number_lists (map (byte_at m) (range_with_len off n)) (take len (drop off all))
+      (omega (arith, read, long, length-take len (drop off all), length-drop off all)) (λ i l.
       get_or-map-range_with_len (byte_at m) off n i (off + i) 0 (omega (arith, read)) refl
-      ∙ sym (get_or-take len (drop off all) i 0 (omega (arith, read)) ∙ get_or-drop off all i 0 ∙ get_or-map-range_with_len (byte_at m) 0 size (off + i) (off + i) 0 (omega (arith, read)) (omega arith)))
+      ∙ sym (get_or-take len (drop off all) i 0 (omega (arith, read)) ∙ get_or-drop off all i 0
+      ∙ get_or-map-range_with_len (byte_at m) 0 size (off + i) (off + i) 0 (omega (arith, read))
+      (omega arith)))
 
   -- at the size and behind it nothing is read
   pub read_none : (m : Table Z) (size off len : ℕ) → min size (off + len) ≤ off
@@ -145,4 +160,16 @@ module _ {Z : Type 0} where
   unfolding bytes_of
   read_none m size off len none =
       let all = map (byte_at m) (range_with_len 0 size) in
-      same_number_lists (take len (drop off all)) [] (omega (arith, length-map-range_with_len (byte_at m) 0 size, length-take len (drop off all), length-drop off all)) (λ i l. absurd (omega (arith, length-map-range_with_len (byte_at m) 0 size, length-take len (drop off all), length-drop off all)))
+      same_number_lists (take len (drop off all)) []
+      (omega (
+        arith,
+        length-map-range_with_len (byte_at m) 0 size,
+        length-take len (drop off all),
+        length-drop off all,
+      )) (λ i l. absurd
+      (omega (
+        arith,
+        length-map-range_with_len (byte_at m) 0 size,
+        length-take len (drop off all),
+        length-drop off all,
+      )))

@@ -81,7 +81,10 @@ module _ {Z : Type 0} where
       let end = span_end_some BLOCK_SIZE off (length input) some in
       let parts = and_parts (nat_le (off / BLOCK_SIZE) k) (nat_lt k (span_end BLOCK_SIZE off (length input))) in' in
       omega (arith, ltb-true k (span_end BLOCK_SIZE off (length input)) parts.1) in
-      let below' : Below (filled n) to = λ k yes. ⊎_elim (λ was. omega (arith, whole.below k was)) (λ fails. in_reach k (sym (or_rest (filled m k) _ fails) ∙ sym (puts.fills k) ∙ yes)) (cases_Bool (filled m k)) in
+      let below' : Below (filled n) to =
+      λ k yes. ⊎_elim (λ was. omega (arith, whole.below k was))
+      (λ fails. in_reach k (sym (or_rest (filled m k) _ fails) ∙ sym (puts.fills k) ∙ yes))
+      (cases_Bool (filled m k)) in
       let file = file_of-written m n size a b off input to puts some ends whole.below whole.tail below' in
       let counted = ap (λ f. length f.allocated) file in (
         record {
@@ -158,8 +161,10 @@ module _ {Z : Type 0} where
       → IsWhole m size count (record { off = off; len = n }) × (spare ≡ gaps_in (filled m) off n)
   ready_whole m size count room f off n spare view ready whole =
       let before = ap (λ x. length x.file.allocated) view in
-      let after = ap (λ x. length (with_touched x.file.allocated off n)) view in
-      (subst (IsWhole m size count) (ap (λ x. x.room) view ∙ ready.room) whole, omega (arith, before, after, ready.blocks, missing_blocks m size off n whole.below))
+      let after = ap (λ x. length (with_touched x.file.allocated off n)) view in (
+        subst (IsWhole m size count) (ap (λ x. x.room) view ∙ ready.room) whole,
+        omega (arith, before, after, ready.blocks, missing_blocks m size off n whole.below),
+      )
 
   -- the fields after a write that the file was ready for, and the file that they stand for
   pub put_whole : (m n : Table Z) (size count : ℕ) (room : Room) (f : RoomyFile) (off : ℕ) (input : List ℕ) (spare a b to : ℕ)

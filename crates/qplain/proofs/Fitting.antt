@@ -117,7 +117,8 @@ share-apart S e f differ = rw differ refl
 share-same : (S : State) (e f : NameKey × ℕ) → is_at (name_key_cmp e.0) f.0 ≡ true → share_no_directory S e f ≡ true
 share-same S e f same = or_right (not (e.1 == f.1 && is_directory S e.1)) (is_at (name_key_cmp e.0) f.0) same
 
-module _ (S : State) (inode : Inode) (dir : ℕ) (name : List ℕ) (fits : FitsTogether S) (stands : is_directory S dir ≡ true) (absent : named S dir name ≡ None) where
+module _ (S : State) (inode : Inode) (dir : ℕ) (name : List ℕ) (fits : FitsTogether S)
+    (stands : is_directory S dir ≡ true) (absent : named S dir name ≡ None) where
   -- what is at a number then
   after : (q : ℕ) → inode_at (created S inode dir name) q ≡ cond (is_at (nat_cmp q) S.next) (Some inode) (inode_at S q)
   after q = lookup-insert_new nat_cmp_total S.inodes S.next inode q (absent-fresh S.inodes S.next fits.fresh)
@@ -147,7 +148,8 @@ module _ (S : State) (inode : Inode) (dir : ℕ) (name : List ℕ) (fits : FitsT
   named-after number = list_any-insert_new (λ e. e.1 == number) name_key_cmp S.names (dir, name) S.next absent
 
   has_name-stays : (number : ℕ) → has_name S number ≡ true → has_name (created S inode dir name) number ≡ true
-  has_name-stays number h = ap (λ b. number == ROOT || b) (named-after number) ∙ or_more (number == ROOT) (S.next == number) (list_any (λ e. e.1 == number) S.names) h
+  has_name-stays number h = ap (λ b. number == ROOT || b) (named-after number)
+      ∙ or_more (number == ROOT) (S.next == number) (list_any (λ e. e.1 == number) S.names) h
 
   -- no name but the new one leads to the new inode
   old-apart : (e : NameKey × ℕ) → leads S e ≡ true → (e.1 == S.next) ≡ false

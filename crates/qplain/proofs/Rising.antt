@@ -73,7 +73,8 @@ Rises-with_file S number inode file blocks there more = record {
   next = omega arith;
   totals = λ sort. grown (total_of S1 sort) (total_of S sort) (weight sort inode) (weight sort changed) (added sort blocks 0)
       (sum_by-set_value (weight sort) (is_at (nat_cmp number)) S.inodes inode changed there) (weight-more sort inode file blocks more);
-  uses = λ kind id sort. grown-if (owner kind inode == id) (use_of S1 kind id sort) (use_of S kind id sort) (weight sort inode) (weight sort changed) (added sort blocks 0)
+  uses = λ kind id sort. grown-if (owner kind inode == id) (use_of S1 kind id sort) (use_of S kind id sort)
+      (weight sort inode) (weight sort changed) (added sort blocks 0)
       (sum_by-set_value (charge_to kind id sort) (is_at (nat_cmp number)) S.inodes inode changed there
       ∙ ap (λ n. use_of S kind id sort + cond (n == id) (weight sort changed) 0) (owner-same kind inode file))
       (weight-more sort inode file blocks more);

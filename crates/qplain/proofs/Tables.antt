@@ -92,7 +92,8 @@ list_any-insert_new p R (e ∷ es) k v none =
     ] none
 
 -- a changed value keeps what holds of the keys
-pub All-keys-set_value : {K X : Type 0} (P : K → Type 0) (test : K → Bool) (es : List (K × X)) (w : X) → All (λ e. P e.0) es → All (λ e. P e.0) (set_value test es w)
+pub All-keys-set_value : {K X : Type 0} (P : K → Type 0) (test : K → Bool) (es : List (K × X)) (w : X)
+    → All (λ e. P e.0) es → All (λ e. P e.0) (set_value test es w)
 All-keys-set_value P test [] w all = all
 All-keys-set_value P test (e ∷ es) w all =
     let here : P e.0 = All-head (λ x. P x.0) e es all in
@@ -108,7 +109,8 @@ pub seen-set_value : {X : Type 0} (g : Option X → Bool) (test : ℕ → Bool) 
 seen-set_value g test [] v w q found same = refl
 seen-set_value {X} g test (e ∷ es) v w q found same =
     elim (test e.0) as (λ b. cond b (Some e.1) (lookup test es) ≡ Some v
-    → g (lookup (is_at (nat_cmp q)) (cond b ((e.0, w) ∷ es) (e ∷ set_value test es w))) ≡ g (cond (is_at (nat_cmp q) e.0) (Some e.1) (lookup (is_at (nat_cmp q)) es))) [
+    → g (lookup (is_at (nat_cmp q)) (cond b ((e.0, w) ∷ es) (e ∷ set_value test es w)))
+    ≡ g (cond (is_at (nat_cmp q) e.0) (Some e.1) (lookup (is_at (nat_cmp q)) es))) [
       | true ↦ λ h. seen_here (is_at (nat_cmp q) e.0) h
       | false ↦ λ h. seen_later (is_at (nat_cmp q) e.0) (seen-set_value g test es v w q h same)
     ] found
@@ -143,5 +145,10 @@ sum_by-values-insert_new {K} {X} f R (e ∷ es) k v none =
     → sum_by f (values_of (match_ordering r ((k, v) ∷ e ∷ es) ((e.0, v) ∷ es) (e ∷ insert_entry R es k v))) ≡ sum_by f (values_of (e ∷ es)) + f v) [
       | Less ↦ λ h. omega (arith, sum_by-cons f v (values_of (e ∷ es)))
       | Equal ↦ λ h. cc
-      | Greater ↦ λ h. omega (arith, sum_by-cons f e.1 (values_of (insert_entry R es k v)), sum_by-cons f e.1 (values_of es), sum_by-values-insert_new f R es k v h)
+      | Greater ↦ λ h. omega (
+        arith,
+        sum_by-cons f e.1 (values_of (insert_entry R es k v)),
+        sum_by-cons f e.1 (values_of es),
+        sum_by-values-insert_new f R es k v h,
+      )
     ] none

@@ -56,7 +56,8 @@ has_bad_number S (Quota kind id) = false
 -- the moment, the caller, a path or a number is none that a call may have
 abbrev pub is_invalid : State → Caller → ℕ → Call → Bool
 is_invalid S cred moment call =
-    nat_lt MAX_MOMENT moment || not (is_known S cred) || not (list_all is_well_formed (paths_of call)) || has_bad_number S call
+    nat_lt MAX_MOMENT moment || not (is_known S cred)
+    || not (list_all is_well_formed (paths_of call)) || has_bad_number S call
 
 -- the refusal of a call for what is written: all causes of EINVAL come before ENAMETOOLONG
 abbrev pub refusal_of_arguments : State → Caller → ℕ → Call → Option Refusal

@@ -47,7 +47,9 @@ created S inode dir name = record S {
 -- create in the place that the walk reached
 abbrev pub create_in : State → Caller → List ℕ → Result ℕ Refusal → Attempt
 create_in S cred name (Err r) = Refuse r
-create_in S cred name (Ok dir) = if is_some (named S dir name) then Refuse EEXIST else Becomes (created S (new_file cred.uid cred.gid) dir name) S.next
+create_in S cred name (Ok dir) =
+    if is_some (named S dir name) then Refuse EEXIST
+    else Becomes (created S (new_file cred.uid cred.gid) dir name) S.next
 
 -- create under the last of the names; the root is there already
 abbrev pub create_under : State → Caller → List (List ℕ) → Option (List ℕ) → Attempt
@@ -62,7 +64,8 @@ may_write cred inode = is_superuser cred || cred.uid == inode.uid
 
 -- the state in which the inode of this number holds this file
 abbrev pub with_file : State → ℕ → Inode → File → State
-with_file S number inode file = record S { inodes = set_value (is_at (nat_cmp number)) S.inodes (record inode { file = file }) }
+with_file S number inode file =
+    record S { inodes = set_value (is_at (nat_cmp number)) S.inodes (record inode { file = file }) }
 
 -- write into an inode: a write of nothing is done before its offset is looked at
 abbrev pub write_into : State → Caller → ℕ → List ℕ → ℕ → Option Inode → Attempt
@@ -160,7 +163,8 @@ quota_from S (Some h) = Answer (QuotaReply (quota_of S h))
 -- ask for a record: one's own, or any for the superuser
 abbrev pub ask_quota : State → Caller → Kind → ℕ → Attempt
 ask_quota S cred kind id =
-    if not (is_superuser cred || is_own cred kind id) then Refuse EPERM else quota_from S (find (is_holder kind id) S.holders)
+    if not (is_superuser cred || is_own cred kind id) then Refuse EPERM
+    else quota_from S (find (is_holder kind id) S.holders)
 
 -- ---- all calls
 

@@ -43,9 +43,9 @@ has_name S number = number == ROOT || list_any (λ e. e.1 == number) S.names
 abbrev pub share_no_directory : State → NameKey × ℕ → NameKey × ℕ → Bool
 share_no_directory S e f = not (e.1 == f.1 && is_directory S e.1) || is_at (name_key_cmp e.0) f.0
 
--- the parts of a state fit together: each inode is somebody's, no principal stands twice, the root is a directory, every
--- name stands in a directory and leads to an inode, every inode but the root has a name, no directory has two names and
--- the root has none, the next number is above all
+-- the parts of a state fit together: each inode is somebody's, no principal stands twice, the root is a directory,
+-- every name stands in a directory and leads to an inode, every inode but the root has a name, no directory has two
+-- names and the root has none, the next number is above all
 pub record FitsTogether (S : State) : Type 0 where
   pub owners_known : All (λ inode. has_known_owners S inode ≡ true) (values_of S.inodes)
   pub distinct : IsDistinct are_same S.holders
@@ -56,8 +56,8 @@ pub record FitsTogether (S : State) : Type 0 where
   pub root_unnamed : All (λ e. (e.1 == ROOT) ≡ false) S.names
   pub fresh : All (λ e. nat_lt e.0 S.next ≡ true) S.inodes
 
--- what holds of every state that a store can be in: totals within the bounds, each grace end where it belongs, and parts
--- that fit together
+-- what holds of every state that a store can be in: totals within the bounds, each grace end where it belongs, and
+-- parts that fit together
 pub record IsLawful (S : State) : Type 0 where
   pub blocks_fit : total_of S Blocks ≤ S.size
   pub inodes_fit : total_of S Inodes ≤ S.most_inodes
@@ -86,12 +86,14 @@ StartIsLawful = (s : Setting) → setup_fault s ≡ None → IsLawful (start s)
 
 -- every step of a lawful state leaves a lawful state
 abbrev pub StepsStayLawful : Type 0
-StepsStayLawful = (S : State) (cred : Caller) (moment : ℕ) (call : Call) → IsLawful S → IsLawful (step S cred moment call).0
+StepsStayLawful = (S : State) (cred : Caller) (moment : ℕ) (call : Call) → IsLawful S
+    → IsLawful (step S cred moment call).0
 
 -- a refused call leaves the state as it was
 abbrev pub RefusalsChangeNothing : Type 0
 RefusalsChangeNothing =
-    (S : State) (cred : Caller) (moment : ℕ) (call : Call) (r : Refusal) → (step S cred moment call).1 ≡ Refused r → (step S cred moment call).0 ≡ S
+    (S : State) (cred : Caller) (moment : ℕ) (call : Call) (r : Refusal)
+    → (step S cred moment call).1 ≡ Refused r → (step S cred moment call).0 ≡ S
 
 -- no call of anybody but the superuser raises a use past a limit
 abbrev pub LimitsHold : Type 0
@@ -103,7 +105,8 @@ LimitsHold =
 abbrev pub UsesAddUp : Type 0
 UsesAddUp = (S : State) (kind : Kind) (sort : Sort) → IsLawful S → uses_of S kind sort ≡ total_of S sort
 
--- in a lawful state the rule of grace ends moves none, so what only looks, or writes nothing, may leave the state as it is
+-- in a lawful state the rule of grace ends moves none, so what only looks, or writes nothing, may leave the state
+-- as it is
 abbrev pub EndsStay : Type 0
 EndsStay = (S : State) (moment : ℕ) → IsLawful S → ends_after S moment ≡ S
 
@@ -129,11 +132,13 @@ pub record KeepsLimits (old new : State) : Type 0 where
 
 -- no call of anybody else changes them
 abbrev pub LimitsStay : Type 0
-LimitsStay = (S : State) (cred : Caller) (moment : ℕ) (call : Call) → is_superuser cred ≡ false → KeepsLimits S (step S cred moment call).0
+LimitsStay = (S : State) (cred : Caller) (moment : ℕ) (call : Call) → is_superuser cred ≡ false
+    → KeepsLimits S (step S cred moment call).0
 
 -- the ends of a holder are those of its record by the rules
 abbrev pub EndsAreTheRules : Type 0
-EndsAreTheRules = (S : State) (moment : ℕ) (h : Holder) → account_of S (with_ends_of S moment h) ≡ with_ends (account_of S h) S.graces moment
+EndsAreTheRules = (S : State) (moment : ℕ) (h : Holder)
+    → account_of S (with_ends_of S moment h) ≡ with_ends (account_of S h) S.graces moment
 
 -- new limits do to a holder what the rules do to its record
 abbrev pub NewLimitsAreTheRules : Type 0

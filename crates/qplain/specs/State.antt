@@ -77,7 +77,14 @@ new_file uid gid = record { dir = false; uid = uid; gid = gid; file = empty_file
 
 -- a declared principal, for whom no grace runs
 abbrev pub holder_of : Kind → Principal → Holder
-holder_of kind p = record { kind = kind; id = p.id; name = p.name; limits = p.limits; block_end = None; inode_end = None }
+holder_of kind p = record {
+  kind = kind;
+  id = p.id;
+  name = p.name;
+  limits = p.limits;
+  block_end = None;
+  inode_end = None;
+}
 
 -- a new store has the root directory, no name and the next number 2; users come before groups
 abbrev pub start : Setting → State

@@ -26,12 +26,14 @@ abbrev pub fault_of : Sort → Account → ℕ → ℕ → Option Over
 fault_of sort account moment count =
     if nat_le count (count_in sort account) then None
     else if is_over (amount_of sort count) (hard_limit sort account.limits) then Some (hard_fault sort)
-    else if is_over (amount_of sort count) (soft_limit sort account.limits) && has_ended (end_in sort account) moment then Some (soft_fault sort)
+    else if is_over (amount_of sort count) (soft_limit sort account.limits)
+    && has_ended (end_in sort account) moment then Some (soft_fault sort)
     else None
 
 -- the first fault of an account whose uses would become these: inodes before blocks
 abbrev pub first_fault : Account → ℕ → ℕ → ℕ → Option Over
-first_fault account moment blocks inodes = option_or (fault_of Inodes account moment inodes) (fault_of Blocks account moment blocks)
+first_fault account moment blocks inodes =
+    option_or (fault_of Inodes account moment inodes) (fault_of Blocks account moment blocks)
 
 -- the fault of one sort to which a charge would add so many
 abbrev pub charge_fault_in : Sort → Account → ℕ → ℕ → Option Over
@@ -39,7 +41,8 @@ charge_fault_in sort account moment more = fault_of sort account moment (count_i
 
 -- the first fault of a charge of so many blocks and inodes
 abbrev pub charge_fault : Account → ℕ → ℕ → ℕ → Option Over
-charge_fault account moment blocks inodes = first_fault account moment (account.blocks + blocks) (account.inodes + inodes)
+charge_fault account moment blocks inodes =
+    first_fault account moment (account.blocks + blocks) (account.inodes + inodes)
 
 -- what a caller is told: the superuser passes every limit, any other meets the first fault
 abbrev pub answer_to : Bool → Option Over → Result (Unit {0}) Over

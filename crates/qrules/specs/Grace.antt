@@ -13,12 +13,16 @@ next_end true None new = Some new
 
 -- the grace end of this sort that stands after a change at this moment
 abbrev pub end_after : Sort → Account → Graces → ℕ → Option ℕ
-end_after sort account graces moment = next_end (is_over_soft sort account) (end_in sort account) (moment + grace_of sort graces)
+end_after sort account graces moment =
+    next_end (is_over_soft sort account) (end_in sort account) (moment + grace_of sort graces)
 
 -- the account with the grace ends that stand after a change at this moment
 abbrev pub with_ends : Account → Graces → ℕ → Account
 with_ends account graces moment =
-    record account { block_end = end_after Blocks account graces moment; inode_end = end_after Inodes account graces moment }
+    record account {
+      block_end = end_after Blocks account graces moment;
+      inode_end = end_after Inodes account graces moment;
+    }
 
 -- the account of somebody who uses nothing
 abbrev pub unused : Limits → Account
@@ -42,7 +46,10 @@ kept_end true end = end
 abbrev pub released : Account → ℕ → ℕ → Account
 released account blocks inodes =
     let less = less_used account blocks inodes in
-    record less { block_end = kept_end (is_over_soft Blocks less) account.block_end; inode_end = kept_end (is_over_soft Inodes less) account.inode_end }
+    record less {
+      block_end = kept_end (is_over_soft Blocks less) account.block_end;
+      inode_end = kept_end (is_over_soft Inodes less) account.inode_end;
+    }
 
 -- new limits forget both grace ends and compute them anew, also where they are the old limits (profile)
 abbrev pub with_limits : Account → Limits → Graces → ℕ → Account

@@ -6,11 +6,23 @@ use Rattle.qrules.specs.Account.{Account, HasEnds}
 
 -- the account that the fields spell out
 abbrev pub account_of : Inside → Account
-account_of r = record { blocks = r.blocks; inodes = r.inodes; limits = r.limits; block_end = r.block_end; inode_end = r.inode_end }
+account_of r = record {
+  blocks = r.blocks;
+  inodes = r.inodes;
+  limits = r.limits;
+  block_end = r.block_end;
+  inode_end = r.inode_end;
+}
 
 -- the fields that spell out an account
 abbrev pub fields_of : Account → Inside
-fields_of a = record { blocks = a.blocks; inodes = a.inodes; limits = a.limits; block_end = a.block_end; inode_end = a.inode_end }
+fields_of a = record {
+  blocks = a.blocks;
+  inodes = a.inodes;
+  limits = a.limits;
+  block_end = a.block_end;
+  inode_end = a.inode_end;
+}
 
 -- what is true of every record: its ends are those that its use asks for, and its use is within bounds
 pub record IsKept (r : Inside) : Type 0 where

@@ -38,6 +38,7 @@ pub alone : (setting : Setting) (scripts : List (List Line)) (j : Journaled) (o 
 alone setting scripts j o played same transcripts belong setup store journal records = record {
   setup = rw (setup, same) refl;
   legal = rw (journal, sym same) played.legal;
+  few = rw journal played.few;
   store = rw (store, journal, sym same) played.state;
   transcripts = rw journal transcripts;
   belong = rw journal belong;

@@ -1,5 +1,5 @@
 -- What a run of scripts leaves.
-use Rattle.std.specs.Prelude.{◌≡◌, ℕ, ◌+◌, List, [], ◌∷◌, ◌++◌, length, map, All, Contains, Result, Ok, Err}
+use Rattle.std.specs.Prelude.{◌≡◌, ℕ, ◌+◌, ◌≤◌, List, [], ◌∷◌, ◌++◌, length, map, All, Contains, Result, Ok, Err}
 use Rattle.qplain.specs.declared.entry.Entry.{Entry}
 use Rattle.qplain.specs.declared.line.Line.{Line}
 use Rattle.qplain.specs.Setups.{Setting}
@@ -51,10 +51,12 @@ AreTranscriptsOf worker (lines ∷ scripts) journal [] = ⊥
 abbrev pub Belongs : List Transcript → Entry → Type 0
 Belongs transcripts e = Contains (map (λ t. t.worker) transcripts) e.worker
 
--- what a run of these scripts leaves, from this setup on; no entry belongs to anyone else
+-- what a run of these scripts leaves, from this setup on; the journal is no longer than it may be, and no entry belongs
+-- to anyone else
 pub record IsOutcomeOf (setting : Setting) (scripts : List (List Line)) (o : Outcome) : Type 0 where
   pub setup : o.setup ≡ setting
   pub legal : IsLegal (start setting) o.journal
+  pub few : length o.journal ≤ MAX_ENTRIES
   pub store : o.store.state ≡ play (start setting) o.journal
   pub transcripts : AreTranscriptsOf 1 scripts o.journal o.transcripts
   pub belong : All (Belongs o.transcripts) o.journal

@@ -1,4 +1,4 @@
-ghost use Rattle.std.specs.Prelude.{◌≡◌, ◌-◌, ◌++◌, ◌∷◌, [], length, decimal};
+ghost use Rattle.std.specs.Prelude.{◌≡◌, ◌≤◌, ◌-◌, ◌++◌, ◌∷◌, [], length, decimal};
 ghost use Rattle.hex.specs.Hex.{encode_lower};
 ghost use Rattle.qtext.specs.Written.{Writes};
 ghost use Rattle.qtext.specs.Pieces.{spaces, left_in, right_in, data_text, piece_text, pieces_text};
@@ -6,6 +6,9 @@ ghost use Rattle.qtext.specs.Pieces.{spaces, left_in, right_in, data_text, piece
 use crate::{Piece, RefusedWrite};
 use itoa::Buffer;
 use std::io::Write;
+
+/// How many bytes' digits are written at once.
+const HEX_PIECE: usize = 256;
 
 /// Writes all of the text. A writer that takes nothing refuses. After an Err some beginning of the text went out.
 pub fn put<W: Write>(out: &mut W, text: &[u8]) -> Result<(), RefusedWrite>
@@ -50,19 +53,25 @@ fn put_field<W: Write>(out: &mut W, n: u64) -> Result<(), RefusedWrite>
     put(out, &text[..end])
 }
 
-fn hex_digits(byte: u8) -> [u8; 2]
-    ensures { result ≡ encode_lower (byte ∷ []) }
+/// Writes the digits of no more bytes than a piece of data has, at once.
+fn put_digits<W: Write>(out: &mut W, bytes: &[u8]) -> Result<(), RefusedWrite>
+    requires { length bytes.now ≤ HEX_PIECE }
+    ensures { Writes (W.contents out.old) (W.contents out.new) result (encode_lower bytes.now) }
 {
-    let mut digits = [0u8; 2];
-    hex::encode_to_slice([byte].as_slice(), &mut digits).unwrap();
-    digits
+    let mut digits = [0u8; 2 * HEX_PIECE];
+    let text = &mut digits[..2 * bytes.len()];
+    hex::encode_to_slice(bytes, text).unwrap();
+    put(out, text)
 }
 
 fn put_hex<W: Write>(out: &mut W, bytes: &[u8]) -> Result<(), RefusedWrite>
     ensures { Writes (W.contents out.old) (W.contents out.new) result (encode_lower bytes.now) }
 {
-    for byte in bytes {
-        put(out, &hex_digits(*byte))?;
+    let mut rest = bytes;
+    while !rest.is_empty() {
+        let (piece, after) = rest.split_at(rest.len().min(HEX_PIECE));
+        put_digits(out, piece)?;
+        rest = after;
     }
     Ok(())
 }

@@ -1,6 +1,7 @@
 //! A small store, and calls and replies as the rows of a test write them.
 
 use Ask::{Create, Read, SetGrace, SetUser, Stat, User, Write};
+use Told::{Bytes, Done, File, Record};
 use qplain::{Call, Change, Cred, NoMemory, Path, Principal, Quota, Reply, Setup};
 use qrules::{Graces, Items, Kind, Limits, PrincipalName};
 use qstore::Store;
@@ -22,31 +23,29 @@ pub(crate) enum Ask<'a> {
     User,
 }
 
-fn root(alloc: Global) -> Result<Vec<Principal>, NoMemory> {
-    let name = PrincipalName::new(String::from_str(alloc, "root")?);
-    let limits = Limits::default();
-    Ok(vec![in alloc;
-        Principal {
-            id: 0,
-            name,
-            limits
-        },
-    ]?)
+fn principal(alloc: Global, id: u32, name: &str) -> Result<Principal, NoMemory> {
+    Ok(Principal {
+        id,
+        name: PrincipalName::new(String::from_str(alloc, name)?),
+        limits: Limits::default(),
+    })
 }
 
-/// A new store that has room for 10 blocks and 6 inodes, and has user 0 and group 0 alone.
+/// A new store that has room for 10 blocks and 6 inodes, and has user 0 and the groups 0 and 7 alone.
 pub(crate) fn new_store(rt: &impl Abort, alloc: Global) -> Result<Store, NoMemory> {
     let graces = Graces {
         block: 100,
         inode: 100,
     };
-    let setup = Setup::new(10, 6, graces, root(alloc)?, root(alloc)?).expect(rt, "a setup");
+    let users = vec![in alloc; principal(alloc, 0, "root")?]?;
+    let groups = vec![in alloc; principal(alloc, 0, "root")?, principal(alloc, 7, "staff")?]?;
+    let setup = Setup::new(10, 6, graces, users, groups).expect(rt, "a setup");
     Store::new(alloc, setup)
 }
 
-/// The superuser, in group 0 alone.
+/// The superuser, in group 7 alone.
 pub(crate) fn caller(rt: &impl Abort) -> Cred {
-    Cred::new(0, 0, &[]).expect(rt, "a caller")
+    Cred::new(0, 7, &[]).expect(rt, "a caller")
 }
 
 fn path(rt: &impl Abort, alloc: Global, text: &str) -> Result<Path, NoMemory> {
@@ -93,8 +92,19 @@ pub(crate) fn call(rt: &impl Abort, alloc: Global, ask: Ask<'_>) -> Result<Call,
     })
 }
 
-/// Done with an inode of this number, for so many new blocks and inodes.
-pub(crate) fn done(number: u64, blocks: u64, inodes: u64) -> Reply {
+/// What a row is told.
+#[derive(Clone, Copy, Debug)]
+pub(crate) enum Told<'a> {
+    /// The inode's number, and how many blocks and how many inodes were charged.
+    Done(u64, u64, u64),
+    Bytes(&'a [u8]),
+    /// A file of the superuser's with one name: its number, size and blocks.
+    File(u64, u64, u64),
+    /// The record of user 0: blocks, inodes, the soft limit for blocks, and the end of the grace for blocks that runs.
+    Record(u64, u64, u64, u64),
+}
+
+fn done(number: u64, blocks: u64, inodes: u64) -> Reply {
     let change = Change {
         blocks_charged: blocks,
         blocks_released: 0,
@@ -104,25 +114,19 @@ pub(crate) fn done(number: u64, blocks: u64, inodes: u64) -> Reply {
     Reply::Done(number, change)
 }
 
-pub(crate) fn bytes(alloc: Global, bytes: &[u8]) -> Result<Reply, NoMemory> {
-    Ok(Reply::Bytes(Items::new(Vec::from_slice(alloc, bytes)?)))
-}
-
-/// A file of the superuser's with one name.
-pub(crate) fn file(ino: u64, size: u64, blocks: u64) -> Reply {
+fn file(ino: u64, size: u64, blocks: u64) -> Reply {
     Reply::Stat(qplain::Stat {
         ino,
         dir: false,
         uid: 0,
-        gid: 0,
+        gid: 7,
         size,
         blocks,
         links: 1,
     })
 }
 
-/// A record with a soft limit for blocks, and the end of the grace for blocks that runs.
-pub(crate) fn record(blocks: u64, inodes: u64, block_soft: u64, end: u64) -> Reply {
+fn record(blocks: u64, inodes: u64, block_soft: u64, end: u64) -> Reply {
     Reply::Quota(Quota {
         blocks,
         inodes,
@@ -130,4 +134,31 @@ pub(crate) fn record(blocks: u64, inodes: u64, block_soft: u64, end: u64) -> Rep
         block_end: Some(end),
         inode_end: None,
     })
+}
+
+pub(crate) fn reply(alloc: Global, told: Told<'_>) -> Result<Reply, NoMemory> {
+    Ok(match told {
+        Done(number, blocks, inodes) => done(number, blocks, inodes),
+        Bytes(bytes) => Reply::Bytes(Items::new(Vec::from_slice(alloc, bytes)?)),
+        File(ino, size, blocks) => file(ino, size, blocks),
+        Record(blocks, inodes, block_soft, end) => record(blocks, inodes, block_soft, end),
+    })
+}
+
+/// A call of the superuser's at moment 0, and its reply.
+pub(crate) type Row<'a> = (Ask<'a>, Told<'a>);
+
+/// Fails where a row is told otherwise.
+pub(crate) fn play(
+    rt: &impl Abort,
+    alloc: Global,
+    store: &mut Store,
+    rows: &[Row<'_>],
+) -> Result<(), NoMemory> {
+    for (ask, told) in rows {
+        let call = call(rt, alloc, *ask)?;
+        let given = store.apply(&caller(rt), 0, &call)?;
+        assert!(rt; given == reply(alloc, *told)?, "at {ask:?}");
+    }
+    Ok(())
 }

@@ -1,7 +1,8 @@
 //! Each allocation refused in turn: the store is as before, and the same call then gets its reply.
 
 use crate::asks::Ask::{Create, Read, SetGrace, SetUser, Stat, User, Write};
-use crate::asks::{Ask, bytes, call, caller, done, file, new_store, record};
+use crate::asks::Told::{Bytes, Done, File, Record};
+use crate::asks::{Row, call, caller, new_store, reply};
 use Way::{Apply, Commit};
 use qplain::{Call, NoMemory, Reply};
 use qrules::Kind;
@@ -56,8 +57,8 @@ struct Seen {
     group: Reply,
 }
 
-fn quota(kind: Kind) -> Call {
-    Call::Quota { kind, id: 0 }
+fn quota(kind: Kind, id: u32) -> Call {
+    Call::Quota { kind, id }
 }
 
 fn look(rt: &impl Abort, store: &mut Store, stat: &Call) -> Result<Seen, NoMemory> {
@@ -66,8 +67,8 @@ fn look(rt: &impl Abort, store: &mut Store, stat: &Call) -> Result<Seen, NoMemor
         blocks: store.blocks(),
         inodes: store.inodes(),
         file: store.apply(&root, 0, stat)?,
-        user: store.apply(&root, 0, &quota(Kind::User))?,
-        group: store.apply(&root, 0, &quota(Kind::Group))?,
+        user: store.apply(&root, 0, &quota(Kind::User, 0))?,
+        group: store.apply(&root, 0, &quota(Kind::Group, 7))?,
     })
 }
 
@@ -90,32 +91,15 @@ fn insist(
     }
 }
 
-/// What a row is told: what it charges, the bytes of `/b`, the file `/a`, or the record of user 0.
-#[derive(Clone, Copy, Debug)]
-enum Told<'a> {
-    Done(u64, u64, u64),
-    Bytes(&'a [u8]),
-    File,
-    Record,
-}
-
-fn reply(alloc: Global, told: Told<'_>) -> Result<Reply, NoMemory> {
-    Ok(match told {
-        Told::Done(number, blocks, inodes) => done(number, blocks, inodes),
-        Told::Bytes(text) => bytes(alloc, text)?,
-        Told::File => file(2, 4097, 2),
-        Told::Record => record(3, 3, 4, 7),
-    })
-}
-
 /// Fails where the reply to the call is another.
 fn ask(
     rt: &(impl Abort + Print),
     alloc: Global,
     store: &mut Store,
-    row: (Way, Ask<'_>, Told<'_>),
+    way: Way,
+    row: Row<'_>,
 ) -> Result<(), NoMemory> {
-    let (way, asked, told) = row;
+    let (asked, told) = row;
     let stat = again(rt, || call(rt, alloc, Stat("/a")))?;
     let call = again(rt, || call(rt, alloc, asked))?;
     let told = again(rt, || reply(alloc, told))?;
@@ -132,25 +116,27 @@ fn count_rows(rt: &impl Print, store: &Store) -> Result<(usize, usize, usize), N
     Ok((records.len(), inodes.len(), names.len()))
 }
 
+const ROWS: [(Way, Row<'static>); 10] = [
+    (Apply, (Create("/a"), Done(2, 0, 1))),
+    (Commit, (Create("/b"), Done(3, 0, 1))),
+    (Commit, (Write("/a", 4095, b"xy"), Done(2, 2, 0))),
+    (Apply, (Write("/b", 0, b"z"), Done(3, 1, 0))),
+    (Apply, (Read("/a", 4094, 9), Bytes(b"\0xy"))),
+    (Commit, (Read("/b", 0, 9), Bytes(b"z"))),
+    (Apply, (SetGrace(7, 8), Done(0, 0, 0))),
+    (Commit, (SetUser(4), Done(0, 0, 0))),
+    (Apply, (User, Record(3, 3, 4, 7))),
+    (Commit, (Stat("/a"), File(2, 4097, 2))),
+];
+
 #[test]
 fn a_refused_call_changes_nothing(rt: HostRuntime) -> Result<(), NoMemory> {
     let alloc = rt.alloc();
     let mut store = again(&rt, || new_store(&rt, alloc))?;
-    for row in [
-        (Apply, Create("/a"), Told::Done(2, 0, 1)),
-        (Commit, Create("/b"), Told::Done(3, 0, 1)),
-        (Commit, Write("/a", 4095, b"xy"), Told::Done(2, 2, 0)),
-        (Apply, Write("/b", 0, b"z"), Told::Done(3, 1, 0)),
-        (Apply, Read("/a", 4094, 9), Told::Bytes(b"\0xy")),
-        (Commit, Read("/b", 0, 9), Told::Bytes(b"z")),
-        (Apply, SetGrace(7, 8), Told::Done(0, 0, 0)),
-        (Commit, SetUser(4), Told::Done(0, 0, 0)),
-        (Apply, User, Told::Record),
-        (Commit, Stat("/a"), Told::File),
-    ] {
-        ask(&rt, alloc, &mut store, row)?;
+    for (way, row) in ROWS {
+        ask(&rt, alloc, &mut store, way, row)?;
     }
-    assert_eq!(rt; count_rows(&rt, &store)?, (2, 3, 2));
+    assert_eq!(rt; count_rows(&rt, &store)?, (3, 3, 2));
     assert_eq!(rt; (store.blocks(), store.inodes()), (3, 3));
     Ok(())
 }

@@ -1,34 +1,34 @@
 //! Rows of inodes and of names, which no script asks for.
 
 use crate::asks::Ask::{Create, Write};
-use crate::asks::{call, caller, done, new_store};
+use crate::asks::Told::Done;
+use crate::asks::{Row, new_store, play};
 use qplain::NoMemory;
 use qrules::{InodeRow, NameRow};
 use qstore::Store;
 use std::alloc::Global;
 use std::process::Abort;
 
-/// Two files of the superuser's: the one that was made second is named first.
+// The file that was made second is named first.
+const TWO_FILES: [Row<'static>; 3] = [
+    (Create("/b"), Done(2, 0, 1)),
+    (Create("/a"), Done(3, 0, 1)),
+    (Write("/b", 0, b"x"), Done(2, 1, 0)),
+];
+
 fn two_files(rt: &impl Abort, alloc: Global) -> Result<Store, NoMemory> {
     let mut store = new_store(rt, alloc)?;
-    for (ask, told) in [
-        (Create("/b"), done(2, 0, 1)),
-        (Create("/a"), done(3, 0, 1)),
-        (Write("/b", 0, b"x"), done(2, 1, 0)),
-    ] {
-        let call = call(rt, alloc, ask)?;
-        assert!(rt; store.apply(&caller(rt), 0, &call)? == told);
-    }
+    play(rt, alloc, &mut store, &TWO_FILES)?;
     Ok(store)
 }
 
-/// A file of the superuser's with one name, or the root directory.
-fn inode(ino: u64, dir: bool, blocks: u32, links: u64) -> InodeRow {
+/// An inode of user 0 and a group.
+fn inode(ino: u64, dir: bool, gid: u32, blocks: u32, links: u64) -> InodeRow {
     InodeRow {
         ino,
         dir,
         uid: 0,
-        gid: 0,
+        gid,
         blocks,
         links,
     }
@@ -38,9 +38,9 @@ fn inode(ino: u64, dir: bool, blocks: u32, links: u64) -> InodeRow {
 fn inodes_are_listed_by_number(rt: HostRuntime) -> Result<(), NoMemory> {
     let rows = two_files(&rt, rt.alloc())?.inode_rows()?;
     let wanted = [
-        inode(1, true, 0, 2),
-        inode(2, false, 1, 1),
-        inode(3, false, 0, 1),
+        inode(1, true, 0, 0, 2),
+        inode(2, false, 7, 1, 1),
+        inode(3, false, 7, 0, 1),
     ];
     assert!(rt; rows.as_slice() == wanted.as_slice());
     Ok(())

@@ -69,8 +69,13 @@ returns-clause-frees c =
     let one = Frees-row popped cut row c.cut_row-cut.result e.others e.freed (λ q there. sym (e.rows q) ∙ there) in
     let none = Frees-none cut new same (λ q there.
     ⊎_elim
-    (λ here. ap (has_row cut) here ∙ there_if_used cut row (sym (is_used-same (filled cut) (filled new) row same) ∙ sym c.forget_row.ensures.used ∙ ap (has_row new) (sym here) ∙ there))
+    (λ here. ap (has_row cut) here
+    ∙ there_if_used cut row (sym (is_used-same (filled cut) (filled new) row same)
+    ∙ sym c.forget_row.ensures.used ∙ ap (has_row new) (sym here) ∙ there))
     (λ other. sym (c.forget_row.ensures.others q other) ∙ there)
     (cases_eq q row)) in
     let sum : c.pop_rows-freed.result + c.cut_row-cut.result + 0 ≡ c.pop_rows-freed.result + c.cut_row-cut.result = omega arith in
-    subst (Frees old new) sum (Frees-more old cut new (c.pop_rows-freed.result + c.cut_row-cut.result) 0 (Frees-more old popped cut c.pop_rows-freed.result c.cut_row-cut.result c.pop_rows-freed.ensures.frees one) none)
+    subst (Frees old new) sum
+    (Frees-more old cut new (c.pop_rows-freed.result + c.cut_row-cut.result) 0
+    (Frees-more old popped cut c.pop_rows-freed.result c.cut_row-cut.result c.pop_rows-freed.ensures.frees
+    one) none)

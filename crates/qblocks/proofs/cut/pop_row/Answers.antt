@@ -17,7 +17,9 @@ returns-in-Some-pop_last-clause-frees c =
     let gone = gaps_absent (tree.get nat_cmp n r) (ap is_some e.updates.1) in
     let seen = ap (λ row. gaps (row_filled row) 0 ROW_BLOCKS) c.deref.ensures in
     let was = ap (λ o. gaps (row_filled (places_of o)) 0 ROW_BLOCKS) e.value in
-    Frees-row m n r (ROW_BLOCKS - c.missing.result) (λ q ne. ap places_of (other_rows m n r None e.updates q ne)) (omega (arith, gone, was, seen, c.missing.ensures.missing)) (λ q there.
+    Frees-row m n r (ROW_BLOCKS - c.missing.result)
+    (λ q ne. ap places_of (other_rows m n r None e.updates q ne))
+    (omega (arith, gone, was, seen, c.missing.ensures.missing)) (λ q there.
     ⊎_elim
     (λ here. ap (has_row m) here ∙ ap is_some e.value)
     (λ ne. ap is_some (sym (other_rows m n r None e.updates q ne)) ∙ there)

@@ -16,4 +16,16 @@ returns-clause-freed c =
     let freed = gaps-all new first (ROW_BLOCKS - first) (λ j l _. z.filled j ∙ ap is_some (e.freed j l)) in
     let at : 0 + first ≡ first = omega arith in
     let whole : ROW_BLOCKS ≡ first + (ROW_BLOCKS - first) = omega arith in
-    omega (arith, kept, freed, ap (gaps old 0) whole, ap (gaps new 0) whole, gaps-split old 0 first (ROW_BLOCKS - first), gaps-split new 0 first (ROW_BLOCKS - first), ap (λ (x : ℕ). gaps old x (ROW_BLOCKS - first)) at, ap (λ (x : ℕ). gaps new x (ROW_BLOCKS - first)) at, c.missing.ensures.missing, c.missing.ensures.bound)
+    omega (
+      arith,
+      kept,
+      freed,
+      ap (gaps old 0) whole,
+      ap (gaps new 0) whole,
+      gaps-split old 0 first (ROW_BLOCKS - first),
+      gaps-split new 0 first (ROW_BLOCKS - first),
+      ap (λ (x : ℕ). gaps old x (ROW_BLOCKS - first)) at,
+      ap (λ (x : ℕ). gaps new x (ROW_BLOCKS - first)) at,
+      c.missing.ensures.missing,
+      c.missing.ensures.bound,
+    )

@@ -14,7 +14,9 @@ pub loop-j-preserved : goal.loop-j-preserved
 loop-j-preserved c =
     let j = c.loop-j.j in
     let next = gaps-next (row_filled c.args.row.now) c.args.first (j - c.args.first) (j + 1 - c.args.first) j (omega arith) (omega arith) in
-    let filled : row_filled c.args.row.now j ≡ not c.is_none.result = ap is_some (get_or_default c.args.row.now j None c.index-row-j.result (omega arith)) ∙ c.is_none.ensures in
+    let filled : row_filled c.args.row.now j ≡ not c.is_none.result =
+    ap is_some (get_or_default c.args.row.now j None c.index-row-j.result (omega arith))
+    ∙ c.is_none.ensures in
     elim c.if-is_none.branch [
       | then-is_none w ↦
           let one = ap {B = ℕ} (λ t. cond t 0 1) (filled ∙ ap not w.if-is_none.true) in

@@ -17,7 +17,9 @@ put_block-requires-clause-spare c =
     let here = c.args.at + c.loop-done.done in
     let len = c.min-len.result in
     let aligned = c.loop-done.invariant.aligned in
-    let rest = Puts-rest _ _ _ _ _ _ c.args.at c.loop-done.done len (here / BLOCK_SIZE * BLOCK_SIZE + here % BLOCK_SIZE) c.args.part.now c.loop-done.invariant.puts c.requires.spare (omega arith) (omega arith) (omega arith) (λ some. aligned some (omega arith)) in
+    let rest = Puts-rest _ _ _ _ _ _ c.args.at c.loop-done.done len
+    (here / BLOCK_SIZE * BLOCK_SIZE + here % BLOCK_SIZE) c.args.part.now c.loop-done.invariant.puts
+    c.requires.spare (omega arith) (omega arith) (omega arith) (λ some. aligned some (omega arith)) in
     omega (arith, rest, gaps_in-block (row_filled c.loop-done.row) (here / BLOCK_SIZE) (here % BLOCK_SIZE) len (omega arith) (omega arith))
 
 pub loop-done-preserved : goal.loop-done-preserved
@@ -30,14 +32,19 @@ loop-done-preserved c =
     let long = length-take-le m (drop done input) (omega (arith, length-drop done input)) in
     let aligned = c.loop-done.invariant.aligned in
     let e = c.put_block.ensures in
-    let step = Puts-block c.loop-done.row c.put_block.new.row (here / BLOCK_SIZE) (here % BLOCK_SIZE) (take m (drop done input)) (omega arith) (omega arith) c.loop-done.spare c.put_block.new.spare e.filled e.writes e.others e.spare in
+    let step = Puts-block c.loop-done.row c.put_block.new.row (here / BLOCK_SIZE) (here % BLOCK_SIZE)
+    (take m (drop done input)) (omega arith) (omega arith) c.loop-done.spare c.put_block.new.spare
+    e.filled e.writes e.others e.spare in
     record {
-      puts = Puts-next _ _ _ _ _ _ _ _ _ c.args.at done m _ _ input c.loop-done.invariant.puts step (omega arith) (omega arith) (omega arith) (omega arith) (λ some. aligned some (omega arith));
+      puts = Puts-next _ _ _ _ _ _ _ _ _ c.args.at done m _ _ input c.loop-done.invariant.puts step
+          (omega arith) (omega arith) (omega arith) (omega arith) (λ some. aligned some (omega arith));
       within = omega arith;
       aligned = λ _ less. omega arith;
     }
 
 pub returns : goal.returns
 returns c =
-    let Put : List ℕ → Type 0 = Puts (row_byte c.args.row.now) (row_byte c.loop-done.row) (row_filled c.args.row.now) (row_filled c.loop-done.row) c.args.spare.now c.loop-done.spare c.args.at in
+    let Put : List ℕ → Type 0 =
+    Puts (row_byte c.args.row.now) (row_byte c.loop-done.row) (row_filled c.args.row.now)
+    (row_filled c.loop-done.row) c.args.spare.now c.loop-done.spare c.args.at in
     subst Put (take_all c.loop-done.done c.args.part.now (omega arith)) c.loop-done.invariant.puts

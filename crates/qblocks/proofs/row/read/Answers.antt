@@ -14,7 +14,8 @@ loop-at-preserved c =
     let row = c.args.row.now in
     let reads = c.loop-at.invariant.reads in
     record {
-      reads = reads-next (row_byte row) (byte_of (place_at row (at / BLOCK_SIZE))) _ _ _ c.args.from _ (at % BLOCK_SIZE) c.min-len.result _ reads c.in_ok-read_block.ensures (λ i l.
+      reads = reads-next (row_byte row) (byte_of (place_at row (at / BLOCK_SIZE))) _ _ _ c.args.from _
+          (at % BLOCK_SIZE) c.min-len.result _ reads c.in_ok-read_block.ensures (λ i l.
           let o = c.args.from + (at - c.args.from) + i in
           let block : (c.args.from + (at - c.args.from) + i) / BLOCK_SIZE ≡ at / BLOCK_SIZE = omega arith in
           let byte : (c.args.from + (at - c.args.from) + i) % BLOCK_SIZE ≡ at % BLOCK_SIZE + i = omega arith in

@@ -35,7 +35,16 @@ loop-r-preserved c =
     let here : start + (first - start) ≡ first = omega arith in
     let count : end - r * ROW_BLOCKS - (first - r * ROW_BLOCKS) ≡ end - first = omega arith in
     record {
-      missing = omega (arith, split, row, ap (gaps f start) before, ap (gaps f start) both, ap (λ (x : ℕ). gaps f x (end - first)) at, ap (λ (x : ℕ). gaps f x (end - first)) here, ap (gaps (row_filled (row_of m r)) (first - r * ROW_BLOCKS)) count);
+      missing = omega (
+        arith,
+        split,
+        row,
+        ap (gaps f start) before,
+        ap (gaps f start) both,
+        ap (λ (x : ℕ). gaps f x (end - first)) at,
+        ap (λ (x : ℕ). gaps f x (end - first)) here,
+        ap (gaps (row_filled (row_of m r)) (first - r * ROW_BLOCKS)) count,
+      );
       bound = omega arith;
     }
 

@@ -6,4 +6,5 @@ use Rattle.qblocks.proofs.rows.missing_in_row.Goals as goal
 
 pub returns-in-None-clause-missing : goal.returns-in-None-clause-missing
 returns-in-None-clause-missing c =
-    sym (gaps-all (row_filled (row_of c.args.rows.now c.args.r)) c.args.first (c.args.end - c.args.first) (λ k _ _. ap (λ row. is_some (place_at (places_of row) k)) (sym c.in-None.ensures.value)))
+    sym (gaps-all (row_filled (row_of c.args.rows.now c.args.r)) c.args.first (c.args.end - c.args.first)
+    (λ k _ _. ap (λ row. is_some (place_at (places_of row) k)) (sym c.in-None.ensures.value)))

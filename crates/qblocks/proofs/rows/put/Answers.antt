@@ -23,7 +23,9 @@ put_in_row-requires-clause-spare c =
     let input = c.args.input.now in
     let long = length-take-le m (drop done input) (omega (arith, length-drop done input)) in
     let aligned = c.loop-done.invariant.aligned in
-    let rest = Puts-rest _ _ _ _ _ _ c.args.off done m (here / ROW_SIZE * ROW_SIZE + here % ROW_SIZE) input c.loop-done.invariant.puts c.requires.spare (omega arith) (omega arith) (omega arith) (λ some. let even = aligned some (omega arith) in omega arith) in
+    let rest = Puts-rest _ _ _ _ _ _ c.args.off done m (here / ROW_SIZE * ROW_SIZE + here % ROW_SIZE) input
+    c.loop-done.invariant.puts c.requires.spare (omega arith) (omega arith) (omega arith)
+    (λ some. let even = aligned some (omega arith) in omega arith) in
     let row = ap (gaps_in (row_filled (row_of c.loop-done.rows (here / ROW_SIZE))) (here % ROW_SIZE)) long in
     omega (arith, rest, row, gaps_in-row c.loop-done.rows (here / ROW_SIZE) (here % ROW_SIZE) m (omega arith) (omega arith))
 
@@ -36,9 +38,13 @@ loop-done-preserved c =
     let long = length-take-le m (drop done input) (omega (arith, length-drop done input)) in
     let aligned = c.loop-done.invariant.aligned in
     let e = c.put_in_row.ensures in
-    let step = Puts-row c.loop-done.rows c.put_in_row.new.rows (here / ROW_SIZE) (here % ROW_SIZE) (take m (drop done input)) (omega arith) (omega arith) e.others c.loop-done.spare c.put_in_row.new.spare e.puts in
+    let step = Puts-row c.loop-done.rows c.put_in_row.new.rows (here / ROW_SIZE) (here % ROW_SIZE)
+    (take m (drop done input)) (omega arith) (omega arith) e.others c.loop-done.spare
+    c.put_in_row.new.spare e.puts in
     record {
-      puts = Puts-next _ _ _ _ _ _ _ _ _ c.args.off done m _ _ input c.loop-done.invariant.puts step (omega arith) (omega arith) (omega arith) (omega arith) (λ some. let even = aligned some (omega arith) in omega arith);
+      puts = Puts-next _ _ _ _ _ _ _ _ _ c.args.off done m _ _ input c.loop-done.invariant.puts step
+          (omega arith) (omega arith) (omega arith) (omega arith)
+          (λ some. let even = aligned some (omega arith) in omega arith);
       rows = λ q. e.rows q ∙ c.loop-done.invariant.rows q;
       within = omega arith;
       aligned = λ _ less. omega arith;
@@ -46,5 +52,7 @@ loop-done-preserved c =
 
 pub returns-clause-puts : goal.returns-clause-puts
 returns-clause-puts c =
-    let Put : List ℕ → Type 0 = Puts (byte_at c.args.rows.now) (byte_at c.loop-done.rows) (filled c.args.rows.now) (filled c.loop-done.rows) c.args.spare.now c.loop-done.spare c.args.off in
+    let Put : List ℕ → Type 0 =
+    Puts (byte_at c.args.rows.now) (byte_at c.loop-done.rows) (filled c.args.rows.now)
+    (filled c.loop-done.rows) c.args.spare.now c.loop-done.spare c.args.off in
     subst Put (take_all c.loop-done.done c.args.input.now (omega arith)) c.loop-done.invariant.puts

@@ -15,7 +15,8 @@ loop-at-preserved c =
     let at = c.loop-at.at in
     let m = c.args.rows.now in
     record {
-      reads = reads-next (byte_at m) (row_byte (row_of m (at / ROW_SIZE))) _ _ _ c.args.off _ (at % ROW_SIZE) c.min-len.result _ c.loop-at.invariant.reads c.in_ok-read_row.ensures (λ i l.
+      reads = reads-next (byte_at m) (row_byte (row_of m (at / ROW_SIZE))) _ _ _ c.args.off _ (at % ROW_SIZE)
+          c.min-len.result _ c.loop-at.invariant.reads c.in_ok-read_row.ensures (λ i l.
           let whole : at / ROW_SIZE * ROW_SIZE + (at % ROW_SIZE + i) ≡ c.args.off + (at - c.args.off) + i = omega arith in
           sym (byte_at-row m (at / ROW_SIZE) (at % ROW_SIZE + i) (omega arith)) ∙ ap (byte_at m) whole) (omega arith);
       order = omega arith;

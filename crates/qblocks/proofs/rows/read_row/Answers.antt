@@ -6,4 +6,7 @@ use Rattle.qblocks.proofs.rows.read_row.Goals as goal
 
 pub returns-in_ok-resize-in-None : goal.returns-in_ok-resize-in-None
 returns-in_ok-resize-in-None c =
-    reads-resized (row_byte (row_of c.args.rows.now c.args.r)) c.args.out.now.items c.resize.new.self.items c.args.at c.args.len c.args.out.now.len (c.len.result + c.args.len) c.in_ok-resize-in-None.ensures.items (omega arith) (omega arith) (λ o. ap (λ row. row_byte (places_of row) o) (sym c.in-None.ensures.value))
+    reads-resized (row_byte (row_of c.args.rows.now c.args.r)) c.args.out.now.items c.resize.new.self.items
+    c.args.at c.args.len c.args.out.now.len (c.len.result + c.args.len)
+    c.in_ok-resize-in-None.ensures.items (omega arith) (omega arith)
+    (λ o. ap (λ row. row_byte (places_of row) o) (sym c.in-None.ensures.value))

@@ -1,26 +1,34 @@
-use Rattle.std.proofs.Common.{◌+◌, ◌≡◌, ◌<◌, ◌≤◌, ℕ, List, [], ◌∷◌, ◌++◌, refl, length, get_or, drop, add-one, drop-cons}
-use Rattle.std.proofs.lemmas.List.{drop_all}
-use Rattle.hex.specs.Hex.{encode_lower, encode_with}
+use Rattle.std.proofs.Common.{◌≡◌, ℕ, ◌/◌, ◌%◌, List, [], ◌∷◌, ◌++◌, length, take, drop, slice_index, refl, sym, ap, ◌∙◌, arith, rules}
+use Rattle.std.proofs.lemmas.List.{take-append-drop}
+use Rattle.hex.specs.Hex.{encode_lower, encode_with, lower_digits}
 use Rattle.qtext.proofs.Fronts.{ends_refused, partly_next, partly_done}
 use Rattle.qtext.proofs.writing.put_hex.Goals as goal
 
-one_more : (bytes : List ℕ) (i : ℕ) → i < length bytes → encode_lower (drop i bytes) ≡ encode_lower (get_or bytes i 0 ∷ []) ++ encode_lower (drop (i + 1) bytes)
+-- the digits of two lists of bytes
+digits_append : (t xs ys : List ℕ) → encode_with t (xs ++ ys) ≡ encode_with t xs ++ encode_with t ys
 unfolding encode_with
-one_more bytes i lt = rw (add-one, drop-cons bytes i 0) refl
+digits_append t [] ys = refl
+digits_append t (b ∷ xs) ys =
+    ap (λ (l : List ℕ). slice_index t (b / 16) ∷ slice_index t (b % 16) ∷ l) (digits_append t xs ys)
 
-pub returns-in_err-put : goal.returns-in_err-put
-returns-in_err-put g c = ends_refused _ _ _ _ _ _ _ _ c.from_residual.ensures.0 c.loop-byte.invariant
-    (rw c.hex_digits.ensures at c.in_err-put.ensures)
-    (one_more c.args.bytes.now c.loop-byte.byte-index c.loop-byte-test.true)
+-- the digits of the first bytes, and those of the rest
+cut : (n : ℕ) (bytes : List ℕ) → encode_lower bytes ≡ encode_lower (take n bytes) ++ encode_lower (drop n bytes)
+cut n bytes =
+    sym (ap encode_lower (take-append-drop n bytes)) ∙ digits_append lower_digits (take n bytes) (drop n bytes)
 
-pub loop-byte-preserved : goal.loop-byte-preserved
-loop-byte-preserved g c =
-    partly_next _ _ _ _ _ _ _ c.loop-byte.invariant (rw c.hex_digits.ensures at c.in_ok-put.ensures)
-    (one_more c.args.bytes.now c.loop-byte.byte-index c.loop-byte-test.true)
-
-ended : (bytes : List ℕ) (i : ℕ) → length bytes ≤ i → encode_lower (drop i bytes) ≡ []
+none : (bytes : List ℕ) → length bytes ≡ 0 → encode_lower bytes ≡ []
 unfolding encode_with
-ended bytes i le = rw (drop_all i bytes le) refl
+none [] e = refl
+none (b ∷ bytes) e = absurd (omega arith)
+
+pub returns-in_err-put_digits : goal.returns-in_err-put_digits
+returns-in_err-put_digits g c = ends_refused _ _ _ _ _ _ _ _ c.from_residual.ensures.0 c.loop-rest.invariant
+    (rw c.split_at.ensures.front at c.in_err-put_digits.ensures) (cut _ c.loop-rest.rest.now)
+
+pub loop-rest-preserved : goal.loop-rest-preserved
+loop-rest-preserved g c = rw c.split_at.ensures.back
+    (partly_next _ _ _ _ _ _ _ c.loop-rest.invariant (rw c.split_at.ensures.front at c.in_ok-put_digits.ensures)
+    (cut _ c.loop-rest.rest.now))
 
 pub returns : goal.returns
-returns g c = partly_done _ _ _ (rw (ended c.args.bytes.now c.loop-byte.byte-index c.loop-byte-test.false) at c.loop-byte.invariant)
+returns g c = partly_done _ _ _ (rw (none c.loop-rest.rest.now (search rules)) at c.loop-rest.invariant)

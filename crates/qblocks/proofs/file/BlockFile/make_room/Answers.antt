@@ -21,8 +21,12 @@ invariant_of-self c =
     let was = rows_used old c.self.inside.size c.self.inside.count room none c.self.invariant in
     let e = c.in-Err.ensures in
     let f = c.forget_rows.ensures in
-    let used = rows_forgotten made new f.same (c.args.off / ROW_SIZE) c.if-missing-eq0.end f.used f.others (λ r out. e.others r out ∙ was r ∙ sym (used-same old made e.same r)) in
-    IsWhole-same old new c.self.inside.size c.self.inside.count room room (record { slots = λ k. f.same.slots k ∙ e.same.slots k }) (λ r. used r ∙ or_no (is_used (filled new) r) _ (ap (λ x. in_room x r) none ∙ in_no_room r)) c.self.invariant.room_bounded c.self.invariant
+    let used = rows_forgotten made new f.same (c.args.off / ROW_SIZE) c.if-missing-eq0.end f.used f.others
+    (λ r out. e.others r out ∙ was r ∙ sym (used-same old made e.same r)) in
+    IsWhole-same old new c.self.inside.size c.self.inside.count room room
+    (record { slots = λ k. f.same.slots k ∙ e.same.slots k }) (λ r. used r
+    ∙ or_no (is_used (filled new) r) _ (ap (λ x. in_room x r) none ∙ in_no_room r))
+    c.self.invariant.room_bounded c.self.invariant
 
 pub invariant_of-self-2 : goal.invariant_of-self-2
 invariant_of-self-2 c =
@@ -35,14 +39,17 @@ invariant_of-self-2 c =
     let before = ap (λ f. length f.file.allocated) c.self.view_is in
     let after = ap (λ f. length (with_touched f.file.allocated c.args.off c.args.len)) c.self.view_is in
     let gaps = missing_blocks old c.self.inside.size c.args.off c.args.len c.self.invariant.below in
-    let covers : (r : ℕ) → (is_used (filled old) r || in_span first c.if-missing-eq0.end r) ≡ (is_used (filled old) r || in_room room r) = λ r. elim c.if-missing-eq0.branch [
+    let covers : (r : ℕ) → (is_used (filled old) r || in_span first c.if-missing-eq0.end r)
+    ≡ (is_used (filled old) r || in_room room r) = λ r. elim c.if-missing-eq0.branch [
       | then-missing-eq0 w ↦
           sym (or_no (is_used (filled old) r) _ (in_span_none first c.if-missing-eq0.end r (omega (arith, w.end-is))))
           ∙ used-touched (filled old) c.args.off c.args.len r (omega (arith, before, after, gaps, w.if-missing-eq0.true))
       | else-missing-eq0 w ↦
           ap (λ (end : ℕ). is_used (filled old) r || in_span first end r) (w.end-is ∙ w.span_end-end.ensures.end)
     ] in
-    IsWhole-same old new c.self.inside.size c.self.inside.count _ room e.same (rows_made old new e.same room first c.if-missing-eq0.end covers e.made e.others was) (omega arith) c.self.invariant
+    IsWhole-same old new c.self.inside.size c.self.inside.count _ room e.same
+    (rows_made old new e.same room first c.if-missing-eq0.end covers e.made e.others was) (omega arith)
+    c.self.invariant
 
 pub returns-in-Err-clause-same : goal.returns-in-Err-clause-same
 returns-in-Err-clause-same c =

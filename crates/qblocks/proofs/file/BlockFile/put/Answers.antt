@@ -14,20 +14,30 @@ returns-then-is_empty-clause-file c =
 
 pub put-requires-clause-spare : goal.put-requires-clause-spare
 put-requires-clause-spare c =
-    let ready = ready_whole c.self.inside.rows c.self.inside.size c.self.inside.count _ c.args.self.now c.args.off (length c.args.input.now) c.args.spare c.self.view_is c.requires.ready c.self.invariant in
+    let ready = ready_whole c.self.inside.rows c.self.inside.size c.self.inside.count _ c.args.self.now
+    c.args.off (length c.args.input.now) c.args.spare c.self.view_is c.requires.ready c.self.invariant in
     omega (arith, ready.1)
 
 pub overflow_add-self : goal.overflow_add-self
 overflow_add-self c =
     let some = eqb-false (length c.args.input.now) 0 (sym c.if-is_empty.ensures) in
-    let put = put_whole c.self.inside.rows c.put.new.rows c.self.inside.size c.self.inside.count _ c.args.self.now c.args.off c.args.input.now c.args.spare _ _ c.max-self-inside.result c.self.view_is c.requires.ready c.self.invariant c.put.ensures.puts (omega (arith, some)) c.max-self-inside.ensures c.put.ensures.rows in
+    let put = put_whole c.self.inside.rows c.put.new.rows c.self.inside.size c.self.inside.count _
+    c.args.self.now c.args.off c.args.input.now c.args.spare _ _ c.max-self-inside.result c.self.view_is
+    c.requires.ready c.self.invariant c.put.ensures.puts (omega (arith, some)) c.max-self-inside.ensures
+    c.put.ensures.rows in
     omega (arith, put.0)
 
 -- the fields after the write, and the file that they stand for
-put_is : (c : goal.After-drop-spare-inside-2) → IsWhole c.put.new.rows c.max-self-inside.result (c.self.inside.count + c.args.spare) no_room × (file_of c.put.new.rows c.max-self-inside.result ≡ after_write c.args.self.now.file c.args.off c.args.input.now)
+put_is : (c : goal.After-drop-spare-inside-2)
+    → IsWhole c.put.new.rows c.max-self-inside.result (c.self.inside.count + c.args.spare) no_room
+    × (file_of c.put.new.rows c.max-self-inside.result
+    ≡ after_write c.args.self.now.file c.args.off c.args.input.now)
 put_is c =
     let some = eqb-false (length c.args.input.now) 0 (sym c.if-is_empty.ensures) in
-    let put = put_whole c.self.inside.rows c.put.new.rows c.self.inside.size c.self.inside.count _ c.args.self.now c.args.off c.args.input.now c.args.spare _ _ c.max-self-inside.result c.self.view_is c.requires.ready c.self.invariant c.put.ensures.puts (omega (arith, some)) c.max-self-inside.ensures c.put.ensures.rows in
+    let put = put_whole c.self.inside.rows c.put.new.rows c.self.inside.size c.self.inside.count _
+    c.args.self.now c.args.off c.args.input.now c.args.spare _ _ c.max-self-inside.result c.self.view_is
+    c.requires.ready c.self.invariant c.put.ensures.puts (omega (arith, some)) c.max-self-inside.ensures
+    c.put.ensures.rows in
     (put.1, put.2)
 
 pub invariant_of-self-2 : goal.invariant_of-self-2

@@ -12,6 +12,8 @@ returns-then-end-off c =
 
 pub returns : goal.returns
 returns c =
-    c.in_ok-read.ensures ∙ ap (λ xs. xs ++ map (byte_at c.self.inside.rows) (range_with_len c.args.off (c.min-end.result - c.args.off))) c.in_ok-bytes.ensures.items
+    c.in_ok-read.ensures ∙ ap
+    (λ xs. xs ++ map (byte_at c.self.inside.rows)
+    (range_with_len c.args.off (c.min-end.result - c.args.off))) c.in_ok-bytes.ensures.items
     ∙ read_bytes c.self.inside.rows c.self.inside.size c.args.off c.args.len (c.min-end.result - c.args.off) (omega (arith, c.saturating_add.ensures))
     ∙ ap (λ f. read_at f.file c.args.off c.args.len) c.self.view_is

@@ -43,7 +43,8 @@ invariant_of-self-2 c =
 pub returns-clause-file : goal.returns-clause-file
 returns-clause-file c =
     let e = c.cut-freed.ensures in
-    file_of-cut c.self.inside.rows c.cut-freed.new.rows c.self.inside.size c.args.size (omega arith) e.before e.filled c.self.invariant.below c.self.invariant.tail
+    file_of-cut c.self.inside.rows c.cut-freed.new.rows c.self.inside.size c.args.size (omega arith) e.before
+    e.filled c.self.invariant.below c.self.invariant.tail
     ∙ ap (λ file. after_truncate file c.args.size) (ap (λ f. f.file) c.self.view_is ∙ c.forget_room.ensures.same)
 
 pub returns-clause-count : goal.returns-clause-count
