@@ -1,9 +1,9 @@
 ghost use Rattle.std.specs.Prelude.{◌≡◌, ◌<◌, ◌≤◌, ◌+◌, ◌++◌, ◌∷◌, [], ◌↔◌, length, map, vec_len, vec_capacity, IfOk, OnErr, OnOk, Err};
 ghost use Rattle.qplain.specs.State.{start};
 ghost use Rattle.qstore.specs.Rows.{record_row_of};
-ghost use Rattle.qrun.specs.Journaled.{IsJournaled, IsPlayed, entry_of};
+ghost use Rattle.qrun.specs.Journaled.{IsJournaled, IsPlayed};
 
-use qplain::{CallFault, Entry, Line, NoMemory, Receipt, Reply, Setup};
+use qplain::{CallFault, Entry, Line, NoMemory, Receipt, Setup};
 use qrules::RecordRow;
 use qstore::Store;
 use std::alloc::Global;
@@ -47,19 +47,6 @@ pub(crate) fn append<T: Drop>(items: &mut Vec<T>, item: T)
     }
 }
 
-/// The entry of a worker's line that was given this reply.
-fn entry_of(alloc: Global, worker: u64, line: &Line, reply: &Reply) -> Result<Entry, NoMemory>
-    ensures { IfOk result (λ entry. entry ≡ entry_of worker line.now reply.now) }
-{
-    Ok(Entry {
-        worker,
-        cred: line.cred,
-        moment: line.moment,
-        call: line.call.copy(alloc)?,
-        reply: reply.copy(alloc)?,
-    })
-}
-
 impl JournaledStore {
     /// A new store of the setup, with an empty journal. After an Err nothing was made.
     pub(crate) fn new(alloc: Global, setup: Setup) -> Result<JournaledStore, NoMemory>
@@ -83,9 +70,17 @@ impl JournaledStore {
         ensures err { OnErr result (self.new.journal ≡ self.old.journal) }
     {
         self.journal.reserve(1)?;
+        let call = line.call.copy(self.alloc)?;
         let ready = self.store.ready(&line.cred, line.moment, &line.call)?;
-        let entry = entry_of(self.alloc, worker, line, ready.reply())?;
+        let copy = ready.reply().copy(self.alloc)?;
         let reply = self.store.commit(ready);
+        let entry = Entry {
+            worker,
+            cred: line.cred,
+            moment: line.moment,
+            call,
+            reply: copy,
+        };
         append(&mut self.journal, entry);
         Ok(Receipt {
             place: self.journal.len() as u64,

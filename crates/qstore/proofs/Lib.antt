@@ -30,6 +30,7 @@ pub mod Counting
 pub mod Chargeable
 pub mod CreateTests
 pub mod WriteTests
+pub mod Granted
 pub mod Steps
 pub mod Creates
 pub mod Writes

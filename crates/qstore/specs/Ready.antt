@@ -1,5 +1,5 @@
 -- What a call that is ready will do, and when it may.
-use Rattle.std.specs.Prelude.{◌≡◌, ℕ, ◌+◌, ◌<◌, ◌≤◌, true, List, [], length, Option, Some, None, is_some, IfSome}
+use Rattle.std.specs.Prelude.{◌≡◌, ℕ, ◌+◌, ◌<◌, ◌≤◌, Bool, true, false, List, [], length, Option, Some, None, is_some, IfSome}
 use Rattle.std.specs.List.{slice_get}
 use Rattle.qrules.specs.declared.kind.Kind.{Kind}
 use Rattle.qrules.specs.declared.limits.Limits.{Limits}
@@ -12,7 +12,9 @@ use Rattle.qblocks.specs.Room.{IsReady as IsReadyFile}
 use Rattle.qblocks.specs.declared.file.TheConstants.{MAX_SIZE}
 use Rattle.qplain.specs.declared.call.Call.{Call}
 use Rattle.qplain.specs.declared.call.Call.TheVariants.{Create as CreateCall, Write as WriteCall, Read, Stat, SetQuota as SetQuotaCall, SetGrace as SetGraceCall, Quota}
+use Rattle.qplain.specs.declared.refusal.Refusal.{Refusal}
 use Rattle.qplain.specs.declared.reply.Reply.{Reply}
+use Rattle.qplain.specs.declared.reply.Reply.TheVariants.{Refused}
 use Rattle.qplain.specs.declared.bounds.TheConstants.{MAX_NUMBER}
 use Rattle.qplain.specs.State.{Inode, State, inode_at, is_directory, named, new_file}
 use Rattle.qplain.specs.Use.{total_of}
@@ -34,6 +36,20 @@ bytes_of (Stat path) = []
 bytes_of (SetQuotaCall kind id limits) = []
 bytes_of (SetGraceCall graces) = []
 bytes_of (Quota kind id) = []
+
+-- the reply is a refusal
+abbrev pub IsRefused : Reply → Type 0
+IsRefused reply = (r : Refusal) × reply ≡ Refused r
+
+-- the call wants no memory, whatever it is answered: stat, setquota, setgrace and quota
+abbrev pub wants_no_memory : Call → Bool
+wants_no_memory (CreateCall path) = false
+wants_no_memory (WriteCall path off bytes) = false
+wants_no_memory (Read path off len) = false
+wants_no_memory (Stat path) = true
+wants_no_memory (SetQuotaCall kind id limits) = true
+wants_no_memory (SetGraceCall graces) = true
+wants_no_memory (Quota kind id) = true
 
 -- the state after a write into what is at this number
 abbrev pub written_at : State → ℕ → ℕ → List ℕ → Option Inode → State

@@ -1,4 +1,5 @@
-ghost use Rattle.std.specs.Prelude.{◌≡◌, false, All, IfOk, OnOk, OnErr};
+ghost use Rattle.std.specs.Prelude.{◌≡◌, true, false, [], All, IfOk, OnOk, OnErr};
+ghost use Rattle.std.specs.Result.{IsOk};
 ghost use Rattle.qrules.specs.Sort.{Blocks, Inodes};
 ghost use Rattle.qplain.specs.State.{State, start};
 ghost use Rattle.qplain.specs.Use.{total_of};
@@ -6,7 +7,7 @@ ghost use Rattle.qplain.specs.Caller.{is_superuser};
 ghost use Rattle.qplain.specs.Laws.{IsLawful, PassesNoLimit};
 ghost use Rattle.qplain.specs.Step.{step};
 ghost use Rattle.qstore.specs.Stored.{IsSound, Stored};
-ghost use Rattle.qstore.specs.Ready.{CanCarryOut, IsReady, bytes_of, effect, outcome};
+ghost use Rattle.qstore.specs.Ready.{CanCarryOut, IsReady, IsRefused, bytes_of, effect, outcome, wants_no_memory};
 
 use crate::ledger::Ledger;
 use crate::ready::{Decided, Plan, Ready};
@@ -64,10 +65,24 @@ impl Model for Store {
 fn bytes_for<'a>(plan: &Plan, call: &'a Call) -> &'a [u8]
     ensures effect { (S : State) → effect S plan.now result.now ≡ effect S plan.now (bytes_of call.now) }
     ensures can { (s : Stored) → CanCarryOut s plan.now (bytes_of call.now) → CanCarryOut s plan.now result.now }
+    ensures nothing { plan.now ≡ Plan.Nothing → result.now ≡ [] }
+    ensures none { bytes_of call.now ≡ [] → result.now ≡ [] }
 {
     match (plan, call) {
         (Plan::Write { .. }, Call::Write { bytes, .. }) => bytes.as_slice(),
         _ => &[],
+    }
+}
+
+/// A copy of the bytes. No bytes take no memory.
+fn copy_of(alloc: Global, bytes: &[u8]) -> Result<Vec<u8>, NoMemory>
+    ensures copy { IfOk result (λ copy. copy.items ≡ bytes.now) }
+    ensures none { bytes.now ≡ [] → IsOk result }
+{
+    if bytes.is_empty() {
+        Ok(Vec::new(alloc))
+    } else {
+        Vec::from_slice(alloc, bytes)
     }
 }
 
@@ -107,6 +122,9 @@ impl Store {
         ensures step { IfOk result (λ d. (effect self.old.state d.plan (bytes_of call.now), d.reply) ≡ step self.old.state cred.now moment call.now) }
         ensures can { IfOk result (λ d. CanCarryOut self.new d.plan (bytes_of call.now)) }
         ensures sound { IsSound self.old.state }
+        ensures refused_first { IsRefused (step self.old.state cred.now moment call.now).1 → IsOk result }
+        ensures answered { wants_no_memory call.now ≡ true → IsOk result }
+        ensures nothing { IfOk result (λ d. IsRefused d.reply → d.plan ≡ Plan.Nothing) }
     {
         let places = match self.check(cred, moment, call) {
             Ok(places) => places,
@@ -165,9 +183,10 @@ impl Store {
 
     /// Decides a call and makes every growth that it needs, and leaves the state as it was.
     ///
-    /// `moment` is in seconds; above 2^40 the reply is EINVAL. A refusal is a reply, and takes no memory for what the
-    /// call would have done: EINVAL first, then ENAMETOOLONG, the call's own tests, ENOSPC, EDQUOT. Err is want of
-    /// memory alone, and leaves the state as it was, too. The bytes of a write are copied.
+    /// `moment` is in seconds; above 2^40 the reply is EINVAL. A refusal is a reply, and wants no memory: EINVAL first,
+    /// then ENAMETOOLONG, the call's own tests, ENOSPC, EDQUOT. Err is want of memory alone. It comes after all
+    /// refusals, so only a create, a write or a read that would be granted meets it, and it leaves the state as it was,
+    /// too. The bytes of a write are copied.
     ///
     /// The `Ready` is for `commit` of this store, before any other `ready`, `apply` or `commit` of it. It may be
     /// dropped: a create's room serves the next create, a write's blocks go with it, and what is left in its file is
@@ -176,9 +195,13 @@ impl Store {
         ensures state { self.new.state ≡ self.old.state }
         ensures step { IfOk result (λ r. outcome self.old.state r ≡ step self.old.state cred.now moment call.now) }
         ensures ready { IfOk result (IsReady self.new) }
+
+        // Want of memory comes after all refusals, and some calls never want any.
+        ensures refused_first { IsRefused (step self.old.state cred.now moment call.now).1 → IsOk result }
+        ensures answered { wants_no_memory call.now ≡ true → IsOk result }
     {
         let Decided { reply, plan } = self.decide(cred, moment, call)?;
-        let bytes = Vec::from_slice(self.alloc, bytes_for(&plan, call))?;
+        let bytes = copy_of(self.alloc, bytes_for(&plan, call))?;
         Ok(Ready {
             reply,
             plan,
@@ -198,13 +221,19 @@ impl Store {
         reply
     }
 
-    /// One call: the state and the reply are those of the plain machine's step. An Err leaves the state as it was.
+    /// One call: the state and the reply are those of the plain machine's step. An Err leaves the state as it was, and
+    /// comes after all refusals.
     ///
-    /// Moments and refusals are those of `ready`. O(bytes of the path and of the data), and O(log n) for each 64 KiB of
-    /// a file of n blocks, where names do not collide and no map has to grow. No bytes are copied beside the file.
+    /// Moments and refusals, and which calls may want memory, are as for `ready`. O(bytes of the path and of the data),
+    /// and O(log n) for each 64 KiB of a file of n blocks, where names do not collide and no map has to grow. No bytes
+    /// are copied beside the file.
     pub fn apply(&mut self, cred: &Cred, moment: u64, call: &Call) -> Result<Reply, NoMemory>
         ensures ok { IfOk result (λ reply. (self.new.state, reply) ≡ step self.old.state cred.now moment call.now) }
         ensures err { OnErr result (self.new.state ≡ self.old.state) }
+
+        // Want of memory comes after all refusals, and some calls never want any.
+        ensures refused_first { IsRefused (step self.old.state cred.now moment call.now).1 → IsOk result }
+        ensures answered { wants_no_memory call.now ≡ true → IsOk result }
 
         // In the words of the limits: nobody but the superuser raises a use past a hard limit, or past a soft one
         // whose grace has ended.

@@ -1,12 +1,28 @@
 -- The first part of a text.
-use Rattle.std.proofs.Common.{◌≡◌, ℕ, ◌<◌, ◌≤◌, ◌+◌, Bool, true, false, eqb, List, [], ◌∷◌, length, take, drop, Option, Some, None, refl, sym, arith}
+use Rattle.std.proofs.Common.{◌≡◌, ℕ, ◌<◌, ◌≤◌, ◌+◌, Bool, true, false, cond, eqb, List, [], ◌∷◌, length, take, drop, Option, Some, None, ltb, refl, sym, ◌∙◌, arith}
 use Rattle.std.specs.Prelude.{IsNone}
 use Rattle.std.specs.Option.{option_map}
 use Rattle.std.specs.List.{position_or_len}
 use Rattle.std.proofs.lemmas.List.Splits.{slice_split_none, slice_split_first, length-slice_split}
-use Rattle.std.proofs.lemmas.List.Sums.{fails_before_first, position_or_len_is}
-use Rattle.memchr.specs.Find.{IsFirstByte, is_byte}
+use Rattle.std.proofs.lemmas.List.Sums.{fails_before_first}
+use Rattle.std.proofs.lemmas.Bool.{ltb-false}
+use borrow.Author.Tests.{ltb-true}
 use Rattle.qtext.specs.Words.{parts, parts_after}
+
+-- what `position` answers
+found_by : (b : Bool) (p at : ℕ) → cond b (Some p) None ≡ Some at → (b ≡ true) × (at ≡ p)
+found_by true p at e = (refl, cc)
+found_by false p at e = absurd cc
+
+none_by : (b : Bool) (p : ℕ) → IsNone (cond b (Some p) None) → b ≡ false
+none_by true p e = absurd (cc e)
+none_by false p e = refl
+
+pub found_at : (p l at : ℕ) (r : Option ℕ) → r ≡ cond (ltb p l) (Some p) None → r ≡ Some at → (p < l) × (at ≡ p)
+found_at p l at r e h = let f = found_by (ltb p l) p at (sym e ∙ h) in (ltb-true p l f.0, f.1)
+
+pub none_at : (p l : ℕ) (r : Option ℕ) → r ≡ cond (ltb p l) (Some p) None → r ≡ None → l ≤ p
+none_at p l r e h = ltb-false p l (none_by (ltb p l) p (rw (← e, h) refl))
 
 -- a text with a separator in it, and one without
 pub parts_at : (s : ℕ) (text : List ℕ) (at : ℕ) → position_or_len (λ b. eqb b s) text < length text → at ≡ position_or_len (λ b. eqb b s) text
@@ -15,30 +31,6 @@ parts_at s text at lt e = rw (e, slice_split_first (λ b. eqb b s) text 0 lt) re
 
 pub parts_none : (s : ℕ) (text : List ℕ) → length text ≤ position_or_len (λ b. eqb b s) text → parts s text ≡ text ∷ []
 parts_none s text le = slice_split_none (λ b. eqb b s) text (λ k d m. fails_before_first (λ b. eqb b s) text k d (omega arith))
-
-never : (b : Bool) → ((b ≡ true) → ⊥) → b ≡ false
-never true f = absurd (f refl)
-never false f = refl
-
--- what `memchr` answers
-pub parts_found : (s : ℕ) (text : List ℕ) (r : Option ℕ) (at : ℕ) → IsFirstByte (is_byte s) text r → r ≡ Some at
-    → parts s text ≡ take at text ∷ parts s (drop (at + 1) text)
-parts_found s text r at first is =
-    let there = rw is at first in
-    let high : at < length text = there.0.high in
-    let place : position_or_len (λ b. eqb b s) text ≡ at =
-    position_or_len_is (λ b. eqb b s) text at 0 (omega arith)
-    (λ k lt. never _ (there.0.before k (omega arith) lt)) (λ _. there.1) in
-    parts_at s text at (omega arith) (sym place)
-
-pub parts_not_found : (s : ℕ) (text : List ℕ) (r : Option ℕ) → IsFirstByte (is_byte s) text r → r ≡ None
-    → parts s text ≡ text ∷ []
-parts_not_found s text r first is =
-    let nowhere = rw is at first in
-    let place : position_or_len (λ b. eqb b s) text ≡ length text =
-    position_or_len_is (λ b. eqb b s) text (length text) 0 (omega arith)
-    (λ k lt. never _ (nowhere k (omega arith) lt)) (λ less. absurd (omega arith)) in
-    parts_none s text (omega arith)
 
 pub some_part : (s : ℕ) (text : List ℕ) → 0 < length (parts s text)
 some_part s text = omega (arith, length-slice_split (λ b. eqb b s) text)

@@ -3,7 +3,6 @@ ghost use Rattle.std.specs.Option.{option_map};
 ghost use Rattle.std.specs.List.{list_all};
 ghost use Rattle.qtext.specs.Words.{is_text_byte, parts, words, parts_after};
 
-use memchr::memchr;
 use std::alloc::AllocError;
 
 /// The part before the first separator, and what stands behind that separator where there is one.
@@ -13,7 +12,7 @@ pub fn first_part(text: &[u8], separator: u8) -> (&[u8], Option<&[u8]>)
     ensures whole { IsNone result.1 → result.0.now ≡ text.now }
     ensures shorter { IfSome result.1 (λ after. length after.now < length text.now) }
 {
-    match memchr(separator, text) {
+    match text.iter().position(|byte| *byte == separator) {
         Some(at) => (text.split_at(at).0, Some(text.split_at(at + 1).1)),
         None => (text, None),
     }

@@ -1,11 +1,12 @@
 //! To create a file (open(2)).
 ghost use Rattle.std.specs.Prelude.{◌≡◌, ◌≤◌, true, [], None, IfOk};
+ghost use Rattle.std.specs.Result.{IsOk};
 ghost use Rattle.qplain.specs.Attempt.{Becomes, created, create_under};
 ghost use Rattle.qplain.specs.Decision.{ends_after};
 ghost use Rattle.qplain.specs.State.{is_directory, named, new_file};
 ghost use Rattle.qplain.specs.Step.{settle};
 ghost use Rattle.qplain.specs.Walk.{components, last_name};
-ghost use Rattle.qstore.specs.Ready.{CanCarryOut, CreateIsReady, effect};
+ghost use Rattle.qstore.specs.Ready.{CanCarryOut, CreateIsReady, IsRefused, effect};
 ghost use Rattle.qstore.specs.Stored.{HasPlaces, IsSound};
 
 use crate::changes::ONE_INODE;
@@ -31,6 +32,10 @@ impl Store {
         ensures step { IfOk result (λ d. (effect self.old.state d.plan [], d.reply)
             ≡ settle self.old.state cred.now moment (create_under self.old.state cred.now (components path.now) (last_name (components path.now)))) }
         ensures ready { IfOk result (λ d. CanCarryOut self.new d.plan []) }
+        ensures refused_first { IsRefused (settle self.old.state cred.now moment
+            (create_under self.old.state cred.now (components path.now) (last_name (components path.now)))).1
+            → IsOk result }
+        ensures nothing { IfOk result (λ d. IsRefused d.reply → d.plan ≡ Plan.Nothing) }
     {
         let Some(names) = names_of(path) else {
             return Ok(Decided::refused(Refusal::EEXIST));
@@ -63,6 +68,10 @@ impl Store {
         ensures step { IfOk result (λ d. (effect self.old.state d.plan [], d.reply)
             ≡ settle self.old.state cred.now moment (Becomes (created self.old.state (new_file cred.now.uid cred.now.gid) dir name.now) self.old.state.next)) }
         ensures ready { IfOk result (λ d. CanCarryOut self.new d.plan []) }
+        ensures refused_first { IsRefused (settle self.old.state cred.now moment (Becomes
+            (created self.old.state (new_file cred.now.uid cred.now.gid) dir name.now) self.old.state.next)).1
+            → IsOk result }
+        ensures nothing { IfOk result (λ d. IsRefused d.reply → d.plan ≡ Plan.Nothing) }
     {
         if let Some(refusal) = self.admit(cred, places, moment, 0, 1) {
             return Ok(Decided::refused(refusal));

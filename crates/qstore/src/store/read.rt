@@ -1,9 +1,11 @@
 //! To read from a file (read(2)).
 ghost use Rattle.std.specs.Prelude.{◌≡◌, ℕ, IfOk};
+ghost use Rattle.std.specs.Result.{IsOk};
 ghost use Rattle.qplain.specs.Caller.{Caller};
 ghost use Rattle.qplain.specs.Attempt.{read_reached};
 ghost use Rattle.qplain.specs.Step.{settle};
 ghost use Rattle.qplain.specs.Walk.{components, walk};
+ghost use Rattle.qstore.specs.Ready.{IsRefused};
 
 use crate::node::Content;
 use crate::store::Store;
@@ -13,8 +15,10 @@ use qrules::Items;
 impl Store {
     /// The reply to a read.
     pub(super) fn decide_read(&self, path: &[u8], off: u64, len: u64) -> Result<Reply, NoMemory>
-        ensures { IfOk result (λ reply. (cred : Caller) (moment : ℕ) → (self.now.state, reply)
+        ensures step { IfOk result (λ reply. (cred : Caller) (moment : ℕ) → (self.now.state, reply)
             ≡ settle self.now.state cred moment (read_reached self.now.state off len (walk self.now.state (components path.now)))) }
+        ensures refused_first { (cred : Caller) (moment : ℕ) → IsRefused (settle self.now.state cred moment
+            (read_reached self.now.state off len (walk self.now.state (components path.now)))).1 → IsOk result }
     {
         let number = match self.walk(path) {
             Ok(number) => number,

@@ -4,7 +4,7 @@ ghost use Rattle.qrules.specs.Range.{are_graces_in_range};
 ghost use Rattle.qplain.specs.Attempt.{set_grace};
 ghost use Rattle.qplain.specs.Step.{settle};
 ghost use Rattle.qstore.specs.Stored.{IsSound};
-ghost use Rattle.qstore.specs.Ready.{CanCarryOut, SetGraceIsReady, effect};
+ghost use Rattle.qstore.specs.Ready.{CanCarryOut, IsRefused, SetGraceIsReady, effect};
 
 use crate::changes::NO_CHANGE;
 use crate::ready::{Decided, Plan};
@@ -20,6 +20,7 @@ impl Store {
         ensures step { (moment : ℕ) → (effect self.now.state result.plan [], result.reply)
             ≡ settle self.now.state cred.now moment (set_grace self.now.state cred.now graces) }
         ensures ready { CanCarryOut self.now result.plan [] }
+        ensures nothing { IsRefused result.reply → result.plan ≡ Plan.Nothing }
     {
         if cred.uid() != 0 {
             return Decided::refused(Refusal::EPERM);

@@ -5,7 +5,7 @@ ghost use Rattle.qplain.specs.Attempt.{set_quota, with_limits_of};
 ghost use Rattle.qplain.specs.Decision.{ends_after};
 ghost use Rattle.qplain.specs.Step.{settle};
 ghost use Rattle.qstore.specs.Stored.{IsSound};
-ghost use Rattle.qstore.specs.Ready.{CanCarryOut, SetQuotaIsReady, effect};
+ghost use Rattle.qstore.specs.Ready.{CanCarryOut, IsRefused, SetQuotaIsReady, effect};
 
 use crate::changes::NO_CHANGE;
 use crate::ready::{Decided, Plan};
@@ -27,6 +27,7 @@ impl Store {
         ensures step { (effect self.now.state result.plan [], result.reply)
             ≡ settle self.now.state cred.now moment (set_quota self.now.state cred.now kind id limits) }
         ensures ready { CanCarryOut self.now result.plan [] }
+        ensures nothing { IsRefused result.reply → result.plan ≡ Plan.Nothing }
     {
         if cred.uid() != 0 {
             return Decided::refused(Refusal::EPERM);

@@ -1,6 +1,7 @@
 //! To write into a file (write(2)).
 ghost use Rattle.std.specs.Prelude.{◌≡◌, ℕ, ◌+◌, ◌≤◌, ◌<◌, ◌&&◌, true, false, length, Some, IfOk, IfErr, IfSome};
 ghost use Rattle.std.specs.Option.{IsSome};
+ghost use Rattle.std.specs.Result.{IsOk};
 ghost use Rattle.qrules.specs.declared.kind.Kind.TheVariants.{User, Group};
 ghost use Rattle.qblocks.specs.File.{Adds, after_write};
 ghost use Rattle.qplain.specs.Arguments.{is_declared};
@@ -10,7 +11,7 @@ ghost use Rattle.qplain.specs.State.{inode_at};
 ghost use Rattle.qplain.specs.Step.{settle};
 ghost use Rattle.qplain.specs.Walk.{components, walk};
 ghost use Rattle.qstore.specs.Nodes.{inode_of};
-ghost use Rattle.qstore.specs.Ready.{CanCarryOut, WriteIsReady, effect, written_at};
+ghost use Rattle.qstore.specs.Ready.{CanCarryOut, IsRefused, WriteIsReady, effect, written_at};
 ghost use Rattle.qstore.specs.Stored.{HasPlaces, IsSound};
 ghost use Rattle.qstore.specs.Writes.{IsTarget};
 
@@ -57,6 +58,10 @@ impl Store {
         ensures step { IfOk result (λ d. (effect self.old.state d.plan bytes.now, d.reply)
             ≡ settle self.old.state cred.now moment (write_reached self.old.state cred.now off bytes.now (walk self.old.state (components path.now)))) }
         ensures ready { IfOk result (λ d. CanCarryOut self.new d.plan bytes.now) }
+        ensures refused_first { IsRefused (settle self.old.state cred.now moment
+            (write_reached self.old.state cred.now off bytes.now (walk self.old.state (components path.now)))).1
+            → IsOk result }
+        ensures nothing { IfOk result (λ d. IsRefused d.reply → d.plan ≡ Plan.Nothing) }
     {
         let number = match self.walk(path) {
             Ok(number) => number,
@@ -128,6 +133,10 @@ impl Store {
         ensures step { IfOk result (λ d. (effect self.old.state d.plan bytes.now, d.reply)
             ≡ settle self.old.state cred.now moment (write_into self.old.state cred.now off bytes.now number (inode_at self.old.state number))) }
         ensures ready { IfOk result (λ d. CanCarryOut self.new d.plan bytes.now) }
+        ensures refused_first { IsRefused (settle self.old.state cred.now moment
+            (write_into self.old.state cred.now off bytes.now number (inode_at self.old.state number))).1
+            → IsOk result }
+        ensures nothing { IfOk result (λ d. IsRefused d.reply → d.plan ≡ Plan.Nothing) }
     {
         let Some(places) = self.owners(cred, callers, target) else {
             unreachable!()

@@ -9,8 +9,8 @@ pub invariant_of-self-2 : goal.invariant_of-self-2
 invariant_of-self-2 c =
     let few : length c.self.inside.journal.items < MAX_ENTRIES = rw (ap (λ j. j.journal) c.self.view_is) c.requires.few in
     let entries : c.append.new.items.items ≡ c.self.inside.journal.items
-    ++ entry_of c.args.worker c.args.line.now c.reply.result.now ∷ [] =
-    c.append.ensures.items ∙ rw (c.in_ok-reserve.ensures.items, c.in_ok-entry.ensures) refl in
-    played_on (journaled_of c.self.inside) _ c.args.worker c.args.line.now c.reply.result.now c.self.invariant few refl entries
+    ++ entry_of c.args.worker c.args.line.now c.in_ok-copy.copy ∷ [] =
+    c.append.ensures.items ∙ rw (c.in_ok-reserve.ensures.items, c.in_ok-call.ensures) refl in
+    played_on (journaled_of c.self.inside) _ c.args.worker c.args.line.now c.in_ok-copy.copy c.self.invariant few refl entries
     (carried_out _ _ _ c.in_ok-ready.ready _ _ _ c.args.line.now c.in_ok-ready.ensures.state
-    c.in_ok-ready.ensures.step c.commit-reply.ensures c.reply.ensures refl)
+    c.in_ok-ready.ensures.step c.commit-reply.ensures c.reply.ensures c.in_ok-copy.ensures)

@@ -1,16 +1,18 @@
 use Rattle.std.proofs.Common.{◌+◌, ◌≤◌, rules, sym, ap, subst, ◌∙◌, arith}
 use Rattle.qrules.specs.Sort.{Blocks}
 use Rattle.qblocks.specs.File.{after_write}
+use Rattle.qplain.specs.declared.reply.Reply.{Reply}
 use Rattle.qplain.specs.declared.reply.Reply.TheVariants.{Done}
-use Rattle.qplain.specs.State.{inode_at}
+use Rattle.qplain.specs.State.{State, inode_at}
 use Rattle.qplain.specs.Use.{total_of}
 use Rattle.qplain.specs.Decision.{ends_after}
 use Rattle.qplain.specs.Attempt.{with_file}
 use Rattle.qplain.specs.Step.{settle}
 use Rattle.qplain.proofs.Rising.{Rises-with_file, change_between-rises, settle-granted, settle-refused}
-use Rattle.qstore.specs.Ready.{effect, written_at}
+use Rattle.qstore.specs.Ready.{IsRefused, effect, written_at}
 use Rattle.qstore.specs.Stored.{HasPlaces, Stored}
 use Rattle.qplain.proofs.Fitting.{known-owners}
+use Rattle.qstore.proofs.Granted.{granted-unrefused}
 use Rattle.qstore.proofs.WriteTests.{more-of-adds}
 use Rattle.qstore.proofs.Writes.{places-along, write-ready}
 use Rattle.qstore.proofs.store.Store.decide_put.Goals as goal
@@ -38,6 +40,19 @@ returns-in-Some-admit-clause-step c =
     (λ i. (effect S (c.refused.ensures.plan i) x.bytes.now, c.refused.ensures.reply i))
     ∙ sym (ap (settle S x.cred.now x.moment) t.becomes ∙ settle-refused S S1 x.cred.now x.moment x.number c.in-Some-admit.refusal
     (sym (c.admit.ensures.refusal S1 t.inode places rises) ∙ c.in-Some-admit.is))
+
+pub returns-in_err-spare-clause-refused_first : goal.returns-in_err-spare-clause-refused_first
+returns-in_err-spare-clause-refused_first c refused =
+    let x = c.args in
+    let S = x.self.now.state in
+    let t = c.requires.target in
+    let S1 = with_file S x.number t.inode (after_write t.inode.file x.off x.bytes.now) in
+    let more = more-of-adds t.inode.file x.off x.bytes.now x.target.blocks t.blocks in
+    let rises = Rises-with_file S x.number t.inode (after_write t.inode.file x.off x.bytes.now) x.target.blocks t.there more in
+    let places = places-along x.self.now c.in-Some.places x.target.uid x.target.gid t.inode.uid t.inode.gid c.in-Some.ensures.places t.uid t.gid in
+    let none = sym (c.admit.ensures.refusal S1 t.inode places rises) ∙ c.in_default-admit.is in
+    let becomes = ap (settle S x.cred.now x.moment) t.becomes in
+    granted-unrefused S S1 x.cred.now x.moment x.number none (subst (λ (told : State × Reply). IsRefused told.1) becomes refused)
 
 pub returns-clause-step : goal.returns-clause-step
 returns-clause-step c =

@@ -8,6 +8,7 @@ use Rattle.qplain.specs.Rises.{Rises}
 use Rattle.qplain.proofs.Rising.{Rises-created, absent-next, change_between-rises, settle-granted, settle-refused}
 use Rattle.qstore.specs.Ready.{effect}
 use Rattle.qstore.specs.Stored.{Stored}
+use Rattle.qstore.proofs.Granted.{granted-unrefused}
 use Rattle.qstore.proofs.store.Store.make_file.Goals as goal
 
 -- a new file is one inode more
@@ -24,6 +25,26 @@ returns-in-Some-clause-step c =
     (λ i. (effect S (c.refused.ensures.plan i) [], c.refused.ensures.reply i))
     ∙ sym (settle-refused S S1 cred x.moment S.next c.in-Some.refusal
     (sym (c.admit.ensures.refusal S1 (new_file cred.uid cred.gid) c.requires.places more) ∙ c.in-Some.is))
+
+pub returns-in_err-from_slice-clause-refused_first : goal.returns-in_err-from_slice-clause-refused_first
+returns-in_err-from_slice-clause-refused_first c =
+    let x = c.args in
+    let S = x.self.now.state in
+    let cred = x.cred.now in
+    let more = rises S cred.uid cred.gid x.dir x.name.now c.admit.ensures.sound.lawful in
+    let S1 = created S (new_file cred.uid cred.gid) x.dir x.name.now in
+    let none = sym (c.admit.ensures.refusal S1 (new_file cred.uid cred.gid) c.requires.places more) ∙ c.in_default.is in
+    granted-unrefused S S1 cred x.moment S.next none
+
+pub returns-in_err-make_room-clause-refused_first : goal.returns-in_err-make_room-clause-refused_first
+returns-in_err-make_room-clause-refused_first c =
+    let x = c.args in
+    let S = x.self.now.state in
+    let cred = x.cred.now in
+    let more = rises S cred.uid cred.gid x.dir x.name.now c.admit.ensures.sound.lawful in
+    let S1 = created S (new_file cred.uid cred.gid) x.dir x.name.now in
+    let none = sym (c.admit.ensures.refusal S1 (new_file cred.uid cred.gid) c.requires.places more) ∙ c.in_default.is in
+    granted-unrefused S S1 cred x.moment S.next none
 
 pub returns-clause-step : goal.returns-clause-step
 returns-clause-step c =
