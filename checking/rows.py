@@ -6,9 +6,10 @@
   a fault, or a line that the outcome of the empty script has.
 - scripts/THEME.rows: a line is the bytes of a script, and its fault.
 - command_lines.rows: a line is the words, the status, the output and the error output, in the folder `a`. Two dots at
-  the end stand for any further text: what help and faults of the command line say is the library's.
+  the end stand for any further text: what faults of the command line say is the library's.
 """
 import json
+import os
 import subprocess
 from functools import cached_property
 from pathlib import Path
@@ -26,6 +27,16 @@ def call(words, program=BUILT, folder=ROOT, **further):
     """Status, output and error output of a run."""
     done = subprocess.run([program, *words], capture_output=True, cwd=folder, timeout=60, **further)
     return done.returncode, done.stdout, done.stderr
+
+
+def preloaded(library, words, folder, tell, **variables):
+    """The answer of a run with a C library before all others, and what that tells to the descriptor in a variable."""
+    end, told = os.pipe()
+    env = dict(os.environ, LD_PRELOAD=str(library), **{tell: str(told)}, **variables)
+    answer = call(words, folder=folder, env=env, pass_fds=[told])
+    os.close(told)
+    with open(end, "rb") as tellings:
+        return answer, tellings.read()
 
 
 def is_as(text, wanted):

@@ -44,6 +44,10 @@ run = with_rule (with_rule (with_rule (new_app (codes "run")) config) at) script
 abbrev pub with_need : App → App
 with_need a = record a { top = record a.top { subcommand_required = true } }
 
+-- a command that has a version to tell, at `--version` and `-V`
+abbrev pub with_version : App → App
+with_version a = record a { top = record a.top { has_version = true } }
+
 -- the command line
 abbrev pub quotafs : App
-quotafs = with_subcommand (with_need (new_app (codes "quotafs"))) run.top
+quotafs = with_subcommand (with_need (with_version (new_app (codes "quotafs")))) run.top

@@ -123,7 +123,7 @@ impl Job {
     /// Reads the program's words, its own name the first of them, by one `clap` command: the job that its matches name,
     /// with the moment that the word at `--at` spells, in seconds from 0 to 2^40, and 0 where there is none.
     ///
-    /// A request for help is a fault, too, whose text is for the output. Want of memory may come in place of any answer.
+    /// A request for help or for the version is a fault, too, whose text is for the output. Want of memory may come in place of any answer.
     pub fn read(alloc: Global, words: &[String]) -> Result<Job, LineFault>
         ensures job { IfOk result (IsAskedBy (map (λ w. string_bytes w) words.now)) }
         ensures refused { IfErr result (IsRefusalOf (map (λ w. string_bytes w) words.now)) }

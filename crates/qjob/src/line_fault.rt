@@ -7,7 +7,7 @@ use std::alloc::{AllocError, AllocFailed};
 /// Why the words of a command line are no job.
 #[derive(Debug, Drop)]
 pub enum LineFault {
-    /// What `clap` says of the words; `help` where help was asked for.
+    /// What `clap` says of the words; `help` where help or the version was asked for.
     Line { help: bool, text: String },
     /// Memory was wanted and not there.
     Memory,

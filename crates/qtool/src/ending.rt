@@ -10,7 +10,7 @@ use std::io::Write;
 /// Why the program ends before its work is done.
 #[derive(Debug, Drop)]
 pub(crate) enum Ending {
-    /// What `clap` says of the command line; help is for the output.
+    /// What `clap` says of the command line; help, or the version, is for the output.
     Line { help: bool, text: String },
     /// No file of that name can be read.
     File(String),
@@ -27,7 +27,7 @@ pub(crate) enum Ending {
 }
 
 impl Ending {
-    /// The exit status: 0 for help, 2 for what was asked, 3 for the machine, 4 for the output.
+    /// The exit status: 0 for help and the version, 2 for what was asked, 3 for the machine, 4 for the output.
     pub(crate) fn status(&self) -> u8
         ensures status { IsStatus result }
         ensures output { self.now ≡ Output → result ≡ 4 }
@@ -55,12 +55,13 @@ impl Ending {
         self.tell_line(err)
     }
 
-    /// Writes the line, whatever becomes of it, and answers the status.
+    /// Writes and flushes the line, whatever becomes of it, and answers the status.
     fn tell_line<E: Write>(&self, err: &mut E) -> u8
         ensures status { IsStatus result }
         ensures output { self.now ≡ Output → result ≡ 4 }
     {
         let _ = self.put_line(err);
+        let _ = err.flush();
         self.status()
     }
 

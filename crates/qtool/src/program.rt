@@ -115,7 +115,8 @@ fn do_job<F: Files, O: Write>(
 /// name, runs the job, writes what came of it to the output, and answers the exit status.
 ///
 /// The first fault ends it with one line on the error output: 2 for the command line, the configuration or a script,
-/// 3 for want of memory, 4 for an output that refuses, also when it is flushed. Help goes to the output, with 0.
+/// 3 for want of memory, 4 for an output that refuses, also when it is flushed. Help and the version go to the output,
+/// with 0. The line is flushed, so that a buffered error output gets it by one write.
 pub fn tool<F: Files, O: Write, E: Write>(
     alloc: Global,
     words: &[String],

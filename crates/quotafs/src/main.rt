@@ -6,6 +6,12 @@ use std::fs::{self, File};
 use std::io::{self, BufWriter, ErrorKind};
 use std::process::ExitCode;
 
+/// As much output is gathered before it is written, in bytes.
+const OUTPUT_BUFFER: usize = 262_144;
+
+/// As long a fault line goes out by one write, in bytes, so that lines of runs beside each other do not mix.
+const LINE_BUFFER: usize = 32_768;
+
 /// The machine's files.
 #[derive(Drop)]
 struct MachineFiles<'a> {
@@ -59,10 +65,12 @@ fn main(rt: HostRuntime) -> ExitCode {
         Ok(words) => words,
         Err(error) => return without_words(&rt, &error),
     };
-    let Ok(mut out) = BufWriter::new(alloc, io::writer(&rt)) else {
+    let Ok(mut out) = BufWriter::with_capacity(alloc, OUTPUT_BUFFER, io::writer(&rt)) else {
+        return out_of_memory(&rt);
+    };
+    let Ok(mut err) = BufWriter::with_capacity(alloc, LINE_BUFFER, rt.stderr()) else {
         return out_of_memory(&rt);
     };
     let mut files = MachineFiles { rt: &rt };
-    let mut err = rt.stderr();
     ExitCode::from(tool(alloc, &words, &mut files, &mut out, &mut err))
 }

@@ -4,8 +4,11 @@ ghost use Rattle.clap.specs.Words.{app_of, rule_of, shape_of, with_rule, with_su
 ghost use Rattle.clap.specs.declared.builder.command.Command.TheViews.{out-Command};
 ghost use Rattle.qjob.specs.Commands as line;
 
+use after_help::AFTER_HELP;
 use clap::{Arg, ArgAction, Command, value_parser};
 use std::alloc::{AllocError, Global};
+
+mod after_help;
 
 fn config<'a>(alloc: Global) -> Arg<'a>
     ensures rule { rule_of result ≡ line.config }
@@ -67,7 +70,9 @@ fn named<'a>(alloc: Global, name: &'a str, about: &'a str) -> Command<'a>
     ensures app { app_of result ≡ line.new_app name.now }
     ensures local { (out-Command result).has_globals ≡ false }
 {
-    Command::new(alloc, name).about(about)
+    Command::new(alloc, name)
+        .about(about)
+        .after_help(AFTER_HELP)
 }
 
 fn run<'a>(alloc: Global) -> Result<Command<'a>, AllocError>
@@ -89,6 +94,8 @@ pub(crate) fn command<'a>(alloc: Global) -> Result<Command<'a>, AllocError>
     ensures { IfOk result (λ c. app_of c ≡ line.quotafs) }
 {
     let about = "A shared store of files in memory, with user and group disk quotas";
-    let command = named(alloc, "quotafs", about).subcommand_required(true);
+    let command = named(alloc, "quotafs", about)
+        .version("0.1.0")
+        .subcommand_required(true);
     with_command(command, run(alloc)?)
 }

@@ -1,0 +1,24 @@
+/* Counts the calls by which a program writes to standard output and to standard error, where this library is
+ * preloaded. At the program's end it writes both numbers to the file descriptor in WRITES_TELL. `checks/program`
+ * builds it.
+ */
+#include <stdio.h>
+#include <stdlib.h>
+#include <sys/syscall.h>
+#include <unistd.h>
+
+static long calls[3]; /* by descriptor */
+
+ssize_t write(int to, const void *bytes, size_t size) {
+    if (to == STDOUT_FILENO || to == STDERR_FILENO)
+        calls[to]++;
+    return syscall(SYS_write, to, bytes, size);
+}
+
+ssize_t __write(int to, const void *bytes, size_t size) { return write(to, bytes, size); }
+
+__attribute__((destructor)) static void end(void) {
+    const char *tell = getenv("WRITES_TELL");
+    if (tell)
+        dprintf(atoi(tell), "%ld %ld", calls[STDOUT_FILENO], calls[STDERR_FILENO]);
+}

@@ -1,0 +1,27 @@
+//! What help says below the options.
+
+pub(crate) const AFTER_HELP: &str = "\
+A line of a script is MOMENT UID:GID[,GROUP..] CALL. The calls:
+  create PATH
+  write PATH OFFSET DATA
+  fill PATH OFFSET COUNT BYTE
+  read PATH OFFSET LENGTH
+  stat PATH
+  setquota KIND ID BSOFT BHARD ISOFT IHARD
+  setgrace BLOCK INODE
+  quota KIND ID
+Moments and graces are seconds. DATA is hexadecimal digits, two a byte, or - for
+no byte, and BYTE two of them. KIND is user or group. Limits of blocks are KiB,
+those of inodes numbers, and 0 is none.
+
+Example, a script of two lines:
+  0 1001:100 create /notes
+  0 1001:100 write /notes 0 68656c6c6f
+
+Statuses:
+  0  done, also where calls were refused
+  2  the command line, the configuration or a script is at fault, or unreadable
+  3  memory is wanting
+  4  the output refuses
+
+docs/FORMATS.md has all formats, docs/RULES.md all rules of the calls.";
