@@ -1,4 +1,4 @@
-"""How the program uses its outputs: by how many calls of write, and what becomes of a run where it is full."""
+"""How the program uses its outputs: by how many calls of write, and what becomes of a run where a limit stops it."""
 import subprocess
 
 from rows import BUILT, CHECKING, EMPTY, EXAMPLE, ROOT, command_lines, preloaded
@@ -29,16 +29,36 @@ def writes(work):
     yield "a large outcome: writes", (status, told), (0, b"%d 0" % (len(out) // 262_144 + 1))
 
 
-def full_device():
-    """Runs whose output is a full device."""
+def limited(limit, words, stdout=subprocess.PIPE):
+    """Status and error output of a run under a limit of the shell's."""
+    shell = ["bash", "-c", f'ulimit {limit} && exec "$@"', "bash", *words]
+    done = subprocess.run(shell, stdout=stdout, stderr=subprocess.PIPE, timeout=60)
+    return done.returncode, done.stderr
+
+
+def deepest(work):
+    """A configuration that is nested as deeply as is read: 80 tables in each other, each under a key of 80 parts."""
+    key = ".".join(f"k{part}" for part in range(80))
+    (work / "deepest").write_text(f"{key} = {f'{{ {key} = ' * 80}1{' }' * 80}\n")
+    return work / "deepest"
+
+
+def limits(work):
+    """Runs whose output is a full device or a file at its size limit, and those with little stack."""
     outcome = ["run", "--config", EXAMPLE, EMPTY]
     for name, words in [("an outcome", outcome), ("help", ["--help"])]:
         with open("/dev/full", "wb") as full:
             done = subprocess.run([BUILT, *words], stdout=full, stderr=subprocess.PIPE, timeout=60)
         yield f"{name} to a full device", (done.returncode, done.stderr), FULL
+        with open(work / "limited", "wb") as file:
+            yield f"{name} to a file at its limit", limited("-f 0", [ROOT / "quotafs", *words], file), FULL
+    yield "an outcome with 256 KiB of stack", limited("-s 256", [BUILT, *outcome]), (0, b"")
+    words = [BUILT, "run", "--config", deepest(work), EMPTY]
+    field = (2, b"quotafs: config: field size\n")
+    yield "the deepest configuration with 2 MiB of stack", limited("-s 2048", words), field
 
 
 def checks(work):
     """Each check's name, its answer, and the wanted one."""
     yield from writes(work)
-    yield from full_device()
+    yield from limits(work)
