@@ -99,8 +99,8 @@ fn put_rows<W: Write>(out: &mut W, rows: &[RecordRow], moment: u64) -> Result<()
 
 /// Writes the report: one line a quota record, in the order of the rows, as of the moment. It takes no memory.
 ///
-/// Use and limits of blocks are in KiB, graces in seconds (profile, after repquota(8)). A place of a column is one byte:
-/// for a name beyond ASCII the columns are counted in bytes. After an Err some beginning of the text went out.
+/// Use and limits of blocks are in KiB, graces in seconds (profile, after repquota(8)). A place of a column is one
+/// character. After an Err some beginning of the text went out.
 pub fn report<W: Write>(rows: &[RecordRow], moment: u64, out: &mut W) -> Result<(), ReportFault>
     ensures { Writes (W.contents out.old) (W.contents out.new) result (report_text rows.now moment) }
 {

@@ -1,6 +1,6 @@
 -- The text of a line's pieces.
-use Rattle.std.specs.Prelude.{ℕ, ◌-◌, List, [], ◌∷◌, ◌++◌, length, replicate, decimal}
-use Rattle.std.specs.List.{flat_map}
+use Rattle.std.specs.Prelude.{ℕ, ◌-◌, ◌||◌, Bool, nat_lt, nat_le, List, [], ◌∷◌, ◌++◌, length, replicate, decimal}
+use Rattle.std.specs.List.{filter, flat_map}
 use Rattle.hex.specs.Hex.{encode_lower}
 use Rattle.qtext.specs.declared.piece.Piece.{Piece}
 use Rattle.qtext.specs.declared.piece.Piece.TheVariants.{Text, Number, Field, Data, Left, Right, RightNumber}
@@ -9,13 +9,21 @@ use Rattle.qtext.specs.declared.piece.Piece.TheVariants.{Text, Number, Field, Da
 abbrev pub spaces : ℕ → List ℕ
 spaces n = replicate n 32
 
--- a text at the left of so many places; a longer one stands whole
-abbrev pub left_in : ℕ → List ℕ → List ℕ
-left_in places text = text ++ spaces (places - length text)
+-- a byte with which a character of UTF-8 begins
+abbrev pub begins_character : ℕ → Bool
+begins_character byte = nat_lt byte 0x80 || nat_le 0xc0 byte
 
--- a text at the right of so many places; a longer one stands whole
+-- how many characters a text has
+abbrev pub characters_in : List ℕ → ℕ
+characters_in text = length (filter begins_character text)
+
+-- a text at the left of so many places, a character each; a longer one stands whole
+abbrev pub left_in : ℕ → List ℕ → List ℕ
+left_in places text = text ++ spaces (places - characters_in text)
+
+-- a text at the right of so many places, a character each; a longer one stands whole
 abbrev pub right_in : ℕ → List ℕ → List ℕ
-right_in places text = spaces (places - length text) ++ text
+right_in places text = spaces (places - characters_in text) ++ text
 
 -- bytes as lower case hexadecimal digits, and none as a dash
 abbrev pub data_text : List ℕ → List ℕ

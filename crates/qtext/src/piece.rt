@@ -9,9 +9,9 @@ pub enum Piece<'a> {
     Field(u64),
     /// Bytes as lower case hexadecimal digits, or `-` for none.
     Data(&'a [u8]),
-    /// A text at the left of that many places; a longer one stands whole.
+    /// A text at the left of that many places, a character each; a longer one stands whole.
     Left(&'a [u8], usize),
-    /// A text at the right of that many places; a longer one stands whole.
+    /// A text at the right of that many places, a character each; a longer one stands whole.
     Right(&'a [u8], usize),
     /// A number in decimal digits at the right of that many places.
     RightNumber(u128, usize),

@@ -1,7 +1,7 @@
 ghost use Rattle.std.specs.Prelude.{◌≡◌, ◌≤◌, ◌-◌, ◌++◌, ◌∷◌, [], length, decimal};
 ghost use Rattle.hex.specs.Hex.{encode_lower};
 ghost use Rattle.qtext.specs.Written.{Writes};
-ghost use Rattle.qtext.specs.Pieces.{spaces, left_in, right_in, data_text, piece_text, pieces_text};
+ghost use Rattle.qtext.specs.Pieces.{characters_in, spaces, left_in, right_in, data_text, piece_text, pieces_text};
 
 use crate::{Piece, RefusedWrite};
 use itoa::Buffer;
@@ -76,19 +76,28 @@ fn put_hex<W: Write>(out: &mut W, bytes: &[u8]) -> Result<(), RefusedWrite>
     Ok(())
 }
 
+/// How many characters of UTF-8 the text has.
+fn characters(text: &[u8]) -> usize
+    ensures { result ≡ characters_in text.now }
+{
+    text.iter()
+        .filter(|byte| **byte < 0x80 || 0xc0 <= **byte)
+        .count()
+}
+
 #[tactic(auto, using(crate::proofs::Fronts::front_of_first, crate::proofs::Fronts::writes_then))]
 fn put_left<W: Write>(out: &mut W, text: &[u8], places: usize) -> Result<(), RefusedWrite>
     ensures { Writes (W.contents out.old) (W.contents out.new) result (left_in places text.now) }
 {
     put(out, text)?;
-    put_spaces(out, places.saturating_sub(text.len()))
+    put_spaces(out, places.saturating_sub(characters(text)))
 }
 
 #[tactic(auto, using(crate::proofs::Fronts::front_of_first, crate::proofs::Fronts::writes_then))]
 fn put_right<W: Write>(out: &mut W, text: &[u8], places: usize) -> Result<(), RefusedWrite>
     ensures { Writes (W.contents out.old) (W.contents out.new) result (right_in places text.now) }
 {
-    put_spaces(out, places.saturating_sub(text.len()))?;
+    put_spaces(out, places.saturating_sub(characters(text)))?;
     put(out, text)
 }
 

@@ -5,7 +5,7 @@ use qaudit::report;
 use qrules::{Kind, Limits, PrincipalName, RecordRow};
 use std::alloc::{AllocError, Global};
 
-/// Ann, with 3 blocks, the limits of 8 and 16 KiB, a grace that ends at 1100, and more inodes than have a place.
+/// Anné, whose name has four characters in five bytes, with 3 blocks, the limits of 8 and 16 KiB, a grace that ends at 1100, and more inodes than have a place.
 fn ann(alloc: Global) -> Result<RecordRow, AllocError> {
     let limits = Limits {
         block_soft: 8,
@@ -15,7 +15,7 @@ fn ann(alloc: Global) -> Result<RecordRow, AllocError> {
     Ok(RecordRow {
         kind: Kind::User,
         id: 1000,
-        name: PrincipalName::new(String::from_str(alloc, "ann")?),
+        name: PrincipalName::new(String::from_str(alloc, "ann\u{e9}")?),
         blocks: 3,
         inodes: 18_446_744_073_709_551_615,
         limits,
@@ -25,7 +25,7 @@ fn ann(alloc: Global) -> Result<RecordRow, AllocError> {
 }
 
 const TEXT: &[u8] =
-    b"user    ann              +-         12          8         16         50 18446744073709551615          0          0          -\n";
+    b"user    ann\xc3\xa9             +-         12          8         16         50 18446744073709551615          0          0          -\n";
 
 #[test]
 fn a_refusing_writer_holds_a_beginning(rt: HostRuntime) -> Result<(), AllocError> {
