@@ -2,7 +2,8 @@
 ghost use Rattle.qplain.specs.Laws.{EndsAreTheRules, EndsStay, LimitsHold, LimitsStay, NewLimitsAreTheRules, RefusalsChangeNothing, SetupsStay, StartIsLawful, StepsStayLawful, UsesAddUp};
 
 /// Totals stay within the bounds, a grace end stands exactly where use is over its soft limit, every inode has
-/// declared owners, and no principal is there twice: in a new store, and after every step.
+/// declared owners, and no principal is there twice: in a new store of a setup that is not refused, and after every
+/// step of a lawful one.
 pub fn stores_stay_lawful()
     ensures start { StartIsLawful }
     ensures steps { StepsStayLawful }
@@ -18,7 +19,7 @@ pub fn limits_hold()
     ensures { LimitsHold }
 {}
 
-/// The uses of all users add up to the totals of the store, and so do those of all groups.
+/// In a lawful state the uses of all users add up to the totals of the store, and so do those of all groups.
 pub fn uses_add_up()
     ensures { UsesAddUp }
 {}
