@@ -45,10 +45,14 @@ none_above d k (e ∷ es) tie h =
     ap (λ r. cond (is_eq r) (Some e.1) (lookup (eq_by_cmp nat_cmp d) es)) past ∙ none_above d k es tie (second_of _ _ h)
 
 -- one directory's names, by how its number compares
-lookup-keyed : (d k : ℕ) (name : List ℕ) (names : List (List ℕ × ℕ)) → lookup (eq_by_cmp name_key_cmp (d, name)) (keyed k names) ≡ lookup (λ n. is_eq (ordering_then (nat_cmp d k) (slice_cmp nat_cmp name n))) names
+lookup-keyed : (d k : ℕ) (name : List ℕ) (names : List (List ℕ × ℕ))
+    → lookup (eq_by_cmp name_key_cmp (d, name)) (keyed k names)
+    ≡ lookup (λ n. is_eq (ordering_then (nat_cmp d k) (slice_cmp nat_cmp name n))) names
 lookup-keyed d k name names = lookup-keyed_by (λ n. (k, n)) (eq_by_cmp name_key_cmp (d, name)) names
 
-lookup-all_names : (d : ℕ) (name : List ℕ) (es : List (ℕ × Node)) → T (is_sorted nat_cmp es) → lookup (eq_by_cmp name_key_cmp (d, name)) (all_names es) ≡ name_at name (lookup (eq_by_cmp nat_cmp d) es)
+lookup-all_names : (d : ℕ) (name : List ℕ) (es : List (ℕ × Node)) → T (is_sorted nat_cmp es)
+    → lookup (eq_by_cmp name_key_cmp (d, name)) (all_names es)
+    ≡ name_at name (lookup (eq_by_cmp nat_cmp d) es)
 lookup-all_names d name [] h = refl
 lookup-all_names d name (e ∷ es) h =
     let names = in_order (slice_cmp nat_cmp) (names_in e.1.content) in
@@ -56,7 +60,9 @@ lookup-all_names d name (e ∷ es) h =
     let later = lookup (eq_by_cmp name_key_cmp (d, name)) (all_names es) in
     lookup-append (eq_by_cmp name_key_cmp (d, name)) (keyed e.0 names) (all_names es)
     ∙ ap (λ x. first_some x later) (lookup-keyed d e.0 name names)
-    ∙ elim (nat_cmp d e.0) as (λ r. nat_cmp d e.0 ≡ r → first_some (lookup (λ n. is_eq (ordering_then r (slice_cmp nat_cmp name n))) names) later ≡ name_at name (cond (is_eq r) (Some e.1) (lookup (eq_by_cmp nat_cmp d) es))) [
+    ∙ elim (nat_cmp d e.0) as (λ r. nat_cmp d e.0 ≡ r
+    → first_some (lookup (λ n. is_eq (ordering_then r (slice_cmp nat_cmp name n))) names) later
+    ≡ name_at name (cond (is_eq r) (Some e.1) (lookup (eq_by_cmp nat_cmp d) es))) [
       | Less ↦ λ p. ap (λ x. first_some x later) (lookup_nothing names) ∙ rest
       | Equal ↦ λ p. ap (first_some (lookup (eq_by_cmp (slice_cmp nat_cmp) name) names)) (rest ∙ ap (name_at name) (none_above d e.0 es p (first_of _ _ h)))
           ∙ first_or_none (lookup (eq_by_cmp (slice_cmp nat_cmp) name) names) ∙ lookup-in_order nat_list_cmp_total exact_bytes (names_in e.1.content) name
@@ -81,22 +87,31 @@ below_later d k name (n ∷ names) h = both_of _ _ (less_then d k name n.0 h) (b
 below_all_names : (d : ℕ) (name : List ℕ) (es : List (ℕ × Node)) → T (below_all nat_cmp d es) → T (below_all name_key_cmp (d, name) (all_names es))
 below_all_names d name [] h = tt
 below_all_names d name (e ∷ es) h =
-    below-append name_key_cmp (d, name) (keyed e.0 (in_order (slice_cmp nat_cmp) (names_in e.1.content))) (all_names es) (below_later d e.0 name (in_order (slice_cmp nat_cmp) (names_in e.1.content)) (first_of _ _ h)) (below_all_names d name es (second_of _ _ h))
+    below-append name_key_cmp (d, name) (keyed e.0 (in_order (slice_cmp nat_cmp) (names_in e.1.content)))
+    (all_names es) (below_later d e.0 name (in_order (slice_cmp nat_cmp) (names_in e.1.content))
+    (first_of _ _ h)) (below_all_names d name es (second_of _ _ h))
 
-below_same : (d : ℕ) (name : List ℕ) (names : List (List ℕ × ℕ)) → T (below_all (slice_cmp nat_cmp) name names) → T (below_all name_key_cmp (d, name) (keyed d names))
+below_same : (d : ℕ) (name : List ℕ) (names : List (List ℕ × ℕ))
+    → T (below_all (slice_cmp nat_cmp) name names) → T (below_all name_key_cmp (d, name) (keyed d names))
 below_same d name [] h = tt
 below_same d name (n ∷ names) h = both_of _ _ (same_then d name n.0 (first_of _ _ h)) (below_same d name names (second_of _ _ h))
 
-sorted-keyed : (d : ℕ) (names : List (List ℕ × ℕ)) (later : List (NameKey × ℕ)) → T (is_sorted (slice_cmp nat_cmp) names) → ((name : List ℕ) → T (below_all name_key_cmp (d, name) later)) → T (is_sorted name_key_cmp later) → T (is_sorted name_key_cmp (keyed d names ++ later))
+sorted-keyed : (d : ℕ) (names : List (List ℕ × ℕ)) (later : List (NameKey × ℕ))
+    → T (is_sorted (slice_cmp nat_cmp) names) → ((name : List ℕ) → T (below_all name_key_cmp (d, name) later))
+    → T (is_sorted name_key_cmp later) → T (is_sorted name_key_cmp (keyed d names ++ later))
 sorted-keyed d [] later a below b = b
 sorted-keyed d (n ∷ names) later a below b =
-    both_of _ _ (below-append name_key_cmp (d, n.0) (keyed d names) later (below_same d n.0 names (first_of _ _ a)) (below n.0)) (sorted-keyed d names later (second_of _ _ a) below b)
+    both_of _ _ (below-append name_key_cmp (d, n.0) (keyed d names) later
+    (below_same d n.0 names (first_of _ _ a)) (below n.0))
+    (sorted-keyed d names later (second_of _ _ a) below b)
 
 -- the names of directories in order are in order
 pub sorted-all_names : (es : List (ℕ × Node)) → T (is_sorted nat_cmp es) → T (is_sorted name_key_cmp (all_names es))
 sorted-all_names [] h = tt
 sorted-all_names (e ∷ es) h =
-    sorted-keyed e.0 (in_order (slice_cmp nat_cmp) (names_in e.1.content)) (all_names es) (sorted-in_order nat_list_cmp_total exact_bytes (names_in e.1.content)) (λ name. below_all_names e.0 name es (first_of _ _ h)) (sorted-all_names es (second_of _ _ h))
+    sorted-keyed e.0 (in_order (slice_cmp nat_cmp) (names_in e.1.content)) (all_names es)
+    (sorted-in_order nat_list_cmp_total exact_bytes (names_in e.1.content))
+    (λ name. below_all_names e.0 name es (first_of _ _ h)) (sorted-all_names es (second_of _ _ h))
 
 -- ---- the names of a table of nodes
 -- the names of these nodes
@@ -108,22 +123,35 @@ pub named-by_key : (nodes : List (ℕ × Node)) → IsStrictlySortedBy name_key_
 named-by_key nodes = strictly name_key_cmp (named nodes) (sorted-all_names (in_order nat_cmp nodes) (numbered-sorted nodes))
 
 -- a name is found in its directory's node
-pub named-get : (nodes : List (ℕ × Node)) (d : ℕ) (name : List ℕ) → lookup (is_at (name_key_cmp (d, name))) (named nodes) ≡ name_at name (lookup (nat_eq d) nodes)
+pub named-get : (nodes : List (ℕ × Node)) (d : ℕ) (name : List ℕ)
+    → lookup (is_at (name_key_cmp (d, name))) (named nodes) ≡ name_at name (lookup (nat_eq d) nodes)
 named-get nodes d name = lookup-all_names d name (in_order nat_cmp nodes) (numbered-sorted nodes) ∙ ap (name_at name) (numbered-get nodes d)
 
 -- what a look-up for a directory's number gives has its names
-pub named-in : (nodes : List (ℕ × Node)) (names : List (NameKey × ℕ)) (d : ℕ) (r : Option (Bor Node)) → named nodes ≡ names → option_copied r ≡ lookup (nat_eq d) nodes
+pub named-in : (nodes : List (ℕ × Node)) (names : List (NameKey × ℕ)) (d : ℕ) (r : Option (Bor Node))
+    → named nodes ≡ names → option_copied r ≡ lookup (nat_eq d) nodes
     → IfSome r (λ n. (name : List ℕ) → lookup (is_at (slice_cmp nat_cmp name)) (names_in n.now.content) ≡ lookup (is_at (name_key_cmp (d, name))) names)
 named-in nodes names d None seen is = tt
 named-in nodes names d (Some n) seen is = λ name. ap (name_at name) is ∙ sym (named-get nodes d name) ∙ ap (lookup (is_at (name_key_cmp (d, name)))) seen
 
 -- tables in which each name leads to the same
-pub named-same : (es fs : List (ℕ × Node)) → ((d : ℕ) (name : List ℕ) → name_at name (lookup (nat_eq d) fs) ≡ name_at name (lookup (nat_eq d) es)) → named fs ≡ named es
-named-same es fs is = same_sorted name_key_total key_exact (named fs) (named es) (sorted-all_names (in_order nat_cmp fs) (numbered-sorted fs)) (sorted-all_names (in_order nat_cmp es) (numbered-sorted es))
+pub named-same : (es fs : List (ℕ × Node))
+    → ((d : ℕ) (name : List ℕ) → name_at name (lookup (nat_eq d) fs) ≡ name_at name (lookup (nat_eq d) es))
+    → named fs ≡ named es
+named-same es fs is = same_sorted name_key_total key_exact (named fs) (named es)
+    (sorted-all_names (in_order nat_cmp fs) (numbered-sorted fs))
+    (sorted-all_names (in_order nat_cmp es) (numbered-sorted es))
     (λ q. named-get fs q.0 q.1 ∙ is q.0 q.1 ∙ sym (named-get es q.0 q.1))
 
 -- a table with one name more
-pub named-insert : (es fs : List (ℕ × Node)) (dir : ℕ) (name : List ℕ) (v : ℕ) → ((d : ℕ) (n : List ℕ) → name_at n (lookup (nat_eq d) fs) ≡ cond (nat_eq dir d && bytes_tie name n) (Some v) (name_at n (lookup (nat_eq d) es))) → named fs ≡ insert_entry name_key_cmp (named es) (dir, name) v
-named-insert es fs dir name v is = sorted-insert name_key_total key_exact (named es) (named fs) (dir, name) v (sorted-all_names (in_order nat_cmp es) (numbered-sorted es)) (sorted-all_names (in_order nat_cmp fs) (numbered-sorted fs))
+pub named-insert : (es fs : List (ℕ × Node)) (dir : ℕ) (name : List ℕ) (v : ℕ)
+    → ((d : ℕ) (n : List ℕ) → name_at n (lookup (nat_eq d) fs)
+    ≡ cond (nat_eq dir d && bytes_tie name n) (Some v) (name_at n (lookup (nat_eq d) es)))
+    → named fs ≡ insert_entry name_key_cmp (named es) (dir, name) v
+named-insert es fs dir name v is =
+    sorted-insert name_key_total key_exact (named es) (named fs) (dir, name) v
+    (sorted-all_names (in_order nat_cmp es) (numbered-sorted es))
+    (sorted-all_names (in_order nat_cmp fs) (numbered-sorted fs))
     (λ q. named-get fs q.0 q.1 ∙ is q.0 q.1 ∙ ap (cond (nat_eq dir q.0 && bytes_tie name q.1) (Some v)) (sym (named-get es q.0 q.1))
-    ∙ ap (λ b. cond b (Some v) (lookup (is_at (name_key_cmp q)) (named es))) (both_tied _ _ (nat_cmp dir q.0) (slice_cmp nat_cmp name q.1) (unsigned_ties dir q.0) refl))
+    ∙ ap (λ b. cond b (Some v) (lookup (is_at (name_key_cmp q)) (named es)))
+    (both_tied _ _ (nat_cmp dir q.0) (slice_cmp nat_cmp name q.1) (unsigned_ties dir q.0) refl))

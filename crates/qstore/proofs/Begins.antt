@@ -32,7 +32,9 @@ pub record HasGoodPrincipals (users_twice groups_twice user_zero group_zero : Bo
   pub user : user_zero ≡ true
   pub group : group_zero ≡ true
 
-good-by : (r d e z w : Bool) → cond (not r) (Some Range) (cond (d || e) (Some Duplicate) (cond (not (z && w)) (Some NoZero) None)) ≡ None → HasGoodPrincipals d e z w
+good-by : (r d e z w : Bool)
+    → cond (not r) (Some Range) (cond (d || e) (Some Duplicate) (cond (not (z && w)) (Some NoZero) None))
+    ≡ None → HasGoodPrincipals d e z w
 good-by true false false true true h = record { users = refl; groups = refl; user = refl; group = refl }
 good-by false d e z w h = cc
 good-by true true e z w h = cc
@@ -101,7 +103,16 @@ module _ (s : Setting) (lawful : IsLawfulSetup s) where
 pub start-state : (s : Setting) (size most : ℕ) (graces : Graces) (users groups : List Owner) (inodes : List (ℕ × Inode)) (names : List (NameKey × ℕ))
     → size ≡ s.blocks → most ≡ s.inodes → graces ≡ s.graces → users ≡ begun_owners s.graces s.users → groups ≡ begun_owners s.graces s.groups
     → inodes ≡ (ROOT, root) ∷ [] → names ≡ []
-    → ◌≡◌ {A = State} (record { size = size; most_inodes = most; file_limit = FILE_LIMIT; graces = graces; holders = holders_in users groups; inodes = inodes; names = names; next = 2 }) (start s)
+    → ◌≡◌ {A = State} (record {
+      size = size;
+      most_inodes = most;
+      file_limit = FILE_LIMIT;
+      graces = graces;
+      holders = holders_in users groups;
+      inodes = inodes;
+      names = names;
+      next = 2;
+    }) (start s)
 start-state s size most graces users groups inodes names b n g u v i m =
     let holders = (λ k. holders_in (u k) (v k)) ∙ all-holders-begun s s.graces 0 in
     λ k. record { size = b k; most_inodes = n k; file_limit = FILE_LIMIT; graces = g k; holders = holders k; inodes = i k; names = m k; next = 2 }

@@ -34,13 +34,17 @@ module _ (graces : Graces) (moment : ℕ) where
   holder-begun : (kind : Kind) (p : Principal) (b : Bool)
       → holder_in kind (cond b (record (new_owner p) { account = charged (unused p.limits) graces moment 0 1 }) (new_owner p)) ≡ holder_of kind p
   holder-begun kind p true =
-      let block : next_end (is_over 0 p.limits.block_soft) None (moment + graces.block) ≡ None = no-end _ (moment + graces.block) (over-zero p.limits.block_soft) in
-      let inode : next_end (is_over 1 p.limits.inode_soft) None (moment + graces.inode) ≡ None = no-end _ (moment + graces.inode) (over-one p.limits.inode_soft) in
+      let block : next_end (is_over 0 p.limits.block_soft) None (moment + graces.block) ≡ None =
+      no-end _ (moment + graces.block) (over-zero p.limits.block_soft) in
+      let inode : next_end (is_over 1 p.limits.inode_soft) None (moment + graces.inode) ≡ None =
+      no-end _ (moment + graces.inode) (over-one p.limits.inode_soft) in
       λ i. record (holder_of kind p) { block_end = block i; inode_end = inode i }
   holder-begun kind p false = refl
 
   -- the holders of the owners of a new store are the declared principals
-  pub holders-begun : (kind : Kind) (ps : List Principal) → map (holder_in kind) (map (charged_owner 0 graces moment 0 1) (map new_owner ps)) ≡ map (holder_of kind) ps
+  pub holders-begun : (kind : Kind) (ps : List Principal)
+      → map (holder_in kind) (map (charged_owner 0 graces moment 0 1) (map new_owner ps))
+      ≡ map (holder_of kind) ps
   holders-begun kind [] = refl
   holders-begun kind (p ∷ ps) = λ i. holder-begun kind p (0 == p.id) i ∷ holders-begun kind ps i
 
@@ -62,7 +66,9 @@ use_of-start s Group id sort = zero-add (cond (0 == id) (weight sort root) 0)
 
 module _ (s : Setting) (kind : Kind) (graces : Graces) (moment : ℕ) where
   -- an owner of a new store is counted
-  owner-counted-begun : (p : Principal) (b : Bool) → use_of (start s) kind p.id Blocks ≡ cond b (weight Blocks root) 0 → use_of (start s) kind p.id Inodes ≡ cond b (weight Inodes root) 0
+  owner-counted-begun : (p : Principal) (b : Bool)
+      → use_of (start s) kind p.id Blocks ≡ cond b (weight Blocks root) 0
+      → use_of (start s) kind p.id Inodes ≡ cond b (weight Inodes root) 0
       → IsCountedIn (start s) kind (cond b (record (new_owner p) { account = charged (unused p.limits) graces moment 0 1 }) (new_owner p))
   owner-counted-begun p true blocks inodes = record { blocks = sym blocks; inodes = sym inodes }
   owner-counted-begun p false blocks inodes = record { blocks = sym blocks; inodes = sym inodes }

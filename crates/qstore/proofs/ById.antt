@@ -74,7 +74,8 @@ abbrev pub changed : ℕ → (Owner → Owner) → Owner → Owner
 changed id f o = if id == o.id then f o else o
 
 -- a write that keeps an owner's id keeps all ids
-pub ids-set : (os : List Owner) (place : ℕ) (old new : Owner) → old ≡ get_or os place old → new.id ≡ old.id → map (λ o. o.id) (set os place new) ≡ map (λ o. o.id) os
+pub ids-set : (os : List Owner) (place : ℕ) (old new : Owner) → old ≡ get_or os place old → new.id ≡ old.id
+    → map (λ o. o.id) (set os place new) ≡ map (λ o. o.id) os
 ids-set [] place old new there same = refl
 ids-set (o ∷ os) zero old new there same = let kept : new.id ≡ o.id = same ∙ ap (λ p. p.id) there in λ i. kept i ∷ map (λ p. p.id) os
 ids-set (o ∷ os) (suc place) old new there same = λ i. o.id ∷ ids-set os place old new there same i
@@ -116,12 +117,18 @@ by_id-changed id f keeps os by_id = subst (λ ids. (k : ℕ) → k + 1 < length 
     ids (p ∷ ps) = λ i. kept (id == p.id) p i ∷ ids ps i
 
 -- a charge keeps the order
-pub by_id-charged : (id : ℕ) (graces : Graces) (moment blocks inodes : ℕ) (os : List Owner) → AreById os → AreById (map (charged_owner id graces moment blocks inodes) os)
-by_id-charged id graces moment blocks inodes os by_id = by_id-changed id (λ o. record o { account = charged o.account graces moment blocks inodes }) (λ o. refl) os by_id
+pub by_id-charged : (id : ℕ) (graces : Graces) (moment blocks inodes : ℕ) (os : List Owner) → AreById os
+    → AreById (map (charged_owner id graces moment blocks inodes) os)
+by_id-charged id graces moment blocks inodes os by_id =
+    by_id-changed id (λ o. record o { account = charged o.account graces moment blocks inodes }) (λ o. refl)
+    os by_id
 
 -- and so do new limits
-pub by_id-relimited : (id : ℕ) (limits : Limits) (graces : Graces) (moment : ℕ) (os : List Owner) → AreById os → AreById (map (relimited_owner id limits graces moment) os)
-by_id-relimited id limits graces moment os by_id = by_id-changed id (λ o. record o { account = with_limits o.account limits graces moment }) (λ o. refl) os by_id
+pub by_id-relimited : (id : ℕ) (limits : Limits) (graces : Graces) (moment : ℕ) (os : List Owner) → AreById os
+    → AreById (map (relimited_owner id limits graces moment) os)
+by_id-relimited id limits graces moment os by_id =
+    by_id-changed id (λ o. record o { account = with_limits o.account limits graces moment }) (λ o. refl) os
+    by_id
 
 -- ---- new owners
 

@@ -45,50 +45,62 @@ module _ {A : Type 0} where
       (eq_by_cmp_equiv nat_list_cmp_total).symm name x.items
       ∙ sym ((eq_by_cmp_equiv nat_list_cmp_total).congr k.items x.items name (sym (bytes_ties k.items x.items) ∙ is)) ∙ differs
 
-  others_keep : {X : Type 0} (test other : Vec ℕ A → Bool) (es fs : List (Vec ℕ A × X)) → KeepsOthers vec_eq test es fs → IsKeyTest vec_eq other → AreApart test other → lookup other fs ≡ lookup other es
+  others_keep : {X : Type 0} (test other : Vec ℕ A → Bool) (es fs : List (Vec ℕ A × X))
+      → KeepsOthers vec_eq test es fs → IsKeyTest vec_eq other → AreApart test other
+      → lookup other fs ≡ lookup other es
   unfolding KeepsOthers
   others_keep test other es fs keeps = keeps other
 
   -- a name is found where a vector has its bytes
-  pub names_of-get : (es : List (Vec ℕ A × ℕ)) (name : List ℕ) → lookup (is_at (slice_cmp nat_cmp name)) (names_of es) ≡ lookup (λ k. pointwise nat_eq name k.items) es
+  pub names_of-get : (es : List (Vec ℕ A × ℕ)) (name : List ℕ)
+      → lookup (is_at (slice_cmp nat_cmp name)) (names_of es) ≡ lookup (λ k. pointwise nat_eq name k.items) es
   names_of-get es name =
       lookup-in_order nat_list_cmp_total exact_bytes (keyed_by (λ k. k.items) es) name ∙ lookup-keyed_by (λ k. k.items) (bytes_tie name) es
       ∙ lookup-agree (has_bytes name) (λ k. pointwise nat_eq name k.items) (λ k. sym (bytes_ties name k.items)) es
 
   -- tables that answer alike have the same names
-  pub names_of-same : {S : Type 0} (m n : HashMap (Vec ℕ A) ℕ S) → ((k : Vec ℕ A) → hash.get vec_eq n k ≡ hash.get vec_eq m k) → names_of n.entries ≡ names_of m.entries
+  pub names_of-same : {S : Type 0} (m n : HashMap (Vec ℕ A) ℕ S)
+      → ((k : Vec ℕ A) → hash.get vec_eq n k ≡ hash.get vec_eq m k) → names_of n.entries ≡ names_of m.entries
   names_of-same m n is = in_order-same nat_list_cmp_total exact_bytes _ _ (λ name.
       lookup-keyed_by (λ k. k.items) (bytes_tie name) n.entries
       ∙ tests_agree vec_eq (has_bytes name) (key_test name) m.entries n.entries is
       ∙ sym (lookup-keyed_by (λ k. k.items) (bytes_tie name) m.entries))
 
   -- a query for a name after a put, by whether it is the name that was put
-  queried : {S : Type 0} (m n : HashMap (Vec ℕ A) ℕ S) (k : Vec ℕ A) (v : ℕ) (name : List ℕ) → hash.Updates vec_eq m n k (Some v) → (b : Bool) → bytes_tie k.items name ≡ b
+  queried : {S : Type 0} (m n : HashMap (Vec ℕ A) ℕ S) (k : Vec ℕ A) (v : ℕ) (name : List ℕ)
+      → hash.Updates vec_eq m n k (Some v) → (b : Bool) → bytes_tie k.items name ≡ b
       → lookup (has_bytes name) n.entries ≡ cond b (Some v) (lookup (has_bytes name) m.entries)
   queried m n k v name u true is =
       lookup-agree (has_bytes name) (vec_eq k) (λ y. key_test name k y ((eq_by_cmp_equiv nat_list_cmp_total).symm name k.items ∙ is)) n.entries ∙ u.1
   queried m n k v name u false is = others_keep (vec_eq k) (has_bytes name) m.entries n.entries u.3 (key_test name) (apart name k is)
 
   -- a put in the table puts the name in its place
-  pub names_of-insert : {S : Type 0} (m n : HashMap (Vec ℕ A) ℕ S) (k : Vec ℕ A) (v : ℕ) → hash.Updates vec_eq m n k (Some v) → names_of n.entries ≡ insert_entry (slice_cmp nat_cmp) (names_of m.entries) k.items v
+  pub names_of-insert : {S : Type 0} (m n : HashMap (Vec ℕ A) ℕ S) (k : Vec ℕ A) (v : ℕ)
+      → hash.Updates vec_eq m n k (Some v)
+      → names_of n.entries ≡ insert_entry (slice_cmp nat_cmp) (names_of m.entries) k.items v
   names_of-insert m n k v u = in_order-insert nat_list_cmp_total exact_bytes _ _ k.items v (λ name.
       lookup-keyed_by (λ k. k.items) (bytes_tie name) n.entries
       ∙ queried m n k v name u (bytes_tie k.items name) refl
       ∙ ap (cond (bytes_tie k.items name) (Some v)) (sym (lookup-keyed_by (λ k. k.items) (bytes_tie name) m.entries)))
 
-distinct_past : {K L X : Type 0} (f : K → L) (eq : L → L → Bool) (k : K) (es : List (K × X)) → AllByRecursion (λ y. eq (f k) (f y) ≡ false) (keys_of es) → AllByRecursion (λ y. eq (f k) y ≡ false) (keys_of (keyed_by f es))
+distinct_past : {K L X : Type 0} (f : K → L) (eq : L → L → Bool) (k : K) (es : List (K × X))
+    → AllByRecursion (λ y. eq (f k) (f y) ≡ false) (keys_of es)
+    → AllByRecursion (λ y. eq (f k) y ≡ false) (keys_of (keyed_by f es))
 distinct_past f eq k [] h = tt
 distinct_past f eq k (e ∷ es) h = (h.0, distinct_past f eq k es h.1)
 
 -- keys that f tells apart are distinct as f makes them
-pub distinct-keyed_by : {K L X : Type 0} (f : K → L) (eq : L → L → Bool) (es : List (K × X)) → IsDistinct (λ x y. eq (f x) (f y)) (keys_of es) → IsDistinct eq (keys_of (keyed_by f es))
+pub distinct-keyed_by : {K L X : Type 0} (f : K → L) (eq : L → L → Bool) (es : List (K × X))
+    → IsDistinct (λ x y. eq (f x) (f y)) (keys_of es) → IsDistinct eq (keys_of (keyed_by f es))
 unfolding IsDistinct
 distinct-keyed_by f eq [] d = tt
 distinct-keyed_by f eq (e ∷ es) d = (distinct_past f eq e.0 es d.0, distinct-keyed_by f eq es d.1)
 
 -- distinct names put in turn are the table's names
-pub names_of-put_all : {A : Type 0} (es : List (Vec ℕ A × ℕ)) → IsDistinct (vec_eq {A = A}) (keys_of es) → put_all (slice_cmp nat_cmp) [] (keyed_by (λ k. k.items) es) ≡ names_of es
-names_of-put_all es d = put_all-distinct nat_list_cmp_total exact_bytes bytes_ties (keyed_by (λ k. k.items) es) (distinct-keyed_by (λ k. k.items) (pointwise nat_eq) es d)
+pub names_of-put_all : {A : Type 0} (es : List (Vec ℕ A × ℕ)) → IsDistinct (vec_eq {A = A}) (keys_of es)
+    → put_all (slice_cmp nat_cmp) [] (keyed_by (λ k. k.items) es) ≡ names_of es
+names_of-put_all es d = put_all-distinct nat_list_cmp_total exact_bytes bytes_ties
+    (keyed_by (λ k. k.items) es) (distinct-keyed_by (λ k. k.items) (pointwise nat_eq) es d)
 
 -- a table's names are in order
 pub names_of-order : {A : Type 0} (es : List (Vec ℕ A × ℕ)) → IsStrictlySortedBy (slice_cmp nat_cmp) (keys_of (names_of es))

@@ -18,7 +18,8 @@ pub record CanCharge (owners : List Owner) (place blocks inodes : ℕ) : Type 0 
   pub inodes_fit : IfSome (slice_get owners place) (λ o. o.account.inodes + inodes ≤ MAX_COUNT)
 
 -- it has where the totals after the charge are small
-pub can-charge : (S S1 : State) (whose : Inode) (blocks inodes : ℕ) → Rises S S1 whose blocks inodes → (kind : Kind) (os : List Owner) → All (IsCountedIn S kind) os
+pub can-charge : (S S1 : State) (whose : Inode) (blocks inodes : ℕ) → Rises S S1 whose blocks inodes
+    → (kind : Kind) (os : List Owner) → All (IsCountedIn S kind) os
     → (place : ℕ) → IsPlaceOf os place (owner kind whose) → total_of S1 Blocks ≤ MAX_COUNT → total_of S1 Inodes ≤ MAX_COUNT → CanCharge os place blocks inodes
 can-charge S S1 whose blocks inodes rises kind os counted place there few_blocks few_inodes = record {
   below = place-below os place (owner kind whose) there;

@@ -41,7 +41,10 @@ holder_by-charged : (kind : Kind) (o : Owner) (is_charged : Bool) (graces : Grac
     ≡ holder_by kind o graces moment (more_used is_charged blocks inodes o.account)
 holder_by-charged kind o true graces moment blocks inodes ends = refl
 holder_by-charged kind o false graces moment blocks inodes ends =
-    λ i. record (holder_in kind o) { block_end = sym (block_end-same o.account graces moment ends) i; inode_end = sym (inode_end-same o.account graces moment ends) i }
+    λ i. record (holder_in kind o) {
+      block_end = sym (block_end-same o.account graces moment ends) i;
+      inode_end = sym (inode_end-same o.account graces moment ends) i;
+    }
 
 module _ (S S1 : State) (whose : Inode) (blocks inodes : ℕ) (rises : Rises S S1 whose blocks inodes) (kind : Kind) where
   -- a use beside that of a counted owner
@@ -54,7 +57,8 @@ module _ (S S1 : State) (whose : Inode) (blocks inodes : ℕ) (rises : Rises S S
   -- the new account of an owner's holder is the old one with the charge, where it is the owner's
   pub account_of-risen : (o : Owner) → IsCountedIn S kind o → account_of S1 (holder_in kind o) ≡ more_used (owner kind whose == o.id) blocks inodes o.account
   account_of-risen o counted =
-      more_used-counts (owner kind whose == o.id) blocks inodes o.account (use_of S1 kind o.id Blocks) (use_of S1 kind o.id Inodes) (blocks-risen o counted) (inodes-risen o counted)
+      more_used-counts (owner kind whose == o.id) blocks inodes o.account (use_of S1 kind o.id Blocks)
+      (use_of S1 kind o.id Inodes) (blocks-risen o counted) (inodes-risen o counted)
 
   module _ (graces : Graces) (same_graces : S1.graces ≡ graces) (moment : ℕ) where
     -- the holder of a charged owner
@@ -71,7 +75,9 @@ module _ (S S1 : State) (whose : Inode) (blocks inodes : ℕ) (rises : Rises S S
     holders-charged (o ∷ os) counted ends =
         let here : holder_in kind (charged_owner (owner kind whose) graces moment blocks inodes o) ≡ with_ends_of S1 moment (holder_in kind o) =
         holder-charged o (All-head (IsCountedIn S kind) o os counted) (All-head (λ p. HasEnds p.account) o os ends) in
-        let rest : map (holder_in kind) (map (charged_owner (owner kind whose) graces moment blocks inodes) os) ≡ map (with_ends_of S1 moment) (map (holder_in kind) os) =
+        let rest : map (holder_in kind)
+        (map (charged_owner (owner kind whose) graces moment blocks inodes) os)
+        ≡ map (with_ends_of S1 moment) (map (holder_in kind) os) =
         holders-charged os (All-tail (IsCountedIn S kind) o os counted) (All-tail (λ p. HasEnds p.account) o os ends) in
         λ i. here i ∷ rest i
 
@@ -86,10 +92,12 @@ module _ (S S1 : State) (whose : Inode) (blocks inodes : ℕ) (rises : Rises S S
         by false more_blocks more_inodes = record { blocks = omega arith; inodes = omega arith }
 
     -- all charged owners are counted in the new state
-    pub counted-charged : (os : List Owner) → All (IsCountedIn S kind) os → All (IsCountedIn S1 kind) (map (charged_owner (owner kind whose) graces moment blocks inodes) os)
+    pub counted-charged : (os : List Owner) → All (IsCountedIn S kind) os
+        → All (IsCountedIn S1 kind) (map (charged_owner (owner kind whose) graces moment blocks inodes) os)
     counted-charged [] counted = All-nil (IsCountedIn S1 kind)
     counted-charged (o ∷ os) counted =
-        All-cons (IsCountedIn S1 kind) (charged_owner (owner kind whose) graces moment blocks inodes o) (map (charged_owner (owner kind whose) graces moment blocks inodes) os)
+        All-cons (IsCountedIn S1 kind) (charged_owner (owner kind whose) graces moment blocks inodes o)
+        (map (charged_owner (owner kind whose) graces moment blocks inodes) os)
         (owner-counted-charged o (All-head (IsCountedIn S kind) o os counted)) (counted-charged os (All-tail (IsCountedIn S kind) o os counted))
 
     -- and in the state with the ends that then stand

@@ -50,6 +50,7 @@ pub rows-of-counted : (S : State) (kind : Kind) (os : List Owner) → All (IsCou
 rows-of-counted S kind [] all = refl
 rows-of-counted S kind (o ∷ os) all =
     let counted : IsCountedIn S kind o = All-head (IsCountedIn S kind) o os all in
-    let here : owner_row kind o ≡ record_row_of S (holder_in kind o) = λ i. record (owner_row kind o) { blocks = counted.blocks i; inodes = counted.inodes i } in
+    let here : owner_row kind o ≡ record_row_of S (holder_in kind o) =
+    λ i. record (owner_row kind o) { blocks = counted.blocks i; inodes = counted.inodes i } in
     let rest : map (owner_row kind) os ≡ map (record_row_of S) (map (holder_in kind) os) = rows-of-counted S kind os (All-tail (IsCountedIn S kind) o os all) in
     λ i. here i ∷ rest i

@@ -43,10 +43,12 @@ module _ {S : State} {users groups : List Owner} {links : List (ℕ × ℕ)} {bl
   module _ (S1 : State) (whose : Inode) (more_blocks more_inodes : ℕ) (rises : Rises S S1 whose more_blocks more_inodes) (moment : ℕ) where
     -- the holders after a charge of both owners
     pub holders-after : map (with_ends_of S1 moment) S1.holders
-        ≡ holders_in (map (charged_owner whose.uid S.graces moment more_blocks more_inodes) users) (map (charged_owner whose.gid S.graces moment more_blocks more_inodes) groups)
+        ≡ holders_in (map (charged_owner whose.uid S.graces moment more_blocks more_inodes) users)
+        (map (charged_owner whose.gid S.graces moment more_blocks more_inodes) groups)
     holders-after =
         ap (map (with_ends_of S1 moment)) (rises.holders ∙ kept.holders_kept)
-        ∙ sym (all-holders-charged S S1 whose more_blocks more_inodes rises S.graces rises.graces moment users groups kept.users_counted kept.groups_counted users-end groups-end)
+        ∙ sym (all-holders-charged S S1 whose more_blocks more_inodes rises S.graces rises.graces moment users
+        groups kept.users_counted kept.groups_counted users-end groups-end)
 
     -- a charge that both owners' records and the totals follow
     pub counted-charged-both : (ls : List (ℕ × ℕ)) → AreLinks S1 ls → IsSound (ends_after S1 moment)

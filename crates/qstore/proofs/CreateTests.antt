@@ -15,7 +15,8 @@ some-last [] some = absurd (omega (arith, some))
 some-last (name ∷ []) some = refl
 some-last (name ∷ next ∷ rest) some = some-last (next ∷ rest) (omega arith)
 
-under-fault : (S : State) (cred : Caller) (names : List (List ℕ)) (refusal : Refusal) (last : Option (List ℕ)) → is_some last ≡ true → parent S names ≡ Err refusal
+under-fault : (S : State) (cred : Caller) (names : List (List ℕ)) (refusal : Refusal) (last : Option (List ℕ))
+    → is_some last ≡ true → parent S names ≡ Err refusal
     → create_under S cred names last ≡ Refuse refusal
 under-fault S cred names refusal None some fault = cc
 under-fault S cred names refusal (Some name) some fault = ap (λ r. create_in S cred name (as_directory S r)) fault

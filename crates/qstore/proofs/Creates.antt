@@ -23,7 +23,8 @@ use Rattle.qstore.proofs.Counting.{counted-charged-both, holders-after}
 use Rattle.qstore.proofs.Links.{links-created}
 use Rattle.qstore.proofs.Stores.{place-at_id}
 
-module _ (a : Inside) (kept : IsCounted (state_of a) a.users a.groups a.tree.links a.blocks a.inodes) (dir : ℕ) (name : List ℕ) (uid gid : ℕ) (places : Places) (moment : ℕ)
+module _ (a : Inside) (kept : IsCounted (state_of a) a.users a.groups a.tree.links a.blocks a.inodes)
+    (dir : ℕ) (name : List ℕ) (uid gid : ℕ) (places : Places) (moment : ℕ)
     (can : CreateIsReady (stored_of a) dir name uid gid places moment) where
   -- the plain result
   abbrev S1 : State
@@ -44,11 +45,14 @@ module _ (a : Inside) (kept : IsCounted (state_of a) a.users a.groups a.tree.lin
 
   -- the user's record has room for it
   pub can-charge-user : CanCharge a.users places.user 0 1
-  can-charge-user = can-charge (state_of a) S1 (new_file uid gid) 0 1 rises User a.users kept.users_counted places.user (place-at_id a.users places.user uid can.owners.user) few_blocks few_inodes
+  can-charge-user = can-charge (state_of a) S1 (new_file uid gid) 0 1 rises User a.users kept.users_counted
+      places.user (place-at_id a.users places.user uid can.owners.user) few_blocks few_inodes
 
   -- and so has the group's
   pub can-charge-group : CanCharge a.groups places.group 0 1
-  can-charge-group = can-charge (state_of a) S1 (new_file uid gid) 0 1 rises Group a.groups kept.groups_counted places.group (place-at_id a.groups places.group gid can.owners.group) few_blocks few_inodes
+  can-charge-group = can-charge (state_of a) S1 (new_file uid gid) 0 1 rises Group a.groups
+      kept.groups_counted places.group (place-at_id a.groups places.group gid can.owners.group) few_blocks
+      few_inodes
 
   -- what is then kept is what the new state counts to
   pub created-counted : IsSound (ends_after S1 moment)
@@ -56,7 +60,8 @@ module _ (a : Inside) (kept : IsCounted (state_of a) a.users a.groups a.tree.lin
       (insert_entry nat_cmp a.tree.links a.next 1) a.blocks (a.inodes + 1)
   created-counted sound =
       let same : a.blocks + 0 ≡ a.blocks = omega arith in
-      subst (λ blocks. IsCounted (ends_after S1 moment) (map (charged_owner uid a.graces moment 0 1) a.users) (map (charged_owner gid a.graces moment 0 1) a.groups)
+      subst (λ blocks. IsCounted (ends_after S1 moment) (map (charged_owner uid a.graces moment 0 1) a.users)
+      (map (charged_owner gid a.graces moment 0 1) a.groups)
       (insert_entry nat_cmp a.tree.links a.next 1) blocks (a.inodes + 1)) same
       (counted-charged-both kept S1 (new_file uid gid) 0 1 rises moment (insert_entry nat_cmp a.tree.links a.next 1)
       (links-created (state_of a) a.tree.links kept.links_counted kept.sound.lawful uid gid dir name can.absent) sound)
@@ -65,8 +70,27 @@ module _ (a : Inside) (kept : IsCounted (state_of a) a.users a.groups a.tree.lin
   pub created-state : (users groups : List Owner) (inodes : List (ℕ × Inode)) (names : List (NameKey × ℕ))
       → users ≡ map (charged_owner uid a.graces moment 0 1) a.users → groups ≡ map (charged_owner gid a.graces moment 0 1) a.groups
       → inodes ≡ insert_entry nat_cmp a.tree.inodes a.next (new_file uid gid) → names ≡ insert_entry name_key_cmp a.tree.names (dir, name) a.next
-      → ◌≡◌ {A = State} (record { size = a.size; most_inodes = a.most_inodes; file_limit = a.file_limit; graces = a.graces; holders = holders_in users groups; inodes = inodes; names = names; next = a.next + 1 })
+      → ◌≡◌ {A = State} (record {
+        size = a.size;
+        most_inodes = a.most_inodes;
+        file_limit = a.file_limit;
+        graces = a.graces;
+        holders = holders_in users groups;
+        inodes = inodes;
+        names = names;
+        next =
+            a.next + 1;
+      })
       (ends_after S1 moment)
   created-state users groups inodes names u g n m =
       let holders = (λ i. holders_in (u i) (g i)) ∙ sym (holders-after kept S1 (new_file uid gid) 0 1 rises moment) in
-      λ i. record { size = a.size; most_inodes = a.most_inodes; file_limit = a.file_limit; graces = a.graces; holders = holders i; inodes = n i; names = m i; next = a.next + 1 }
+      λ i. record {
+        size = a.size;
+        most_inodes = a.most_inodes;
+        file_limit = a.file_limit;
+        graces = a.graces;
+        holders = holders i;
+        inodes = n i;
+        names = m i;
+        next = a.next + 1;
+      }

@@ -47,7 +47,9 @@ module _ (kind other : Kind) (id : ℕ) where
       → find (is_holder kind id) (map (holder_in other) os ++ rest) ≡ find (is_holder kind id) rest
   find-other apart [] rest = refl
   find-other apart (o ∷ os) rest =
-      ap (λ b. cond b (Some (holder_in other o)) (find (is_holder kind id) (map (holder_in other) os ++ rest))) (other-kind (is_same_kind kind other) (id == o.id) apart)
+      ap (λ b. cond b (Some (holder_in other o))
+      (find (is_holder kind id) (map (holder_in other) os ++ rest)))
+      (other-kind (is_same_kind kind other) (id == o.id) apart)
       ∙ find-other apart os rest
 
   -- nor behind the owners of whom none has the id
@@ -56,11 +58,14 @@ module _ (kind other : Kind) (id : ℕ) where
   find-absent same [] rest absent = refl
   find-absent same (o ∷ os) rest absent =
       ap (λ b. cond (b && id == o.id) (Some (holder_in kind o)) (find (is_holder kind id) (map (holder_in kind) os ++ rest))) same
-      ∙ ap (λ b. cond b (Some (holder_in kind o)) (find (is_holder kind id) (map (holder_in kind) os ++ rest))) (or-first (id == o.id) (list_any (λ p. id == p.id) os) absent)
+      ∙ ap (λ b. cond b (Some (holder_in kind o))
+      (find (is_holder kind id) (map (holder_in kind) os ++ rest)))
+      (or-first (id == o.id) (list_any (λ p. id == p.id) os) absent)
       ∙ find-absent same os rest (or-second (id == o.id) (list_any (λ p. id == p.id) os) absent)
 
   -- the holder of the owner at the place of the id is found
-  find-at : is_same_kind kind kind ≡ true → (os : List Owner) (place : ℕ) (o : Owner) (rest : List Holder) → AreById os → slice_get os place ≡ Some o → o.id ≡ id
+  find-at : is_same_kind kind kind ≡ true → (os : List Owner) (place : ℕ) (o : Owner) (rest : List Holder)
+      → AreById os → slice_get os place ≡ Some o → o.id ≡ id
       → find (is_holder kind id) (map (holder_in kind) os ++ rest) ≡ Some (holder_in kind o)
   find-at same [] place o rest by_id there is = cc
   find-at same (p ∷ os) zero o rest by_id there is =

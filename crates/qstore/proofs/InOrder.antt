@@ -20,7 +20,8 @@ use Rattle.qstore.specs.InOrder.{in_order}
 pub put_insert : {K X : Type 0} (R : K → K → Ordering) (k : K) (v : X) (es : List (K × X)) → put R k v es ≡ insert_entry R es k v
 put_insert R k v [] = refl
 put_insert R k v (e ∷ es) =
-    elim (R k e.0) as (λ r. by_order r ((k, v) ∷ e ∷ es) ((e.0, v) ∷ es) (e ∷ put R k v es) ≡ match_ordering r ((k, v) ∷ e ∷ es) ((e.0, v) ∷ es) (e ∷ insert_entry R es k v)) [
+    elim (R k e.0) as (λ r. by_order r ((k, v) ∷ e ∷ es) ((e.0, v) ∷ es) (e ∷ put R k v es)
+    ≡ match_ordering r ((k, v) ∷ e ∷ es) ((e.0, v) ∷ es) (e ∷ insert_entry R es k v)) [
       | Less ↦ refl
       | Equal ↦ refl
       | Greater ↦ ap (λ t. e ∷ t) (put_insert R k v es)
@@ -72,10 +73,14 @@ sorted_from R [] h = tt
 sorted_from R (e ∷ es) h = both_of _ _ (all_below R e.0 es h.0) (sorted_from R es h.1)
 
 -- to put a value at a key that is there is to set it
-set_insert : {K X : Type 0} {R : K → K → Ordering} (o : IsTotalOrder R) (es : List (K × X)) (k : K) (v : X) → T (is_sorted R es) → IsSome (lookup (is_at (R k)) es) → insert_entry R es k v ≡ set_value (is_at (R k)) es v
+set_insert : {K X : Type 0} {R : K → K → Ordering} (o : IsTotalOrder R) (es : List (K × X)) (k : K) (v : X)
+    → T (is_sorted R es) → IsSome (lookup (is_at (R k)) es)
+    → insert_entry R es k v ≡ set_value (is_at (R k)) es v
 set_insert o [] k v h some = cc
 set_insert {R = R} o (e ∷ es) k v h some =
-    elim (R k e.0) as (λ r. R k e.0 ≡ r → IsSome (cond (is_eq r) (Some e.1) (lookup (is_at (R k)) es)) → match_ordering r ((k, v) ∷ e ∷ es) ((e.0, v) ∷ es) (e ∷ insert_entry R es k v) ≡ cond (is_eq r) ((e.0, v) ∷ es) (e ∷ set_value (is_at (R k)) es v)) [
+    elim (R k e.0) as (λ r. R k e.0 ≡ r → IsSome (cond (is_eq r) (Some e.1) (lookup (is_at (R k)) es))
+    → match_ordering r ((k, v) ∷ e ∷ es) ((e.0, v) ∷ es) (e ∷ insert_entry R es k v)
+    ≡ cond (is_eq r) ((e.0, v) ∷ es) (e ∷ set_value (is_at (R k)) es v)) [
       | Less ↦ λ p there. let none = lookup-none (is_at (R k)) es (none_below_head o k e es (strictly R (e ∷ es) h) p).1 in cc
       | Equal ↦ λ p there. refl
       | Greater ↦ λ p there. ap (λ t. e ∷ t) (set_insert o es k v (second_of _ _ h) there)
@@ -83,12 +88,14 @@ set_insert {R = R} o (e ∷ es) k v h some =
 
 module _ {K X : Type 0} {R : K → K → Ordering} (o : IsTotalOrder R) (same : IsAntisymmetric R) where
   -- lists in order that answer alike are one list
-  pub same_sorted : (es fs : List (K × X)) → T (is_sorted R es) → T (is_sorted R fs) → ((q : K) → lookup (eq_by_cmp R q) es ≡ lookup (eq_by_cmp R q) fs) → es ≡ fs
+  pub same_sorted : (es fs : List (K × X)) → T (is_sorted R es) → T (is_sorted R fs)
+      → ((q : K) → lookup (eq_by_cmp R q) es ≡ lookup (eq_by_cmp R q) fs) → es ≡ fs
   same_sorted es fs a b is = same_entries R o same es fs a b (λ q. find_lookup R q es ∙ is q ∙ sym (find_lookup R q fs))
 
   -- a look-up does not see the order
   pub lookup-in_order : (es : List (K × X)) (q : K) → lookup (eq_by_cmp R q) (in_order R es) ≡ lookup (eq_by_cmp R q) es
-  lookup-in_order es q = sym (find_lookup R q (in_order R es)) ∙ sym (map.get-entries (map.from_entries es) q) ∙ map.get-from_entries o es q ∙ find_lookup R q es
+  lookup-in_order es q = sym (find_lookup R q (in_order R es)) ∙ sym (map.get-entries (map.from_entries es) q)
+      ∙ map.get-from_entries o es q ∙ find_lookup R q es
 
   -- the entries in order are in order, by the test for it
   pub sorted-in_order : (es : List (K × X)) → T (is_sorted R (in_order R es))
@@ -104,22 +111,34 @@ module _ {K X : Type 0} {R : K → K → Ordering} (o : IsTotalOrder R) (same : 
 
   -- lists that answer alike are one list in order
   pub in_order-same : (es fs : List (K × X)) → ((q : K) → lookup (eq_by_cmp R q) es ≡ lookup (eq_by_cmp R q) fs) → in_order R es ≡ in_order R fs
-  in_order-same es fs is = same_sorted (in_order R es) (in_order R fs) (sorted-in_order es) (sorted-in_order fs) (λ q. lookup-in_order es q ∙ is q ∙ sym (lookup-in_order fs q))
+  in_order-same es fs is = same_sorted (in_order R es) (in_order R fs) (sorted-in_order es)
+      (sorted-in_order fs) (λ q. lookup-in_order es q ∙ is q ∙ sym (lookup-in_order fs q))
 
   -- a list in order that has v at k and else answers as es does is es with k put in its place
-  pub sorted-insert : (es fs : List (K × X)) (k : K) (v : X) → T (is_sorted R es) → T (is_sorted R fs) → ((q : K) → lookup (eq_by_cmp R q) fs ≡ cond (eq_by_cmp R k q) (Some v) (lookup (eq_by_cmp R q) es)) → fs ≡ insert_entry R es k v
+  pub sorted-insert : (es fs : List (K × X)) (k : K) (v : X) → T (is_sorted R es) → T (is_sorted R fs)
+      → ((q : K) → lookup (eq_by_cmp R q) fs ≡ cond (eq_by_cmp R k q) (Some v) (lookup (eq_by_cmp R q) es))
+      → fs ≡ insert_entry R es k v
   sorted-insert es fs k v a b is =
       sym (in_order-sorted fs b)
-      ∙ ap map.entries (map.same_map o same (map.from_entries fs) (map.insert (map.from_entries es) k v) (λ q. map.get-from_entries o fs q ∙ find_lookup R q fs ∙ is q
+      ∙ ap map.entries (map.same_map o same (map.from_entries fs) (map.insert (map.from_entries es) k v)
+      (λ q. map.get-from_entries o fs q ∙ find_lookup R q fs ∙ is q
       ∙ ap (λ b. cond b (Some v) (lookup (eq_by_cmp R q) es)) ((eq_by_cmp_equiv o).symm k q)
       ∙ ap (cond (eq_by_cmp R q k) (Some v)) (sym (map.get-from_entries o es q ∙ find_lookup R q es)) ∙ sym (map.get-insert o (map.from_entries es) k v q)))
       ∙ map.entries-insert o (map.from_entries es) k v ∙ put_insert R k v (in_order R es) ∙ ap (λ xs. insert_entry R xs k v) (in_order-sorted es a)
 
   -- what has v at k and else answers as es does is in order es with k put in its place
-  pub in_order-insert : (es fs : List (K × X)) (k : K) (v : X) → ((q : K) → lookup (eq_by_cmp R q) fs ≡ cond (eq_by_cmp R k q) (Some v) (lookup (eq_by_cmp R q) es)) → in_order R fs ≡ insert_entry R (in_order R es) k v
+  pub in_order-insert : (es fs : List (K × X)) (k : K) (v : X)
+      → ((q : K) → lookup (eq_by_cmp R q) fs ≡ cond (eq_by_cmp R k q) (Some v) (lookup (eq_by_cmp R q) es))
+      → in_order R fs ≡ insert_entry R (in_order R es) k v
   in_order-insert es fs k v is =
-      sorted-insert (in_order R es) (in_order R fs) k v (sorted-in_order es) (sorted-in_order fs) (λ q. lookup-in_order fs q ∙ is q ∙ ap (cond (eq_by_cmp R k q) (Some v)) (sym (lookup-in_order es q)))
+      sorted-insert (in_order R es) (in_order R fs) k v (sorted-in_order es) (sorted-in_order fs)
+      (λ q. lookup-in_order fs q ∙ is q
+      ∙ ap (cond (eq_by_cmp R k q) (Some v)) (sym (lookup-in_order es q)))
 
   -- the same where the key is there
-  pub in_order-set : (es fs : List (K × X)) (k : K) (v : X) → IsSome (lookup (eq_by_cmp R k) es) → ((q : K) → lookup (eq_by_cmp R q) fs ≡ cond (eq_by_cmp R k q) (Some v) (lookup (eq_by_cmp R q) es)) → in_order R fs ≡ set_value (is_at (R k)) (in_order R es) v
-  in_order-set es fs k v there is = in_order-insert es fs k v is ∙ set_insert o (in_order R es) k v (sorted-in_order es) (subst IsSome (sym (lookup-in_order es k)) there)
+  pub in_order-set : (es fs : List (K × X)) (k : K) (v : X) → IsSome (lookup (eq_by_cmp R k) es)
+      → ((q : K) → lookup (eq_by_cmp R q) fs ≡ cond (eq_by_cmp R k q) (Some v) (lookup (eq_by_cmp R q) es))
+      → in_order R fs ≡ set_value (is_at (R k)) (in_order R es) v
+  in_order-set es fs k v there is = in_order-insert es fs k v is
+      ∙ set_insert o (in_order R es) k v (sorted-in_order es)
+      (subst IsSome (sym (lookup-in_order es k)) there)

@@ -19,7 +19,8 @@ use Rattle.qstore.specs.Kept.{AreLinks}
 none-kept : (S : State) (links : List (ℕ × ℕ)) (number : ℕ) → AreLinks S links → inode_at S number ≡ None → lookup (is_at (nat_cmp number)) links ≡ None
 none-kept S links number kept absent = kept number ∙ ap (option_map (λ inode. links_of S number inode.dir)) absent
 
-module _ (S : State) (links : List (ℕ × ℕ)) (kept : AreLinks S links) (lawful : IsLawful S) (uid gid dir : ℕ) (name : List ℕ) (absent : named S dir name ≡ None) where
+module _ (S : State) (links : List (ℕ × ℕ)) (kept : AreLinks S links) (lawful : IsLawful S) (uid gid dir : ℕ)
+    (name : List ℕ) (absent : named S dir name ≡ None) where
   abbrev S1 : State
   S1 = created S (new_file uid gid) dir name
 
@@ -30,9 +31,12 @@ module _ (S : State) (links : List (ℕ × ℕ)) (kept : AreLinks S links) (lawf
       ap Some (sym (links_of-created-others S (new_file uid gid) dir name lawful.parts absent number inode inode.dir there refl))
 
   by_place : (number : ℕ) (b : Bool) → is_at (nat_cmp number) S.next ≡ b
-      → cond b (Some 1) (lookup (is_at (nat_cmp number)) links) ≡ option_map (λ inode. links_of S1 number inode.dir) (cond b (Some (new_file uid gid)) (inode_at S number))
+      → cond b (Some 1) (lookup (is_at (nat_cmp number)) links)
+      ≡ option_map (λ inode. links_of S1 number inode.dir)
+      (cond b (Some (new_file uid gid)) (inode_at S number))
   by_place number true at_next =
-      ap Some (sym (links_of-new_file S (new_file uid gid) dir name lawful.parts absent) ∙ ap (λ n. links_of S1 n false) (sym (same-number number S.next at_next)))
+      ap Some (sym (links_of-new_file S (new_file uid gid) dir name lawful.parts absent)
+      ∙ ap (λ n. links_of S1 n false) (sym (same-number number S.next at_next)))
   by_place number false other = kept number ∙ old_links number (inode_at S number) refl
 
   -- a new file has one link, and the others keep theirs
@@ -45,7 +49,8 @@ module _ (S : State) (links : List (ℕ × ℕ)) (kept : AreLinks S links) (lawf
 module _ (S : State) (links : List (ℕ × ℕ)) (kept : AreLinks S links) (number : ℕ) (inode : Inode) (file : File) (there : inode_at S number ≡ Some inode) where
   changed : (q : ℕ) (b : Bool) → is_at (nat_cmp number) q ≡ b
       → option_map (λ i. links_of S q i.dir) (inode_at S q) ≡ option_map (λ i. links_of S q i.dir) (cond b (Some (record inode { file = file })) (inode_at S q))
-  changed q true at = ap (λ n. option_map (λ i. links_of S q i.dir) (inode_at S n)) (sym (same-number number q at)) ∙ ap (option_map (λ i. links_of S q i.dir)) there
+  changed q true at = ap (λ n. option_map (λ i. links_of S q i.dir) (inode_at S n))
+      (sym (same-number number q at)) ∙ ap (option_map (λ i. links_of S q i.dir)) there
   changed q false other = refl
 
   -- another file in an inode leaves all links

@@ -30,13 +30,15 @@ keys_of-read_by f (e ∷ es) = ap (λ ks. e.0 ∷ ks) (keys_of-read_by f es)
 
 -- what is seen of a table by number stands in the order of the numbers
 pub seen-by_number : {X Y : Type 0} (f : X → Y) (es : List (ℕ × X)) → IsStrictlySortedBy nat_cmp (keys_of (read_by f (in_order nat_cmp es)))
-seen-by_number f es = subst (IsStrictlySortedBy nat_cmp) (sym (keys_of-read_by f (in_order nat_cmp es))) (strictly-in_order nat_cmp_total nat_cmp-IsAntisymmetric es)
+seen-by_number f es = subst (IsStrictlySortedBy nat_cmp) (sym (keys_of-read_by f (in_order nat_cmp es)))
+    (strictly-in_order nat_cmp_total nat_cmp-IsAntisymmetric es)
 
 -- blocks that are few in all are few in each inode
 few-of : (es : List (ℕ × Inode)) → sum_by (weight Blocks) (values_of es) ≤ MAX_BLOCKS → All HasFewBlocks es
 few-of [] low = All-nil HasFewBlocks
 few-of (e ∷ es) low =
-    let all : length e.1.file.allocated + sum_by (weight Blocks) (values_of es) ≤ MAX_BLOCKS = subst (λ n. n ≤ MAX_BLOCKS) (sum_by-cons (weight Blocks) e.1 (values_of es)) low in
+    let all : length e.1.file.allocated + sum_by (weight Blocks) (values_of es) ≤ MAX_BLOCKS =
+    subst (λ n. n ≤ MAX_BLOCKS) (sum_by-cons (weight Blocks) e.1 (values_of es)) low in
     All-cons HasFewBlocks e es (omega (arith, all)) (few-of es (omega (arith, all)))
 
 -- rows that are made where this holds are also these
@@ -57,7 +59,9 @@ module _ {S : State} {users groups : List Owner} {links : List (ℕ × ℕ)} {bl
       ap (λ o. unwrap_or o 0) (kept.links_counted e.0 ∙ ap (option_map (λ inode. links_of S e.0 inode.dir)) found) in
       λ i. record (inode_row_of S e) { links = same i }
 
-  rows-counted : (es : List (ℕ × Inode)) → ((k : ℕ) (e : ℕ × Inode) → slice_get es k ≡ Some e → inode_at S e.0 ≡ Some e.1) → map (kept_row links) es ≡ map (inode_row_of S) es
+  rows-counted : (es : List (ℕ × Inode))
+      → ((k : ℕ) (e : ℕ × Inode) → slice_get es k ≡ Some e → inode_at S e.0 ≡ Some e.1)
+      → map (kept_row links) es ≡ map (inode_row_of S) es
   rows-counted [] found = refl
   rows-counted (e ∷ es) found =
       let here : kept_row links e ≡ inode_row_of S e = row-counted e (found 0 e refl) in
@@ -67,4 +71,5 @@ module _ {S : State} {users groups : List Owner} {links : List (ℕ × ℕ)} {bl
   -- the rows with the kept links are those with the counted links
   pub inode-rows-counted : IsStrictlySortedBy nat_cmp (keys_of S.inodes) → map (kept_row links) S.inodes ≡ map (inode_row_of S) S.inodes
   inode-rows-counted sorted =
-      rows-counted S.inodes (λ k e there. lookup_from_place (eq_by_cmp_equiv nat_cmp_total) S.inodes k e.0 e.1 (IsDistinct-from_sorted nat_cmp (keys_of S.inodes) sorted) there)
+      rows-counted S.inodes (λ k e there. lookup_from_place (eq_by_cmp_equiv nat_cmp_total) S.inodes k e.0 e.1
+      (IsDistinct-from_sorted nat_cmp (keys_of S.inodes) sorted) there)

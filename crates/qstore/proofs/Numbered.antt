@@ -35,7 +35,9 @@ module _ {X : Type 0} where
   pub numbered-put_all : (es : List (ℕ × X)) → IsDistinct nat_eq (keys_of es) → put_all nat_cmp [] es ≡ in_order nat_cmp es
   numbered-put_all es d = put_all-distinct nat_cmp_total nat_cmp-IsAntisymmetric unsigned_ties es d
 
-  put_at : (es fs : List (ℕ × X)) (k : ℕ) (v : X) → IsPut es fs k v → (q : ℕ) → lookup (eq_by_cmp nat_cmp q) fs ≡ cond (eq_by_cmp nat_cmp k q) (Some v) (lookup (eq_by_cmp nat_cmp q) es)
+  put_at : (es fs : List (ℕ × X)) (k : ℕ) (v : X) → IsPut es fs k v → (q : ℕ)
+      → lookup (eq_by_cmp nat_cmp q) fs
+      ≡ cond (eq_by_cmp nat_cmp k q) (Some v) (lookup (eq_by_cmp nat_cmp q) es)
   put_at es fs k v put q =
       ties fs q ∙ put.at q ∙ ap (λ b. cond b (Some v) (lookup (nat_eq q) es)) (unsigned_ties k q)
       ∙ ap (cond (eq_by_cmp nat_cmp k q) (Some v)) (sym (ties es q))
@@ -55,24 +57,40 @@ module _ {X Y : Type 0} (f : X → Y) where
   seen-get es k = lookup-read_by f (eq_by_cmp nat_cmp k) (in_order nat_cmp es) ∙ ap (option_map f) (numbered-get es k)
 
   -- tables of which the function sees the same at each number
-  pub seen-same : (es fs : List (ℕ × X)) → ((q : ℕ) → option_map f (lookup (nat_eq q) fs) ≡ option_map f (lookup (nat_eq q) es)) → read_by f (in_order nat_cmp fs) ≡ read_by f (in_order nat_cmp es)
-  seen-same es fs is = same_sorted nat_cmp_total nat_cmp-IsAntisymmetric _ _ (sorted-read_by f (in_order nat_cmp fs) (numbered-sorted fs)) (sorted-read_by f (in_order nat_cmp es) (numbered-sorted es)) (λ q. seen-get fs q ∙ is q ∙ sym (seen-get es q))
+  pub seen-same : (es fs : List (ℕ × X))
+      → ((q : ℕ) → option_map f (lookup (nat_eq q) fs) ≡ option_map f (lookup (nat_eq q) es))
+      → read_by f (in_order nat_cmp fs) ≡ read_by f (in_order nat_cmp es)
+  seen-same es fs is = same_sorted nat_cmp_total nat_cmp-IsAntisymmetric _ _
+      (sorted-read_by f (in_order nat_cmp fs) (numbered-sorted fs))
+      (sorted-read_by f (in_order nat_cmp es) (numbered-sorted es)) (λ q. seen-get fs q ∙ is q
+      ∙ sym (seen-get es q))
 
   -- a put where nothing was
-  pub seen-insert : (es fs : List (ℕ × X)) (k : ℕ) (v : X) → IsPut es fs k v → read_by f (in_order nat_cmp fs) ≡ insert_entry nat_cmp (read_by f (in_order nat_cmp es)) k (f v)
-  seen-insert es fs k v put = ap (read_by f) (in_order-insert nat_cmp_total nat_cmp-IsAntisymmetric es fs k v (put_at es fs k v put)) ∙ read_by-insert f nat_cmp (in_order nat_cmp es) k v
+  pub seen-insert : (es fs : List (ℕ × X)) (k : ℕ) (v : X) → IsPut es fs k v
+      → read_by f (in_order nat_cmp fs) ≡ insert_entry nat_cmp (read_by f (in_order nat_cmp es)) k (f v)
+  seen-insert es fs k v put =
+      ap (read_by f) (in_order-insert nat_cmp_total nat_cmp-IsAntisymmetric es fs k v (put_at es fs k v put))
+      ∙ read_by-insert f nat_cmp (in_order nat_cmp es) k v
 
   -- a put in the place of another value
-  pub seen-set : (es fs : List (ℕ × X)) (k : ℕ) (u v : X) → lookup (nat_eq k) es ≡ Some u → IsPut es fs k v → read_by f (in_order nat_cmp fs) ≡ set_value (is_at (nat_cmp k)) (read_by f (in_order nat_cmp es)) (f v)
+  pub seen-set : (es fs : List (ℕ × X)) (k : ℕ) (u v : X) → lookup (nat_eq k) es ≡ Some u → IsPut es fs k v
+      → read_by f (in_order nat_cmp fs) ≡ set_value (is_at (nat_cmp k)) (read_by f (in_order nat_cmp es))
+      (f v)
   seen-set es fs k u v was put =
-      ap (read_by f) (in_order-set nat_cmp_total nat_cmp-IsAntisymmetric es fs k v (subst IsSome (sym (ties es k ∙ was)) refl) (put_at es fs k v put)) ∙ read_by-set f (is_at (nat_cmp k)) (in_order nat_cmp es) v
+      ap (read_by f) (in_order-set nat_cmp_total nat_cmp-IsAntisymmetric es fs k v
+      (subst IsSome (sym (ties es k ∙ was)) refl) (put_at es fs k v put))
+      ∙ read_by-set f (is_at (nat_cmp k)) (in_order nat_cmp es) v
 
   -- by whether the number is the one put
-  kept_at : (es fs : List (ℕ × X)) (k : ℕ) (u v : X) → lookup (nat_eq k) es ≡ Some u → f v ≡ f u → IsPut es fs k v → (q : ℕ) (b : Bool) → nat_eq k q ≡ b → option_map f (lookup (nat_eq q) fs) ≡ option_map f (lookup (nat_eq q) es)
+  kept_at : (es fs : List (ℕ × X)) (k : ℕ) (u v : X) → lookup (nat_eq k) es ≡ Some u → f v ≡ f u
+      → IsPut es fs k v → (q : ℕ) (b : Bool) → nat_eq k q ≡ b
+      → option_map f (lookup (nat_eq q) fs) ≡ option_map f (lookup (nat_eq q) es)
   kept_at es fs k u v was same put q true is =
-      ap (option_map f) (put.at q ∙ ap (λ b. cond b (Some v) (lookup (nat_eq q) es)) is) ∙ ap Some same ∙ ap (option_map f) (sym was) ∙ ap (λ x. option_map f (lookup (nat_eq x) es)) (eqb-true k q is)
+      ap (option_map f) (put.at q ∙ ap (λ b. cond b (Some v) (lookup (nat_eq q) es)) is) ∙ ap Some same
+      ∙ ap (option_map f) (sym was) ∙ ap (λ x. option_map f (lookup (nat_eq x) es)) (eqb-true k q is)
   kept_at es fs k u v was same put q false is = ap (option_map f) (put.at q ∙ ap (λ b. cond b (Some v) (lookup (nat_eq q) es)) is)
 
   -- a put of what the function sees alike changes nothing that it sees
-  pub seen-kept : (es fs : List (ℕ × X)) (k : ℕ) (u v : X) → lookup (nat_eq k) es ≡ Some u → f v ≡ f u → IsPut es fs k v → read_by f (in_order nat_cmp fs) ≡ read_by f (in_order nat_cmp es)
+  pub seen-kept : (es fs : List (ℕ × X)) (k : ℕ) (u v : X) → lookup (nat_eq k) es ≡ Some u → f v ≡ f u
+      → IsPut es fs k v → read_by f (in_order nat_cmp fs) ≡ read_by f (in_order nat_cmp es)
   seen-kept es fs k u v was same put = seen-same es fs (λ q. kept_at es fs k u v was same put q (nat_eq k q) refl)

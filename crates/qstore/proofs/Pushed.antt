@@ -2,7 +2,8 @@
 use Rattle.std.proofs.Common.{◌≡◌, List, [], ◌∷◌, ◌++◌, map, sym, ap, ◌∙◌, append_assoc, append-nil}
 
 -- one step: the first of what is left gives the row that is pushed
-pub push_step : {A B : Type 0} (f : A → B) (rows more all : List B) (es rest : List A) (e : A) → es ≡ e ∷ rest → more ≡ rows ++ f e ∷ [] → rows ++ map f es ≡ all → more ++ map f rest ≡ all
+pub push_step : {A B : Type 0} (f : A → B) (rows more all : List B) (es rest : List A) (e : A) → es ≡ e ∷ rest
+    → more ≡ rows ++ f e ∷ [] → rows ++ map f es ≡ all → more ++ map f rest ≡ all
 push_step f rows more all es rest e first pushed so_far =
     ap (λ xs. xs ++ map f rest) pushed ∙ append_assoc rows (f e ∷ []) (map f rest) ∙ sym (ap (λ xs. rows ++ map f xs) first) ∙ so_far
 

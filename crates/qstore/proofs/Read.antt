@@ -19,10 +19,15 @@ lookup-keyed_by f test [] = refl
 lookup-keyed_by f test (e ∷ es) = ap (cond (test (f e.0)) (Some e.1)) (lookup-keyed_by f test es)
 
 -- to put an entry in its place and to make its key are the same in either order
-pub keyed_by-insert : {K L X : Type 0} (f : K → L) (R : L → L → Ordering) (es : List (K × X)) (k : K) (v : X) → keyed_by f (insert_entry (λ x y. R (f x) (f y)) es k v) ≡ insert_entry R (keyed_by f es) (f k) v
+pub keyed_by-insert : {K L X : Type 0} (f : K → L) (R : L → L → Ordering) (es : List (K × X)) (k : K) (v : X)
+    → keyed_by f (insert_entry (λ x y. R (f x) (f y)) es k v) ≡ insert_entry R (keyed_by f es) (f k) v
 keyed_by-insert f R [] k v = refl
 keyed_by-insert f R (e ∷ es) k v =
-    elim (R (f k) (f e.0)) as (λ r. keyed_by f (match_ordering r ((k, v) ∷ e ∷ es) ((e.0, v) ∷ es) (e ∷ insert_entry (λ x y. R (f x) (f y)) es k v)) ≡ match_ordering r ((f k, v) ∷ keyed_by f (e ∷ es)) ((f e.0, v) ∷ keyed_by f es) ((f e.0, e.1) ∷ insert_entry R (keyed_by f es) (f k) v)) [
+    elim (R (f k) (f e.0)) as
+    (λ r. keyed_by f (match_ordering r ((k, v) ∷ e ∷ es) ((e.0, v) ∷ es)
+    (e ∷ insert_entry (λ x y. R (f x) (f y)) es k v))
+    ≡ match_ordering r ((f k, v) ∷ keyed_by f (e ∷ es)) ((f e.0, v) ∷ keyed_by f es)
+    ((f e.0, e.1) ∷ insert_entry R (keyed_by f es) (f k) v)) [
       | Less ↦ refl
       | Equal ↦ refl
       | Greater ↦ ap (λ t. (f e.0, e.1) ∷ t) (keyed_by-insert f R es k v)
@@ -33,7 +38,10 @@ module _ {K X Y : Type 0} (f : X → Y) where
   pub read_by-insert : (R : K → K → Ordering) (es : List (K × X)) (k : K) (v : X) → read_by f (insert_entry R es k v) ≡ insert_entry R (read_by f es) k (f v)
   read_by-insert R [] k v = refl
   read_by-insert R (e ∷ es) k v =
-      elim (R k e.0) as (λ r. read_by f (match_ordering r ((k, v) ∷ e ∷ es) ((e.0, v) ∷ es) (e ∷ insert_entry R es k v)) ≡ match_ordering r ((k, f v) ∷ read_by f (e ∷ es)) ((e.0, f v) ∷ read_by f es) ((e.0, f e.1) ∷ insert_entry R (read_by f es) k (f v))) [
+      elim (R k e.0) as (λ r. read_by f
+      (match_ordering r ((k, v) ∷ e ∷ es) ((e.0, v) ∷ es) (e ∷ insert_entry R es k v))
+      ≡ match_ordering r ((k, f v) ∷ read_by f (e ∷ es)) ((e.0, f v) ∷ read_by f es)
+      ((e.0, f e.1) ∷ insert_entry R (read_by f es) k (f v))) [
         | Less ↦ refl
         | Equal ↦ refl
         | Greater ↦ ap (λ t. (e.0, f e.1) ∷ t) (read_by-insert R es k v)
@@ -43,7 +51,8 @@ module _ {K X Y : Type 0} (f : X → Y) where
   pub read_by-set : (test : K → Bool) (es : List (K × X)) (v : X) → read_by f (set_value test es v) ≡ set_value test (read_by f es) (f v)
   read_by-set test [] v = refl
   read_by-set test (e ∷ es) v =
-      elim (test e.0) as (λ b. read_by f (cond b ((e.0, v) ∷ es) (e ∷ set_value test es v)) ≡ cond b ((e.0, f v) ∷ read_by f es) ((e.0, f e.1) ∷ set_value test (read_by f es) (f v))) [
+      elim (test e.0) as (λ b. read_by f (cond b ((e.0, v) ∷ es) (e ∷ set_value test es v))
+      ≡ cond b ((e.0, f v) ∷ read_by f es) ((e.0, f e.1) ∷ set_value test (read_by f es) (f v))) [
         | true ↦ refl
         | false ↦ ap (λ t. (e.0, f e.1) ∷ t) (read_by-set test es v)
       ]
@@ -86,7 +95,9 @@ found_at test (e ∷ es) x is =
     ] refl is
 
 -- lists that answer alike at each key answer alike at each query
-pub tests_agree : {K X : Type 0} (eq : K → K → Bool) (test : K → Bool) → IsKeyTest eq test → (es fs : List (K × X)) → ((k : K) → lookup (eq k) fs ≡ lookup (eq k) es) → lookup test fs ≡ lookup test es
+pub tests_agree : {K X : Type 0} (eq : K → K → Bool) (test : K → Bool) → IsKeyTest eq test
+    → (es fs : List (K × X)) → ((k : K) → lookup (eq k) fs ≡ lookup (eq k) es)
+    → lookup test fs ≡ lookup test es
 tests_agree eq test keys es fs is =
     let at_key : (k : _) → test k ≡ true → lookup test fs ≡ lookup test es = λ k passes.
     lookup-agree test (eq k) (λ y. keys k y passes) fs ∙ is k ∙ sym (lookup-agree test (eq k) (λ y. keys k y passes) es) in

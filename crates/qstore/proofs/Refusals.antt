@@ -45,7 +45,8 @@ first_fault-risen true account moment blocks inodes = refl
 first_fault-risen false account moment blocks inodes =
     let few_inodes : nat_le (account.inodes + 0) account.inodes ≡ true = grind (arith, tests) in
     let few_blocks : nat_le (account.blocks + 0) account.blocks ≡ true = grind (arith, tests) in
-    λ i. option_or (fault_of-none Inodes account moment (account.inodes + 0) few_inodes i) (fault_of-none Blocks account moment (account.blocks + 0) few_blocks i)
+    λ i. option_or (fault_of-none Inodes account moment (account.inodes + 0) few_inodes i)
+    (fault_of-none Blocks account moment (account.blocks + 0) few_blocks i)
 
 or-none : {A : Type 0} (x : Option A) → option_or x None ≡ x
 or-none None = refl
@@ -79,13 +80,17 @@ module _ (S S1 : State) (whose : Inode) (blocks inodes : ℕ) (rises : Rises S S
       ∙ refusal-none os (All-tail (IsCountedIn S kind) o os counted) others.1
 
   -- the first refusal among the holders of a kind is that of a charge to the owner
-  pub first_refusal-charged : (os : List Owner) (place : ℕ) (o : Owner) → All (IsCountedIn S kind) os → AreById os → slice_get os place ≡ Some o → o.id ≡ owner kind whose
-      → first_refusal (fault_of_holder S S1 moment) (map (holder_in kind) os) ≡ option_map (λ over. EDQUOT kind over) (charge_fault o.account moment blocks inodes)
+  pub first_refusal-charged : (os : List Owner) (place : ℕ) (o : Owner) → All (IsCountedIn S kind) os
+      → AreById os → slice_get os place ≡ Some o → o.id ≡ owner kind whose
+      → first_refusal (fault_of_holder S S1 moment) (map (holder_in kind) os)
+      ≡ option_map (λ over. EDQUOT kind over) (charge_fault o.account moment blocks inodes)
   first_refusal-charged [] place o counted by_id there same = cc
   first_refusal-charged (p ∷ os) zero o counted by_id there same =
       let is : p ≡ o = same_Some p o there in
       let own : (owner kind whose == p.id) ≡ true = place-first (owner kind whose) p os (place-of (p ∷ os) zero (owner kind whose) o there same) in
-      let here : fault_of_holder S S1 moment (holder_in kind p) ≡ charge_fault p.account moment blocks inodes = fault-own p (All-head (IsCountedIn S kind) p os counted) own in
+      let here : fault_of_holder S S1 moment (holder_in kind p)
+      ≡ charge_fault p.account moment blocks inodes =
+      fault-own p (All-head (IsCountedIn S kind) p os counted) own in
       let rest : first_refusal (fault_of_holder S S1 moment) (map (holder_in kind) os) ≡ None =
       refusal-none os (All-tail (IsCountedIn S kind) p os counted) (above-others-of (owner kind whose) p os by_id (ap (λ q. q.id) is ∙ same)) in
       (λ i. option_or (option_map (λ over. EDQUOT kind over) (here i)) (rest i))

@@ -22,23 +22,29 @@ use Rattle.qstore.proofs.Together.{all-holders-relimited-group, all-holders-reli
 module _ (a : Inside) (s : Stored) (view : stored_of a ≡ s) (kind found : Kind) (is : kind ≡ found) where
   -- the place that a caller asked for is one of the found kind's owners
   pub place-inside : (place id : ℕ) → slice_get (ids_of s kind) place ≡ Some id → IsPlaceOf (owners_of found a.users a.groups) place id
-  place-inside place id there = place-at_id (owners_of found a.users a.groups) place id (ids_of-inside found ∙ subst (λ k. slice_get (ids_of s k) place ≡ Some id) is there)
+  place-inside place id there =
+      place-at_id (owners_of found a.users a.groups) place id (ids_of-inside found
+      ∙ subst (λ k. slice_get (ids_of s k) place ≡ Some id) is there)
     where
       ids_of-inside : (k : Kind) → slice_get (ids_in (owners_of k a.users a.groups)) place ≡ slice_get (ids_of s k) place
       ids_of-inside User = ap (λ (v : Stored). slice_get v.users place) view
       ids_of-inside Group = ap (λ (v : Stored). slice_get v.groups place) view
 
   -- new limits of the fields' state are those of the one that is seen
-  pub relimited-seen : (id : ℕ) (limits : Limits) (moment : ℕ) → ends_after (with_limits_of (state_of a) found id limits) moment ≡ ends_after (with_limits_of s.state kind id limits) moment
+  pub relimited-seen : (id : ℕ) (limits : Limits) (moment : ℕ)
+      → ends_after (with_limits_of (state_of a) found id limits) moment
+      ≡ ends_after (with_limits_of s.state kind id limits) moment
   relimited-seen id limits moment = λ i. ends_after (with_limits_of (view i).state (sym is i) id limits) moment
 
-module _ {S : State} {users groups : List Owner} {links : List (ℕ × ℕ)} {blocks inodes : ℕ} (kept : IsCounted S users groups links blocks inodes) (id : ℕ) (limits : Limits) (moment : ℕ) where
+module _ {S : State} {users groups : List Owner} {links : List (ℕ × ℕ)} {blocks inodes : ℕ}
+    (kept : IsCounted S users groups links blocks inodes) (id : ℕ) (limits : Limits) (moment : ℕ) where
   -- the state after new limits
   abbrev after : Kind → State
   after kind = ends_after (with_limits_of S kind id limits) moment
 
   -- what is kept stays so where only the owners changed, and their holders as the state's did
-  counted-after : (kind : Kind) (us gs : List Owner) → (after kind).holders ≡ holders_in us gs → All (IsCountedIn (after kind) User) us → All (IsCountedIn (after kind) Group) gs
+  counted-after : (kind : Kind) (us gs : List Owner) → (after kind).holders ≡ holders_in us gs
+      → All (IsCountedIn (after kind) User) us → All (IsCountedIn (after kind) Group) gs
       → IsSound (after kind) → IsCounted (after kind) us gs links blocks inodes
   counted-after kind us gs holders user group sound = record {
     sound = sound;
@@ -48,7 +54,9 @@ module _ {S : State} {users groups : List Owner} {links : List (ℕ × ℕ)} {bl
     blocks_counted = kept.blocks_counted;
     inodes_counted = kept.inodes_counted;
     links_counted = links-ends_after (with_limits_of S kind id limits) moment links
-        (λ number. kept.links_counted number ∙ ap (λ f. option_map f (inode_at S number)) (λ i inode. sym (links_of-with_limits_of S kind id limits number inode.dir) i));
+        (λ number. kept.links_counted number
+        ∙ ap (λ f. option_map f (inode_at S number))
+        (λ i inode. sym (links_of-with_limits_of S kind id limits number inode.dir) i));
     size_bound = kept.size_bound;
     most_bound = kept.most_bound;
     graces_bound = kept.graces_bound;
@@ -73,7 +81,9 @@ module _ {S : State} {users groups : List Owner} {links : List (ℕ × ℕ)} {bl
       (counted-relimited-ends S User id limits moment S.graces users kept.users_counted) (counted-same S (after User) Group groups refl kept.groups_counted)
 
   -- and of a group
-  pub counted-relimited-group : IsSound (after Group) → IsCounted (after Group) users (map (relimited_owner id limits S.graces moment) groups) links blocks inodes
+  pub counted-relimited-group : IsSound (after Group)
+      → IsCounted (after Group) users (map (relimited_owner id limits S.graces moment) groups) links blocks
+      inodes
   counted-relimited-group =
       counted-after Group users (map (relimited_owner id limits S.graces moment) groups) group-holders
       (counted-same S (after Group) User users refl kept.users_counted) (counted-relimited-ends S Group id limits moment S.graces groups kept.groups_counted)

@@ -39,7 +39,11 @@ module _ (S : State) (kind : Kind) (id : ℕ) (limits : Limits) (moment : ℕ) w
   holder-by o true counted ends =
       let account : Account = record o.account { limits = limits; block_end = None; inode_end = None } in
       let same : account ≡ account_of S (relimited limits (holder_in kind o)) = λ i. record account { blocks = counted.blocks i; inodes = counted.inodes i } in
-      λ i. record (holder_in kind o) { limits = limits; block_end = end_after Blocks (same i) S.graces moment; inode_end = end_after Inodes (same i) S.graces moment }
+      λ i. record (holder_in kind o) {
+        limits = limits;
+        block_end = end_after Blocks (same i) S.graces moment;
+        inode_end = end_after Inodes (same i) S.graces moment;
+      }
   holder-by o false counted ends =
       sym (with_ends_of-same after moment (holder_in kind o) (subst HasEnds (sym (account_of-counted S kind o counted)) ends))
 
@@ -71,7 +75,8 @@ module _ (S : State) (kind : Kind) (id : ℕ) (limits : Limits) (moment : ℕ) w
       λ i. untouched (is_same_kind kind other) (id == o.id) limits (holder_in other o) apart i ∷ other-kind-untouched other apart os i
 
   -- and they keep their ends
-  pub other-holders-relimited : (other : Kind) → is_same_kind kind other ≡ false → (os : List Owner) → All (IsCountedIn S other) os → All (λ o. HasEnds o.account) os
+  pub other-holders-relimited : (other : Kind) → is_same_kind kind other ≡ false → (os : List Owner)
+      → All (IsCountedIn S other) os → All (λ o. HasEnds o.account) os
       → map (with_ends_of after moment) (map (λ h. cond (is_holder kind id h) (relimited limits h) h) (map (holder_in other) os)) ≡ map (holder_in other) os
   other-holders-relimited other apart os counted ends =
       ap (map (with_ends_of after moment)) (other-kind-untouched other apart os)

@@ -28,7 +28,8 @@ AreFoundIn all es = AllByRecursion (λ e. lookup (is_at (nat_cmp e.0)) all ≡ S
 found_behind : {X : Type 0} (e : ℕ × X) (all es : List (ℕ × X)) → T (below_all nat_cmp e.0 es) → AreFoundIn all es → AreFoundIn (e ∷ all) es
 found_behind e all [] h found = tt
 found_behind e all (x ∷ es) h found = (
-  ap (λ r. cond (is_eq r) (Some e.1) (lookup (is_at (nat_cmp x.0)) all)) (nat_cmp_total.antisymm x.0 e.0 ∙ ap ordering_reverse (less_from _ (first_of _ _ h))) ∙ found.0,
+  ap (λ r. cond (is_eq r) (Some e.1) (lookup (is_at (nat_cmp x.0)) all)) (nat_cmp_total.antisymm x.0 e.0
+      ∙ ap ordering_reverse (less_from _ (first_of _ _ h))) ∙ found.0,
   found_behind e all es (second_of _ _ h) found.1,
 )
 
@@ -43,21 +44,28 @@ found_sorted (e ∷ es) h = (
 abbrev pub row_of : ℕ × Node → InodeRow
 row_of e = node_row e.0 e.1
 
-rows_found : (links : List (ℕ × ℕ)) (es : List (ℕ × Node)) → AreFoundIn links (read_by (λ n. n.links) es) → map row_of es ≡ map (kept_row links) (read_by inode_of es)
+rows_found : (links : List (ℕ × ℕ)) (es : List (ℕ × Node)) → AreFoundIn links (read_by (λ n. n.links) es)
+    → map row_of es ≡ map (kept_row links) (read_by inode_of es)
 rows_found links [] found = refl
 rows_found links (e ∷ es) found = λ i.
     ap (λ (n : ℕ). record (row_of e) { links = n }) (ap (λ o. unwrap_or o 0) (sym found.0)) i ∷ rows_found links es found.1 i
 
 -- the nodes' own rows are the rows with the kept link counts
-pub kept_rows : (nodes : List (ℕ × Node)) → map row_of (in_order nat_cmp nodes) ≡ map (kept_row (read_by (λ n. n.links) (in_order nat_cmp nodes))) (read_by inode_of (in_order nat_cmp nodes))
-kept_rows nodes = rows_found (read_by (λ n. n.links) (in_order nat_cmp nodes)) (in_order nat_cmp nodes) (found_sorted (read_by (λ n. n.links) (in_order nat_cmp nodes)) (sorted-read_by (λ n. n.links) (in_order nat_cmp nodes) (numbered-sorted nodes)))
+pub kept_rows : (nodes : List (ℕ × Node))
+    → map row_of (in_order nat_cmp nodes) ≡ map (kept_row (read_by (λ n. n.links) (in_order nat_cmp nodes)))
+    (read_by inode_of (in_order nat_cmp nodes))
+kept_rows nodes = rows_found (read_by (λ n. n.links) (in_order nat_cmp nodes)) (in_order nat_cmp nodes)
+    (found_sorted (read_by (λ n. n.links) (in_order nat_cmp nodes))
+    (sorted-read_by (λ n. n.links) (in_order nat_cmp nodes) (numbered-sorted nodes)))
 
 rows_keyed : (dir : ℕ) (names : List (List ℕ × ℕ)) → map name_row_of (keyed dir names) ≡ map (row_in dir) names
 rows_keyed dir [] = refl
 rows_keyed dir (n ∷ names) = ap (λ rows. row_in dir n ∷ rows) (rows_keyed dir names)
 
 -- one step over the directories: the first one's names give the rows that are pushed
-pub names_step : (rows more all : List NameRow) (es rest : List (ℕ × Node)) (dir : ℕ) (node : Node) → es ≡ (dir, node) ∷ rest → more ≡ rows ++ map (row_in dir) (in_order (slice_cmp nat_cmp) (names_in node.content))
+pub names_step : (rows more all : List NameRow) (es rest : List (ℕ × Node)) (dir : ℕ) (node : Node)
+    → es ≡ (dir, node) ∷ rest
+    → more ≡ rows ++ map (row_in dir) (in_order (slice_cmp nat_cmp) (names_in node.content))
     → rows ++ map name_row_of (all_names es) ≡ all → more ++ map name_row_of (all_names rest) ≡ all
 names_step rows more all es rest dir node first pushed so_far =
     let names = in_order (slice_cmp nat_cmp) (names_in node.content) in

@@ -23,7 +23,8 @@ beside id o = ordering_index (nat_cmp o.id id)
 ids-rise : (os : List Owner) → AreById os → (i j : ℕ) (d : Owner) → i < j → j < length os → (get_or os i d).id < (get_or os j d).id
 ids-rise os by_id i j d earlier within =
     let long : length (map (λ o. o.id) os) ≡ length os = length-map os (λ o. o.id) in
-    let apart : get_or (map (λ o. o.id) os) i 0 < get_or (map (λ o. o.id) os) j 0 = AllPairs-from_increasing (map (λ o. o.id) os) by_id i j 0 earlier (omega arith) in
+    let apart : get_or (map (λ o. o.id) os) i 0 < get_or (map (λ o. o.id) os) j 0 =
+    AllPairs-from_increasing (map (λ o. o.id) os) by_id i j 0 earlier (omega arith) in
     let first : get_or (map (λ o. o.id) os) i 0 ≡ (get_or os i d).id = get_or-map (λ o. o.id) os i d 0 (omega arith) in
     let second : get_or (map (λ o. o.id) os) j 0 ≡ (get_or os j d).id = get_or-map (λ o. o.id) os j d 0 within in
     omega arith
@@ -62,7 +63,8 @@ absent os id place less greater =
     (cases_lt k place))
 
 -- whether a search has found a place tells whether some owner has the id
-pub searched-declared : (os : List Owner) (id : ℕ) (r : Result ℕ ℕ) → AreById os → IsSearchInRange r (length os) → IsBinarySearchResult (λ o. nat_cmp o.id id) os r
+pub searched-declared : (os : List Owner) (id : ℕ) (r : Result ℕ ℕ) → AreById os
+    → IsSearchInRange r (length os) → IsBinarySearchResult (λ o. nat_cmp o.id id) os r
     → is_some (result_ok r) ≡ list_any (λ o. id == o.id) os
 searched-declared os id (Ok place) by_id within equal = sym (found-any os id place within equal)
 searched-declared os id (Err place) by_id within parted =

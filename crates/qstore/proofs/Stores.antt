@@ -79,7 +79,9 @@ id-seen owners ids place id o same there is = owner-at_place owners place id o (
 pub small-owner : (S : State) (kind : Kind) (os : List Owner) (place : ℕ) (o : Owner) → All (IsCountedIn S kind) os → slice_get os place ≡ Some o → IsLawful S
     → (o.account.blocks ≤ S.size) × (o.account.inodes ≤ S.most_inodes)
 small-owner S kind os place o counted there lawful =
-    let here : IsCountedIn S kind o = subst (IsCountedIn S kind) (get_or_from_slice_get os place o o there) (All-get_or (IsCountedIn S kind) os place o (slice_get_within os place o there) counted) in
+    let here : IsCountedIn S kind o =
+    subst (IsCountedIn S kind) (get_or_from_slice_get os place o o there)
+    (All-get_or (IsCountedIn S kind) os place o (slice_get_within os place o there) counted) in
     let blocks = here.blocks in
     let inodes = here.inodes in
     let blocks_fit = lawful.blocks_fit in
@@ -95,7 +97,8 @@ pub option_or-second : (first second : Option Refusal) → first ≡ None → op
 option_or-second first second none = ap (λ o. option_or o second) none
 
 -- a user's refusal is the first of all
-pub refusal-of_user : (S S1 : State) (whose : Inode) (blocks inodes : ℕ) → Rises S S1 whose blocks inodes → (moment : ℕ) (us gs : List Owner) (place : ℕ) (o : Owner)
+pub refusal-of_user : (S S1 : State) (whose : Inode) (blocks inodes : ℕ) → Rises S S1 whose blocks inodes
+    → (moment : ℕ) (us gs : List Owner) (place : ℕ) (o : Owner)
     → All (IsCountedIn S User) us → AreById us → slice_get us place ≡ Some o → o.id ≡ whose.uid → (r : Refusal)
     → option_map (λ over. EDQUOT User over) (charge_fault o.account moment blocks inodes) ≡ Some r
     → first_refusal (fault_of_holder S S1 moment) (holders_in us gs) ≡ Some r

@@ -40,12 +40,18 @@ all-second P [] ys all = all
 all-second P (x ∷ xs) ys all = all-second P xs ys (All-tail P x (xs ++ ys) all)
 
 -- the ends of users are where they should be where all holders' are
-pub user-ends : (S : State) (us gs : List Owner) → All (IsCountedIn S User) us → All (λ h. HasEnds (account_of S h)) (holders_in us gs) → All (λ o. HasEnds o.account) us
-user-ends S us gs counted ends = ends-of-counted S User us counted (all-first (λ h. HasEnds (account_of S h)) (map (holder_in User) us) (map (holder_in Group) gs) ends)
+pub user-ends : (S : State) (us gs : List Owner) → All (IsCountedIn S User) us
+    → All (λ h. HasEnds (account_of S h)) (holders_in us gs) → All (λ o. HasEnds o.account) us
+user-ends S us gs counted ends =
+    ends-of-counted S User us counted
+    (all-first (λ h. HasEnds (account_of S h)) (map (holder_in User) us) (map (holder_in Group) gs) ends)
 
 -- and so are those of groups
-pub group-ends : (S : State) (us gs : List Owner) → All (IsCountedIn S Group) gs → All (λ h. HasEnds (account_of S h)) (holders_in us gs) → All (λ o. HasEnds o.account) gs
-group-ends S us gs counted ends = ends-of-counted S Group gs counted (all-second (λ h. HasEnds (account_of S h)) (map (holder_in User) us) (map (holder_in Group) gs) ends)
+pub group-ends : (S : State) (us gs : List Owner) → All (IsCountedIn S Group) gs
+    → All (λ h. HasEnds (account_of S h)) (holders_in us gs) → All (λ o. HasEnds o.account) gs
+group-ends S us gs counted ends =
+    ends-of-counted S Group gs counted
+    (all-second (λ h. HasEnds (account_of S h)) (map (holder_in User) us) (map (holder_in Group) gs) ends)
 
 -- the rows of all owners are those of all holders
 pub all-rows : (S : State) (us gs : List Owner) → All (IsCountedIn S User) us → All (IsCountedIn S Group) gs
@@ -56,12 +62,14 @@ all-rows S us gs users groups =
 
 -- the owners of a new store are its holders
 pub all-holders-begun : (s : Setting) (graces : Graces) (moment : ℕ)
-    → holders_in (map (charged_owner 0 graces moment 0 1) (map new_owner s.users)) (map (charged_owner 0 graces moment 0 1) (map new_owner s.groups)) ≡ (start s).holders
+    → holders_in (map (charged_owner 0 graces moment 0 1) (map new_owner s.users))
+    (map (charged_owner 0 graces moment 0 1) (map new_owner s.groups)) ≡ (start s).holders
 all-holders-begun s graces moment = λ i. holders-begun graces moment User s.users i ++ holders-begun graces moment Group s.groups i
 
 module _ (S S1 : State) (whose : Inode) (blocks inodes : ℕ) (rises : Rises S S1 whose blocks inodes) where
   -- a charge of both owners is the rule of ends for all holders
-  pub all-holders-charged : (graces : Graces) → S1.graces ≡ graces → (moment : ℕ) (us gs : List Owner) → All (IsCountedIn S User) us → All (IsCountedIn S Group) gs
+  pub all-holders-charged : (graces : Graces) → S1.graces ≡ graces → (moment : ℕ) (us gs : List Owner)
+      → All (IsCountedIn S User) us → All (IsCountedIn S Group) gs
       → All (λ o. HasEnds o.account) us → All (λ o. HasEnds o.account) gs
       → holders_in (map (charged_owner whose.uid graces moment blocks inodes) us) (map (charged_owner whose.gid graces moment blocks inodes) gs)
       ≡ map (with_ends_of S1 moment) (holders_in us gs)
@@ -71,19 +79,23 @@ module _ (S S1 : State) (whose : Inode) (blocks inodes : ℕ) (rises : Rises S S
       ∙ sym (map-append (with_ends_of S1 moment) (map (holder_in User) us) (map (holder_in Group) gs))
 
   -- the first refusal of all holders is the user's, or else the group's
-  pub all-refusals-charged : (moment : ℕ) (us gs : List Owner) (user_place group_place : ℕ) (user group : Owner) → All (IsCountedIn S User) us → All (IsCountedIn S Group) gs
+  pub all-refusals-charged : (moment : ℕ) (us gs : List Owner) (user_place group_place : ℕ)
+      (user group : Owner) → All (IsCountedIn S User) us → All (IsCountedIn S Group) gs
       → AreById us → AreById gs → slice_get us user_place ≡ Some user → user.id ≡ whose.uid → slice_get gs group_place ≡ Some group → group.id ≡ whose.gid
       → first_refusal (fault_of_holder S S1 moment) (holders_in us gs)
-      ≡ option_or (option_map (λ over. EDQUOT User over) (charge_fault user.account moment blocks inodes)) (option_map (λ over. EDQUOT Group over) (charge_fault group.account moment blocks inodes))
+      ≡ option_or (option_map (λ over. EDQUOT User over) (charge_fault user.account moment blocks inodes))
+      (option_map (λ over. EDQUOT Group over) (charge_fault group.account moment blocks inodes))
   all-refusals-charged moment us gs user_place group_place user group users groups users_by_id groups_by_id user_there user_is group_there group_is =
       first_refusal-append (fault_of_holder S S1 moment) (map (holder_in User) us) (map (holder_in Group) gs)
       ∙ (λ i. option_or (first_refusal-charged S S1 whose blocks inodes rises User moment us user_place user users users_by_id user_there user_is i)
       (first_refusal-charged S S1 whose blocks inodes rises Group moment gs group_place group groups groups_by_id group_there group_is i))
 
-  module _ (kind : Kind) (os : List Owner) (counted : All (IsCountedIn S kind) os) (place : ℕ) (o : Owner) (there : slice_get os place ≡ Some o) (is : o.id ≡ owner kind whose) where
+  module _ (kind : Kind) (os : List Owner) (counted : All (IsCountedIn S kind) os) (place : ℕ) (o : Owner)
+      (there : slice_get os place ≡ Some o) (is : o.id ≡ owner kind whose) where
     -- the owner at the place is counted
     counted-there : IsCountedIn S kind o
-    counted-there = subst (IsCountedIn S kind) (get_or_from_slice_get os place o o there) (All-get_or (IsCountedIn S kind) os place o (slice_get_within os place o there) counted)
+    counted-there = subst (IsCountedIn S kind) (get_or_from_slice_get os place o o there)
+        (All-get_or (IsCountedIn S kind) os place o (slice_get_within os place o there) counted)
 
     -- the owner's count of blocks after the charge is no more than the total
     pub blocks-fit : o.account.blocks + blocks ≤ total_of S1 Blocks
@@ -120,7 +132,8 @@ module _ (S : State) (id : ℕ) (limits : Limits) (moment : ℕ) (us gs : List O
     (user_ends : All (λ o. HasEnds o.account) us) (group_ends : All (λ o. HasEnds o.account) gs) where
   -- two changes of all holders are those of users and of groups
   split : (f g : Holder → Holder) → map f (map g (holders_in us gs)) ≡ map f (map g (map (holder_in User) us)) ++ map f (map g (map (holder_in Group) gs))
-  split f g = ap (map f) (map-append g (map (holder_in User) us) (map (holder_in Group) gs)) ∙ map-append f (map g (map (holder_in User) us)) (map g (map (holder_in Group) gs))
+  split f g = ap (map f) (map-append g (map (holder_in User) us) (map (holder_in Group) gs))
+      ∙ map-append f (map g (map (holder_in User) us)) (map g (map (holder_in Group) gs))
 
   -- new limits of a user are those of its holder among all holders
   pub all-holders-relimited-user : holders_in (map (relimited_owner id limits S.graces moment) us) gs

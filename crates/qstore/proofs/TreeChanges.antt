@@ -36,7 +36,8 @@ module _ {X S : Type 0} (m n : HashMap ℕ X S) (k : ℕ) (v : X) where
   put-writes u found w = put-updates (w.3 (subst IsSome found refl))
 
 -- the same after the entries changed their places
-pub put-reordered : {X : Type 0} (es ms fs : List (ℕ × X)) (k : ℕ) (v : X) → ((q : ℕ) → lookup (nat_eq q) ms ≡ lookup (nat_eq q) es) → IsPut ms fs k v → IsPut es fs k v
+pub put-reordered : {X : Type 0} (es ms fs : List (ℕ × X)) (k : ℕ) (v : X)
+    → ((q : ℕ) → lookup (nat_eq q) ms ≡ lookup (nat_eq q) es) → IsPut ms fs k v → IsPut es fs k v
 put-reordered es ms fs k v is put = record { at = λ q. put.at q ∙ ap (cond (nat_eq k q) (Some v)) (is q) }
 
 -- what was put is there
@@ -79,7 +80,8 @@ adds_in (Directory names) off n blocks adds = tt
 -- ---- a change of one node
 module _ (es fs : List (ℕ × Node)) (k : ℕ) (u v : Node) (found : lookup (nat_eq k) es ≡ Some u) (put : IsPut es fs k v) where
   -- its names, by whether a number is its own
-  name_kept : names_in v.content ≡ names_in u.content → (d : ℕ) (name : List ℕ) (b : Bool) → nat_eq k d ≡ b → name_at name (lookup (nat_eq d) fs) ≡ name_at name (lookup (nat_eq d) es)
+  name_kept : names_in v.content ≡ names_in u.content → (d : ℕ) (name : List ℕ) (b : Bool) → nat_eq k d ≡ b
+      → name_at name (lookup (nat_eq d) fs) ≡ name_at name (lookup (nat_eq d) es)
   name_kept same d name true is =
       ap (name_at name) (put.at d ∙ ap (λ b. cond b (Some v) (lookup (nat_eq d) es)) is) ∙ ap (lookup (is_at (slice_cmp nat_cmp name))) same
       ∙ ap (name_at name) (sym found) ∙ ap (λ x. name_at name (lookup (nat_eq x) es)) (eqb-true k d is)
@@ -97,7 +99,9 @@ module _ (es fs : List (ℕ × Node)) (k : ℕ) (u v : Node) (found : lookup (na
     links = seen-kept (λ n. n.links) es fs k u v found same.links put ∙ ap (λ t. t.links) seen;
   }
 
-  name_put : (name : List ℕ) (number : ℕ) → names_in v.content ≡ insert_entry (slice_cmp nat_cmp) (names_in u.content) name number → (d : ℕ) (n : List ℕ) (b : Bool) → nat_eq k d ≡ b
+  name_put : (name : List ℕ) (number : ℕ)
+      → names_in v.content ≡ insert_entry (slice_cmp nat_cmp) (names_in u.content) name number
+      → (d : ℕ) (n : List ℕ) (b : Bool) → nat_eq k d ≡ b
       → name_at n (lookup (nat_eq d) fs) ≡ cond (b && bytes_tie name n) (Some number) (name_at n (lookup (nat_eq d) es))
   name_put name number names d n true is =
       ap (name_at n) (put.at d ∙ ap (λ b. cond b (Some v) (lookup (nat_eq d) es)) is) ∙ ap (lookup (is_at (slice_cmp nat_cmp n))) names
@@ -107,7 +111,9 @@ module _ (es fs : List (ℕ × Node)) (k : ℕ) (u v : Node) (found : lookup (na
   name_put name number names d n false is = ap (name_at n) (put.at d ∙ ap (λ b. cond b (Some v) (lookup (nat_eq d) es)) is)
 
   -- a change that puts a name into its directory
-  pub named-put : (name : List ℕ) (number : ℕ) → names_in v.content ≡ insert_entry (slice_cmp nat_cmp) (names_in u.content) name number → named fs ≡ insert_entry name_key_cmp (named es) (k, name) number
+  pub named-put : (name : List ℕ) (number : ℕ)
+      → names_in v.content ≡ insert_entry (slice_cmp nat_cmp) (names_in u.content) name number
+      → named fs ≡ insert_entry name_key_cmp (named es) (k, name) number
   named-put name number names = named-insert es fs k name number (λ d n. name_put name number names d n (nat_eq k d) refl)
 
   elsewhere : (q : ℕ) (b : Bool) → nat_eq k q ≡ b → lookup (nat_eq q) es ≡ None → lookup (nat_eq q) fs ≡ None
@@ -120,7 +126,8 @@ module _ (es fs : List (ℕ × Node)) (k : ℕ) (u v : Node) (found : lookup (na
 
 -- ---- one node more
 module _ (es fs : List (ℕ × Node)) (k : ℕ) (v : Node) (absent : lookup (nat_eq k) es ≡ None) (put : IsPut es fs k v) where
-  name_new : names_in v.content ≡ [] → (d : ℕ) (name : List ℕ) (b : Bool) → nat_eq k d ≡ b → name_at name (lookup (nat_eq d) fs) ≡ name_at name (lookup (nat_eq d) es)
+  name_new : names_in v.content ≡ [] → (d : ℕ) (name : List ℕ) (b : Bool) → nat_eq k d ≡ b
+      → name_at name (lookup (nat_eq d) fs) ≡ name_at name (lookup (nat_eq d) es)
   name_new empty d name true is =
       ap (name_at name) (put.at d ∙ ap (λ b. cond b (Some v) (lookup (nat_eq d) es)) is) ∙ ap (lookup (is_at (slice_cmp nat_cmp name))) empty
       ∙ ap (name_at name) (sym absent ∙ ap (λ x. lookup (nat_eq x) es) (eqb-true k d is))

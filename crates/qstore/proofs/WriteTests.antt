@@ -17,7 +17,8 @@ write-becomes S cred off bytes number inode there file may some low =
     (Becomes (with_file S number inode (after_write inode.file off bytes)) number)))))
 
 -- what a write of so many bytes allocates is what it has more then
-pub more-of-adds : (file : File) (off : ℕ) (bytes : List ℕ) (blocks : ℕ) → Adds file off (length bytes) blocks → MoreBlocks file (after_write file off bytes) blocks
+pub more-of-adds : (file : File) (off : ℕ) (bytes : List ℕ) (blocks : ℕ) → Adds file off (length bytes) blocks
+    → MoreBlocks file (after_write file off bytes) blocks
 unfolding after_write with_touched
 more-of-adds file off [] blocks adds = adds
 more-of-adds file off (byte ∷ rest) blocks adds = adds

@@ -34,7 +34,8 @@ pub places-along : (s : Stored) (places : Places) (uid gid u g : ℕ) → HasPla
 places-along s places uid gid u g has same_user same_group = record { user = has.user ∙ ap Some same_user; group = has.group ∙ ap Some same_group }
 
 -- a store in which the room of a write is made is ready for it
-pub write-ready : (a : Inside) (tree : RoomyTree) → IsSameTree a.tree tree → (number off spare : ℕ) (places : Places) (moment : ℕ) (bytes : List ℕ) (inode : Inode) (blocks : ℕ)
+pub write-ready : (a : Inside) (tree : RoomyTree) → IsSameTree a.tree tree
+    → (number off spare : ℕ) (places : Places) (moment : ℕ) (bytes : List ℕ) (inode : Inode) (blocks : ℕ)
     → inode_at (state_of a) number ≡ Some inode → off + length bytes ≤ MAX_SIZE → MoreBlocks inode.file (after_write inode.file off bytes) blocks
     → total_of (state_of a) Blocks + blocks ≤ a.size → HasPlaces (stored_of a) places inode.uid inode.gid
     → is_some (file_room tree.room number) ≡ true → IfSome (file_room tree.room number) (λ f. IsReady f off (length bytes) spare) → moment ≤ MAX_MOMENT
@@ -44,7 +45,8 @@ write-ready a tree same number off spare places moment bytes inode blocks there 
   there = ap (lookup (is_at (nat_cmp number))) same.inodes ∙ there;
   bound = bound;
   few = λ others more_others.
-      let total : total_of (state_of (record a { tree = tree })) Blocks ≡ total_of (state_of a) Blocks = ap (λ es. sum_by (weight Blocks) (values_of es)) same.inodes in
+      let total : total_of (state_of (record a { tree = tree })) Blocks ≡ total_of (state_of a) Blocks =
+      ap (λ es. sum_by (weight Blocks) (values_of es)) same.inodes in
       omega (arith, total, few, more, more_others);
   owners = record { user = has.user; group = has.group };
   file_there = file;
@@ -52,8 +54,10 @@ write-ready a tree same number off spare places moment bytes inode blocks there 
   moment_bound = low;
 }
 
-module _ (a : Inside) (kept : IsCounted (state_of a) a.users a.groups a.tree.links a.blocks a.inodes) (number off spare : ℕ) (places : Places) (moment : ℕ) (bytes : List ℕ)
-    (can : WriteIsReady (stored_of a) number off spare places moment bytes) (blocks : ℕ) (more : MoreBlocks can.inode.file (after_write can.inode.file off bytes) blocks) where
+module _ (a : Inside) (kept : IsCounted (state_of a) a.users a.groups a.tree.links a.blocks a.inodes)
+    (number off spare : ℕ) (places : Places) (moment : ℕ) (bytes : List ℕ)
+    (can : WriteIsReady (stored_of a) number off spare places moment bytes) (blocks : ℕ)
+    (more : MoreBlocks can.inode.file (after_write can.inode.file off bytes) blocks) where
   -- the plain result
   abbrev S1 : State
   S1 = with_file (state_of a) number can.inode (after_write can.inode.file off bytes)
@@ -69,11 +73,13 @@ module _ (a : Inside) (kept : IsCounted (state_of a) a.users a.groups a.tree.lin
 
   -- the user's record has room for it
   pub can-charge-user : CanCharge a.users places.user blocks 0
-  can-charge-user = can-charge (state_of a) S1 can.inode blocks 0 rises User a.users kept.users_counted places.user (place-at_id a.users places.user can.inode.uid can.owners.user) few_blocks few_inodes
+  can-charge-user = can-charge (state_of a) S1 can.inode blocks 0 rises User a.users kept.users_counted
+      places.user (place-at_id a.users places.user can.inode.uid can.owners.user) few_blocks few_inodes
 
   -- and so has the group's
   pub can-charge-group : CanCharge a.groups places.group blocks 0
-  can-charge-group = can-charge (state_of a) S1 can.inode blocks 0 rises Group a.groups kept.groups_counted places.group (place-at_id a.groups places.group can.inode.gid can.owners.group) few_blocks few_inodes
+  can-charge-group = can-charge (state_of a) S1 can.inode blocks 0 rises Group a.groups kept.groups_counted
+      places.group (place-at_id a.groups places.group can.inode.gid can.owners.group) few_blocks few_inodes
 
   -- the total after it is small
   pub total-small : a.blocks + blocks ≤ MAX_COUNT
@@ -85,24 +91,48 @@ module _ (a : Inside) (kept : IsCounted (state_of a) a.users a.groups a.tree.lin
 
   -- what is then kept is what the new state counts to
   pub written-counted : IsSound (ends_after (written_at (state_of a) number off bytes (inode_at (state_of a) number)) moment)
-      → IsCounted (ends_after S1 moment) (map (charged_owner can.inode.uid a.graces moment blocks 0) a.users) (map (charged_owner can.inode.gid a.graces moment blocks 0) a.groups)
+      → IsCounted (ends_after S1 moment) (map (charged_owner can.inode.uid a.graces moment blocks 0) a.users)
+      (map (charged_owner can.inode.gid a.graces moment blocks 0) a.groups)
       a.tree.links (a.blocks + blocks) a.inodes
   written-counted sound =
       let same : a.inodes + 0 ≡ a.inodes = omega arith in
-      subst (λ inodes. IsCounted (ends_after S1 moment) (map (charged_owner can.inode.uid a.graces moment blocks 0) a.users) (map (charged_owner can.inode.gid a.graces moment blocks 0) a.groups)
+      subst (λ inodes. IsCounted (ends_after S1 moment)
+      (map (charged_owner can.inode.uid a.graces moment blocks 0) a.users)
+      (map (charged_owner can.inode.gid a.graces moment blocks 0) a.groups)
       a.tree.links (a.blocks + blocks) inodes) same
       (counted-charged-both kept S1 can.inode blocks 0 rises moment a.tree.links
-      (links-with_file (state_of a) a.tree.links kept.links_counted number can.inode (after_write can.inode.file off bytes) can.there) (subst IsSound written-here sound))
+      (links-with_file (state_of a) a.tree.links kept.links_counted number can.inode
+      (after_write can.inode.file off bytes) can.there) (subst IsSound written-here sound))
 
   -- and the parts are those of the new state
   pub written-state : (users groups : List Owner) (inodes : List (ℕ × Inode)) (names : List (NameKey × ℕ))
-      → users ≡ map (charged_owner can.inode.uid a.graces moment blocks 0) a.users → groups ≡ map (charged_owner can.inode.gid a.graces moment blocks 0) a.groups
+      → users ≡ map (charged_owner can.inode.uid a.graces moment blocks 0) a.users
+      → groups ≡ map (charged_owner can.inode.gid a.graces moment blocks 0) a.groups
       → inodes ≡ set_value (is_at (nat_cmp number)) a.tree.inodes (record can.inode { file = after_write can.inode.file off bytes }) → names ≡ a.tree.names
-      → ◌≡◌ {A = State} (record { size = a.size; most_inodes = a.most_inodes; file_limit = a.file_limit; graces = a.graces; holders = holders_in users groups; inodes = inodes; names = names; next = a.next })
+      → ◌≡◌ {A = State} (record {
+        size = a.size;
+        most_inodes = a.most_inodes;
+        file_limit = a.file_limit;
+        graces = a.graces;
+        holders = holders_in users groups;
+        inodes = inodes;
+        names = names;
+        next =
+            a.next;
+      })
       (ends_after S1 moment)
   written-state users groups inodes names u g n m =
       let holders = (λ i. holders_in (u i) (g i)) ∙ sym (holders-after kept S1 can.inode blocks 0 rises moment) in
-      λ i. record { size = a.size; most_inodes = a.most_inodes; file_limit = a.file_limit; graces = a.graces; holders = holders i; inodes = n i; names = m i; next = a.next }
+      λ i. record {
+        size = a.size;
+        most_inodes = a.most_inodes;
+        file_limit = a.file_limit;
+        graces = a.graces;
+        holders = holders i;
+        inodes = n i;
+        names = m i;
+        next = a.next;
+      }
 
   -- told as the write at this number
   pub written-effect : ends_after S1 moment ≡ ends_after (written_at (state_of a) number off bytes (inode_at (state_of a) number)) moment

@@ -40,10 +40,11 @@ stored_of a = record { state = state_of a; room = a.tree.room; users = ids_in a.
 -- the link counts are those of the inodes that are there
 abbrev pub AreLinks : State → List (ℕ × ℕ) → Type 0
 AreLinks S links =
-    (number : ℕ) → lookup (is_at (nat_cmp number)) links ≡ option_map (λ inode. links_of S number inode.dir) (inode_at S number)
+    (number : ℕ) → lookup (is_at (nat_cmp number)) links
+    ≡ option_map (λ inode. links_of S number inode.dir) (inode_at S number)
 
--- the state is sound, and its bounds and graces are in range, and what is kept beside it is what it counts to: each record's use,
--- the totals, and each inode's links
+-- the state is sound, and its bounds and graces are in range, and what is kept beside it is what it counts to: each
+-- record's use, the totals, and each inode's links
 pub record IsCounted (S : State) (users groups : List Owner) (links : List (ℕ × ℕ)) (blocks inodes : ℕ) : Type 0 where
   pub sound : IsSound S
   pub holders_kept : S.holders ≡ holders_in users groups

@@ -13,7 +13,9 @@ parts_in (Some bytes) = slice_split is_slash bytes
 
 -- what is wrong with a path as it is written
 abbrev pub path_fault : List ℕ → Option Refusal
-path_fault path = if not (is_well_formed path) then Some EINVAL else if is_too_long path then Some ENAMETOOLONG else None
+path_fault path =
+    if not (is_well_formed path) then Some EINVAL
+    else if is_too_long path then Some ENAMETOOLONG else None
 
 -- what the names but the last lead to
 abbrev pub parent : State → List (List ℕ) → Result ℕ Refusal
@@ -22,4 +24,5 @@ parent S names = walk S (take (length names - 1) names)
 -- what is wrong with some paths: all causes of EINVAL come before ENAMETOOLONG
 abbrev pub paths_fault : List (List ℕ) → Option Refusal
 paths_fault paths =
-    if not (list_all is_well_formed paths) then Some EINVAL else if list_any is_too_long paths then Some ENAMETOOLONG else None
+    if not (list_all is_well_formed paths) then Some EINVAL
+    else if list_any is_too_long paths then Some ENAMETOOLONG else None

@@ -60,7 +60,8 @@ written_at S number off bytes (Some inode) = with_file S number inode (after_wri
 abbrev pub effect : State → Plan → List ℕ → State
 effect S Nothing bytes = S
 effect S (Create dir name uid gid places moment) bytes = ends_after (created S (new_file uid gid) dir name) moment
-effect S (Write number off spare places moment) bytes = ends_after (written_at S number off bytes (inode_at S number)) moment
+effect S (Write number off spare places moment) bytes =
+    ends_after (written_at S number off bytes (inode_at S number)) moment
 effect S (SetQuota kind id place limits moment) bytes = ends_after (with_limits_of S kind id limits) moment
 effect S (SetGrace graces) bytes = record S { graces = graces }
 
@@ -69,7 +70,8 @@ abbrev pub outcome : State → Ready → State × Reply
 outcome S r = (effect S r.plan r.bytes, r.reply)
 
 -- a new file may be put under this name
-pub record CreateIsReady (s : Stored) (dir : ℕ) (name : List ℕ) (uid gid : ℕ) (places : Places) (moment : ℕ) : Type 0 where
+pub record CreateIsReady (s : Stored) (dir : ℕ) (name : List ℕ) (uid gid : ℕ) (places : Places)
+    (moment : ℕ) : Type 0 where
   pub directory : is_directory s.state dir ≡ true
   pub absent : named s.state dir name ≡ None
   pub few : total_of s.state Inodes + 1 ≤ s.state.most_inodes
@@ -80,11 +82,13 @@ pub record CreateIsReady (s : Stored) (dir : ℕ) (name : List ℕ) (uid gid : �
   pub moment_bound : moment ≤ MAX_MOMENT
 
 -- these bytes may be written
-pub record WriteIsReady (s : Stored) (number off spare : ℕ) (places : Places) (moment : ℕ) (bytes : List ℕ) : Type 0 where
+pub record WriteIsReady (s : Stored) (number off spare : ℕ) (places : Places) (moment : ℕ)
+    (bytes : List ℕ) : Type 0 where
   pub inode : Inode
   pub there : inode_at s.state number ≡ Some inode
   pub bound : off + length bytes ≤ MAX_SIZE
-  pub few : (blocks : ℕ) → MoreBlocks inode.file (after_write inode.file off bytes) blocks → total_of s.state Blocks + blocks ≤ s.state.size
+  pub few : (blocks : ℕ) → MoreBlocks inode.file (after_write inode.file off bytes) blocks
+      → total_of s.state Blocks + blocks ≤ s.state.size
   pub owners : HasPlaces s places inode.uid inode.gid
   pub file_there : is_some (file_room s.room number) ≡ true
   pub file_room : IfSome (file_room s.room number) (λ f. IsReadyFile f off (length bytes) spare)

@@ -16,4 +16,5 @@ pub record IsTarget (S : State) (cred : Caller) (off : ℕ) (bytes : List ℕ) (
   pub blocks : Adds inode.file off (length bytes) target.blocks
   pub few : target.blocks ≤ 2 ^ 28
   pub bound : off + length bytes ≤ S.file_limit
-  pub becomes : write_into S cred off bytes number (inode_at S number) ≡ Becomes (with_file S number inode (after_write inode.file off bytes)) number
+  pub becomes : write_into S cred off bytes number (inode_at S number)
+      ≡ Becomes (with_file S number inode (after_write inode.file off bytes)) number

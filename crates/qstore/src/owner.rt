@@ -59,7 +59,8 @@ impl Owner {
     ) -> Option<Refusal>
         requires blocks { self.now.account.blocks + blocks ≤ MAX_USE }
         requires inodes { self.now.account.inodes + inodes ≤ MAX_USE }
-        ensures { result ≡ option_map (λ over. Refusal.EDQUOT kind over) (charge_fault self.now.account moment blocks inodes) }
+        ensures { result ≡ option_map (λ over. Refusal.EDQUOT kind over)
+            (charge_fault self.now.account moment blocks inodes) }
     {
         match self.account.test(moment, false, blocks, inodes) {
             Ok(()) => None,

@@ -119,7 +119,8 @@ impl Store {
     /// Decides a call, and makes every growth that it needs.
     fn decide(&mut self, cred: &Cred, moment: u64, call: &Call) -> Result<Decided, NoMemory>
         ensures state { self.new.state ≡ self.old.state }
-        ensures step { IfOk result (λ d. (effect self.old.state d.plan (bytes_of call.now), d.reply) ≡ step self.old.state cred.now moment call.now) }
+        ensures step { IfOk result (λ d. (effect self.old.state d.plan (bytes_of call.now), d.reply)
+            ≡ step self.old.state cred.now moment call.now) }
         ensures can { IfOk result (λ d. CanCarryOut self.new d.plan (bytes_of call.now)) }
         ensures sound { IsSound self.old.state }
         ensures refused_first { IsRefused (step self.old.state cred.now moment call.now).1 → IsOk result }

@@ -30,7 +30,8 @@ impl Store {
     fn fault(&self, places: Places, moment: u64, blocks: u64, inodes: u64) -> Option<Refusal>
         requires few { (blocks ≤ 2 ^ 32) × (inodes ≤ 2 ^ 32) }
         requires places { (uid : ℕ) × (gid : ℕ) × HasPlaces self.now places uid gid }
-        ensures { (S1 : State) (whose : Inode) → HasPlaces self.now places whose.uid whose.gid → Rises self.now.state S1 whose blocks inodes
+        ensures { (S1 : State) (whose : Inode) → HasPlaces self.now places whose.uid whose.gid
+            → Rises self.now.state S1 whose blocks inodes
             → result ≡ first_refusal (fault_of_holder self.now.state S1 moment) self.now.state.holders }
     {
         let user = self.users.at(places.user);
@@ -52,11 +53,13 @@ impl Store {
     ) -> Option<Refusal>
         requires few { (blocks ≤ 2 ^ 32) × (inodes ≤ 2 ^ 32) }
         requires places { (uid : ℕ) × (gid : ℕ) × HasPlaces self.now places uid gid }
-        ensures refusal { (S1 : State) (whose : Inode) → HasPlaces self.now places whose.uid whose.gid → Rises self.now.state S1 whose blocks inodes
+        ensures refusal { (S1 : State) (whose : Inode) → HasPlaces self.now places whose.uid whose.gid
+            → Rises self.now.state S1 whose blocks inodes
             → result ≡ refusal_between self.now.state S1 cred.now moment }
         ensures sound { IsSound self.now.state }
         ensures fits { IfNone result ((total_of self.now.state Blocks + blocks ≤ self.now.state.size)
-            × (total_of self.now.state Inodes + inodes ≤ self.now.state.most_inodes) × (self.now.state.next + inodes ≤ MAX_NUMBER + 1)) }
+            × (total_of self.now.state Inodes + inodes ≤ self.now.state.most_inodes)
+            × (self.now.state.next + inodes ≤ MAX_NUMBER + 1)) }
     {
         if self.is_full(blocks, inodes) {
             return Some(Refusal::ENOSPC);

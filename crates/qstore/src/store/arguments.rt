@@ -54,7 +54,8 @@ impl Store {
 
     /// Where the records of this user and this group stand, if both are declared.
     pub(super) fn places(&self, uid: u32, gid: u32) -> Option<Places>
-        ensures declared { is_some result ≡ (is_declared self.now.state User uid && is_declared self.now.state Group gid) }
+        ensures declared { is_some result
+            ≡ (is_declared self.now.state User uid && is_declared self.now.state Group gid) }
         ensures places { IfSome result (λ places. HasPlaces self.now places uid gid) }
         ensures sound { IsSound self.now.state }
     {
@@ -85,7 +86,8 @@ impl Store {
         ensures moment { IfOk result (λ places. moment ≤ MAX_MOMENT) }
         ensures places { IfOk result (λ places. HasPlaces self.now places cred.now.uid cred.now.gid) }
         ensures sound { IsSound self.now.state }
-        ensures refused { IfErr result (λ refusal. refusal_of_arguments self.now.state cred.now moment call.now ≡ Some refusal) }
+        ensures refused { IfErr result (λ refusal. refusal_of_arguments self.now.state cred.now moment call.now
+            ≡ Some refusal) }
     {
         let Some(places) = self.places(cred.uid(), cred.gid()) else {
             return Err(Refusal::EINVAL);

@@ -30,7 +30,8 @@ impl Store {
         requires moment { moment ≤ MAX_MOMENT }
         ensures state { self.new.state ≡ self.old.state }
         ensures step { IfOk result (λ d. (effect self.old.state d.plan [], d.reply)
-            ≡ settle self.old.state cred.now moment (create_under self.old.state cred.now (components path.now) (last_name (components path.now)))) }
+            ≡ settle self.old.state cred.now moment
+            (create_under self.old.state cred.now (components path.now) (last_name (components path.now)))) }
         ensures ready { IfOk result (λ d. CanCarryOut self.new d.plan []) }
         ensures refused_first { IsRefused (settle self.old.state cred.now moment
             (create_under self.old.state cred.now (components path.now) (last_name (components path.now)))).1
@@ -66,7 +67,9 @@ impl Store {
         requires absent { named self.old.state dir name.now ≡ None }
         ensures state { self.new.state ≡ self.old.state }
         ensures step { IfOk result (λ d. (effect self.old.state d.plan [], d.reply)
-            ≡ settle self.old.state cred.now moment (Becomes (created self.old.state (new_file cred.now.uid cred.now.gid) dir name.now) self.old.state.next)) }
+            ≡ settle self.old.state cred.now moment
+            (Becomes (created self.old.state (new_file cred.now.uid cred.now.gid) dir name.now)
+            self.old.state.next)) }
         ensures ready { IfOk result (λ d. CanCarryOut self.new d.plan []) }
         ensures refused_first { IsRefused (settle self.old.state cred.now moment (Becomes
             (created self.old.state (new_file cred.now.uid cred.now.gid) dir name.now) self.old.state.next)).1

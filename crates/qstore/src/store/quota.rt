@@ -53,7 +53,8 @@ fn quota_of(owner: &Owner) -> Quota
 impl Store {
     /// The owner of this kind and id, if it is declared. O(log n), as many as are declared.
     fn owner(&self, kind: Kind, id: u32) -> Option<&Owner>
-        ensures found { option_map (holder_in kind) (option_copied result) ≡ find (is_holder kind id) self.now.state.holders }
+        ensures found { option_map (holder_in kind) (option_copied result)
+            ≡ find (is_holder kind id) self.now.state.holders }
         ensures counted { IfSome result (λ o. IsCountedIn self.now.state kind o.now) }
     {
         match kind {
@@ -64,7 +65,8 @@ impl Store {
 
     /// The reply to a question for a record.
     pub(super) fn decide_quota(&self, cred: &Cred, kind: Kind, id: u32) -> Reply
-        ensures { (moment : ℕ) → (self.now.state, result) ≡ settle self.now.state cred.now moment (ask_quota self.now.state cred.now kind id) }
+        ensures { (moment : ℕ) → (self.now.state, result)
+            ≡ settle self.now.state cred.now moment (ask_quota self.now.state cred.now kind id) }
     {
         if cred.uid() != 0 && !is_own(cred, kind, id) {
             return Reply::Refused(Refusal::EPERM);

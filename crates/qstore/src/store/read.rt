@@ -16,7 +16,8 @@ impl Store {
     /// The reply to a read.
     pub(super) fn decide_read(&self, path: &[u8], off: u64, len: u64) -> Result<Reply, NoMemory>
         ensures step { IfOk result (λ reply. (cred : Caller) (moment : ℕ) → (self.now.state, reply)
-            ≡ settle self.now.state cred moment (read_reached self.now.state off len (walk self.now.state (components path.now)))) }
+            ≡ settle self.now.state cred moment
+            (read_reached self.now.state off len (walk self.now.state (components path.now)))) }
         ensures refused_first { (cred : Caller) (moment : ℕ) → IsRefused (settle self.now.state cred moment
             (read_reached self.now.state off len (walk self.now.state (components path.now)))).1 → IsOk result }
     {

@@ -42,7 +42,8 @@ impl Store {
     /// The reply to a stat.
     pub(super) fn decide_stat(&self, path: &[u8]) -> Reply
         ensures { (cred : Caller) (moment : ℕ) → (self.now.state, result)
-            ≡ settle self.now.state cred moment (stat_reached self.now.state (walk self.now.state (components path.now))) }
+            ≡ settle self.now.state cred moment
+            (stat_reached self.now.state (walk self.now.state (components path.now))) }
     {
         let number = match self.walk(path) {
             Ok(number) => number,

@@ -19,8 +19,10 @@ pub(super) struct Place<'a> {
 impl Store {
     /// What a name leads to, if it is there, or ENOTDIR where it is looked for in no directory.
     pub(super) fn look(&self, dir: u64, name: &[u8]) -> Result<Option<u64>, Refusal>
-        ensures found { IfOk result (λ found. (is_directory self.now.state dir ≡ true) × (found ≡ named self.now.state dir name.now)) }
-        ensures fault { IfErr result (λ refusal. (is_directory self.now.state dir ≡ false) × (refusal ≡ Refusal.ENOTDIR)) }
+        ensures found { IfOk result (λ found. (is_directory self.now.state dir ≡ true)
+            × (found ≡ named self.now.state dir name.now)) }
+        ensures fault { IfErr result (λ refusal. (is_directory self.now.state dir ≡ false)
+            × (refusal ≡ Refusal.ENOTDIR)) }
     {
         match self.tree.names_in(dir) {
             Some(names) => Ok(names.get(name)),

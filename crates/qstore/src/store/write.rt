@@ -56,7 +56,9 @@ impl Store {
         requires few { length bytes.now ≤ MAX_DATA }
         ensures state { self.new.state ≡ self.old.state }
         ensures step { IfOk result (λ d. (effect self.old.state d.plan bytes.now, d.reply)
-            ≡ settle self.old.state cred.now moment (write_reached self.old.state cred.now off bytes.now (walk self.old.state (components path.now)))) }
+            ≡ settle self.old.state cred.now moment
+            (write_reached self.old.state cred.now off bytes.now
+            (walk self.old.state (components path.now)))) }
         ensures ready { IfOk result (λ d. CanCarryOut self.new d.plan bytes.now) }
         ensures refused_first { IsRefused (settle self.old.state cred.now moment
             (write_reached self.old.state cred.now off bytes.now (walk self.old.state (components path.now)))).1
@@ -77,7 +79,8 @@ impl Store {
     fn target(&self, cred: &Cred, number: u64, off: u64, bytes: &[u8]) -> Result<Target, Reply>
         ensures granted { IfOk result (IsTarget self.now.state cred.now off bytes.now number) }
         ensures refused { IfErr result (λ reply. (moment : ℕ) → settle self.now.state cred.now moment
-            (write_into self.now.state cred.now off bytes.now number (inode_at self.now.state number)) ≡ (self.now.state, reply)) }
+            (write_into self.now.state cred.now off bytes.now number (inode_at self.now.state number))
+            ≡ (self.now.state, reply)) }
     {
         let Some(node) = self.tree.node(number) else {
             return Err(Reply::Refused(Refusal::ENOENT));
@@ -105,7 +108,8 @@ impl Store {
     /// Where the records of the file's owners stand. Those of the caller are found already.
     fn owners(&self, cred: &Cred, callers: Places, target: Target) -> Option<Places>
         requires callers { HasPlaces self.now callers cred.now.uid cred.now.gid }
-        ensures declared { (is_declared self.now.state User target.uid && is_declared self.now.state Group target.gid) ≡ true → IsSome result }
+        ensures declared { (is_declared self.now.state User target.uid
+            && is_declared self.now.state Group target.gid) ≡ true → IsSome result }
         ensures places { IfSome result (λ places. HasPlaces self.now places target.uid target.gid) }
     {
         if target.uid == cred.uid() && target.gid == cred.gid() {
@@ -131,7 +135,8 @@ impl Store {
         requires target { IsTarget self.old.state cred.now off bytes.now number target }
         ensures state { self.new.state ≡ self.old.state }
         ensures step { IfOk result (λ d. (effect self.old.state d.plan bytes.now, d.reply)
-            ≡ settle self.old.state cred.now moment (write_into self.old.state cred.now off bytes.now number (inode_at self.old.state number))) }
+            ≡ settle self.old.state cred.now moment
+            (write_into self.old.state cred.now off bytes.now number (inode_at self.old.state number))) }
         ensures ready { IfOk result (λ d. CanCarryOut self.new d.plan bytes.now) }
         ensures refused_first { IsRefused (settle self.old.state cred.now moment
             (write_into self.old.state cred.now off bytes.now number (inode_at self.old.state number))).1
@@ -169,8 +174,10 @@ impl Store {
         bytes: &[u8],
     )
         requires can { WriteIsReady self.old number off spare places moment bytes.now }
-        requires sound { IsSound (ends_after (written_at self.old.state number off bytes.now (inode_at self.old.state number)) moment) }
-        ensures { self.new.state ≡ ends_after (written_at self.old.state number off bytes.now (inode_at self.old.state number)) moment }
+        requires sound { IsSound (ends_after
+            (written_at self.old.state number off bytes.now (inode_at self.old.state number)) moment) }
+        ensures { self.new.state ≡ ends_after
+            (written_at self.old.state number off bytes.now (inode_at self.old.state number)) moment }
     {
         let blocks = self.tree.put(number, off, bytes, spare);
         self.users
@@ -183,7 +190,12 @@ impl Store {
 
 /// What a write of so many new blocks does to the totals.
 fn written(blocks: u64) -> Change
-    ensures { result ≡ record { blocks_charged = blocks; blocks_released = 0; inodes_charged = 0; inodes_released = 0 } }
+    ensures { result ≡ record {
+      blocks_charged = blocks;
+      blocks_released = 0;
+      inodes_charged = 0;
+      inodes_released = 0;
+    } }
 {
     Change {
         blocks_charged: blocks,

@@ -11,9 +11,17 @@ use Rattle.qstore.proofs.names.by_bytes.Goals as goal
 
 pub loop-name-preserved : goal.loop-name-preserved
 loop-name-preserved c =
-    put_step (slice_cmp nat_cmp) (keyed_by (λ name. name.now.items) c.loop-name.numbers.entries) _ (keyed_by (λ name. name.items) c.loop-name.name-iterator) _ _ c.in-Some.name.now.items c.in-Some.number.now
-    (ap (keyed_by (λ name. name.items)) (rest_more deref_pair c.loop-name.name-iterator c.next.new.self c.next.result (c.in-Some.name, c.in-Some.number) c.in-Some.is c.next.ensures.steps))
-    (ap (keyed_by (λ name. name.now.items)) c.in_ok-insert.ensures.entries ∙ keyed_by-insert (λ name. name.now.items) (slice_cmp nat_cmp) c.loop-name.numbers.entries c.in-Some.name c.in-Some.number.now)
+    put_step (slice_cmp nat_cmp) (keyed_by (λ name. name.now.items) c.loop-name.numbers.entries) _
+    (keyed_by (λ name. name.items) c.loop-name.name-iterator) _ _ c.in-Some.name.now.items
+    c.in-Some.number.now
+    (ap (keyed_by (λ name. name.items))
+    (rest_more deref_pair c.loop-name.name-iterator c.next.new.self c.next.result (
+      c.in-Some.name,
+      c.in-Some.number,
+    ) c.in-Some.is c.next.ensures.steps))
+    (ap (keyed_by (λ name. name.now.items)) c.in_ok-insert.ensures.entries
+    ∙ keyed_by-insert (λ name. name.now.items) (slice_cmp nat_cmp) c.loop-name.numbers.entries
+    c.in-Some.name c.in-Some.number.now)
     c.loop-name.invariant
 
 pub returns : goal.returns

@@ -8,8 +8,11 @@ use Rattle.qstore.proofs.tree.by_number.Goals as goal
 
 pub loop-number-preserved : goal.loop-number-preserved
 loop-number-preserved c =
-    put_step nat_cmp (read_by (λ n. n.now) c.loop-number.ordered.entries) _ c.loop-number.number-iterator _ _ c.in-Some.number.now c.in-Some.node.now c.in-Some.ensures.steps
-    (ap (read_by (λ n. n.now)) c.in_ok-insert.ensures.entries ∙ read_by-insert (λ n. n.now) nat_cmp c.loop-number.ordered.entries c.in-Some.number.now c.in-Some.node)
+    put_step nat_cmp (read_by (λ n. n.now) c.loop-number.ordered.entries) _ c.loop-number.number-iterator _ _
+    c.in-Some.number.now c.in-Some.node.now c.in-Some.ensures.steps
+    (ap (read_by (λ n. n.now)) c.in_ok-insert.ensures.entries
+    ∙ read_by-insert (λ n. n.now) nat_cmp c.loop-number.ordered.entries c.in-Some.number.now
+    c.in-Some.node)
     c.loop-number.invariant
 
 pub returns : goal.returns

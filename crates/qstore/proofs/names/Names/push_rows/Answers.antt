@@ -17,7 +17,9 @@ loop-number-init c =
 
 pub loop-number-preserved : goal.loop-number-preserved
 loop-number-preserved c =
-    push_step (row_in c.args.dir) c.loop-number.rows.items c.push.new.self.items _ (keyed_by (λ name. name.now.items) c.loop-number.number-iterator) _ (c.in-Some.field-0-0.now.now.items, c.in-Some.number.now)
+    push_step (row_in c.args.dir) c.loop-number.rows.items c.push.new.self.items _
+    (keyed_by (λ name. name.now.items) c.loop-number.number-iterator) _
+    (c.in-Some.field-0-0.now.now.items, c.in-Some.number.now)
     (ap (keyed_by (λ name. name.now.items)) c.in-Some.ensures.steps) c.in_ok-push.ensures.items c.loop-number.invariant
 
 pub returns-clause-rows : goal.returns-clause-rows

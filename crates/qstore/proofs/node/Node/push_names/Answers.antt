@@ -25,6 +25,9 @@ both (Err e) f p q = p
 pub returns-in-Directory : goal.returns-in-Directory
 returns-in-Directory c =
     let names = c.in-Directory.names.entries in
-    both c.push_rows.result (λ (rows : c.push_rows.new.rows.items ≡ c.args.rows.now.items ++ map (row_in c.args.number) names) (order : IsStrictlySortedBy (slice_cmp nat_cmp) (keys_of names)).
-    rows ∙ ap (λ es. c.args.rows.now.items ++ map (row_in c.args.number) es) (sym (in_order-sorted nat_list_cmp_total exact_bytes names (sorted_from (slice_cmp nat_cmp) names order))
+    both c.push_rows.result (λ (rows : c.push_rows.new.rows.items ≡ c.args.rows.now.items
+    ++ map (row_in c.args.number) names) (order : IsStrictlySortedBy (slice_cmp nat_cmp) (keys_of names)).
+    rows ∙ ap (λ es. c.args.rows.now.items ++ map (row_in c.args.number) es)
+    (sym (in_order-sorted nat_list_cmp_total exact_bytes names
+    (sorted_from (slice_cmp nat_cmp) names order))
     ∙ ap (λ x. in_order (slice_cmp nat_cmp) (names_in x)) (sym c.in-Directory.is))) c.push_rows.ensures.rows c.push_rows.ensures.order

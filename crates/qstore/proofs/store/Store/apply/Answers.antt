@@ -13,7 +13,8 @@ carry_out-requires-clause-sound c =
     let x = c.args in
     let plan = c.in_ok-reply.field-0.plan in
     let T = effect x.self.now.state plan (bytes_of x.call.now) in
-    let sound = IsSound-from_step x.self.now.state T x.cred.now x.moment x.call.now c.in_ok-reply.field-0.reply c.decide.ensures.sound c.in_ok-reply.ensures.step in
+    let sound = IsSound-from_step x.self.now.state T x.cred.now x.moment x.call.now
+    c.in_ok-reply.field-0.reply c.decide.ensures.sound c.in_ok-reply.ensures.step in
     let same = ap (λ S. effect S plan (bytes_of x.call.now)) (sym c.decide.ensures.state) ∙ sym (c.bytes_for-bytes.ensures.effect c.decide.new.self.state) in
     subst IsSound same sound
 

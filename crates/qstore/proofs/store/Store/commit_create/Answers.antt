@@ -20,7 +20,9 @@ can-inside a s dir name uid gid places moment view can = subst (λ (v : Stored).
 pub add_file-requires-clause-absent : goal.add_file-requires-clause-absent
 add_file-requires-clause-absent c =
     let x = c.args in
-    next-absent c.self.inside c.self.invariant x.dir x.name.items x.uid x.gid x.places x.moment (can-inside c.self.inside x.self.now x.dir x.name.items x.uid x.gid x.places x.moment c.self.view_is c.requires.can)
+    next-absent c.self.inside c.self.invariant x.dir x.name.items x.uid x.gid x.places x.moment
+    (can-inside c.self.inside x.self.now x.dir x.name.items x.uid x.gid x.places x.moment c.self.view_is
+    c.requires.can)
 
 pub charge-requires-clause-place : goal.charge-requires-clause-place
 charge-requires-clause-place c =
@@ -63,12 +65,16 @@ invariant_of-self c =
     let x = c.args in
     let a = c.self.inside in
     let can = can-inside a x.self.now x.dir x.name.items x.uid x.gid x.places x.moment c.self.view_is c.requires.can in
-    let sound = subst (λ (v : Stored). IsSound (ends_after (created v.state (new_file x.uid x.gid) x.dir x.name.items) x.moment)) (sym c.self.view_is) c.requires.sound in
+    let sound = subst (λ (v : Stored). IsSound
+    (ends_after (created v.state (new_file x.uid x.gid) x.dir x.name.items) x.moment))
+    (sym c.self.view_is) c.requires.sound in
     let users = c.charge.ensures x.uid (place-at_id a.users x.places.user x.uid can.owners.user) in
     let groups = c.charge-2.ensures x.gid (place-at_id a.groups x.places.group x.gid can.owners.group) in
-    let state = created-state a c.self.invariant x.dir x.name.items x.uid x.gid x.places x.moment can c.charge.new.self c.charge-2.new.self c.add_file.new.self.inodes c.add_file.new.self.names
+    let state = created-state a c.self.invariant x.dir x.name.items x.uid x.gid x.places x.moment can
+    c.charge.new.self c.charge-2.new.self c.add_file.new.self.inodes c.add_file.new.self.names
     users groups c.add_file.ensures.inodes c.add_file.ensures.names in
-    counted-along (created-counted a c.self.invariant x.dir x.name.items x.uid x.gid x.places x.moment can sound) (sym state) (sym users) (sym groups) (sym c.add_file.ensures.links)
+    counted-along (created-counted a c.self.invariant x.dir x.name.items x.uid x.gid x.places x.moment can
+    sound) (sym state) (sym users) (sym groups) (sym c.add_file.ensures.links)
 
 pub returns : goal.returns
 returns c =
@@ -77,6 +83,7 @@ returns c =
     let can = can-inside a x.self.now x.dir x.name.items x.uid x.gid x.places x.moment c.self.view_is c.requires.can in
     let users = c.charge.ensures x.uid (place-at_id a.users x.places.user x.uid can.owners.user) in
     let groups = c.charge-2.ensures x.gid (place-at_id a.groups x.places.group x.gid can.owners.group) in
-    created-state a c.self.invariant x.dir x.name.items x.uid x.gid x.places x.moment can c.charge.new.self c.charge-2.new.self c.add_file.new.self.inodes c.add_file.new.self.names
+    created-state a c.self.invariant x.dir x.name.items x.uid x.gid x.places x.moment can c.charge.new.self
+    c.charge-2.new.self c.add_file.new.self.inodes c.add_file.new.self.names
     users groups c.add_file.ensures.inodes c.add_file.ensures.names
     ∙ ap (λ (v : Stored). ends_after (created v.state (new_file x.uid x.gid) x.dir x.name.items) x.moment) c.self.view_is

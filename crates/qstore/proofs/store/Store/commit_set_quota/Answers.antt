@@ -25,7 +25,9 @@ pub invariant_of-self-in-Group : goal.invariant_of-self-in-Group
 invariant_of-self-in-Group c =
     let x = c.args in
     let a = c.self.inside in
-    let groups = c.set_limits-in-Group.ensures x.id (place-inside a x.self.now c.self.view_is x.kind Group c.in-Group.is x.place x.id c.requires.can.place_is) in
+    let groups = c.set_limits-in-Group.ensures x.id
+    (place-inside a x.self.now c.self.view_is x.kind Group c.in-Group.is x.place x.id
+    c.requires.can.place_is) in
     let state = group-relimited-state a c.self.invariant x.id x.limits x.moment c.set_limits-in-Group.new.self groups in
     let sound = subst IsSound (sym (relimited-seen a x.self.now c.self.view_is x.kind Group c.in-Group.is x.id x.limits x.moment)) c.requires.sound in
     counted-along (counted-relimited-group c.self.invariant x.id x.limits x.moment sound) (sym state) refl (sym groups) refl
@@ -42,6 +44,8 @@ pub returns-in-Group : goal.returns-in-Group
 returns-in-Group c =
     let x = c.args in
     let a = c.self.inside in
-    let groups = c.set_limits-in-Group.ensures x.id (place-inside a x.self.now c.self.view_is x.kind Group c.in-Group.is x.place x.id c.requires.can.place_is) in
+    let groups = c.set_limits-in-Group.ensures x.id
+    (place-inside a x.self.now c.self.view_is x.kind Group c.in-Group.is x.place x.id
+    c.requires.can.place_is) in
     group-relimited-state a c.self.invariant x.id x.limits x.moment c.set_limits-in-Group.new.self groups
     ∙ relimited-seen a x.self.now c.self.view_is x.kind Group c.in-Group.is x.id x.limits x.moment

@@ -81,10 +81,14 @@ invariant_of-self c =
     let more = c.put-blocks.ensures.count can.inode can.there in
     let users = c.charge.ensures can.inode.uid (place-at_id a.users x.places.user can.inode.uid can.owners.user) in
     let groups = c.charge-2.ensures can.inode.gid (place-at_id a.groups x.places.group can.inode.gid can.owners.group) in
-    let sound = subst (λ (v : Stored). IsSound (ends_after (written_at v.state x.number x.off x.bytes.now (inode_at v.state x.number)) x.moment)) (sym c.self.view_is) c.requires.sound in
+    let sound = subst (λ (v : Stored). IsSound
+    (ends_after (written_at v.state x.number x.off x.bytes.now (inode_at v.state x.number)) x.moment))
+    (sym c.self.view_is) c.requires.sound in
     let state = written-state a c.self.invariant x.number x.off x.spare x.places x.moment x.bytes.now can c.put-blocks.result more
-    c.charge.new.self c.charge-2.new.self c.put-blocks.new.self.inodes c.put-blocks.new.self.names users groups (c.put-blocks.ensures.inodes can.inode can.there) c.put-blocks.ensures.names in
-    counted-along (written-counted a c.self.invariant x.number x.off x.spare x.places x.moment x.bytes.now can c.put-blocks.result more sound) (sym state) (sym users) (sym groups) (sym c.put-blocks.ensures.links)
+    c.charge.new.self c.charge-2.new.self c.put-blocks.new.self.inodes c.put-blocks.new.self.names users
+    groups (c.put-blocks.ensures.inodes can.inode can.there) c.put-blocks.ensures.names in
+    counted-along (written-counted a c.self.invariant x.number x.off x.spare x.places x.moment x.bytes.now can
+    c.put-blocks.result more sound) (sym state) (sym users) (sym groups) (sym c.put-blocks.ensures.links)
 
 pub returns : goal.returns
 returns c =
@@ -95,6 +99,7 @@ returns c =
     let users = c.charge.ensures can.inode.uid (place-at_id a.users x.places.user can.inode.uid can.owners.user) in
     let groups = c.charge-2.ensures can.inode.gid (place-at_id a.groups x.places.group can.inode.gid can.owners.group) in
     written-state a c.self.invariant x.number x.off x.spare x.places x.moment x.bytes.now can c.put-blocks.result more
-    c.charge.new.self c.charge-2.new.self c.put-blocks.new.self.inodes c.put-blocks.new.self.names users groups (c.put-blocks.ensures.inodes can.inode can.there) c.put-blocks.ensures.names
+    c.charge.new.self c.charge-2.new.self c.put-blocks.new.self.inodes c.put-blocks.new.self.names users
+    groups (c.put-blocks.ensures.inodes can.inode can.there) c.put-blocks.ensures.names
     ∙ written-effect a c.self.invariant x.number x.off x.spare x.places x.moment x.bytes.now can c.put-blocks.result more
     ∙ ap (λ (v : Stored). ends_after (written_at v.state x.number x.off x.bytes.now (inode_at v.state x.number)) x.moment) c.self.view_is

@@ -64,7 +64,11 @@ returns-clause-step c =
     let rises = Rises-with_file S x.number t.inode (after_write t.inode.file x.off x.bytes.now) x.target.blocks t.there more in
     let places = places-along x.self.now c.in-Some.places x.target.uid x.target.gid t.inode.uid t.inode.gid c.in-Some.ensures.places t.uid t.gid in
     let none = sym (c.admit.ensures.refusal S1 t.inode places rises) ∙ c.in_default-admit.is in
-    (λ i. (ends_after (written_at S x.number x.off x.bytes.now (t.there i)) x.moment, Done x.number ((c.written.ensures ∙ sym (change_between-rises S S1 t.inode x.target.blocks 0 rises)) i)))
+    (λ i. (
+      ends_after (written_at S x.number x.off x.bytes.now (t.there i)) x.moment,
+      Done x.number ((c.written.ensures ∙ sym (change_between-rises S S1 t.inode x.target.blocks 0 rises))
+          i),
+    ))
     ∙ sym (ap (settle S x.cred.now x.moment) t.becomes ∙ settle-granted S S1 x.cred.now x.moment x.number none)
 
 pub returns-clause-ready : goal.returns-clause-ready
@@ -81,5 +85,6 @@ returns-clause-ready c =
     let few = subst (λ (v : Stored). total_of v.state Blocks + x.target.blocks ≤ v.state.size) view fits.0 in
     let places = places-along x.self.now c.in-Some.places x.target.uid x.target.gid t.inode.uid t.inode.gid c.in-Some.ensures.places t.uid t.gid in
     let owners = subst (λ (v : Stored). HasPlaces v c.in-Some.places t.inode.uid t.inode.gid) view places in
-    write-ready a c.ready_write.new.self c.ready_write.ensures.same x.number x.off c.in_ok-spare.spare c.in-Some.places x.moment x.bytes.now t.inode x.target.blocks
+    write-ready a c.ready_write.new.self c.ready_write.ensures.same x.number x.off c.in_ok-spare.spare
+    c.in-Some.places x.moment x.bytes.now t.inode x.target.blocks
     there (omega (arith, limit, low)) more few owners c.ready_write.ensures.there c.in_ok-spare.ensures.room c.requires.moment

@@ -14,5 +14,7 @@ returns-in-Some-clause-step c =
     let sound = c.place.ensures.sound in
     let super : (cred.uid == 0) ≡ true = let uid = c.uid.ensures in let same = c.if-uid-ne0.false in grind (arith, tests, uid, same) in
     let declared : is_declared S x.kind x.id ≡ true = sym c.place.ensures.declared ∙ ap (λ o. is_some o) c.in-Some.is in
-    sym ((λ i. settle S cred x.moment (cond (not (super i)) (Refuse EPERM) (cond (not (declared i)) (Refuse ESRCH) (Becomes (with_limits_of S x.kind x.id x.limits) 0))))
+    sym ((λ i. settle S cred x.moment
+    (cond (not (super i)) (Refuse EPERM)
+    (cond (not (declared i)) (Refuse ESRCH) (Becomes (with_limits_of S x.kind x.id x.limits) 0))))
     ∙ settle-with_limits_of S x.kind x.id x.limits cred x.moment sound.lawful.blocks_fit sound.lawful.inodes_fit sound.next_bound)

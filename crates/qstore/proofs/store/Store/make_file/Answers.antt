@@ -57,5 +57,8 @@ returns-clause-step c =
     let next = ap (λ (v : Stored). v.state.next) c.self.view_is in
     let items : c.in_ok-from_slice.field-0.items ≡ x.name.now = search rules in
     let name = c.new-name.ensures ∙ items in
-    (λ i. (ends_after (created S (new_file (c.uid.ensures i) (c.gid.ensures i)) x.dir (name i)) x.moment, Done (next i) (sym (change_between-rises S S1 (new_file cred.uid cred.gid) 0 1 more) i)))
+    (λ i. (
+      ends_after (created S (new_file (c.uid.ensures i) (c.gid.ensures i)) x.dir (name i)) x.moment,
+      Done (next i) (sym (change_between-rises S S1 (new_file cred.uid cred.gid) 0 1 more) i),
+    ))
     ∙ sym (settle-granted S S1 cred x.moment S.next none)

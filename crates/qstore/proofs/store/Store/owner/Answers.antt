@@ -24,12 +24,15 @@ returns-in-User-clause-counted c =
 pub returns-in-Group-clause-found : goal.returns-in-Group-clause-found
 returns-in-Group-clause-found c =
     let a = c.self.inside in
-    let found = found-owner Group c.args.id a.users a.groups c.find-in-Group.result c.find-in-Group.ensures.declared c.find-in-Group.ensures.there c.find-in-Group.ensures.by_id in
-    subst (λ kind. option_map (holder_in kind) (option_copied c.find-in-Group.result) ≡ find (is_holder kind c.args.id) c.args.self.now.state.holders) (sym c.in-Group.is)
+    let found = found-owner Group c.args.id a.users a.groups c.find-in-Group.result
+    c.find-in-Group.ensures.declared c.find-in-Group.ensures.there c.find-in-Group.ensures.by_id in
+    subst (λ kind. option_map (holder_in kind) (option_copied c.find-in-Group.result)
+    ≡ find (is_holder kind c.args.id) c.args.self.now.state.holders) (sym c.in-Group.is)
     (found ∙ ap (λ (v : Stored). find (is_holder Group c.args.id) v.state.holders) c.self.view_is)
 
 pub returns-in-Group-clause-counted : goal.returns-in-Group-clause-counted
 returns-in-Group-clause-counted c =
-    let found = found-counted (state_of c.self.inside) Group c.args.id c.self.inside.groups c.find-in-Group.result c.self.invariant.groups_counted c.find-in-Group.ensures.there in
+    let found = found-counted (state_of c.self.inside) Group c.args.id c.self.inside.groups
+    c.find-in-Group.result c.self.invariant.groups_counted c.find-in-Group.ensures.there in
     subst (λ kind. IfSome c.find-in-Group.result (λ o. IsCountedIn c.args.self.now.state kind o.now)) (sym c.in-Group.is)
     (subst (λ (v : Stored). IfSome c.find-in-Group.result (λ o. IsCountedIn v.state Group o.now)) c.self.view_is found)

@@ -14,7 +14,8 @@ returns-in-User-clause-declared c =
 
 pub returns-in-User-clause-place : goal.returns-in-User-clause-place
 returns-in-User-clause-place c =
-    id-at_place User c.args.kind c.args.id c.self.inside.users c.args.self.now c.place.result (sym c.in-User.is) (ap (λ (v : Stored). v.users) c.self.view_is) c.place.ensures.place
+    id-at_place User c.args.kind c.args.id c.self.inside.users c.args.self.now c.place.result
+    (sym c.in-User.is) (ap (λ (v : Stored). v.users) c.self.view_is) c.place.ensures.place
 
 pub returns-in-Group-clause-declared : goal.returns-in-Group-clause-declared
 returns-in-Group-clause-declared c =
@@ -24,4 +25,5 @@ returns-in-Group-clause-declared c =
 
 pub returns-in-Group-clause-place : goal.returns-in-Group-clause-place
 returns-in-Group-clause-place c =
-    id-at_place Group c.args.kind c.args.id c.self.inside.groups c.args.self.now c.place-in-Group.result (sym c.in-Group.is) (ap (λ (v : Stored). v.groups) c.self.view_is) c.place-in-Group.ensures.place
+    id-at_place Group c.args.kind c.args.id c.self.inside.groups c.args.self.now c.place-in-Group.result
+    (sym c.in-Group.is) (ap (λ (v : Stored). v.groups) c.self.view_is) c.place-in-Group.ensures.place

@@ -9,7 +9,8 @@ returns-clause-ready c =
     let x = c.args in
     let plan = c.in_ok-reply.field-0.plan in
     let S = c.decide.new.self.state in
-    let sound = IsSound-from_step x.self.now.state (effect x.self.now.state plan (bytes_of x.call.now)) x.cred.now x.moment x.call.now c.in_ok-reply.field-0.reply
+    let sound = IsSound-from_step x.self.now.state (effect x.self.now.state plan (bytes_of x.call.now))
+    x.cred.now x.moment x.call.now c.in_ok-reply.field-0.reply
     c.decide.ensures.sound c.in_ok-reply.ensures.step in
     let bytes : c.bytes_for.result.now ≡ c.new.result = search rules in
     let same = ap (λ T. effect T plan (bytes_of x.call.now)) (sym c.decide.ensures.state) ∙ sym (c.bytes_for.ensures.effect S) ∙ ap (effect S plan) bytes in

@@ -14,7 +14,8 @@ invariant_of-result c =
     let few_blocks = c.blocks-2.ensures.range.1 in
     let most = c.inodes.ensures.inodes in
     let few_inodes = c.inodes.ensures.range.1 in
-    counted-along (start-counted s c.requires.lawful (omega (arith, size, few_blocks)) (omega (arith, most, few_inodes)) (ap are_graces_in_range (sym graces) ∙ c.graces.ensures.range))
+    counted-along (start-counted s c.requires.lawful (omega (arith, size, few_blocks))
+    (omega (arith, most, few_inodes)) (ap are_graces_in_range (sym graces) ∙ c.graces.ensures.range))
     (sym state) (sym c.requires.users) (sym c.requires.groups) (sym c.requires.links)
 
 pub returns : goal.returns

@@ -31,7 +31,9 @@ unreachable-requires c =
 
 -- the table after the name is put
 named : (c : goal.Joined-this) → IsPut c.self.inside.nodes.entries (c.get_mut.follows.lender c.put_name.new.self).entries c.args.dir c.put_name.new.self
-named c = put-writes c.self.inside.nodes (c.get_mut.follows.lender c.put_name.new.self) c.args.dir c.put_name.new.self c.in-Some.node.now c.in-Some.ensures.value (c.get_mut.follows.holds c.put_name.new.self)
+named c = put-writes c.self.inside.nodes (c.get_mut.follows.lender c.put_name.new.self) c.args.dir
+    c.put_name.new.self c.in-Some.node.now c.in-Some.ensures.value
+    (c.get_mut.follows.holds c.put_name.new.self)
 
 -- the table after the file is put
 filed : (c : goal.Joined-this) → IsPut (c.get_mut.follows.lender c.put_name.new.self).entries c.insert.new.self.entries c.args.number c.new_file.result
@@ -40,14 +42,20 @@ filed c = put-updates (c.get_mut.follows.lender c.put_name.new.self) c.insert.ne
 -- the number is free before the file is put
 free : (c : goal.Joined-this) → lookup (nat_eq c.args.number) (c.get_mut.follows.lender c.put_name.new.self).entries ≡ None
 free c =
-    let seen : option_map inode_of (lookup (nat_eq c.args.number) c.self.inside.nodes.entries) ≡ None = sym (inode_seen c.self.inside.nodes.entries _ c.args.self.now c.self.view_is c.args.number) ∙ c.requires.absent in
-    absent_still c.self.inside.nodes.entries (c.get_mut.follows.lender c.put_name.new.self).entries c.args.dir c.in-Some.node.now c.put_name.new.self (sym c.in-Some.ensures.value) (named c) c.args.number (none_seen inode_of (lookup (nat_eq c.args.number) c.self.inside.nodes.entries) seen)
+    let seen : option_map inode_of (lookup (nat_eq c.args.number) c.self.inside.nodes.entries) ≡ None =
+    sym (inode_seen c.self.inside.nodes.entries _ c.args.self.now c.self.view_is c.args.number)
+    ∙ c.requires.absent in
+    absent_still c.self.inside.nodes.entries (c.get_mut.follows.lender c.put_name.new.self).entries c.args.dir
+    c.in-Some.node.now c.put_name.new.self (sym c.in-Some.ensures.value) (named c) c.args.number
+    (none_seen inode_of (lookup (nat_eq c.args.number) c.self.inside.nodes.entries) seen)
 
 pub returns-clause-inodes : goal.returns-clause-inodes
 returns-clause-inodes c =
     let before = c.self.inside.nodes.entries in
     let between = (c.get_mut.follows.lender c.put_name.new.self).entries in
-    let kept = seen-kept inode_of before between c.args.dir c.in-Some.node.now c.put_name.new.self (sym c.in-Some.ensures.value) c.put_name.ensures.inode (named c) ∙ ap (λ t. t.inodes) c.self.view_is in
+    let kept = seen-kept inode_of before between c.args.dir c.in-Some.node.now c.put_name.new.self
+    (sym c.in-Some.ensures.value) c.put_name.ensures.inode (named c)
+    ∙ ap (λ t. t.inodes) c.self.view_is in
     seen-insert inode_of between c.insert.new.self.entries c.args.number c.new_file.result (filed c)
     ∙ ap (λ es. insert_entry nat_cmp es c.args.number (inode_of c.new_file.result)) kept
     ∙ ap (insert_entry nat_cmp c.args.self.now.inodes c.args.number) c.new_file.ensures.inode
@@ -57,14 +65,16 @@ returns-clause-names c =
     let before = c.self.inside.nodes.entries in
     let between = (c.get_mut.follows.lender c.put_name.new.self).entries in
     named-new between c.insert.new.self.entries c.args.number c.new_file.result (free c) (filed c) c.new_file.ensures.names
-    ∙ named-put before between c.args.dir c.in-Some.node.now c.put_name.new.self (sym c.in-Some.ensures.value) (named c) c.args.name.items c.args.number c.put_name.ensures.names
+    ∙ named-put before between c.args.dir c.in-Some.node.now c.put_name.new.self (sym c.in-Some.ensures.value)
+    (named c) c.args.name.items c.args.number c.put_name.ensures.names
     ∙ ap (λ t. insert_entry name_key_cmp t.names (c.args.dir, c.args.name.items) c.args.number) c.self.view_is
 
 pub returns-clause-links : goal.returns-clause-links
 returns-clause-links c =
     let before = c.self.inside.nodes.entries in
     let between = (c.get_mut.follows.lender c.put_name.new.self).entries in
-    let kept = seen-kept (λ n. n.links) before between c.args.dir c.in-Some.node.now c.put_name.new.self (sym c.in-Some.ensures.value) c.put_name.ensures.links (named c) ∙ ap (λ t. t.links) c.self.view_is in
+    let kept = seen-kept (λ n. n.links) before between c.args.dir c.in-Some.node.now c.put_name.new.self
+    (sym c.in-Some.ensures.value) c.put_name.ensures.links (named c) ∙ ap (λ t. t.links) c.self.view_is in
     seen-insert (λ n. n.links) between c.insert.new.self.entries c.args.number c.new_file.result (filed c)
     ∙ ap (λ es. insert_entry nat_cmp es c.args.number c.new_file.result.links) kept
     ∙ ap (insert_entry nat_cmp c.args.self.now.links c.args.number) c.new_file.ensures.links

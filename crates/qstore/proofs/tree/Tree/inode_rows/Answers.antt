@@ -25,8 +25,12 @@ loop-number-init c =
     }
 
 -- what is left at a step, by its inodes
-left : (c : goal.After-row_known-1) → All HasFewBlocks ((c.in-Some.number.now, inode_of c.in-Some.node.now.now) ∷ read_by inode_of (read_by (λ n. n.now) c.next.new.self))
-left c = subst (λ (es : List (ℕ × Inode)). All HasFewBlocks es) (ap (λ es. read_by inode_of (read_by (λ n. n.now) es)) c.in-Some.ensures.steps) c.loop-number.invariant.few
+left : (c : goal.After-row_known-1)
+    → All HasFewBlocks ((c.in-Some.number.now, inode_of c.in-Some.node.now.now)
+    ∷ read_by inode_of (read_by (λ n. n.now) c.next.new.self))
+left c = subst (λ (es : List (ℕ × Inode)). All HasFewBlocks es)
+    (ap (λ es. read_by inode_of (read_by (λ n. n.now) es)) c.in-Some.ensures.steps)
+    c.loop-number.invariant.few
 
 pub row-requires : goal.row-requires
 row-requires c = All-head HasFewBlocks _ _ (left c)
@@ -34,12 +38,18 @@ row-requires c = All-head HasFewBlocks _ _ (left c)
 pub loop-number-preserved : goal.loop-number-preserved
 loop-number-preserved c = record {
   rows =
-      push_step row_of c.loop-number.rows.items c.push.new.self.items _ (read_by (λ n. n.now) c.loop-number.number-iterator) _ (c.in-Some.number.now, c.in-Some.node.now.now)
+      push_step row_of c.loop-number.rows.items c.push.new.self.items _
+      (read_by (λ n. n.now) c.loop-number.number-iterator) _ (
+        c.in-Some.number.now,
+        c.in-Some.node.now.now,
+      )
       (ap (read_by (λ n. n.now)) c.in-Some.ensures.steps)
       (c.in_ok-push.ensures.items ∙ ap (λ row. c.loop-number.rows.items ++ row ∷ []) c.row.ensures) c.loop-number.invariant.rows;
   few =
       All-tail HasFewBlocks (c.in-Some.number.now, inode_of c.in-Some.node.now.now) _
-      (subst (λ (es : List (ℕ × Inode)). All HasFewBlocks es) (ap (λ es. read_by inode_of (read_by (λ n. n.now) es)) c.in-Some.ensures.steps) c.loop-number.invariant.few);
+      (subst (λ (es : List (ℕ × Inode)). All HasFewBlocks es)
+      (ap (λ es. read_by inode_of (read_by (λ n. n.now) es)) c.in-Some.ensures.steps)
+      c.loop-number.invariant.few);
 }
 
 pub returns-clause-rows : goal.returns-clause-rows

@@ -18,12 +18,14 @@ loop-number-init c =
 
 pub loop-number-preserved : goal.loop-number-preserved
 loop-number-preserved c =
-    names_step c.loop-number.rows.items c.push_names.new.rows.items _ (read_by (λ n. n.now) c.loop-number.number-iterator) _ c.in-Some.number.now c.in-Some.node.now.now
+    names_step c.loop-number.rows.items c.push_names.new.rows.items _
+    (read_by (λ n. n.now) c.loop-number.number-iterator) _ c.in-Some.number.now c.in-Some.node.now.now
     (ap (read_by (λ n. n.now)) c.in-Some.ensures.steps) c.in_ok-push_names.ensures c.loop-number.invariant
 
 pub returns-clause-rows : goal.returns-clause-rows
 returns-clause-rows c =
-    names_end c.loop-number.rows.items _ (read_by (λ n. n.now) c.loop-number.number-iterator) (ap (read_by (λ n. n.now)) c.in-None.ensures.steps.0) c.loop-number.invariant
+    names_end c.loop-number.rows.items _ (read_by (λ n. n.now) c.loop-number.number-iterator)
+    (ap (read_by (λ n. n.now)) c.in-None.ensures.steps.0) c.loop-number.invariant
 
 pub returns-clause-by_key : goal.returns-clause-by_key
 returns-clause-by_key c =

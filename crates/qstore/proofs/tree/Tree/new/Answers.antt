@@ -23,7 +23,8 @@ returns-clause-inodes c =
 
 pub returns-clause-names : goal.returns-clause-names
 returns-clause-names c =
-    named-new c.new-nodes.result.entries c.insert.new.self.entries ROOT c.new_root.result (ap (lookup (nat_eq ROOT)) c.new-nodes.ensures.empty) (put_is c) c.new_root.ensures.names
+    named-new c.new-nodes.result.entries c.insert.new.self.entries ROOT c.new_root.result
+    (ap (lookup (nat_eq ROOT)) c.new-nodes.ensures.empty) (put_is c) c.new_root.ensures.names
     ∙ ap all_names (in_order-none c.new-nodes.ensures.empty)
 
 pub returns-clause-links : goal.returns-clause-links

@@ -35,10 +35,13 @@ unreachable-requires c =
 
 -- the table after the call
 put_is : (c : goal.After-self-in-Some-1) → IsPut c.self.inside.nodes.entries (c.get_mut.follows.lender c.put.new.self).entries c.args.number c.put.new.self
-put_is c = put-writes c.self.inside.nodes (c.get_mut.follows.lender c.put.new.self) c.args.number c.put.new.self c.in-Some.node.now c.in-Some.ensures.value (c.get_mut.follows.holds c.put.new.self)
+put_is c = put-writes c.self.inside.nodes (c.get_mut.follows.lender c.put.new.self) c.args.number
+    c.put.new.self c.in-Some.node.now c.in-Some.ensures.value (c.get_mut.follows.holds c.put.new.self)
 
 -- the inode that a caller names is the one that was found
-same_inode : (c : goal.After-self-in-Some-1) (inode : Inode) → lookup (is_at (nat_cmp c.args.number)) c.args.self.now.inodes ≡ Some inode → inode_of c.in-Some.node.now ≡ inode
+same_inode : (c : goal.After-self-in-Some-1) (inode : Inode)
+    → lookup (is_at (nat_cmp c.args.number)) c.args.self.now.inodes ≡ Some inode
+    → inode_of c.in-Some.node.now ≡ inode
 same_inode c inode is =
     let seen = inode_seen c.self.inside.nodes.entries _ c.args.self.now c.self.view_is c.args.number in
     let both : Some (inode_of c.in-Some.node.now) ≡ Some inode = ap (option_map inode_of) c.in-Some.ensures.value ∙ sym seen ∙ is in
@@ -60,10 +63,13 @@ returns-clause-count c = λ inode is.
 
 pub returns-clause-names : goal.returns-clause-names
 returns-clause-names c =
-    named-kept c.self.inside.nodes.entries (c.get_mut.follows.lender c.put.new.self).entries c.args.number c.in-Some.node.now c.put.new.self (sym c.in-Some.ensures.value) (put_is c) c.put.ensures.names
+    named-kept c.self.inside.nodes.entries (c.get_mut.follows.lender c.put.new.self).entries c.args.number
+    c.in-Some.node.now c.put.new.self (sym c.in-Some.ensures.value) (put_is c) c.put.ensures.names
     ∙ ap (λ t. t.names) c.self.view_is
 
 pub returns-clause-links : goal.returns-clause-links
 returns-clause-links c =
-    seen-kept (λ n. n.links) c.self.inside.nodes.entries (c.get_mut.follows.lender c.put.new.self).entries c.args.number c.in-Some.node.now c.put.new.self (sym c.in-Some.ensures.value) c.put.ensures.links (put_is c)
+    seen-kept (λ n. n.links) c.self.inside.nodes.entries (c.get_mut.follows.lender c.put.new.self).entries
+    c.args.number c.in-Some.node.now c.put.new.self (sym c.in-Some.ensures.value) c.put.ensures.links
+    (put_is c)
     ∙ ap (λ t. t.links) c.self.view_is

@@ -24,7 +24,8 @@ ready_write-requires-clause-missing c =
     let seen = inode_seen c.self.inside.nodes.entries _ c.args.self.now c.self.view_is c.args.number in
     let is : Some (inode_of c.in-Some.node.now) ≡ Some c.requires.file.0 = ap (option_map inode_of) c.in-Some.ensures.value ∙ sym seen ∙ c.requires.file.1 in
     let same : c.requires.file.0 ≡ inode_of c.in-Some.node.now = cc in
-    adds_in c.in-Some.node.now.content c.args.off c.args.len c.args.missing (subst (λ (i : Inode). Adds i.file c.args.off c.args.len c.args.missing) same c.requires.file.3)
+    adds_in c.in-Some.node.now.content c.args.off c.args.len c.args.missing
+    (subst (λ (i : Inode). Adds i.file c.args.off c.args.len c.args.missing) same c.requires.file.3)
 
 pub unreachable-requires : goal.unreachable-requires
 unreachable-requires c =
@@ -33,23 +34,34 @@ unreachable-requires c =
     cc
 
 -- the table after the call
-put_is : (c : goal.After-self-in-Some-1) → IsPut c.self.inside.nodes.entries (c.get_mut.follows.lender c.ready_write.new.self).entries c.args.number c.ready_write.new.self
-put_is c = put-writes c.self.inside.nodes (c.get_mut.follows.lender c.ready_write.new.self) c.args.number c.ready_write.new.self c.in-Some.node.now c.in-Some.ensures.value (c.get_mut.follows.holds c.ready_write.new.self)
+put_is : (c : goal.After-self-in-Some-1)
+    → IsPut c.self.inside.nodes.entries (c.get_mut.follows.lender c.ready_write.new.self).entries
+    c.args.number c.ready_write.new.self
+put_is c = put-writes c.self.inside.nodes (c.get_mut.follows.lender c.ready_write.new.self) c.args.number
+    c.ready_write.new.self c.in-Some.node.now c.in-Some.ensures.value
+    (c.get_mut.follows.holds c.ready_write.new.self)
 
 -- the file after the call
-file_after : (c : goal.After-self-in-Some-1) → let after = c.get_mut.follows.lender c.ready_write.new.self in file_room (tree_of after.entries (spare after)).room c.args.number ≡ roomy_file_in c.ready_write.new.self.content
+file_after : (c : goal.After-self-in-Some-1)
+    → let after = c.get_mut.follows.lender c.ready_write.new.self in file_room
+    (tree_of after.entries (spare after)).room c.args.number ≡ roomy_file_in c.ready_write.new.self.content
 file_after c =
     let after = c.get_mut.follows.lender c.ready_write.new.self in
     file_seen after.entries (spare after) (tree_of after.entries (spare after)) refl c.args.number
-    ∙ ap (λ o. unwrap_or (option_map (λ n. roomy_file_in n.content) o) None) (put_here c.self.inside.nodes.entries after.entries c.args.number c.ready_write.new.self (put_is c))
+    ∙ ap (λ o. unwrap_or (option_map (λ n. roomy_file_in n.content) o) None)
+    (put_here c.self.inside.nodes.entries after.entries c.args.number c.ready_write.new.self (put_is c))
 
 pub returns-clause-same : goal.returns-clause-same
 returns-clause-same c =
-    same_tree c.self.inside.nodes.entries (c.get_mut.follows.lender c.ready_write.new.self).entries c.args.number c.in-Some.node.now c.ready_write.new.self (sym c.in-Some.ensures.value) (put_is c) _ _ c.args.self.now c.self.view_is c.ready_write.ensures.same
+    same_tree c.self.inside.nodes.entries (c.get_mut.follows.lender c.ready_write.new.self).entries
+    c.args.number c.in-Some.node.now c.ready_write.new.self (sym c.in-Some.ensures.value) (put_is c) _ _
+    c.args.self.now c.self.view_is c.ready_write.ensures.same
 
 pub returns-clause-there : goal.returns-clause-there
 returns-clause-there c = ap is_some (file_after c) ∙ c.ready_write.ensures.there
 
 pub returns-clause-room : goal.returns-clause-room
 returns-clause-room c =
-    IfOk-weaker c.ready_write.result _ _ (λ spare. subst (λ (o : Option RoomyFile). IfSome o (λ f. IsReady f c.args.off c.args.len spare)) (sym (file_after c))) c.ready_write.ensures.room
+    IfOk-weaker c.ready_write.result _ _
+    (λ spare. subst (λ (o : Option RoomyFile). IfSome o (λ f. IsReady f c.args.off c.args.len spare))
+    (sym (file_after c))) c.ready_write.ensures.room
