@@ -5,29 +5,29 @@ use Rattle.std.specs.BTreeMap as tree
 use Rattle.std.specs.Ordering.{nat_cmp}
 use Rattle.std.specs.Cmp.{unsigned_tied}
 use Rattle.qblocks.specs.declared.row.TheConstants.{ROW_BLOCKS}
-use Rattle.qblocks.specs.Row.{Place, place_at, row_filled, gaps}
-use Rattle.qblocks.specs.Rows.{Table, places_of, row_of, has_row, filled, is_used, SameBlocks, Frees}
+use Rattle.qblocks.specs.Row.{Slot, slot_at, row_filled, gaps}
+use Rattle.qblocks.specs.Rows.{Table, slots_of, row_of, has_row, filled, is_used, SameBlocks, Frees}
 use Rattle.qblocks.proofs.Spans.{gaps-same, gaps-split, gaps-all, gaps_le, gap_at}
 use Rattle.qblocks.proofs.Table.{gaps-row}
 
--- a row is used as its places are filled
+-- a row is used as its slots are filled
 pub is_used-same : (p q : ℕ → Bool) (r : ℕ) → ((k : ℕ) → q k ≡ p k) → is_used q r ≡ is_used p r
 is_used-same p q r same =
     ap (λ (x : ℕ). nat_lt x ROW_BLOCKS) (gaps-same p q (r * ROW_BLOCKS) ROW_BLOCKS (λ k _ _. same k))
 
 module _ {Z : Type 0} where
-  -- a place that is not filled is empty
-  no_block : (place : Place Z) → is_some place ≡ false → place ≡ None
+  -- a slot that is not filled is empty
+  no_block : (slot : Slot Z) → is_some slot ≡ false → slot ≡ None
   no_block None e = refl
   no_block (Some block) e = absurd (both_ways _ e refl)
 
   -- a change of the row r leaves the other rows
-  pub other_rows : (m n : Table Z) (r : ℕ) (row : Option (Box (List (Place Z)) Z))
+  pub other_rows : (m n : Table Z) (r : ℕ) (row : Option (Box (List (Slot Z)) Z))
       → tree.Updates nat_cmp m n r row → (q : ℕ) → (q ≡ r → ⊥)
       → tree.get nat_cmp n q ≡ tree.get nat_cmp m q
   other_rows m n r row u q ne = u.2 q (unsigned_tied r q ∙ ne_eqb r q (λ e. ne (sym e)))
 
-  -- the places of a row, by their indexes and by their numbers in the row
+  -- the slots of a row, by their indexes and by their numbers in the row
   pub gaps_in_own_row : (m : Table Z) (r : ℕ)
       → gaps (filled m) (r * ROW_BLOCKS) ROW_BLOCKS ≡ gaps (row_filled (row_of m r)) 0 ROW_BLOCKS
   gaps_in_own_row m r =
@@ -35,8 +35,8 @@ module _ {Z : Type 0} where
       ap (λ (x : ℕ). gaps (filled m) x ROW_BLOCKS) at ∙ gaps-row m r 0 ROW_BLOCKS (omega arith)
 
   -- a row that is not there holds no block
-  pub gaps_absent : (row : Option (Box (List (Place Z)) Z)) → is_some row ≡ false
-      → gaps (row_filled (places_of row)) 0 ROW_BLOCKS ≡ ROW_BLOCKS
+  pub gaps_absent : (row : Option (Box (List (Slot Z)) Z)) → is_some row ≡ false
+      → gaps (row_filled (slots_of row)) 0 ROW_BLOCKS ≡ ROW_BLOCKS
   gaps_absent None e = gaps-all (row_filled {Z = Z} []) 0 ROW_BLOCKS (λ k _ _. refl)
   gaps_absent (Some row) e = absurd (both_ways _ e refl)
 
@@ -74,13 +74,13 @@ module _ {Z : Type 0} where
           ⊎_elim
           (λ e.
           let row : k / ROW_BLOCKS ≡ r = e in
-          let none : place_at (row_of m r) (k % ROW_BLOCKS) ≡ None =
-          no_block (place_at (row_of m r) (k % ROW_BLOCKS))
+          let none : slot_at (row_of m r) (k % ROW_BLOCKS) ≡ None =
+          no_block (slot_at (row_of m r) (k % ROW_BLOCKS))
           (gap_at (row_filled (row_of m r)) 0 ROW_BLOCKS (k % ROW_BLOCKS) unused (omega arith)
           (omega arith)) in
-          ap (λ (q : ℕ). place_at (row_of n q) (k % ROW_BLOCKS)) row ∙ ap (λ o. place_at (places_of o) (k % ROW_BLOCKS)) update.1
-          ∙ sym (ap (λ (q : ℕ). place_at (row_of m q) (k % ROW_BLOCKS)) row ∙ none))
-          (λ ne. ap (λ o. place_at (places_of o) (k % ROW_BLOCKS)) (other_rows m n r None update (k / ROW_BLOCKS) ne))
+          ap (λ (q : ℕ). slot_at (row_of n q) (k % ROW_BLOCKS)) row ∙ ap (λ o. slot_at (slots_of o) (k % ROW_BLOCKS)) update.1
+          ∙ sym (ap (λ (q : ℕ). slot_at (row_of m q) (k % ROW_BLOCKS)) row ∙ none))
+          (λ ne. ap (λ o. slot_at (slots_of o) (k % ROW_BLOCKS)) (other_rows m n r None update (k / ROW_BLOCKS) ne))
           (cases_eq (k / ROW_BLOCKS) r);
     }
 
@@ -94,9 +94,9 @@ module _ {Z : Type 0} where
   module _ (m n : Table Z) (r freed : ℕ) (others : (q : ℕ) → (q ≡ r → ⊥)
       → row_of n q ≡ row_of m q) (count : gaps (row_filled (row_of n r)) 0 ROW_BLOCKS
       ≡ gaps (row_filled (row_of m r)) 0 ROW_BLOCKS + freed) where
-    -- the places of other rows stay as they are
+    -- the slots of other rows stay as they are
     other_filled : (k : ℕ) → (k / ROW_BLOCKS ≡ r → ⊥) → filled n k ≡ filled m k
-    other_filled k ne = ap (λ row. is_some (place_at row (k % ROW_BLOCKS))) (others (k / ROW_BLOCKS) ne)
+    other_filled k ne = ap (λ row. is_some (slot_at row (k % ROW_BLOCKS))) (others (k / ROW_BLOCKS) ne)
 
     -- the rows below, the row itself, and the rows behind
     three : (t : Table Z) (rest : ℕ)

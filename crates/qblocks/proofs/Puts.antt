@@ -4,7 +4,7 @@ use Rattle.std.proofs.Math.Bool.{or_assoc}
 use Rattle.std.proofs.lemmas.Bool.{cases_lt, cases_eq}
 use Rattle.std.proofs.lemmas.List.{get_or-take, get_or-drop}
 use Rattle.qblocks.specs.declared.block.TheConstants.{BLOCK_SIZE}
-use Rattle.qblocks.specs.Row.{Overwrites, Puts, in_span, span_end, in_pieces, gaps, gaps_in, Place, byte_of, place_at, row_filled, row_byte}
+use Rattle.qblocks.specs.Row.{Overwrites, Puts, in_span, span_end, in_pieces, gaps, gaps_in, Slot, byte_of, slot_at, row_filled, row_byte}
 use Rattle.qblocks.proofs.Spans.{or_no, or_yes, in_span_yes, in_span_before, in_span_behind, in_span_none, in_span-more, span_end_none, span_end_some, gaps-same, gaps-split, gaps_none, gaps-next}
 
 -- what is written in two pieces is written
@@ -162,26 +162,26 @@ gaps_in-block p j at n some fits =
     ∙ ap (λ (x : ℕ). x + cond (p j) 0 1) (gaps_none p first 0 refl) ∙ omega arith
 
 -- a write into one block of a row
-module _ {Z : Type 0} (row new : List (Place Z)) (j at : ℕ) (part : List ℕ) (some : 0 < length part) (fits : at + length part ≤ BLOCK_SIZE) where
+module _ {Z : Type 0} (row new : List (Slot Z)) (j at : ℕ) (part : List ℕ) (some : 0 < length part) (fits : at + length part ≤ BLOCK_SIZE) where
   -- as `Puts` says it
   pub Puts-block : (a b : ℕ) → row_filled new j ≡ true
-      → Overwrites (byte_of (place_at row j)) (byte_of (place_at new j)) at part
-      → ((q : ℕ) → (q ≡ j → ⊥) → place_at new q ≡ place_at row q)
+      → Overwrites (byte_of (slot_at row j)) (byte_of (slot_at new j)) at part
+      → ((q : ℕ) → (q ≡ j → ⊥) → slot_at new q ≡ slot_at row q)
       → b + cond (row_filled row j) 0 1 ≡ a
       → Puts (row_byte row) (row_byte new) (row_filled row) (row_filled new) a b (j * BLOCK_SIZE + at) part
   Puts-block a b filled writes others left =
       let first : (j * BLOCK_SIZE + at) / BLOCK_SIZE ≡ j = omega arith in
       let end : span_end BLOCK_SIZE (j * BLOCK_SIZE + at) (length part) ≡ j + 1 =
       span_end_some BLOCK_SIZE (j * BLOCK_SIZE + at) (length part) some ∙ omega arith in
-      let here : (o : ℕ) → o / BLOCK_SIZE ≡ j → row_byte new o ≡ byte_of (place_at new j) (o % BLOCK_SIZE) =
-      λ o e. ap (λ (x : ℕ). byte_of (place_at new x) (o % BLOCK_SIZE)) e in
-      let was : (o : ℕ) → o / BLOCK_SIZE ≡ j → row_byte row o ≡ byte_of (place_at row j) (o % BLOCK_SIZE) =
-      λ o e. ap (λ (x : ℕ). byte_of (place_at row x) (o % BLOCK_SIZE)) e in
+      let here : (o : ℕ) → o / BLOCK_SIZE ≡ j → row_byte new o ≡ byte_of (slot_at new j) (o % BLOCK_SIZE) =
+      λ o e. ap (λ (x : ℕ). byte_of (slot_at new x) (o % BLOCK_SIZE)) e in
+      let was : (o : ℕ) → o / BLOCK_SIZE ≡ j → row_byte row o ≡ byte_of (slot_at row j) (o % BLOCK_SIZE) =
+      λ o e. ap (λ (x : ℕ). byte_of (slot_at row x) (o % BLOCK_SIZE)) e in
       record {
         writes = record {
           inside = λ i l.
               let byte : (j * BLOCK_SIZE + at + i) % BLOCK_SIZE ≡ at + i = omega arith in
-              here (j * BLOCK_SIZE + at + i) (omega arith) ∙ ap (byte_of (place_at new j)) byte ∙ writes.inside i l;
+              here (j * BLOCK_SIZE + at + i) (omega arith) ∙ ap (byte_of (slot_at new j)) byte ∙ writes.inside i l;
           before = λ o l.
               ⊎_elim
               (λ e. here o e ∙ writes.before (o % BLOCK_SIZE) (omega arith) ∙ sym (was o e))

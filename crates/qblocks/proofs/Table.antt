@@ -1,10 +1,10 @@
--- Lemmas on the rows of a file as one run of places.
+-- Lemmas on the rows of a file as one run of slots.
 use Rattle.std.proofs.Common.{◌≡◌, ◌≢◌, ℕ, ◌+◌, ◌-◌, ◌*◌, ◌/◌, ◌%◌, ◌<◌, ◌≤◌, ◌||◌, List, length, is_some, sym, ap, ◌∙◌, arith, ⊎_elim}
 use Rattle.std.proofs.lemmas.Bool.{cases_lt, cases_eq}
 use Rattle.qblocks.specs.declared.block.TheConstants.{BLOCK_SIZE}
 use Rattle.qblocks.specs.declared.row.TheConstants.{ROW_BLOCKS, ROW_SIZE}
-use Rattle.qblocks.specs.Row.{Puts, in_pieces, span_end, gaps, gaps_in, byte_of, place_at, row_filled, row_byte}
-use Rattle.qblocks.specs.Rows.{Table, row_of, slot, filled, byte_at}
+use Rattle.qblocks.specs.Row.{Puts, in_pieces, span_end, gaps, gaps_in, byte_of, slot_at, row_filled, row_byte}
+use Rattle.qblocks.specs.Rows.{Table, row_of, slot_in, filled, byte_at}
 use Rattle.qblocks.proofs.Spans.{or_no, in_span_before, in_span_behind, span_end_some, gaps-shift, same_span}
 
 module _ {Z : Type 0} where
@@ -16,9 +16,9 @@ module _ {Z : Type 0} where
       let row : (r * ROW_SIZE + x) / BLOCK_SIZE / ROW_BLOCKS ≡ r = omega arith in
       let block : (r * ROW_SIZE + x) / BLOCK_SIZE % ROW_BLOCKS ≡ x / BLOCK_SIZE = omega arith in
       let byte : (r * ROW_SIZE + x) % BLOCK_SIZE ≡ x % BLOCK_SIZE = omega arith in
-      ap (λ (q : ℕ). byte_of (place_at (row_of m q) (o / BLOCK_SIZE % ROW_BLOCKS)) (o % BLOCK_SIZE)) row
-      ∙ ap (λ (j : ℕ). byte_of (place_at (row_of m r) j) (o % BLOCK_SIZE)) block
-      ∙ ap (byte_of (place_at (row_of m r) (x / BLOCK_SIZE))) byte
+      ap (λ (q : ℕ). byte_of (slot_at (row_of m q) (o / BLOCK_SIZE % ROW_BLOCKS)) (o % BLOCK_SIZE)) row
+      ∙ ap (λ (j : ℕ). byte_of (slot_at (row_of m r) j) (o % BLOCK_SIZE)) block
+      ∙ ap (byte_of (slot_at (row_of m r) (x / BLOCK_SIZE))) byte
 
   -- the byte at an offset in the row r
   pub byte_at-own : (m : Table Z) (r o : ℕ) → o / ROW_SIZE ≡ r
@@ -31,21 +31,21 @@ module _ {Z : Type 0} where
   pub byte_at-same : (m n : Table Z) (o : ℕ)
       → row_of n (o / BLOCK_SIZE / ROW_BLOCKS) ≡ row_of m (o / BLOCK_SIZE / ROW_BLOCKS)
       → byte_at n o ≡ byte_at m o
-  byte_at-same m n o same = ap (λ row. byte_of (place_at row (o / BLOCK_SIZE % ROW_BLOCKS)) (o % BLOCK_SIZE)) same
+  byte_at-same m n o same = ap (λ row. byte_of (slot_at row (o / BLOCK_SIZE % ROW_BLOCKS)) (o % BLOCK_SIZE)) same
 
-  -- a place of the row r
-  pub slot-row : (m : Table Z) (r j : ℕ) → j < ROW_BLOCKS
-      → slot m (r * ROW_BLOCKS + j) ≡ place_at (row_of m r) j
-  slot-row m r j l =
+  -- a slot of the row r
+  pub slot_in-row : (m : Table Z) (r j : ℕ) → j < ROW_BLOCKS
+      → slot_in m (r * ROW_BLOCKS + j) ≡ slot_at (row_of m r) j
+  slot_in-row m r j l =
       let row : (r * ROW_BLOCKS + j) / ROW_BLOCKS ≡ r = omega arith in
-      let place : (r * ROW_BLOCKS + j) % ROW_BLOCKS ≡ j = omega arith in
-      ap (λ (q : ℕ). place_at (row_of m q) ((r * ROW_BLOCKS + j) % ROW_BLOCKS)) row ∙ ap (place_at (row_of m r)) place
+      let slot : (r * ROW_BLOCKS + j) % ROW_BLOCKS ≡ j = omega arith in
+      ap (λ (q : ℕ). slot_at (row_of m q) ((r * ROW_BLOCKS + j) % ROW_BLOCKS)) row ∙ ap (slot_at (row_of m r)) slot
 
-  -- how many places of a row hold no block
+  -- how many slots of a row hold no block
   pub gaps-row : (m : Table Z) (r first n : ℕ) → first + n ≤ ROW_BLOCKS
       → gaps (filled m) (r * ROW_BLOCKS + first) n ≡ gaps (row_filled (row_of m r)) first n
   gaps-row m r first n l =
-      gaps-shift (row_filled (row_of m r)) (filled m) (r * ROW_BLOCKS) first n (λ k _ h. ap is_some (slot-row m r k (omega arith)))
+      gaps-shift (row_filled (row_of m r)) (filled m) (r * ROW_BLOCKS) first n (λ k _ h. ap is_some (slot_in-row m r k (omega arith)))
 
   -- how many blocks a write into one row takes
   pub gaps_in-row : (m : Table Z) (r at n : ℕ) → 0 < n → at + n ≤ ROW_SIZE
@@ -99,13 +99,13 @@ module _ {Z : Type 0} where
           (λ e.
           let j = k % ROW_BLOCKS in
           let row : k / ROW_BLOCKS ≡ r = e in
-          ap (λ (q : ℕ). is_some (place_at (row_of n q) j)) row ∙ puts.fills j
+          ap (λ (q : ℕ). is_some (slot_at (row_of n q) j)) row ∙ puts.fills j
           ∙ ap (λ t. row_filled (row_of m r) j || t)
           (same_span (at / BLOCK_SIZE) (span_end BLOCK_SIZE at (length part)) j _ _ k (r * ROW_BLOCKS)
           (omega arith) (omega arith) (omega arith))
-          ∙ ap (λ (q : ℕ). is_some (place_at (row_of m q) j) || in_pieces BLOCK_SIZE (r * ROW_SIZE + at) (length part) k) (sym row))
+          ∙ ap (λ (q : ℕ). is_some (slot_at (row_of m q) j) || in_pieces BLOCK_SIZE (r * ROW_SIZE + at) (length part) k) (sym row))
           (λ ne.
-          ap (λ row. is_some (place_at row (k % ROW_BLOCKS))) (others (k / ROW_BLOCKS) ne)
+          ap (λ row. is_some (slot_at row (k % ROW_BLOCKS))) (others (k / ROW_BLOCKS) ne)
           ∙ or_no (filled m k) _ (⊎_elim (λ l. in_span_before _ _ k (omega arith))
           (λ l. in_span_behind _ _ k (omega (arith, ne))) (cases_lt k (r * ROW_BLOCKS))))
           (cases_eq (k / ROW_BLOCKS) r);

@@ -4,7 +4,7 @@ use Rattle.std.proofs.lemmas.Bool.{cases_lt, cases_Bool, both_ways, ltb-true, lt
 use Rattle.std.specs.List.{range_with_len}
 use Rattle.qblocks.specs.declared.block.TheConstants.{BLOCK_SIZE}
 use Rattle.qblocks.specs.declared.row.TheConstants.{ROW_BLOCKS, ROW_SIZE}
-use Rattle.qblocks.specs.Room.{no_room}
+use Rattle.qblocks.specs.WriteRoom.{no_room}
 use Rattle.qblocks.specs.Row.{in_span, in_pieces, span_end, gaps, gaps_in}
 use Rattle.qblocks.specs.Rows.{is_used, in_room}
 use Rattle.qblocks.proofs.Spans.{or_no, or_yes, in_span_yes, in_span_before, in_span_behind, in_span_none, span_end_none, span_end_some, span_some, gaps-same, gaps-all, gap_at, no_gap_at, gaps_le}

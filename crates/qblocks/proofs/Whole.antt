@@ -6,9 +6,9 @@ use Rattle.qblocks.specs.declared.row.TheConstants.{ROW_BLOCKS, ROW_SIZE}
 use Rattle.std.specs.BTreeMap as tree
 use Rattle.std.specs.Ordering.{nat_cmp}
 use Rattle.qblocks.specs.File.{after_write, with_touched}
-use Rattle.qblocks.specs.Room.{Room, RoomyFile, IsReady, no_room}
-use Rattle.qblocks.specs.Row.{Puts, in_span, in_pieces, span_end, gaps_in, byte_of, place_at}
-use Rattle.qblocks.specs.Rows.{Table, slot, filled, byte_at, has_row, places_of, is_used, in_room, SameBlocks, Frees, file_of, IsWhole}
+use Rattle.qblocks.specs.WriteRoom.{WriteRoom, RoomyFile, IsReadyToPut, no_room}
+use Rattle.qblocks.specs.Row.{Puts, in_span, in_pieces, span_end, gaps_in, byte_of, slot_at}
+use Rattle.qblocks.specs.Rows.{Table, slot_in, filled, byte_at, has_row, slots_of, is_used, in_room, SameBlocks, Frees, file_of, IsWhole}
 use Rattle.qblocks.proofs.Spans.{or_no, or_yes, or_rest, span_end_some}
 use Rattle.qblocks.proofs.Freed.{is_used-same, absent_is_unused}
 use Rattle.qblocks.proofs.Touched.{length-after_write}
@@ -17,7 +17,7 @@ use Rattle.qblocks.proofs.View.{length-allocated_of, allocated_le, file_of-same,
 
 module _ {Z : Type 0} where
   -- the fields stay whole where the blocks do, with other rows and another room
-  pub IsWhole-same : (m n : Table Z) (size count : ℕ) (old new : Room) → SameBlocks m n
+  pub IsWhole-same : (m n : Table Z) (size count : ℕ) (old new : WriteRoom) → SameBlocks m n
       → ((r : ℕ) → has_row n r ≡ (is_used (filled n) r || in_room new r))
       → new.off + new.len ≤ 2 ^ 40 → IsWhole m size count old → IsWhole n size count new
   IsWhole-same m n size count old new same rows bound whole = record {
@@ -25,12 +25,12 @@ module _ {Z : Type 0} where
     bounded = whole.bounded;
     room_bounded = bound;
     below = λ k yes. whole.below k (sym (ap is_some (same.slots k)) ∙ yes);
-    tail = λ o l. ap (λ place. byte_of place (o % BLOCK_SIZE)) (same.slots (o / BLOCK_SIZE)) ∙ whole.tail o l;
+    tail = λ o l. ap (λ slot. byte_of slot (o % BLOCK_SIZE)) (same.slots (o / BLOCK_SIZE)) ∙ whole.tail o l;
     rows = rows;
   }
 
   -- the fields of a file that is made longer
-  pub IsWhole-grown : (m : Table Z) (size count to : ℕ) (room : Room) → size ≤ to → to ≤ 2 ^ 40
+  pub IsWhole-grown : (m : Table Z) (size count to : ℕ) (room : WriteRoom) → size ≤ to → to ≤ 2 ^ 40
       → IsWhole m size count room → IsWhole m to count room
   IsWhole-grown m size count to room more bound whole = record {
     counted = whole.counted ∙ sym (ap length (allocated_of-grown m size to more whole.below));
@@ -42,13 +42,13 @@ module _ {Z : Type 0} where
   }
 
   -- a row begins below the size
-  pub row_below : (m : Table Z) (size count : ℕ) (room : Room) → room ≡ no_room
+  pub row_below : (m : Table Z) (size count : ℕ) (room : WriteRoom) → room ≡ no_room
       → IsWhole m size count room → (r : ℕ) → has_row m r ≡ true → r * ROW_SIZE < size
   row_below m size count room none whole r there =
       used_below (filled m) size r whole.below (or_no (is_used (filled m) r) _ (ap (λ x. in_room x r) none ∙ in_no_room r) ∙ sym (whole.rows r) ∙ there)
 
   -- the fields of a file that is cut off
-  pub IsWhole-cut : (m n : Table Z) (size count to freed : ℕ) (room : Room) → room ≡ no_room
+  pub IsWhole-cut : (m n : Table Z) (size count to freed : ℕ) (room : WriteRoom) → room ≡ no_room
       → IsWhole m size count room → to < size → ((o : ℕ) → to ≤ o → byte_at n o ≡ 0)
       → ((k : ℕ) → filled n k ≡ (filled m k && nat_lt (k * BLOCK_SIZE) to))
       → ((r : ℕ) → has_row n r ≡ is_used (filled n) r) → Frees m n freed
@@ -107,20 +107,20 @@ module _ {Z : Type 0} where
   -- the fields of an empty file
   pub IsWhole-empty : (m : Table Z) → m.entries ≡ [] → IsWhole m 0 0 no_room
   IsWhole-empty m e =
-      let slot_none : (k : ℕ) → slot m k ≡ None = λ k. ap (λ row. place_at (places_of row) (k % ROW_BLOCKS)) (no_row m (k / ROW_BLOCKS) e) in
+      let slot_none : (k : ℕ) → slot_in m k ≡ None = λ k. ap (λ row. slot_at (slots_of row) (k % ROW_BLOCKS)) (no_row m (k / ROW_BLOCKS) e) in
       record {
         counted = sym (ap (λ file. length file.allocated) (file_of-empty m));
         bounded = omega arith;
         room_bounded = omega arith;
         below = λ k yes. absurd (both_ways _ (ap is_some (slot_none k)) yes);
-        tail = λ o _. ap (λ place. byte_of place (o % BLOCK_SIZE)) (slot_none (o / BLOCK_SIZE));
+        tail = λ o _. ap (λ slot. byte_of slot (o % BLOCK_SIZE)) (slot_none (o / BLOCK_SIZE));
         rows = λ r.
             let absent = ap is_some (no_row m r e) in
             absent ∙ sym (absent_is_unused m r absent) ∙ or_no (is_used (filled m) r) _ (in_no_room r);
       }
 
   -- where there is no room, the rows are those with a block
-  pub rows_used : (m : Table Z) (size count : ℕ) (room : Room) → room ≡ no_room
+  pub rows_used : (m : Table Z) (size count : ℕ) (room : WriteRoom) → room ≡ no_room
       → IsWhole m size count room → (r : ℕ) → has_row m r ≡ is_used (filled m) r
   rows_used m size count room none whole r =
       whole.rows r ∙ sym (or_no (is_used (filled m) r) _ (ap (λ x. in_room x r) none ∙ in_no_room r))
@@ -141,7 +141,7 @@ module _ {Z : Type 0} where
         ⊎_elim (used r) (λ out. others r out ∙ was r out ∙ sym (used-same r)) (cases_Bool (in_span first end r))
 
     -- the rows are those with a block, and those of the room
-    pub rows_made : (room : Room) (first end : ℕ)
+    pub rows_made : (room : WriteRoom) (first end : ℕ)
         → ((r : ℕ) → (is_used (filled m) r || in_span first end r) ≡ (is_used (filled m) r || in_room room r))
         → ((r : ℕ) → in_span first end r ≡ true → has_row n r ≡ true)
         → ((r : ℕ) → in_span first end r ≡ false → has_row n r ≡ has_row m r)
@@ -155,8 +155,8 @@ module _ {Z : Type 0} where
         ∙ covers r ∙ ap (λ t. t || in_room room r) (sym (used-same r))
 
   -- the fields of a file that is ready for a write, and how many blocks are at hand
-  pub ready_whole : (m : Table Z) (size count : ℕ) (room : Room) (f : RoomyFile) (off n spare : ℕ)
-      → record { file = file_of m size; room = room } ≡ f → IsReady f off n spare
+  pub ready_whole : (m : Table Z) (size count : ℕ) (room : WriteRoom) (f : RoomyFile) (off n spare : ℕ)
+      → record { file = file_of m size; room = room } ≡ f → IsReadyToPut f off n spare
       → IsWhole m size count room
       → IsWhole m size count (record { off = off; len = n }) × (spare ≡ gaps_in (filled m) off n)
   ready_whole m size count room f off n spare view ready whole =
@@ -167,8 +167,8 @@ module _ {Z : Type 0} where
       )
 
   -- the fields after a write that the file was ready for, and the file that they stand for
-  pub put_whole : (m n : Table Z) (size count : ℕ) (room : Room) (f : RoomyFile) (off : ℕ) (input : List ℕ) (spare a b to : ℕ)
-      → record { file = file_of m size; room = room } ≡ f → IsReady f off (length input) spare
+  pub put_whole : (m n : Table Z) (size count : ℕ) (room : WriteRoom) (f : RoomyFile) (off : ℕ) (input : List ℕ) (spare a b to : ℕ)
+      → record { file = file_of m size; room = room } ≡ f → IsReadyToPut f off (length input) spare
       → IsWhole m size count room → Puts (byte_at m) (byte_at n) (filled m) (filled n) a b off input
       → 0 < length input → to ≡ max size (off + length input)
       → ((r : ℕ) → has_row n r ≡ has_row m r)

@@ -1,4 +1,4 @@
 pub mod File
-pub mod Room
+pub mod WriteRoom
 pub mod Row
 pub mod Rows

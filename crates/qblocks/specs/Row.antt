@@ -1,8 +1,8 @@
--- A row: 16 places beside each other, each of which may hold a block. No public clause cites this module.
---     place_at row j      the place j of a row
+-- A row: 16 slots beside each other, each of which may hold a block. No public clause cites this module.
+--     slot_at row j      the slot j of a row
 --     row_filled row j    it holds a block
 --     row_byte row o      the byte at the offset o in the row, or 0
---     Puts ..             what a write does to bytes, to places and to the blocks that are spare
+--     Puts ..             what a write does to bytes, to slots and to the blocks that are spare
 use Rattle.std.specs.Prelude.{◌≡◌, ℕ, zero, suc, ◌+◌, ◌-◌, ◌/◌, ◌%◌, ◌<◌, ◌≤◌, Bool, ◌||◌, ◌&&◌, nat_le, nat_lt, nat_eq, if◌then◌else◌, List, length, slice_index, slice_index_or, is_some, Option, Some, None, Box}
 use Rattle.qblocks.specs.declared.block.TheConstants.{BLOCK_SIZE}
 use Rattle.qblocks.specs.declared.row.TheConstants.{ROW_BLOCKS}
@@ -32,46 +32,46 @@ gaps test first (suc n) = gaps test first n + (if test (first + n) then 0 else 1
 abbrev pub gaps_in : (ℕ → Bool) → ℕ → ℕ → ℕ
 gaps_in test off n = gaps test (off / BLOCK_SIZE) (span_end BLOCK_SIZE off n - off / BLOCK_SIZE)
 
--- the bytes g are the bytes f, with the input in the place of those from the offset on
+-- the bytes g are the bytes f, with the input in place of those from the offset on
 pub record Overwrites (f g : ℕ → ℕ) (off : ℕ) (input : List ℕ) : Type 0 where
   pub inside : (i : ℕ) → i < length input → g (off + i) ≡ slice_index input i
   pub before : (o : ℕ) → o < off → g o ≡ f o
   pub behind : (o : ℕ) → off + length input ≤ o → g o ≡ f o
 
--- a write changes the bytes f to g and the filled places p to q, and takes a spare block for each
+-- a write changes the bytes f to g and the filled slots p to q, and takes a spare block for each
 -- that was missing
 pub record Puts (f g : ℕ → ℕ) (p q : ℕ → Bool) (old new off : ℕ) (input : List ℕ) : Type 0 where
   pub writes : Overwrites f g off input
   pub fills : (k : ℕ) → q k ≡ (p k || in_pieces BLOCK_SIZE off (length input) k)
   pub spare : new + gaps_in p off (length input) ≡ old
 
--- a place, which may hold a block
-abbrev pub Place : Type 0 → Type 0
-Place Z = Option (Box (List ℕ) Z)
+-- a slot, which may hold a block
+abbrev pub Slot : Type 0 → Type 0
+Slot Z = Option (Box (List ℕ) Z)
 
 module _ {Z : Type 0} where
-  -- the byte of the block at the place, or 0
-  abbrev pub byte_of : Place Z → ℕ → ℕ
+  -- the byte of the block at the slot, or 0
+  abbrev pub byte_of : Slot Z → ℕ → ℕ
   byte_of None i = 0
   byte_of (Some block) i = slice_index block.value i
 
-  -- the place j of the row
-  abbrev pub place_at : List (Place Z) → ℕ → Place Z
-  place_at row j = slice_index_or row j None
+  -- the slot j of the row
+  abbrev pub slot_at : List (Slot Z) → ℕ → Slot Z
+  slot_at row j = slice_index_or row j None
 
-  -- the place j of the row holds a block
-  abbrev pub row_filled : List (Place Z) → ℕ → Bool
-  row_filled row j = is_some (place_at row j)
+  -- the slot j of the row holds a block
+  abbrev pub row_filled : List (Slot Z) → ℕ → Bool
+  row_filled row j = is_some (slot_at row j)
 
   -- the byte at the offset o in the row, or 0
-  abbrev pub row_byte : List (Place Z) → ℕ → ℕ
-  row_byte row o = byte_of (place_at row (o / BLOCK_SIZE)) (o % BLOCK_SIZE)
+  abbrev pub row_byte : List (Slot Z) → ℕ → ℕ
+  row_byte row o = byte_of (slot_at row (o / BLOCK_SIZE)) (o % BLOCK_SIZE)
 
   -- the write into a row, as `Puts` says it
-  abbrev pub PutsInRow : List (Place Z) → List (Place Z) → ℕ → ℕ → ℕ → List ℕ → Type 0
+  abbrev pub PutsInRow : List (Slot Z) → List (Slot Z) → ℕ → ℕ → ℕ → List ℕ → Type 0
   PutsInRow row new = Puts (row_byte row) (row_byte new) (row_filled row) (row_filled new)
 
   -- the row has so many blocks fewer
-  abbrev pub LosesBlocks : List (Place Z) → List (Place Z) → ℕ → Type 0
+  abbrev pub LosesBlocks : List (Slot Z) → List (Slot Z) → ℕ → Type 0
   LosesBlocks row new freed =
       gaps (row_filled new) 0 ROW_BLOCKS ≡ gaps (row_filled row) 0 ROW_BLOCKS + freed

@@ -1,5 +1,5 @@
--- How a file keeps its blocks: a map from numbers to rows of 16 places. No public clause cites this module.
---     slot m k       the place of the index k
+-- How a file keeps its blocks: a map from numbers to rows of 16 slots. No public clause cites this module.
+--     slot_in m k    the slot of the index k
 --     filled m k     its block is allocated
 --     byte_at m o    the byte at the offset o, or 0
 --     IsWhole ..     what is always true of a file's fields
@@ -11,58 +11,58 @@ use Rattle.std.specs.List.{range_with_len}
 use Rattle.qblocks.specs.declared.block.TheConstants.{BLOCK_SIZE}
 use Rattle.qblocks.specs.declared.row.TheConstants.{ROW_BLOCKS, ROW_SIZE}
 use Rattle.qblocks.specs.File.{File}
-use Rattle.qblocks.specs.Room.{Room}
-use Rattle.qblocks.specs.Row.{Place, place_at, byte_of, gaps, in_pieces, Puts}
+use Rattle.qblocks.specs.WriteRoom.{WriteRoom}
+use Rattle.qblocks.specs.Row.{Slot, slot_at, byte_of, gaps, in_pieces, Puts}
 
--- some place of the row r is filled
+-- some slot of the row r is filled
 abbrev pub is_used : (ℕ → Bool) → ℕ → Bool
 is_used filled r = nat_lt (gaps filled (r * ROW_BLOCKS) ROW_BLOCKS) ROW_BLOCKS
 
 -- the row r is one of those that the room is for
-abbrev pub in_room : Room → ℕ → Bool
+abbrev pub in_room : WriteRoom → ℕ → Bool
 in_room room r = in_pieces ROW_SIZE room.off room.len r
 
 -- the numbered rows
 abbrev pub Table : Type 0 → Type 0
-Table Z = BTreeMap ℕ (Box (List (Place Z)) Z)
+Table Z = BTreeMap ℕ (Box (List (Slot Z)) Z)
 
 module _ {Z : Type 0} where
-  -- the places of a row, if it is there
-  abbrev pub places_of : Option (Box (List (Place Z)) Z) → List (Place Z)
-  places_of None = []
-  places_of (Some row) = row.value
+  -- the slots of a row, if it is there
+  abbrev pub slots_of : Option (Box (List (Slot Z)) Z) → List (Slot Z)
+  slots_of None = []
+  slots_of (Some row) = row.value
 
-  -- the places of the row r
-  abbrev pub row_of : Table Z → ℕ → List (Place Z)
-  row_of m r = places_of (tree.get nat_cmp m r)
+  -- the slots of the row r
+  abbrev pub row_of : Table Z → ℕ → List (Slot Z)
+  row_of m r = slots_of (tree.get nat_cmp m r)
 
   -- there is a row r
   abbrev pub has_row : Table Z → ℕ → Bool
   has_row m r = is_some (tree.get nat_cmp m r)
 
-  -- the place of the index k
-  abbrev pub slot : Table Z → ℕ → Place Z
-  slot m k = place_at (row_of m (k / ROW_BLOCKS)) (k % ROW_BLOCKS)
+  -- the slot of the index k
+  abbrev pub slot_in : Table Z → ℕ → Slot Z
+  slot_in m k = slot_at (row_of m (k / ROW_BLOCKS)) (k % ROW_BLOCKS)
 
-  -- the place of the index k holds a block
+  -- the slot of the index k holds a block
   abbrev pub filled : Table Z → ℕ → Bool
-  filled m k = is_some (slot m k)
+  filled m k = is_some (slot_in m k)
 
   -- the byte at the offset o, or 0
   abbrev pub byte_at : Table Z → ℕ → ℕ
-  byte_at m o = byte_of (slot m (o / BLOCK_SIZE)) (o % BLOCK_SIZE)
+  byte_at m o = byte_of (slot_in m (o / BLOCK_SIZE)) (o % BLOCK_SIZE)
 
   -- the write into all rows, as `Puts` says it
   abbrev pub PutsInRows : Table Z → Table Z → ℕ → ℕ → ℕ → List ℕ → Type 0
   PutsInRows m n = Puts (byte_at m) (byte_at n) (filled m) (filled n)
 
-  -- the row is there exactly if some of its places is filled
+  -- the row is there exactly if some of its slots is filled
   abbrev pub IsThereIfUsed : Table Z → ℕ → Type 0
   IsThereIfUsed m r = has_row m r ≡ is_used (filled m) r
 
   -- the two tables hold the same blocks
   pub record SameBlocks (old new : Table Z) : Type 0 where
-    pub slots : (k : ℕ) → slot new k ≡ slot old k
+    pub slots : (k : ℕ) → slot_in new k ≡ slot_in old k
 
   -- the new table has no row that the old one had not, and so many blocks fewer: so many more gaps
   -- below any bound of the rows
@@ -84,7 +84,7 @@ module _ {Z : Type 0} where
   file_of m size = record { bytes = bytes_of m size; allocated = allocated_of m size }
 
   -- what is always true of a file's fields
-  pub record IsWhole (m : Table Z) (size count : ℕ) (room : Room) : Type 0 where
+  pub record IsWhole (m : Table Z) (size count : ℕ) (room : WriteRoom) : Type 0 where
     -- the count is that of the blocks, and the size and the room keep their bounds
     pub counted : count ≡ length (allocated_of m size)
     pub bounded : size ≤ 2 ^ 40

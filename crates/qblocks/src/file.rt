@@ -2,7 +2,7 @@
 ghost use Rattle.std.specs.Prelude.{◌≡◌, ℕ, ◌+◌, ◌≤◌, ◌^◌, ◌||◌, length, IfOk, OnOk, OnErr};
 ghost use Rattle.std.specs.List.Sorted.{IsStrictlyIncreasing};
 ghost use Rattle.qblocks.specs.File.{empty_file, size_of, blocks_of, MoreBlocks, Adds, AllocatesTouched, after_write, after_truncate, read_at};
-ghost use Rattle.qblocks.specs.Room.{no_room, IsReady};
+ghost use Rattle.qblocks.specs.WriteRoom.{no_room, IsReadyToPut};
 
 use crate::block::BLOCK_SIZE;
 use crate::cut::cut;
@@ -34,7 +34,7 @@ pub struct BlockFile {
 }
 
 impl Model for BlockFile {
-    ghost use Rattle.qblocks.specs.Room.{RoomyFile};
+    ghost use Rattle.qblocks.specs.WriteRoom.{RoomyFile};
 
     ghost Value = { RoomyFile };
 
@@ -106,13 +106,13 @@ impl BlockFile {
 
     /// Makes all that a write of `len` bytes at `off` needs, and leaves the file as it was.
     ///
-    /// The `Spare` is for a `put` of that place and length, before any other change of the file. It
+    /// The `Spare` is for a `put` of that offset and length, before any other change of the file. It
     /// may be dropped: the next call that changes the file gives back what was made beside it. An
     /// Err leaves no room behind. Cost as for `write`.
     pub fn ready(&mut self, off: u64, len: u64) -> Result<Spare, NoMemory>
         requires { off + len ≤ MAX_SIZE }
         ensures same { self.new.file ≡ self.old.file }
-        ensures ok { IfOk result (λ spare. IsReady self.new off len spare) }
+        ensures ok { IfOk result (λ spare. IsReadyToPut self.new off len spare) }
         ensures err { OnErr result (self.new.room ≡ no_room) }
     {
         let missing = self.missing(off, len);
@@ -125,7 +125,7 @@ impl BlockFile {
         requires missing { Adds self.old.file off len missing }
         requires few { missing ≤ 2 ^ 28 }
         ensures same { self.new.file ≡ self.old.file }
-        ensures ok { IfOk result (λ spare. IsReady self.new off len spare) }
+        ensures ok { IfOk result (λ spare. IsReadyToPut self.new off len spare) }
         ensures err { OnErr result (self.new.room ≡ no_room) }
     {
         self.forget_room();
@@ -169,11 +169,11 @@ impl BlockFile {
         Ok(())
     }
 
-    /// Writes `input` at `off` with what `ready` made for that place and length, and gives the
+    /// Writes `input` at `off` with what `ready` made for that offset and length, and gives the
     /// number of blocks newly allocated. It takes no memory and always succeeds.
     pub fn put(&mut self, off: u64, input: &[u8], spare: Spare) -> u64
         requires bound { off + length input.now ≤ MAX_SIZE }
-        requires ready { IsReady self.old off (length input.now) spare }
+        requires ready { IsReadyToPut self.old off (length input.now) spare }
         ensures file { self.new.file ≡ after_write self.old.file off input.now }
         ensures count { MoreBlocks self.old.file self.new.file result }
         ensures touched { AllocatesTouched self.old.file self.new.file off (length input.now) }

@@ -1,30 +1,30 @@
-//! A row: 16 places beside each other, for 64 KiB of the file.
+//! A row: 16 slots beside each other, for 64 KiB of the file.
 ghost use Rattle.std.specs.Prelude.{◌≡◌, ◌≢◌, true, ℕ, ◌+◌, ◌-◌, ◌*◌, ◌/◌, ◌<◌, ◌≤◌, ◌&&◌, ◌^◌, nat_lt, length, is_some, IfOk, OnOk, None, if◌then◌else◌, ◌++◌, map, vec_len};
 ghost use Rattle.std.specs.List.{range_with_len};
-ghost use Rattle.qblocks.specs.Row.{Overwrites, PutsInRow, LosesBlocks, byte_of, place_at, row_filled, row_byte, gaps, gaps_in};
+ghost use Rattle.qblocks.specs.Row.{Overwrites, PutsInRow, LosesBlocks, byte_of, slot_at, row_filled, row_byte, gaps, gaps_in};
 
 use crate::block::{BLOCK_SIZE, Block, overwrite, zero_from};
 use crate::spare::Spare;
 use std::alloc::{AllocError as NoMemory, Global};
 
-/// How many places a row has.
+/// How many slots a row has.
 pub(crate) const ROW_BLOCKS: u64 = 16;
 
 /// How many bytes of the file a row is for.
 pub(crate) const ROW_SIZE: u64 = 65536;
 
 /// Room for a block, which may be there.
-pub(crate) type Place = Option<Box<Block>>;
+pub(crate) type Slot = Option<Box<Block>>;
 
-pub(crate) type Row = [Place; 16];
+pub(crate) type Row = [Slot; 16];
 
 pub(crate) fn empty_row(alloc: Global) -> Result<Box<Row>, NoMemory>
-    ensures { IfOk result (λ row. (j : ℕ) → place_at row.value j ≡ None) }
+    ensures { IfOk result (λ row. (j : ℕ) → slot_at row.value j ≡ None) }
 {
     Ok(Box::new(alloc, [const { None }; 16])?)
 }
 
-/// How many places from `first` up to `end` hold no block.
+/// How many slots from `first` up to `end` hold no block.
 pub(crate) fn missing(row: &Row, first: u64, end: u64) -> u64
     requires order { first ≤ end }
     requires within { end ≤ ROW_BLOCKS }
@@ -42,22 +42,22 @@ pub(crate) fn missing(row: &Row, first: u64, end: u64) -> u64
 
 /// Writes `part` at the byte `at` of the block `j`, which comes from `spare` where there is none yet.
 fn put_block(row: &mut Row, j: u64, at: u64, part: &[u8], spare: &mut Spare)
-    requires place { j < ROW_BLOCKS }
+    requires slot { j < ROW_BLOCKS }
     requires fits { at + length part.now ≤ BLOCK_SIZE }
     requires spare { (if row_filled row.old j then 0 else 1) ≤ spare.old }
     ensures filled { row_filled row.new j ≡ true }
-    ensures writes { Overwrites (byte_of (place_at row.old j)) (byte_of (place_at row.new j)) at
+    ensures writes { Overwrites (byte_of (slot_at row.old j)) (byte_of (slot_at row.new j)) at
         part.now }
-    ensures others { (q : ℕ) → q ≢ j → place_at row.new q ≡ place_at row.old q }
+    ensures others { (q : ℕ) → q ≢ j → slot_at row.new q ≡ slot_at row.old q }
     ensures spare { spare.new + (if row_filled row.old j then 0 else 1) ≡ spare.old }
 {
-    let place = &mut row[j as usize];
-    let mut block = match place.take() {
+    let slot = &mut row[j as usize];
+    let mut block = match slot.take() {
         Some(block) => block,
         None => spare.take(),
     };
     overwrite(&mut block, at as usize, part);
-    *place = Some(block);
+    *slot = Some(block);
 }
 
 /// Writes `part` at the byte `at` of the row, with a block of `spare` for each that is missing.
@@ -77,10 +77,10 @@ pub(crate) fn put(row: &mut Row, at: u64, part: &[u8], spare: &mut Spare)
     }
 }
 
-/// Takes out the blocks from the place `first` on.
+/// Takes out the blocks from the slot `first` on.
 fn free_from(row: &mut Row, first: u64)
-    ensures before { (j : ℕ) → j < first → place_at row.new j ≡ place_at row.old j }
-    ensures freed { (j : ℕ) → first ≤ j → place_at row.new j ≡ None }
+    ensures before { (j : ℕ) → j < first → slot_at row.new j ≡ slot_at row.old j }
+    ensures freed { (j : ℕ) → first ≤ j → slot_at row.new j ≡ None }
 {
     for j in first..ROW_BLOCKS {
         row[j as usize] = None;
@@ -89,18 +89,18 @@ fn free_from(row: &mut Row, first: u64)
 
 /// Forgets the bytes of the block `j` from `at` on.
 fn zero_tail(row: &mut Row, j: u64, at: u64)
-    requires place { j < ROW_BLOCKS }
+    requires slot { j < ROW_BLOCKS }
     requires within { at ≤ BLOCK_SIZE }
     ensures filled { (q : ℕ) → row_filled row.new q ≡ row_filled row.old q }
-    ensures others { (q : ℕ) → q ≢ j → place_at row.new q ≡ place_at row.old q }
+    ensures others { (q : ℕ) → q ≢ j → slot_at row.new q ≡ slot_at row.old q }
     ensures before { (i : ℕ) → i < at
-        → byte_of (place_at row.new j) i ≡ byte_of (place_at row.old j) i }
-    ensures tail { (i : ℕ) → at ≤ i → byte_of (place_at row.new j) i ≡ 0 }
+        → byte_of (slot_at row.new j) i ≡ byte_of (slot_at row.old j) i }
+    ensures tail { (i : ℕ) → at ≤ i → byte_of (slot_at row.new j) i ≡ 0 }
 {
-    let place = &mut row[j as usize];
-    if let Some(mut block) = place.take() {
+    let slot = &mut row[j as usize];
+    if let Some(mut block) = slot.take() {
         zero_from(&mut block, at as usize);
-        *place = Some(block);
+        *slot = Some(block);
     }
 }
 
@@ -124,11 +124,11 @@ pub(crate) fn cut(row: &mut Row, at: u64) -> u64
 
 /// Appends `len` bytes of the block `j` from `at` on.
 fn read_block(row: &Row, j: u64, at: u64, len: u64, out: &mut Vec<u8>) -> Result<(), NoMemory>
-    requires place { j < ROW_BLOCKS }
+    requires slot { j < ROW_BLOCKS }
     requires within { at + len ≤ BLOCK_SIZE }
     requires room { vec_len out.old ≤ 2 ^ 42 }
     ensures { OnOk result
-        (out.new.items ≡ out.old.items ++ map (byte_of (place_at row.now j)) (range_with_len at len)) }
+        (out.new.items ≡ out.old.items ++ map (byte_of (slot_at row.now j)) (range_with_len at len)) }
 {
     match &row[j as usize] {
         Some(block) => out.extend_from_slice(&block[at as usize..(at + len) as usize])?,

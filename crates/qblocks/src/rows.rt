@@ -13,7 +13,7 @@ use std::collections::BTreeMap;
 
 pub(crate) type Rows = BTreeMap<u64, Box<Row>>;
 
-/// How many places of the row `r` from `first` up to `end` hold no block.
+/// How many slots of the row `r` from `first` up to `end` hold no block.
 pub(crate) fn missing_in_row(rows: &Rows, r: u64, first: u64, end: u64) -> u64
     requires order { first ≤ end }
     requires within { end ≤ ROW_BLOCKS }

@@ -5,7 +5,7 @@ use Rattle.toml.specs.Data.{Data}
 use Rattle.toml.specs.View.{items_view, view}
 use Rattle.qconfig.specs.declared.config_fault.ConfigFault.{ConfigFault}
 use Rattle.qtext.specs.Reading.{each_of}
-use Rattle.qconfig.specs.ConfigFaults.{Cause, Fails}
+use Rattle.qconfig.specs.ConfigFaults.{Cause, EndsFor}
 use Rattle.qconfig.specs.ConfigFields.{values_of}
 use Rattle.qtext.proofs.Loops.{ends, with_front}
 
@@ -16,6 +16,6 @@ values_of-items_view (v ∷ vs) = let also : List Data → List Data = λ ds. vi
 
 -- the fault of one value is the fault of them all
 pub fails : {A B : Type 0} (read : A → Result B Cause) (front : List B) (x : A) (xs rest : List A) (fault : ConfigFault)
-    (total : Result (List B) Cause) → Fails fault (read x) → rest ≡ x ∷ xs → with_front front (each_of read rest) ≡ total
-    → Fails fault total
+    (total : Result (List B) Cause) → EndsFor fault (read x) → rest ≡ x ∷ xs → with_front front (each_of read rest) ≡ total
+    → EndsFor fault total
 fails read front x xs rest fault total h cut so_far cause tells = ends read front x xs rest cause total (h cause tells) cut so_far

@@ -42,10 +42,10 @@ abbrev pub Tells : ConfigFault → Cause → Type 0
 Tells fault this = (cause : Cause) → cause_of fault ≡ Some cause → cause ≡ this
 
 -- the cause that the fault tells, if it tells one, is the one for which the reading ends
-abbrev pub Fails : {A : Type 0} → ConfigFault → Result A Cause → Type 0
-Fails fault reading = (cause : Cause) → cause_of fault ≡ Some cause → reading ≡ Err cause
+abbrev pub EndsFor : {A : Type 0} → ConfigFault → Result A Cause → Type 0
+EndsFor fault reading = (cause : Cause) → cause_of fault ≡ Some cause → reading ≡ Err cause
 
 -- the result, seen by the view, is what the reading gives; its fault is the reading's, or want of memory
-abbrev pub Gives : {A B : Type 0} → (A → B) → Result A ConfigFault → Result B Cause → Type 0
-Gives view (Ok value) reading = reading ≡ Ok (view value)
-Gives view (Err fault) reading = Fails fault reading
+abbrev pub GivesBy : {A B : Type 0} → (A → B) → Result A ConfigFault → Result B Cause → Type 0
+GivesBy view (Ok value) reading = reading ≡ Ok (view value)
+GivesBy view (Err fault) reading = EndsFor fault reading

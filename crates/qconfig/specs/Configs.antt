@@ -10,7 +10,7 @@ use Rattle.qconfig.specs.declared.config.principal.WrittenPrincipal.{WrittenPrin
 use Rattle.qconfig.specs.declared.config.written.WrittenConfig.{WrittenConfig}
 use Rattle.qconfig.specs.declared.config_fault.ConfigFault.{ConfigFault}
 use Rattle.qtext.specs.Reading.{◌>>=◌, each_of}
-use Rattle.qconfig.specs.ConfigFaults.{Cause, Fails, Range, Text, cause_of_setup}
+use Rattle.qconfig.specs.ConfigFaults.{Cause, EndsFor, Range, Text, cause_of_setup}
 use Rattle.qconfig.specs.ConfigFields.{found, integer_at, text_at}
 use Rattle.qconfig.specs.ConfigKeys.{known_keys}
 use Rattle.qconfig.specs.ConfigPrincipals.{principals_at}
@@ -99,7 +99,7 @@ setting_in text = do
   setting_of written
 
 -- what is read has the setup of the setting that is written; a fault is the cause for which none is, or want of memory
-abbrev pub Reads : {A : Type 0} → (A → Setting) → Result A ConfigFault → Result Setting Cause → Type 0
-Reads setup_of (Ok read) (Ok given) = IsSetupOf given (setup_of read)
-Reads setup_of (Ok read) (Err cause) = ⊥
-Reads setup_of (Err fault) written = Fails fault written
+abbrev pub ReadsSetup : {A : Type 0} → (A → Setting) → Result A ConfigFault → Result Setting Cause → Type 0
+ReadsSetup setup_of (Ok read) (Ok given) = IsSetupOf given (setup_of read)
+ReadsSetup setup_of (Ok read) (Err cause) = ⊥
+ReadsSetup setup_of (Err fault) written = EndsFor fault written

@@ -3,7 +3,7 @@
 ghost use Rattle.std.specs.Prelude.{◌≡◌};
 ghost use Rattle.toml.specs.Parse.{parse_document};
 ghost use Rattle.toml.specs.View.{table_view};
-ghost use Rattle.qconfig.specs.ConfigFaults.{Gives};
+ghost use Rattle.qconfig.specs.ConfigFaults.{GivesBy};
 ghost use Rattle.qconfig.specs.Configs.{document_of};
 
 use crate::ConfigFault;
@@ -29,9 +29,9 @@ pub struct Config {
 }
 
 impl Config {
-    ghost use Rattle.qconfig.specs.Configs.{Reads, setting_in};
+    ghost use Rattle.qconfig.specs.Configs.{ReadsSetup, setting_in};
 
-    /// Reads a configuration, a TOML document: see setquota(8) and tmpfs(5) for the words.
+    /// ReadsSetup a configuration, a TOML document: see setquota(8) and tmpfs(5) for the words.
     ///
     /// `size` is a text, in bytes: 1 to 10 digits, the first not 0, then nothing, `k`, `m` or `g` for
     /// 2^10, 2^20 or 2^30. It is rounded up to whole blocks of 4096 bytes. `nr_inodes` is an integer,
@@ -49,7 +49,7 @@ impl Config {
     /// twice is no TOML.
     #[tactic(auto, unfolding(crate::specs::Configs::setting_in))]
     pub fn read(alloc: Global, text: &str) -> Result<Self, ConfigFault>
-        ensures exact { Reads (λ config. config.setup) result (setting_in text.now) }
+        ensures exact { ReadsSetup (λ config. config.setup) result (setting_in text.now) }
     {
         let document = document_of(alloc, text)?;
         let written = fields_of(alloc, &document)?;
@@ -61,7 +61,7 @@ impl Config {
 }
 
 fn document_of(alloc: Global, text: &str) -> Result<Table, ConfigFault>
-    ensures { Gives (λ document. table_view document) result (document_of (parse_document text.now)) }
+    ensures { GivesBy (λ document. table_view document) result (document_of (parse_document text.now)) }
 {
     match toml::table_from_str(alloc, text) {
         Ok(document) => Ok(document),

@@ -8,8 +8,8 @@ use Rattle.qplain.specs.Paths.{is_path_byte}
 use Rattle.qtext.specs.declared.text_fault.TextKind.TheVariants.{BadCred}
 use Rattle.qtext.specs.Reading.{each_of}
 use Rattle.qtext.specs.Words.{parts}
-use Rattle.qline.specs.Callers.{caller_of, caller_in, caller_from, owner_of, owner_in, groups_of}
-use Rattle.qline.specs.Spelling.{caller_text, owner_text, IsCaller}
+use Rattle.qline.specs.Callers.{caller_of, caller_in, caller_from, own_ids_of, own_ids_in, groups_of}
+use Rattle.qline.specs.Spelling.{caller_text, own_ids_text, IsCaller}
 use Rattle.qtext.proofs.Joining.{lacks, parts_join, passes_join, passes_weaker}
 use Rattle.qtext.proofs.WordsAgain.{are_digits, digit_lacks, digit_lacks_above, number_again}
 use Rattle.qline.proofs.ArgumentsAgain.{decimal_word}
@@ -31,8 +31,8 @@ digit_words : (gs : List ℕ) → AllByRecursion (λ g. g < 2 ^ 32) gs → AllBy
 digit_words [] fits = tt
 digit_words (g ∷ gs) fits = let small : g < 2 ^ 32 = fits.0 in (decimal_word g (omega arith), digit_words gs fits.1)
 
-owner_parts : (c : Caller) → IsCaller c → parts 58 (owner_text c) ≡ decimal c.uid ∷ decimal c.gid ∷ []
-owner_parts c fits =
+own_ids_parts : (c : Caller) → IsCaller c → parts 58 (own_ids_text c) ≡ decimal c.uid ∷ decimal c.gid ∷ []
+own_ids_parts c fits =
     let u : c.uid < 2 ^ 32 = fits.uid in
     let g : c.gid < 2 ^ 32 = fits.gid in
     parts_join 58 (decimal c.uid) (decimal c.gid ∷ []) (
@@ -40,15 +40,15 @@ owner_parts c fits =
       (passes_weaker is_ascii_digit (λ b. not (eqb b 58)) (decimal c.gid) (digit_lacks_above 58 (lit< tt)) (are_digits c.gid (omega arith)), tt),
     )
 
-owner_again : (c : Caller) → IsCaller c → owner_of (decimal c.uid ∷ decimal c.gid ∷ []) ≡ Ok (c.uid, c.gid)
-unfolding owner_of owner_in
-owner_again c fits =
+own_ids_again : (c : Caller) → IsCaller c → own_ids_of (decimal c.uid ∷ decimal c.gid ∷ []) ≡ Ok (c.uid, c.gid)
+unfolding own_ids_of own_ids_in
+own_ids_again c fits =
     let u : c.uid < 2 ^ 32 = fits.uid in
     let g : c.gid < 2 ^ 32 = fits.gid in
     rw (number_again BadCred (2 ^ 32 - 1) c.uid (omega arith) (omega arith), number_again BadCred (2 ^ 32 - 1) c.gid (omega arith) (omega arith)) refl
 
-owner_lacks : (c : Caller) → IsCaller c → lacks 44 (owner_text c) ≡ true
-owner_lacks c fits =
+own_ids_lack : (c : Caller) → IsCaller c → lacks 44 (own_ids_text c) ≡ true
+own_ids_lack c fits =
     let u : c.uid < 2 ^ 32 = fits.uid in
     let g : c.gid < 2 ^ 32 = fits.gid in
     passes_join (λ b. not (eqb b 44)) 58 (decimal c.uid ∷ decimal c.gid ∷ []) refl (
@@ -56,22 +56,22 @@ owner_lacks c fits =
       (passes_weaker is_ascii_digit (λ b. not (eqb b 44)) (decimal c.gid) (digit_lacks 44 (lit< tt)) (are_digits c.gid (omega arith)), tt),
     )
 
-owner_word : (c : Caller) → IsCaller c → list_all is_path_byte (owner_text c) ≡ true
-owner_word c fits =
+own_ids_word : (c : Caller) → IsCaller c → list_all is_path_byte (own_ids_text c) ≡ true
+own_ids_word c fits =
     let u : c.uid < 2 ^ 32 = fits.uid in
     let g : c.gid < 2 ^ 32 = fits.gid in
     passes_join is_path_byte 58 (decimal c.uid ∷ decimal c.gid ∷ []) refl (decimal_word c.uid (omega arith), (decimal_word c.gid (omega arith), tt))
 
 pub caller_word : (c : Caller) → IsCaller c → list_all is_path_byte (caller_text c) ≡ true
-caller_word c fits = passes_join is_path_byte 44 (owner_text c ∷ map decimal c.more) refl (owner_word c fits, digit_words c.more fits.more)
+caller_word c fits = passes_join is_path_byte 44 (own_ids_text c ∷ map decimal c.more) refl (own_ids_word c fits, digit_words c.more fits.more)
 
-in_again : (c : Caller) → IsCaller c → caller_in (owner_text c ∷ map decimal c.more) ≡ Ok c
+in_again : (c : Caller) → IsCaller c → caller_in (own_ids_text c ∷ map decimal c.more) ≡ Ok c
 unfolding caller_in caller_from
 in_again c fits =
     let most : length c.more ≤ 16 = fits.few in
     let few : leb (length c.more) 16 ≡ true = grind (arith, nat_tests) in
-    rw (owner_parts c fits, owner_again c fits, each_number c.more fits.more, few) refl
+    rw (own_ids_parts c fits, own_ids_again c fits, each_number c.more fits.more, few) refl
 
 pub caller_again : (c : Caller) → IsCaller c → caller_of (caller_text c) ≡ Ok c
 caller_again c fits =
-    ap caller_in (parts_join 44 (owner_text c) (map decimal c.more) (owner_lacks c fits, lacking 44 (lit< tt) c.more fits.more)) ∙ in_again c fits
+    ap caller_in (parts_join 44 (own_ids_text c) (map decimal c.more) (own_ids_lack c fits, lacking 44 (lit< tt) c.more fits.more)) ∙ in_again c fits

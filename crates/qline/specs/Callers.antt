@@ -8,16 +8,16 @@ use Rattle.qtext.specs.Reading.{◌>>=◌, each_of}
 use Rattle.qtext.specs.Words.{parts, id_of}
 
 -- a uid and a gid
-unfoldable pub owner_in : List ℕ → List ℕ → Result (ℕ × ℕ) TextKind
-owner_in u g = do
+unfoldable pub own_ids_in : List ℕ → List ℕ → Result (ℕ × ℕ) TextKind
+own_ids_in u g = do
   uid ← id_of BadCred u
   gid ← id_of BadCred g
   Ok (uid, gid)
 
 -- the uid and the gid whose words these are
-unfoldable pub owner_of : List (List ℕ) → Result (ℕ × ℕ) TextKind
-owner_of (u ∷ g ∷ []) = owner_in u g
-owner_of _ = Err BadCred
+unfoldable pub own_ids_of : List (List ℕ) → Result (ℕ × ℕ) TextKind
+own_ids_of (u ∷ g ∷ []) = own_ids_in u g
+own_ids_of _ = Err BadCred
 
 -- the further groups
 abbrev pub groups_of : List (List ℕ) → Result (List ℕ) TextKind
@@ -25,16 +25,16 @@ groups_of words = each_of (id_of BadCred) words
 
 -- a caller of these ids, where the further groups are not too many
 abbrev pub caller_with : ℕ × ℕ → List ℕ → Result Caller TextKind
-caller_with owner more =
-    if nat_le (length more) MAX_MORE_GROUPS then Ok (record { uid = owner.0; gid = owner.1; more = more })
+caller_with own more =
+    if nat_le (length more) MAX_MORE_GROUPS then Ok (record { uid = own.0; gid = own.1; more = more })
     else Err BadCred
 
--- the caller of an owner's text and the words of the further groups
+-- the caller of the text of its own ids and the words of the further groups
 unfoldable pub caller_from : List ℕ → List (List ℕ) → Result Caller TextKind
 caller_from first groups = do
-  owner ← owner_of (parts 58 first)
+  own ← own_ids_of (parts 58 first)
   more ← groups_of groups
-  caller_with owner more
+  caller_with own more
 
 -- the caller whose parts between commas these are
 unfoldable pub caller_in : List (List ℕ) → Result Caller TextKind

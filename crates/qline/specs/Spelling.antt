@@ -12,12 +12,12 @@ use Rattle.qtext.specs.Pieces.{data_text}
 use Rattle.qtext.specs.RuleWords.{kind_text}
 
 -- UID:GID
-abbrev pub owner_text : Caller → List ℕ
-owner_text cred = join_with_byte 58 (decimal cred.uid ∷ decimal cred.gid ∷ [])
+abbrev pub own_ids_text : Caller → List ℕ
+own_ids_text cred = join_with_byte 58 (decimal cred.uid ∷ decimal cred.gid ∷ [])
 
 -- UID:GID, then a comma before each further group
 abbrev pub caller_text : Caller → List ℕ
-caller_text cred = join_with_byte 44 (owner_text cred ∷ map decimal cred.more)
+caller_text cred = join_with_byte 44 (own_ids_text cred ∷ map decimal cred.more)
 
 -- BSOFT BHARD ISOFT IHARD
 abbrev pub limits_words : Limits → List (List ℕ)

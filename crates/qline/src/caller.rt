@@ -2,16 +2,16 @@ ghost use Rattle.std.specs.Prelude.{◌≡◌};
 ghost use Rattle.std.specs.Option.{option_map};
 ghost use Rattle.qtext.specs.Gives.{Gives};
 ghost use Rattle.qtext.specs.Words.{parts, parts_after};
-ghost use Rattle.qline.specs.Callers.{owner_in, owner_of, groups_of, caller_from, caller_of};
+ghost use Rattle.qline.specs.Callers.{own_ids_in, own_ids_of, groups_of, caller_from, caller_of};
 
 use qplain::Cred;
 use qrules::Items;
 use qtext::{ReadFault, TextKind, first_part, id_of};
 use std::alloc::Global;
 
-#[tactic(auto, unfolding(crate::specs::Callers::owner_in))]
-fn owner_in(uid: &[u8], gid: &[u8]) -> Result<(u32, u32), ReadFault>
-    ensures { Gives result (owner_in uid.now gid.now) }
+#[tactic(auto, unfolding(crate::specs::Callers::own_ids_in))]
+fn own_ids_in(uid: &[u8], gid: &[u8]) -> Result<(u32, u32), ReadFault>
+    ensures { Gives result (own_ids_in uid.now gid.now) }
 {
     let uid = id_of(TextKind::BadCred, uid)?;
     let gid = id_of(TextKind::BadCred, gid)?;
@@ -19,8 +19,8 @@ fn owner_in(uid: &[u8], gid: &[u8]) -> Result<(u32, u32), ReadFault>
 }
 
 /// The uid and the gid of `UID:GID`.
-fn owner_of(text: &[u8]) -> Result<(u32, u32), ReadFault>
-    ensures { Gives result (owner_of (parts 58 text.now)) }
+fn own_ids_of(text: &[u8]) -> Result<(u32, u32), ReadFault>
+    ensures { Gives result (own_ids_of (parts 58 text.now)) }
 {
     let (uid, after) = first_part(text, b':');
     let Some(after) = after else {
@@ -28,7 +28,7 @@ fn owner_of(text: &[u8]) -> Result<(u32, u32), ReadFault>
     };
     let (gid, after) = first_part(after, b':');
     match after {
-        None => owner_in(uid, gid),
+        None => own_ids_in(uid, gid),
         Some(_) => Err(ReadFault::Fault(TextKind::BadCred)),
     }
 }
@@ -48,10 +48,10 @@ fn groups_of(alloc: Global, text: Option<&[u8]>) -> Result<Items<u32>, ReadFault
 }
 
 #[tactic(auto, unfolding(crate::specs::Callers::caller_from))]
-fn caller_from(alloc: Global, owner: &[u8], groups: Option<&[u8]>) -> Result<Cred, ReadFault>
-    ensures { Gives result (caller_from owner.now (parts_after 44 (option_map (λ t. t.now) groups.entry))) }
+fn caller_from(alloc: Global, own: &[u8], groups: Option<&[u8]>) -> Result<Cred, ReadFault>
+    ensures { Gives result (caller_from own.now (parts_after 44 (option_map (λ t. t.now) groups.entry))) }
 {
-    let (uid, gid) = owner_of(owner)?;
+    let (uid, gid) = own_ids_of(own)?;
     let more = groups_of(alloc, groups)?;
     match Cred::new(uid, gid, more.as_slice()) {
         Some(cred) => Ok(cred),
@@ -63,6 +63,6 @@ fn caller_from(alloc: Global, owner: &[u8], groups: Option<&[u8]>) -> Result<Cre
 pub fn caller_of(alloc: Global, word: &[u8]) -> Result<Cred, ReadFault>
     ensures { Gives result (caller_of word.now) }
 {
-    let (owner, groups) = first_part(word, b',');
-    caller_from(alloc, owner, groups)
+    let (own, groups) = first_part(word, b',');
+    caller_from(alloc, own, groups)
 }

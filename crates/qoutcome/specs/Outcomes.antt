@@ -31,7 +31,7 @@ line_text (Err fault) = concat (codes "- failed " ∷ call_fault_text fault ∷ 
 
 -- a worker's number, and the lines of its transcript
 abbrev pub transcript_text : Transcript → List ℕ
-transcript_text t = worker_text t.worker ++ flat_map line_text t.outcomes
+transcript_text t = worker_text t.worker ++ flat_map line_text t.answers
 
 -- the totals, each beside its bound
 abbrev pub totals_text : Outcome → List ℕ

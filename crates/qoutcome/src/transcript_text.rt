@@ -27,10 +27,10 @@ fn put_receipt<W: Write>(out: &mut W, receipt: &Receipt) -> Result<(), RefusedWr
     put(out, b"\n")
 }
 
-fn put_line<W: Write>(out: &mut W, outcome: &Result<Receipt, CallFault>) -> Result<(), RefusedWrite>
-    ensures { Writes (W.contents out.old) (W.contents out.new) result (line_text outcome.now) }
+fn put_line<W: Write>(out: &mut W, answer: &Result<Receipt, CallFault>) -> Result<(), RefusedWrite>
+    ensures { Writes (W.contents out.old) (W.contents out.new) result (line_text answer.now) }
 {
-    match outcome {
+    match answer {
         Ok(receipt) => put_receipt(out, receipt),
         Err(fault) => {
             let pieces = [
@@ -45,12 +45,12 @@ fn put_line<W: Write>(out: &mut W, outcome: &Result<Receipt, CallFault>) -> Resu
 
 fn put_lines<W: Write>(
     out: &mut W,
-    outcomes: &[Result<Receipt, CallFault>],
+    answers: &[Result<Receipt, CallFault>],
 ) -> Result<(), RefusedWrite>
-    ensures { Writes (W.contents out.old) (W.contents out.new) result (flat_map line_text outcomes.now) }
+    ensures { Writes (W.contents out.old) (W.contents out.new) result (flat_map line_text answers.now) }
 {
-    for outcome in outcomes {
-        put_line(out, outcome)?;
+    for answer in answers {
+        put_line(out, answer)?;
     }
     Ok(())
 }
@@ -65,7 +65,7 @@ fn put_transcript<W: Write>(out: &mut W, transcript: &Transcript) -> Result<(), 
         Piece::Text(b"\n"),
     ];
     put_pieces(out, &head)?;
-    put_lines(out, transcript.outcomes.as_slice())
+    put_lines(out, transcript.answers.as_slice())
 }
 
 /// Writes the transcripts, one after the other.

@@ -15,20 +15,20 @@ use Rattle.qrun.proofs.Telling.{IsOf}
 
 -- the only worker's transcript
 abbrev pub only_transcript : List Line → List (Result Receipt CallFault) → Transcript
-only_transcript lines outcomes = record { worker = 1; lines = lines; outcomes = outcomes }
+only_transcript lines answers = record { worker = 1; lines = lines; answers = answers }
 
 -- the transcripts of one worker
-pub one_transcript : (lines : List Line) (journal : List Entry) (outcomes : List (Result Receipt CallFault))
-    → length outcomes ≡ length lines → journaled_lines 1 lines outcomes ≡ entries_of journal 1
-    → All (IsFullOf journal) outcomes
-    → AreTranscriptsOf 1 (lines ∷ []) journal (only_transcript lines outcomes ∷ [])
+pub one_transcript : (lines : List Line) (journal : List Entry) (answers : List (Result Receipt CallFault))
+    → length answers ≡ length lines → journaled_lines 1 lines answers ≡ entries_of journal 1
+    → All (IsFullOf journal) answers
+    → AreTranscriptsOf 1 (lines ∷ []) journal (only_transcript lines answers ∷ [])
 unfolding AreTranscriptsOf
-one_transcript lines journal outcomes each own full = (record { worker_is = refl; lines_are = refl; each = each; own = own; full = full }, tt)
+one_transcript lines journal answers each own full = (record { worker_is = refl; lines_are = refl; each = each; own = own; full = full }, tt)
 
 -- the entries of one worker belong to its transcript
-pub all_belong : (lines : List Line) (journal : List Entry) (outcomes : List (Result Receipt CallFault))
-    → All (IsOf 1) journal → All (Belongs (only_transcript lines outcomes ∷ [])) journal
-all_belong lines journal outcomes all k d less = (0, omega arith, sym (all k d less))
+pub all_belong : (lines : List Line) (journal : List Entry) (answers : List (Result Receipt CallFault))
+    → All (IsOf 1) journal → All (Belongs (only_transcript lines answers ∷ [])) journal
+all_belong lines journal answers all k d less = (0, omega arith, sym (all k d less))
 
 -- what is left of a store that was played on
 pub alone : (setting : Setting) (scripts : List (List Line)) (j : Journaled) (o : Outcome) → IsPlayed j

@@ -9,7 +9,7 @@ use Rattle.qplain.specs.Journal.{IsLegal, play, played}
 use Rattle.qplain.specs.Step.{step}
 use Rattle.qplain.proofs.Playing.{legal-one_more, play-one_more}
 use Rattle.qstore.specs.declared.ready.Ready.{Ready}
-use Rattle.qstore.specs.Ready.{outcome}
+use Rattle.qstore.specs.Ready.{committed}
 use Rattle.qrun.specs.declared.journaled_store.TheConstants.{MAX_ENTRIES}
 use Rattle.qrun.specs.Journaled.{IsPlayed, Journaled, entry_of}
 
@@ -33,9 +33,9 @@ played_on old new worker line reply is few setting journal stepped =
 
 -- what was ready and is carried out is the plain machine's step, with the reply that was copied beforehand
 pub carried_out : (before ready_state after : State) (r : Ready) (reply shown copy : Reply) (line : Line)
-    → ready_state ≡ before → outcome before r ≡ step before line.cred line.moment line.call
-    → (after, reply) ≡ outcome ready_state r → shown ≡ r.reply → copy ≡ shown
+    → ready_state ≡ before → committed before r ≡ step before line.cred line.moment line.call
+    → (after, reply) ≡ committed ready_state r → shown ≡ r.reply → copy ≡ shown
     → (after, copy) ≡ step before line.cred line.moment line.call
 carried_out before ready_state after r reply shown copy line same stepped done told copied =
     let given : reply ≡ r.reply = ap (λ p. p.1) done in
-    ap (λ x. (after, x)) (copied ∙ told ∙ sym given) ∙ done ∙ ap (λ T. outcome T r) same ∙ stepped
+    ap (λ x. (after, x)) (copied ∙ told ∙ sym given) ∙ done ∙ ap (λ T. committed T r) same ∙ stepped

@@ -1,4 +1,4 @@
--- A worker's lines told one after the other: each has an outcome, the receipts are the worker's own entries, and there are no others.
+-- A worker's lines told one after the other: each has an answer, the receipts are the worker's own entries, and there are no others.
 use Rattle.std.proofs.Common.{◌≡◌, ℕ, ◌+◌, ◌<◌, List, [], ◌∷◌, ◌++◌, ◌↔◌, length, take, get_or, All, Result, Ok, Err, IfOk, OnErr, refl, sym, ap, ◌∙◌, append_assoc, append-nil, arith, add-one}
 use Rattle.std.proofs.Math.Seq.{take-suc}
 use Rattle.std.proofs.lemmas.List.{length-append, length-take-le}
@@ -19,79 +19,79 @@ abbrev pub IsOf : ℕ → Entry → Type 0
 IsOf worker e = e.worker ≡ worker
 
 -- the first lines are told
-pub record AreTold (worker : ℕ) (lines : List Line) (count : ℕ) (journal : List Entry) (outcomes : List (Result Receipt CallFault)) : Type 0 where
-  pub each : length outcomes ≡ count
-  pub own : journaled_lines worker (take count lines) outcomes ≡ entries_of journal worker
+pub record AreTold (worker : ℕ) (lines : List Line) (count : ℕ) (journal : List Entry) (answers : List (Result Receipt CallFault)) : Type 0 where
+  pub each : length answers ≡ count
+  pub own : journaled_lines worker (take count lines) answers ≡ entries_of journal worker
   pub all : All (IsOf worker) journal
-  pub full : All (IsFullOf journal) outcomes
+  pub full : All (IsFullOf journal) answers
 
 -- at first none is
 pub none_told : (worker : ℕ) (lines : List Line) (journal : List Entry) → journal ≡ [] → AreTold worker lines 0 journal []
 unfolding journaled_lines
 none_told worker lines journal fresh = record { each = refl; own = rw fresh refl; all = rw fresh (All-nil (IsOf worker)); full = All-nil (IsFullOf journal) }
 
--- one more line and its outcome
-more_lines : (worker : ℕ) (lines : List Line) (outcomes : List (Result Receipt CallFault)) (line : Line)
-    (outcome : Result Receipt CallFault) → length outcomes ≡ length lines
-    → journaled_lines worker (lines ++ line ∷ []) (outcomes ++ outcome ∷ [])
-    ≡ journaled_lines worker lines outcomes ++ journaled_line worker line outcome
+-- one more line and its answer
+more_lines : (worker : ℕ) (lines : List Line) (answers : List (Result Receipt CallFault)) (line : Line)
+    (answer : Result Receipt CallFault) → length answers ≡ length lines
+    → journaled_lines worker (lines ++ line ∷ []) (answers ++ answer ∷ [])
+    ≡ journaled_lines worker lines answers ++ journaled_line worker line answer
 unfolding journaled_lines
-more_lines worker [] [] line outcome same = append-nil (journaled_line worker line outcome)
-more_lines worker (l ∷ ls) (o ∷ os) line outcome same =
+more_lines worker [] [] line answer same = append-nil (journaled_line worker line answer)
+more_lines worker (l ∷ ls) (o ∷ os) line answer same =
     let fewer : length os ≡ length ls = omega arith in
-    ap (λ rest. journaled_line worker l o ++ rest) (more_lines worker ls os line outcome fewer)
+    ap (λ rest. journaled_line worker l o ++ rest) (more_lines worker ls os line answer fewer)
     ∙ sym (append_assoc (journaled_line worker l o) (journaled_lines worker ls os)
-    (journaled_line worker line outcome))
-more_lines worker [] (o ∷ os) line outcome same = absurd (cc)
-more_lines worker (l ∷ ls) [] line outcome same = absurd (cc)
+    (journaled_line worker line answer))
+more_lines worker [] (o ∷ os) line answer same = absurd (cc)
+more_lines worker (l ∷ ls) [] line answer same = absurd (cc)
 
--- what an outcome adds to the worker's own entries
-own_after : (worker : ℕ) (line : Line) (outcome : Result Receipt CallFault) (old new : List Entry)
-    → IfOk outcome (λ receipt. IsJournaled worker line receipt old new) → OnErr outcome (new ≡ old)
-    → entries_of old worker ++ journaled_line worker line outcome ≡ entries_of new worker
+-- what an answer adds to the worker's own entries
+own_after : (worker : ℕ) (line : Line) (answer : Result Receipt CallFault) (old new : List Entry)
+    → IfOk answer (λ receipt. IsJournaled worker line receipt old new) → OnErr answer (new ≡ old)
+    → entries_of old worker ++ journaled_line worker line answer ≡ entries_of new worker
 own_after worker line (Ok receipt) old new is same = rw (is.entry, is.place) (sym (own-one_more old (entry_of worker line receipt.reply) worker refl))
 own_after worker line (Err fault) old new is same = rw same (append-nil (entries_of old worker))
 
--- an outcome adds none but the worker's
-all_after : (worker : ℕ) (line : Line) (outcome : Result Receipt CallFault) (old new : List Entry)
-    → IfOk outcome (λ receipt. IsJournaled worker line receipt old new) → OnErr outcome (new ≡ old)
+-- an answer adds none but the worker's
+all_after : (worker : ℕ) (line : Line) (answer : Result Receipt CallFault) (old new : List Entry)
+    → IfOk answer (λ receipt. IsJournaled worker line receipt old new) → OnErr answer (new ≡ old)
     → All (IsOf worker) old → All (IsOf worker) new
 all_after worker line (Ok receipt) old new is same all = rw is.entry (All-push (IsOf worker) old (entry_of worker line receipt.reply) all refl)
 all_after worker line (Err fault) old new is same all = rw same all
 
 -- a call that was journaled found the journal not full, so no call before it found it full
-still_full : (worker : ℕ) (line : Line) (outcome : Result Receipt CallFault) (old new : List Entry)
-    (outcomes : List (Result Receipt CallFault)) → OnErr outcome (new ≡ old)
-    → ((outcome ≡ Err JournalFull) ↔ (length old ≡ MAX_ENTRIES)) → All (IsFullOf old) outcomes
-    → All (IsFullOf new) outcomes
-still_full worker line (Err fault) old new outcomes same is all = rw same all
-still_full worker line (Ok receipt) old new outcomes same is all =
+still_full : (worker : ℕ) (line : Line) (answer : Result Receipt CallFault) (old new : List Entry)
+    (answers : List (Result Receipt CallFault)) → OnErr answer (new ≡ old)
+    → ((answer ≡ Err JournalFull) ↔ (length old ≡ MAX_ENTRIES)) → All (IsFullOf old) answers
+    → All (IsFullOf new) answers
+still_full worker line (Err fault) old new answers same is all = rw same all
+still_full worker line (Ok receipt) old new answers same is all =
     λ k d less told. let full : Ok receipt ≡ Err JournalFull = is.1 (all k d less told) in absurd cc
 
 -- nor does this one, where it tells of a full journal, change the journal
-now_full : (outcome : Result Receipt CallFault) (old new : List Entry) → OnErr outcome (new ≡ old)
-    → ((outcome ≡ Err JournalFull) ↔ (length old ≡ MAX_ENTRIES)) → IsFullOf new outcome
+now_full : (answer : Result Receipt CallFault) (old new : List Entry) → OnErr answer (new ≡ old)
+    → ((answer ≡ Err JournalFull) ↔ (length old ≡ MAX_ENTRIES)) → IsFullOf new answer
 now_full (Ok receipt) old new same is told = absurd cc
 now_full (Err fault) old new same is told = rw same (is.0 told)
 
 -- one more line is told
 pub one_more_told : (worker : ℕ) (lines : List Line) (count : ℕ) (old new : List Entry)
-    (outcomes after : List (Result Receipt CallFault)) (line d : Line) (outcome : Result Receipt CallFault)
-    → AreTold worker lines count old outcomes → count < length lines → line ≡ get_or lines count d
-    → IfOk outcome (λ receipt. IsJournaled worker line receipt old new) → OnErr outcome (new ≡ old)
-    → ((outcome ≡ Err JournalFull) ↔ (length old ≡ MAX_ENTRIES)) → after ≡ outcomes ++ outcome ∷ []
+    (answers after : List (Result Receipt CallFault)) (line d : Line) (answer : Result Receipt CallFault)
+    → AreTold worker lines count old answers → count < length lines → line ≡ get_or lines count d
+    → IfOk answer (λ receipt. IsJournaled worker line receipt old new) → OnErr answer (new ≡ old)
+    → ((answer ≡ Err JournalFull) ↔ (length old ≡ MAX_ENTRIES)) → after ≡ answers ++ answer ∷ []
     → AreTold worker lines (count + 1) new after
-one_more_told worker lines count old new outcomes after line d outcome told few is granted failed full more =
+one_more_told worker lines count old new answers after line d answer told few is granted failed full more =
     let first : take (count + 1) lines ≡ take count lines ++ line ∷ [] = rw (add-one, is) (take-suc lines count d few) in
-    let same : length outcomes ≡ length (take count lines) = told.each ∙ sym (length-take-le count lines (omega arith)) in
-    let longer : length (outcomes ++ outcome ∷ []) ≡ length outcomes + 1 = length-append outcomes (outcome ∷ []) in
+    let same : length answers ≡ length (take count lines) = told.each ∙ sym (length-take-le count lines (omega arith)) in
+    let longer : length (answers ++ answer ∷ []) ≡ length answers + 1 = length-append answers (answer ∷ []) in
     record {
       each = rw (more, longer, told.each) refl;
-      own = rw (first, more) (more_lines worker (take count lines) outcomes line outcome same
-          ∙ ap (λ es. es ++ journaled_line worker line outcome) told.own
-          ∙ own_after worker line outcome old new granted failed);
-      all = all_after worker line outcome old new granted failed told.all;
-      full = rw more (All-push (IsFullOf new) outcomes outcome
-          (still_full worker line outcome old new outcomes failed full told.full)
-          (now_full outcome old new failed full));
+      own = rw (first, more) (more_lines worker (take count lines) answers line answer same
+          ∙ ap (λ es. es ++ journaled_line worker line answer) told.own
+          ∙ own_after worker line answer old new granted failed);
+      all = all_after worker line answer old new granted failed told.all;
+      full = rw more (All-push (IsFullOf new) answers answer
+          (still_full worker line answer old new answers failed full told.full)
+          (now_full answer old new failed full));
     }

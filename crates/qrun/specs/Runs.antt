@@ -21,23 +21,23 @@ journaled_line worker line (Err fault) = []
 
 -- the entries that a worker's receipts stand for, line by line
 unfoldable pub journaled_lines : ℕ → List Line → List (Result Receipt CallFault) → List (ℕ × Entry)
-journaled_lines worker (line ∷ lines) (outcome ∷ outcomes) =
-    journaled_line worker line outcome ++ journaled_lines worker lines outcomes
-journaled_lines worker [] outcomes = []
+journaled_lines worker (line ∷ lines) (answer ∷ answers) =
+    journaled_line worker line answer ++ journaled_lines worker lines answers
+journaled_lines worker [] answers = []
 journaled_lines worker (line ∷ lines) [] = []
 
--- an outcome tells of a full journal only where the journal is full
+-- an answer tells of a full journal only where the journal is full
 abbrev pub IsFullOf : List Entry → Result Receipt CallFault → Type 0
-IsFullOf journal outcome = outcome ≡ Err JournalFull → length journal ≡ MAX_ENTRIES
+IsFullOf journal answer = answer ≡ Err JournalFull → length journal ≡ MAX_ENTRIES
 
--- a worker's transcript: its script's lines, one outcome for each, the receipts are its own entries, and no outcome
+-- a worker's transcript: its script's lines, one answer to each, the receipts are its own entries, and no outcome
 -- tells of a full journal that is not full
 pub record IsTranscriptOf (worker : ℕ) (lines : List Line) (journal : List Entry) (t : Transcript) : Type 0 where
   pub worker_is : t.worker ≡ worker
   pub lines_are : t.lines ≡ lines
-  pub each : length t.outcomes ≡ length lines
-  pub own : journaled_lines worker lines t.outcomes ≡ entries_of journal worker
-  pub full : All (IsFullOf journal) t.outcomes
+  pub each : length t.answers ≡ length lines
+  pub own : journaled_lines worker lines t.answers ≡ entries_of journal worker
+  pub full : All (IsFullOf journal) t.answers
 
 -- worker by worker, from this number on, the transcripts are those of the scripts
 unfoldable pub AreTranscriptsOf : ℕ → List (List Line) → List Entry → List Transcript → Type 0

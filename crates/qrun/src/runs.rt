@@ -29,8 +29,8 @@ impl RunFault {
     }
 }
 
-/// Makes the calls of a worker's lines one after the other, and goes on after any outcome.
-fn outcomes_of(
+/// Makes the calls of a worker's lines one after the other, and goes on after any answer.
+fn answers_of(
     alloc: Global,
     store: &mut JournaledStore,
     worker: u64,
@@ -38,17 +38,17 @@ fn outcomes_of(
 ) -> Result<Vec<Result<Receipt, CallFault>>, NoMemory>
     requires fresh { store.old.journal ≡ [] }
     ensures setting { store.new.setting ≡ store.old.setting }
-    ensures each { IfOk result (λ outcomes. length outcomes.items ≡ length lines.now) }
-    ensures own { IfOk result (λ outcomes. journaled_lines worker lines.now outcomes.items
+    ensures each { IfOk result (λ answers. length answers.items ≡ length lines.now) }
+    ensures own { IfOk result (λ answers. journaled_lines worker lines.now answers.items
         ≡ entries_of store.new.journal worker) }
     ensures all { OnOk result (All (λ e. e.worker ≡ worker) store.new.journal) }
-    ensures full { IfOk result (λ outcomes. All (IsFullOf store.new.journal) outcomes.items) }
+    ensures full { IfOk result (λ answers. All (IsFullOf store.new.journal) answers.items) }
 {
-    let mut outcomes = Vec::with_capacity(alloc, lines.len())?;
+    let mut answers = Vec::with_capacity(alloc, lines.len())?;
     for line in lines {
-        append(&mut outcomes, store.call(worker, line));
+        append(&mut answers, store.call(worker, line));
     }
-    Ok(outcomes)
+    Ok(answers)
 }
 
 /// Makes the calls of the only worker's lines on a store that has just begun, and tells what each was answered.
@@ -63,11 +63,11 @@ fn transcripts_of(
     ensures belong { IfOk result (λ transcripts. All (Belongs transcripts) store.new.journal) }
 {
     let mut transcripts = Vec::with_capacity(alloc, 1)?;
-    let outcomes = outcomes_of(alloc, store, 1, &lines)?;
+    let answers = answers_of(alloc, store, 1, &lines)?;
     let transcript = Transcript {
         worker: 1,
         lines: Items::new(lines),
-        outcomes: Items::new(outcomes),
+        answers: Items::new(answers),
     };
     append(&mut transcripts, transcript);
     Ok(Items::new(transcripts))
@@ -121,7 +121,7 @@ fn play(alloc: Global, setup: Setup, lines: Vec<Line>) -> Result<Outcome, NoMemo
 }
 
 /// Plays the lines of a script on a new store of the setup: the worker makes their calls one after the other, and goes
-/// on after any outcome.
+/// on after any answer.
 ///
 /// O(lines), and what each call takes. After an Err the store is given up.
 pub fn run_lines(alloc: Global, setup: Setup, lines: Vec<Line>) -> Result<Outcome, RunFault>

@@ -1,4 +1,4 @@
--- A new store of a setup: its owners, and that what it keeps is what its state counts to.
+-- A new store of a setup: its kept holders, and that what it keeps is what its state counts to.
 use Rattle.std.proofs.Common.{◌≡◌, ℕ, ◌≤◌, Bool, true, false, not, ◌&&◌, ◌||◌, cond, ◌==◌, List, [], ◌∷◌, map, All, Some, None, refl, sym, ap, ◌∙◌, arith}
 use Rattle.std.specs.Option.{option_map}
 use Rattle.std.specs.Ordering.{nat_cmp}
@@ -18,9 +18,9 @@ use Rattle.qplain.specs.Setups.{IsLawfulSetup, Setting, is_in_range}
 use Rattle.qplain.specs.State.{Inode, NameKey, State, root, start}
 use Rattle.qplain.specs.Use.{links_of}
 use Rattle.qplain.proofs.Start.{start_is_lawful}
-use Rattle.qstore.specs.declared.owner.Owner.{Owner}
+use Rattle.qstore.specs.declared.kept_holder.KeptHolder.{KeptHolder}
 use Rattle.qstore.specs.Kept.{IsCounted}
-use Rattle.qstore.specs.Owners.{charged_owner, holders_in, new_owner}
+use Rattle.qstore.specs.KeptHolders.{charged_holder, holders_in, new_holder}
 use Rattle.qstore.proofs.Begun.{counted-begun}
 use Rattle.qstore.proofs.Declared.{ids-rise-of-setup, zero-declared}
 use Rattle.qstore.proofs.Together.{all-holders-begun}
@@ -42,10 +42,10 @@ good-by true false true z w h = cc
 good-by true false false false w h = cc
 good-by true false false true false h = cc
 
--- nobody among new owners uses anything
-pub unused-new : (ps : List Principal) → All (λ o. (o.account.blocks ≡ 0) × (o.account.inodes ≡ 0)) (map new_owner ps)
+-- nobody among new kept holders uses anything
+pub unused-new : (ps : List Principal) → All (λ o. (o.account.blocks ≡ 0) × (o.account.inodes ≡ 0)) (map new_holder ps)
 unused-new [] = All-nil (λ o. (o.account.blocks ≡ 0) × (o.account.inodes ≡ 0))
-unused-new (p ∷ ps) = All-cons (λ o. (o.account.blocks ≡ 0) × (o.account.inodes ≡ 0)) (new_owner p) (map new_owner ps) (refl, refl) (unused-new ps)
+unused-new (p ∷ ps) = All-cons (λ o. (o.account.blocks ≡ 0) × (o.account.inodes ≡ 0)) (new_holder p) (map new_holder ps) (refl, refl) (unused-new ps)
 
 -- the root directory has the links of a directory with no name in it
 links-by : (s : Setting) (number : ℕ) (b : Bool)
@@ -53,15 +53,15 @@ links-by : (s : Setting) (number : ℕ) (b : Bool)
 links-by s number true = refl
 links-by s number false = refl
 
--- the owners of a new store, of whom that of id 0 has the root directory
-abbrev pub begun_owners : Graces → List Principal → List Owner
-begun_owners graces ps = map (charged_owner 0 graces 0 0 1) (map new_owner ps)
+-- the kept holders of a new store, of whom that of id 0 has the root directory
+abbrev pub kept_at_start : Graces → List Principal → List KeptHolder
+kept_at_start graces ps = map (charged_holder 0 graces 0 0 1) (map new_holder ps)
 
--- the charge of new owners makes them
-pub begun-owners : (charged owners : List Owner) (made ps : List Principal) (graces kept : Graces) → charged ≡ map (charged_owner 0 graces 0 0 1) owners
-    → owners ≡ map new_owner made → made ≡ ps → graces ≡ kept → charged ≡ begun_owners kept ps
-begun-owners charged owners made ps graces kept is new same g =
-    is ∙ ap (map (charged_owner 0 graces 0 0 1)) (new ∙ ap (map new_owner) same) ∙ ap (λ x. begun_owners x ps) g
+-- the charge of new kept holders makes them
+pub kept-at-start : (charged holders : List KeptHolder) (made ps : List Principal) (graces kept : Graces) → charged ≡ map (charged_holder 0 graces 0 0 1) holders
+    → holders ≡ map new_holder made → made ≡ ps → graces ≡ kept → charged ≡ kept_at_start kept ps
+kept-at-start charged holders made ps graces kept is new same g =
+    is ∙ ap (map (charged_holder 0 graces 0 0 1)) (new ∙ ap (map new_holder) same) ∙ ap (λ x. kept_at_start x ps) g
 
 module _ (s : Setting) (lawful : IsLawfulSetup s) where
   good : HasGoodPrincipals (has_duplicate s.users) (has_duplicate s.groups) (has_zero s.users) (has_zero s.groups)
@@ -75,17 +75,17 @@ module _ (s : Setting) (lawful : IsLawfulSetup s) where
   pub group-ids-rise : IsStrictlyIncreasing (map (λ p. p.id) s.groups)
   group-ids-rise = ids-rise-of-setup s.groups lawful.groups_sorted good.groups
 
-  -- user 0 is among the new owners
-  pub user-zero-declared : list_any (λ o. 0 == o.id) (map new_owner s.users) ≡ true
+  -- user 0 is among the new kept holders
+  pub user-zero-declared : list_any (λ o. 0 == o.id) (map new_holder s.users) ≡ true
   user-zero-declared = zero-declared s.users ∙ good.user
 
   -- and so is group 0
-  pub group-zero-declared : list_any (λ o. 0 == o.id) (map new_owner s.groups) ≡ true
+  pub group-zero-declared : list_any (λ o. 0 == o.id) (map new_holder s.groups) ≡ true
   group-zero-declared = zero-declared s.groups ∙ good.group
 
   -- what a new store keeps is what its state counts to
   pub start-counted : s.blocks ≤ MAX_BLOCKS → s.inodes ≤ MAX_INODES → are_graces_in_range s.graces ≡ true
-      → IsCounted (start s) (begun_owners s.graces s.users) (begun_owners s.graces s.groups) ((ROOT, 2) ∷ []) 0 1
+      → IsCounted (start s) (kept_at_start s.graces s.users) (kept_at_start s.graces s.groups) ((ROOT, 2) ∷ []) 0 1
   start-counted few_blocks few_inodes graces = record {
     sound = record { lawful = start_is_lawful s lawful.granted; file_bound = omega arith; next_bound = omega arith };
     holders_kept = sym (all-holders-begun s s.graces 0);
@@ -100,8 +100,8 @@ module _ (s : Setting) (lawful : IsLawfulSetup s) where
   }
 
 -- the parts of a new store are those of the new state
-pub start-state : (s : Setting) (size most : ℕ) (graces : Graces) (users groups : List Owner) (inodes : List (ℕ × Inode)) (names : List (NameKey × ℕ))
-    → size ≡ s.blocks → most ≡ s.inodes → graces ≡ s.graces → users ≡ begun_owners s.graces s.users → groups ≡ begun_owners s.graces s.groups
+pub start-state : (s : Setting) (size most : ℕ) (graces : Graces) (users groups : List KeptHolder) (inodes : List (ℕ × Inode)) (names : List (NameKey × ℕ))
+    → size ≡ s.blocks → most ≡ s.inodes → graces ≡ s.graces → users ≡ kept_at_start s.graces s.users → groups ≡ kept_at_start s.graces s.groups
     → inodes ≡ (ROOT, root) ∷ [] → names ≡ []
     → ◌≡◌ {A = State} (record {
       size = size;

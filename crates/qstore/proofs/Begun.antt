@@ -1,4 +1,4 @@
--- The owners of a new store: each uses nothing, but user 0 and group 0 have the root directory.
+-- The kept holders of a new store: each uses nothing, but user 0 and group 0 have the root directory.
 use Rattle.std.proofs.Common.{◌≡◌, ℕ, zero, suc, ◌+◌, Bool, true, false, cond, ◌==◌, List, [], ◌∷◌, map, All, None, refl, sym, tests, arith, zero-add}
 use Rattle.std.proofs.lemmas.List.Elements.{All-cons, All-nil}
 use Rattle.qrules.specs.declared.kind.Kind.{Kind}
@@ -11,7 +11,7 @@ use Rattle.qplain.specs.declared.principal.Principal.{Principal}
 use Rattle.qplain.specs.Setups.{Setting}
 use Rattle.qplain.specs.State.{holder_of, root, start}
 use Rattle.qplain.specs.Use.{use_of, weight}
-use Rattle.qstore.specs.Owners.{IsCountedIn, charged_owner, holder_in, new_owner}
+use Rattle.qstore.specs.KeptHolders.{IsCountedIn, charged_holder, holder_in, new_holder}
 use Rattle.qstore.proofs.Ends.{ends-charged}
 
 -- nothing is over a limit
@@ -30,9 +30,9 @@ no-end true new e = cc
 no-end false new e = refl
 
 module _ (graces : Graces) (moment : ℕ) where
-  -- the holder of a new owner, with the root directory or without it, is the declared one
+  -- the holder of a new kept holder, with the root directory or without it, is the declared one
   holder-begun : (kind : Kind) (p : Principal) (b : Bool)
-      → holder_in kind (cond b (record (new_owner p) { account = charged (unused p.limits) graces moment 0 1 }) (new_owner p)) ≡ holder_of kind p
+      → holder_in kind (cond b (record (new_holder p) { account = charged (unused p.limits) graces moment 0 1 }) (new_holder p)) ≡ holder_of kind p
   holder-begun kind p true =
       let block : next_end (is_over 0 p.limits.block_soft) None (moment + graces.block) ≡ None =
       no-end _ (moment + graces.block) (over-zero p.limits.block_soft) in
@@ -41,23 +41,23 @@ module _ (graces : Graces) (moment : ℕ) where
       λ i. record (holder_of kind p) { block_end = block i; inode_end = inode i }
   holder-begun kind p false = refl
 
-  -- the holders of the owners of a new store are the declared principals
+  -- the holders of the kept holders of a new store are the declared principals
   pub holders-begun : (kind : Kind) (ps : List Principal)
-      → map (holder_in kind) (map (charged_owner 0 graces moment 0 1) (map new_owner ps))
+      → map (holder_in kind) (map (charged_holder 0 graces moment 0 1) (map new_holder ps))
       ≡ map (holder_of kind) ps
   holders-begun kind [] = refl
   holders-begun kind (p ∷ ps) = λ i. holder-begun kind p (0 == p.id) i ∷ holders-begun kind ps i
 
-  -- the ends of new owners are where they should be
-  ends-new : (ps : List Principal) → All (λ o. HasEnds o.account) (map new_owner ps)
+  -- the ends of new kept holders are where they should be
+  ends-new : (ps : List Principal) → All (λ o. HasEnds o.account) (map new_holder ps)
   ends-new [] = All-nil (λ o. HasEnds o.account)
   ends-new (p ∷ ps) =
-      All-cons (λ o. HasEnds o.account) (new_owner p) (map new_owner ps)
+      All-cons (λ o. HasEnds o.account) (new_holder p) (map new_holder ps)
       (record { inodes = sym (over-zero p.limits.inode_soft); blocks = sym (over-zero p.limits.block_soft) }) (ends-new ps)
 
-  -- and those of the owners of a new store
-  pub ends-begun : (ps : List Principal) → All (λ o. HasEnds o.account) (map (charged_owner 0 graces moment 0 1) (map new_owner ps))
-  ends-begun ps = ends-charged 0 graces moment 0 1 (map new_owner ps) (ends-new ps)
+  -- and those of the kept holders of a new store
+  pub ends-begun : (ps : List Principal) → All (λ o. HasEnds o.account) (map (charged_holder 0 graces moment 0 1) (map new_holder ps))
+  ends-begun ps = ends-charged 0 graces moment 0 1 (map new_holder ps) (ends-new ps)
 
 -- the use in a new store: the root directory is user 0's and group 0's
 use_of-start : (s : Setting) (kind : Kind) (id : ℕ) (sort : Sort) → use_of (start s) kind id sort ≡ cond (0 == id) (weight sort root) 0
@@ -65,17 +65,17 @@ use_of-start s User id sort = zero-add (cond (0 == id) (weight sort root) 0)
 use_of-start s Group id sort = zero-add (cond (0 == id) (weight sort root) 0)
 
 module _ (s : Setting) (kind : Kind) (graces : Graces) (moment : ℕ) where
-  -- an owner of a new store is counted
-  owner-counted-begun : (p : Principal) (b : Bool)
+  -- a kept holder of a new store is counted
+  kept-counted-begun : (p : Principal) (b : Bool)
       → use_of (start s) kind p.id Blocks ≡ cond b (weight Blocks root) 0
       → use_of (start s) kind p.id Inodes ≡ cond b (weight Inodes root) 0
-      → IsCountedIn (start s) kind (cond b (record (new_owner p) { account = charged (unused p.limits) graces moment 0 1 }) (new_owner p))
-  owner-counted-begun p true blocks inodes = record { blocks = sym blocks; inodes = sym inodes }
-  owner-counted-begun p false blocks inodes = record { blocks = sym blocks; inodes = sym inodes }
+      → IsCountedIn (start s) kind (cond b (record (new_holder p) { account = charged (unused p.limits) graces moment 0 1 }) (new_holder p))
+  kept-counted-begun p true blocks inodes = record { blocks = sym blocks; inodes = sym inodes }
+  kept-counted-begun p false blocks inodes = record { blocks = sym blocks; inodes = sym inodes }
 
-  -- all owners of a new store are counted
-  pub counted-begun : (ps : List Principal) → All (IsCountedIn (start s) kind) (map (charged_owner 0 graces moment 0 1) (map new_owner ps))
+  -- all kept holders of a new store are counted
+  pub counted-begun : (ps : List Principal) → All (IsCountedIn (start s) kind) (map (charged_holder 0 graces moment 0 1) (map new_holder ps))
   counted-begun [] = All-nil (IsCountedIn (start s) kind)
   counted-begun (p ∷ ps) =
-      All-cons (IsCountedIn (start s) kind) (charged_owner 0 graces moment 0 1 (new_owner p)) (map (charged_owner 0 graces moment 0 1) (map new_owner ps))
-      (owner-counted-begun p (0 == p.id) (use_of-start s kind p.id Blocks) (use_of-start s kind p.id Inodes)) (counted-begun ps)
+      All-cons (IsCountedIn (start s) kind) (charged_holder 0 graces moment 0 1 (new_holder p)) (map (charged_holder 0 graces moment 0 1) (map new_holder ps))
+      (kept-counted-begun p (0 == p.id) (use_of-start s kind p.id Blocks) (use_of-start s kind p.id Inodes)) (counted-begun ps)

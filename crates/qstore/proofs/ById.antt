@@ -1,4 +1,4 @@
--- The places of owners in the order of their ids: each id stands once.
+-- The slots of kept holders in the order of their ids: each id stands once.
 use Rattle.std.proofs.Common.{◌≡◌, ℕ, zero, suc, ◌+◌, ◌<◌, ◌==◌, Bool, true, false, cond, if◌then◌else◌, List, [], ◌∷◌, length, get_or, set, map, All, Some, option_map, slice_get, refl, sym, ap, subst, ◌∙◌, tests, arith}
 use Rattle.std.specs.List.{AllByRecursion}
 use Rattle.std.specs.List.Sorted.{IsStrictlyIncreasing}
@@ -9,134 +9,134 @@ use Rattle.qrules.specs.declared.limits.Limits.{Limits}
 use Rattle.qrules.specs.declared.graces.Graces.{Graces}
 use Rattle.qrules.specs.Grace.{charged, with_limits}
 use Rattle.qplain.specs.declared.principal.Principal.{Principal}
-use Rattle.qstore.specs.declared.owner.Owner.{Owner}
-use Rattle.qstore.specs.Owners.{AreById, IsPlaceOf, charged_owner, new_owner, relimited_owner}
+use Rattle.qstore.specs.declared.kept_holder.KeptHolder.{KeptHolder}
+use Rattle.qstore.specs.KeptHolders.{AreById, IsSlotOf, charged_holder, new_holder, relimited_kept}
 
--- all these owners have greater ids
-abbrev pub AreAbove : ℕ → List Owner → Type 0
-AreAbove id owners = AllByRecursion (λ o. id < o.id) owners
+-- all these kept holders have greater ids
+abbrev pub AreAbove : ℕ → List KeptHolder → Type 0
+AreAbove id holders = AllByRecursion (λ o. id < o.id) holders
 
 -- what is below all numbers of a list is below all ids that they are
-above-from : (id : ℕ) (os : List Owner) → All (λ other. id < other) (map (λ o. o.id) os) → AreAbove id os
+above-from : (id : ℕ) (os : List KeptHolder) → All (λ other. id < other) (map (λ o. o.id) os) → AreAbove id os
 above-from id [] all = tt
 above-from id (o ∷ os) all =
     (All-head (λ other. id < other) o.id (map (λ p. p.id) os) all, above-from id os (All-tail (λ other. id < other) o.id (map (λ p. p.id) os) all))
 
--- the first owner's id is below all others
-pub above-first : (o : Owner) (os : List Owner) → AreById (o ∷ os) → AreAbove o.id os
+-- the first kept holder's id is below all others
+pub above-first : (o : KeptHolder) (os : List KeptHolder) → AreById (o ∷ os) → AreAbove o.id os
 above-first o os by_id =
     above-from o.id os (λ k d within. AllPairs-from_increasing (map (λ p. p.id) (o ∷ os)) by_id zero (suc k) d (omega arith) (omega arith))
 
--- the owners behind the first are in order too
-pub by_id-rest : (o : Owner) (os : List Owner) → AreById (o ∷ os) → AreById os
+-- the kept holders behind the first are in order too
+pub by_id-rest : (o : KeptHolder) (os : List KeptHolder) → AreById (o ∷ os) → AreById os
 by_id-rest o os by_id k within =
     let next : suc k + 1 ≡ suc (k + 1) = omega arith in
     subst (λ n. get_or (map (λ p. p.id) os) k 0 < get_or (o.id ∷ map (λ p. p.id) os) n 0) next (by_id (suc k) (omega arith))
 
--- an id that stands among owners with greater ids is greater
-pub above-place : (n id : ℕ) (os : List Owner) (place : ℕ) → AreAbove n os → IsPlaceOf os place id → n < id
-above-place n id [] place above there = cc
-above-place n id (o ∷ os) zero above there = let same : o.id ≡ id = cc in subst (λ m. n < m) same above.0
-above-place n id (o ∷ os) (suc place) above there = above-place n id os place above.1 there
+-- an id that stands among kept holders with greater ids is greater
+pub above-slot : (n id : ℕ) (os : List KeptHolder) (slot : ℕ) → AreAbove n os → IsSlotOf os slot id → n < id
+above-slot n id [] slot above there = cc
+above-slot n id (o ∷ os) zero above there = let same : o.id ≡ id = cc in subst (λ m. n < m) same above.0
+above-slot n id (o ∷ os) (suc slot) above there = above-slot n id os slot above.1 there
 
--- owners with greater ids are not the one of this id
-pub above-others : (id : ℕ) (os : List Owner) → AreAbove id os → AllByRecursion (λ o. (id == o.id) ≡ false) os
+-- kept holders with greater ids are not the one of this id
+pub above-others : (id : ℕ) (os : List KeptHolder) → AreAbove id os → AllByRecursion (λ o. (id == o.id) ≡ false) os
 above-others id [] above = tt
 above-others id (o ∷ os) above = (grind (arith, tests, above.0), above-others id os above.1)
 
--- the owners behind the one of an id are not the one of this id
-pub above-others-of : (id : ℕ) (o : Owner) (os : List Owner) → AreById (o ∷ os) → o.id ≡ id → AllByRecursion (λ p. (id == p.id) ≡ false) os
+-- the kept holders behind the one of an id are not the one of this id
+pub above-others-of : (id : ℕ) (o : KeptHolder) (os : List KeptHolder) → AreById (o ∷ os) → o.id ≡ id → AllByRecursion (λ p. (id == p.id) ≡ false) os
 above-others-of id o os by_id same = above-others id os (subst (λ n. AreAbove n os) same (above-first o os by_id))
 
--- the owner at the place of an id has that id
-pub place-first : (id : ℕ) (o : Owner) (os : List Owner) → IsPlaceOf (o ∷ os) zero id → (id == o.id) ≡ true
-place-first id o os there = let same : o.id ≡ id = cc in grind (arith, tests)
+-- the kept holder at the slot of an id has that id
+pub slot-first : (id : ℕ) (o : KeptHolder) (os : List KeptHolder) → IsSlotOf (o ∷ os) zero id → (id == o.id) ≡ true
+slot-first id o os there = let same : o.id ≡ id = cc in grind (arith, tests)
 
--- the first owner is not the one whose place is further on
-pub place-later : (id : ℕ) (o : Owner) (os : List Owner) (place : ℕ) → AreById (o ∷ os) → IsPlaceOf os place id → (id == o.id) ≡ false
-place-later id o os place by_id there =
-    let below : o.id < id = above-place o.id id os place (above-first o os by_id) there in grind (arith, tests)
+-- the first kept holder is not the one whose slot is further on
+pub slot-later : (id : ℕ) (o : KeptHolder) (os : List KeptHolder) (slot : ℕ) → AreById (o ∷ os) → IsSlotOf os slot id → (id == o.id) ≡ false
+slot-later id o os slot by_id there =
+    let below : o.id < id = above-slot o.id id os slot (above-first o os by_id) there in grind (arith, tests)
 
--- a place is below the length
-pub place-below : (os : List Owner) (place id : ℕ) → IsPlaceOf os place id → place < length os
-place-below [] place id there = cc
-place-below (o ∷ os) zero id there = omega arith
-place-below (o ∷ os) (suc place) id there = let below = place-below os place id there in omega arith
+-- a slot is below the length
+pub slot-below : (os : List KeptHolder) (slot id : ℕ) → IsSlotOf os slot id → slot < length os
+slot-below [] slot id there = cc
+slot-below (o ∷ os) zero id there = omega arith
+slot-below (o ∷ os) (suc slot) id there = let below = slot-below os slot id there in omega arith
 
--- the place of an owner's id, where the owner stands
-pub place-of : (os : List Owner) (place id : ℕ) (o : Owner) → slice_get os place ≡ Some o → o.id ≡ id → IsPlaceOf os place id
-place-of os place id o there same = ap (option_map (λ p. p.id)) there ∙ ap Some same
+-- the slot of a kept holder's id, where the kept holder stands
+pub slot-of : (os : List KeptHolder) (slot id : ℕ) (o : KeptHolder) → slice_get os slot ≡ Some o → o.id ≡ id → IsSlotOf os slot id
+slot-of os slot id o there same = ap (option_map (λ p. p.id)) there ∙ ap Some same
 
--- ---- a write at a place
+-- ---- a write at a slot
 
--- the change of the owner of one id
-abbrev pub changed : ℕ → (Owner → Owner) → Owner → Owner
+-- the change of the kept holder of one id
+abbrev pub changed : ℕ → (KeptHolder → KeptHolder) → KeptHolder → KeptHolder
 changed id f o = if id == o.id then f o else o
 
--- a write that keeps an owner's id keeps all ids
-pub ids-set : (os : List Owner) (place : ℕ) (old new : Owner) → old ≡ get_or os place old → new.id ≡ old.id
-    → map (λ o. o.id) (set os place new) ≡ map (λ o. o.id) os
-ids-set [] place old new there same = refl
+-- a write that keeps a kept holder's id keeps all ids
+pub ids-set : (os : List KeptHolder) (slot : ℕ) (old new : KeptHolder) → old ≡ get_or os slot old → new.id ≡ old.id
+    → map (λ o. o.id) (set os slot new) ≡ map (λ o. o.id) os
+ids-set [] slot old new there same = refl
 ids-set (o ∷ os) zero old new there same = let kept : new.id ≡ o.id = same ∙ ap (λ p. p.id) there in λ i. kept i ∷ map (λ p. p.id) os
-ids-set (o ∷ os) (suc place) old new there same = λ i. o.id ∷ ids-set os place old new there same i
+ids-set (o ∷ os) (suc slot) old new there same = λ i. o.id ∷ ids-set os slot old new there same i
 
 -- and their order
-pub by_id-set : (os : List Owner) (place : ℕ) (old new : Owner) → old ≡ get_or os place old → new.id ≡ old.id → AreById os → AreById (set os place new)
-by_id-set os place old new there same by_id =
-    subst (λ ids. (k : ℕ) → k + 1 < length ids → get_or ids k 0 < get_or ids (k + 1) 0) (sym (ids-set os place old new there same)) by_id
+pub by_id-set : (os : List KeptHolder) (slot : ℕ) (old new : KeptHolder) → old ≡ get_or os slot old → new.id ≡ old.id → AreById os → AreById (set os slot new)
+by_id-set os slot old new there same by_id =
+    subst (λ ids. (k : ℕ) → k + 1 < length ids → get_or ids k 0 < get_or ids (k + 1) 0) (sym (ids-set os slot old new there same)) by_id
 
--- a change of the owner of one id leaves all others
-pub changed-others : (id : ℕ) (f : Owner → Owner) (os : List Owner) → AllByRecursion (λ o. (id == o.id) ≡ false) os → map (changed id f) os ≡ os
+-- a change of the kept holder of one id leaves all others
+pub changed-others : (id : ℕ) (f : KeptHolder → KeptHolder) (os : List KeptHolder) → AllByRecursion (λ o. (id == o.id) ≡ false) os → map (changed id f) os ≡ os
 changed-others id f [] others = refl
 changed-others id f (o ∷ os) others = λ i. cond-false (id == o.id) (f o) o others.0 i ∷ changed-others id f os others.1 i
 
--- a write at the place of an id is the change of its owner, wherever it stands
-pub set-changed : (id : ℕ) (f : Owner → Owner) (os : List Owner) (place : ℕ) (old new : Owner) → AreById os → IsPlaceOf os place id
-    → old ≡ get_or os place old → new ≡ f old → set os place new ≡ map (changed id f) os
-set-changed id f [] place old new by_id there read written = refl
+-- a write at the slot of an id is the change of its kept holder, wherever it stands
+pub set-changed : (id : ℕ) (f : KeptHolder → KeptHolder) (os : List KeptHolder) (slot : ℕ) (old new : KeptHolder) → AreById os → IsSlotOf os slot id
+    → old ≡ get_or os slot old → new ≡ f old → set os slot new ≡ map (changed id f) os
+set-changed id f [] slot old new by_id there read written = refl
 set-changed id f (o ∷ os) zero old new by_id there read written =
     let same : o.id ≡ id = cc in
-    let here : new ≡ changed id f o = written ∙ ap f read ∙ sym (cond-true (id == o.id) (f o) o (place-first id o os there)) in
+    let here : new ≡ changed id f o = written ∙ ap f read ∙ sym (cond-true (id == o.id) (f o) o (slot-first id o os there)) in
     let rest : os ≡ map (changed id f) os = sym (changed-others id f os (above-others-of id o os by_id same)) in
     λ i. here i ∷ rest i
-set-changed id f (o ∷ os) (suc place) old new by_id there read written =
-    let here : o ≡ changed id f o = sym (cond-false (id == o.id) (f o) o (place-later id o os place by_id there)) in
-    let rest : set os place new ≡ map (changed id f) os = set-changed id f os place old new (by_id-rest o os by_id) there read written in
+set-changed id f (o ∷ os) (suc slot) old new by_id there read written =
+    let here : o ≡ changed id f o = sym (cond-false (id == o.id) (f o) o (slot-later id o os slot by_id there)) in
+    let rest : set os slot new ≡ map (changed id f) os = set-changed id f os slot old new (by_id-rest o os by_id) there read written in
     λ i. here i ∷ rest i
 
--- a change of owners that keeps their ids keeps their order
-by_id-changed : (id : ℕ) (f : Owner → Owner) → ((o : Owner) → (f o).id ≡ o.id) → (os : List Owner) → AreById os → AreById (map (changed id f) os)
+-- a change of kept holders that keeps their ids keeps their order
+by_id-changed : (id : ℕ) (f : KeptHolder → KeptHolder) → ((o : KeptHolder) → (f o).id ≡ o.id) → (os : List KeptHolder) → AreById os → AreById (map (changed id f) os)
 by_id-changed id f keeps os by_id = subst (λ ids. (k : ℕ) → k + 1 < length ids → get_or ids k 0 < get_or ids (k + 1) 0) (sym (ids os)) by_id
   where
-    kept : (b : Bool) (o : Owner) → (cond b (f o) o).id ≡ o.id
+    kept : (b : Bool) (o : KeptHolder) → (cond b (f o) o).id ≡ o.id
     kept true o = keeps o
     kept false o = refl
 
-    ids : (ps : List Owner) → map (λ o. o.id) (map (changed id f) ps) ≡ map (λ o. o.id) ps
+    ids : (ps : List KeptHolder) → map (λ o. o.id) (map (changed id f) ps) ≡ map (λ o. o.id) ps
     ids [] = refl
     ids (p ∷ ps) = λ i. kept (id == p.id) p i ∷ ids ps i
 
 -- a charge keeps the order
-pub by_id-charged : (id : ℕ) (graces : Graces) (moment blocks inodes : ℕ) (os : List Owner) → AreById os
-    → AreById (map (charged_owner id graces moment blocks inodes) os)
+pub by_id-charged : (id : ℕ) (graces : Graces) (moment blocks inodes : ℕ) (os : List KeptHolder) → AreById os
+    → AreById (map (charged_holder id graces moment blocks inodes) os)
 by_id-charged id graces moment blocks inodes os by_id =
     by_id-changed id (λ o. record o { account = charged o.account graces moment blocks inodes }) (λ o. refl)
     os by_id
 
 -- and so do new limits
-pub by_id-relimited : (id : ℕ) (limits : Limits) (graces : Graces) (moment : ℕ) (os : List Owner) → AreById os
-    → AreById (map (relimited_owner id limits graces moment) os)
+pub by_id-relimited : (id : ℕ) (limits : Limits) (graces : Graces) (moment : ℕ) (os : List KeptHolder) → AreById os
+    → AreById (map (relimited_kept id limits graces moment) os)
 by_id-relimited id limits graces moment os by_id =
     by_id-changed id (λ o. record o { account = with_limits o.account limits graces moment }) (λ o. refl) os
     by_id
 
--- ---- new owners
+-- ---- new kept holders
 
--- new owners have the ids of their principals
-ids-new : (ps : List Principal) → map (λ o. o.id) (map new_owner ps) ≡ map (λ p. p.id) ps
+-- new kept holders have the ids of their principals
+ids-new : (ps : List Principal) → map (λ o. o.id) (map new_holder ps) ≡ map (λ p. p.id) ps
 ids-new [] = refl
 ids-new (p ∷ ps) = λ i. p.id ∷ ids-new ps i
 
 -- so they are in order where the principals are
-pub by_id-new : (ps : List Principal) → IsStrictlyIncreasing (map (λ p. p.id) ps) → AreById (map new_owner ps)
+pub by_id-new : (ps : List Principal) → IsStrictlyIncreasing (map (λ p. p.id) ps) → AreById (map new_holder ps)
 by_id-new ps rise = subst (λ ids. (k : ℕ) → k + 1 < length ids → get_or ids k 0 < get_or ids (k + 1) 0) (sym (ids-new ps)) rise

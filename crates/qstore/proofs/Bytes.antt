@@ -74,7 +74,7 @@ module _ {A : Type 0} where
       lookup-agree (has_bytes name) (vec_eq k) (λ y. key_test name k y ((eq_by_cmp_equiv nat_list_cmp_total).symm name k.items ∙ is)) n.entries ∙ u.1
   queried m n k v name u false is = others_keep (vec_eq k) (has_bytes name) m.entries n.entries u.3 (key_test name) (apart name k is)
 
-  -- a put in the table puts the name in its place
+  -- a put in the table puts the name in its slot
   pub names_of-insert : {S : Type 0} (m n : HashMap (Vec ℕ A) ℕ S) (k : Vec ℕ A) (v : ℕ)
       → hash.Updates vec_eq m n k (Some v)
       → names_of n.entries ≡ insert_entry (slice_cmp nat_cmp) (names_of m.entries) k.items v

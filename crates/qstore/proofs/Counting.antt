@@ -9,9 +9,9 @@ use Rattle.qplain.specs.State.{Inode, State, inode_at}
 use Rattle.qplain.specs.Decision.{ends_after, with_ends_of}
 use Rattle.qplain.specs.Rises.{Rises}
 use Rattle.qplain.proofs.Linking.{links_of-ends_after}
-use Rattle.qstore.specs.declared.owner.Owner.{Owner}
+use Rattle.qstore.specs.declared.kept_holder.KeptHolder.{KeptHolder}
 use Rattle.qstore.specs.Kept.{AreLinks, IsCounted}
-use Rattle.qstore.specs.Owners.{charged_owner, holders_in}
+use Rattle.qstore.specs.KeptHolders.{charged_holder, holders_in}
 use Rattle.qstore.specs.Stored.{IsSound}
 use Rattle.qstore.proofs.Charges.{counted-charged-ends}
 use Rattle.qstore.proofs.Together.{all-holders-charged, group-ends, user-ends}
@@ -22,7 +22,7 @@ pub links-ends_after : (S : State) (moment : ℕ) (links : List (ℕ × ℕ)) �
 links-ends_after S moment links kept number =
     kept number ∙ ap (λ f. option_map f (inode_at S number)) (λ i inode. sym (links_of-ends_after S moment number inode.dir) i)
 
-module _ {S : State} {users groups : List Owner} {links : List (ℕ × ℕ)} {blocks inodes : ℕ} (kept : IsCounted S users groups links blocks inodes) where
+module _ {S : State} {users groups : List KeptHolder} {links : List (ℕ × ℕ)} {blocks inodes : ℕ} (kept : IsCounted S users groups links blocks inodes) where
   all_ends : All (λ h. HasEnds (account_of S h)) (holders_in users groups)
   all_ends = subst (λ hs. All (λ h. HasEnds (account_of S h)) hs) kept.holders_kept kept.sound.lawful.ends_stand
 
@@ -35,25 +35,25 @@ module _ {S : State} {users groups : List Owner} {links : List (ℕ × ℕ)} {bl
   groups-end = group-ends S users groups kept.groups_counted all_ends
 
   -- what is kept stays so along equal values
-  pub counted-along : {T : State} {us gs : List Owner} {ls : List (ℕ × ℕ)} → S ≡ T → users ≡ us → groups ≡ gs → links ≡ ls → IsCounted T us gs ls blocks inodes
+  pub counted-along : {T : State} {us gs : List KeptHolder} {ls : List (ℕ × ℕ)} → S ≡ T → users ≡ us → groups ≡ gs → links ≡ ls → IsCounted T us gs ls blocks inodes
   counted-along {T} {us} {gs} {ls} p q r s =
       subst (λ x. IsCounted T us gs x blocks inodes) s (subst (λ x. IsCounted T us x links blocks inodes) r
       (subst (λ x. IsCounted T x groups links blocks inodes) q (subst (λ x. IsCounted x users groups links blocks inodes) p kept)))
 
   module _ (S1 : State) (whose : Inode) (more_blocks more_inodes : ℕ) (rises : Rises S S1 whose more_blocks more_inodes) (moment : ℕ) where
-    -- the holders after a charge of both owners
+    -- the holders after a charge of both kept holders
     pub holders-after : map (with_ends_of S1 moment) S1.holders
-        ≡ holders_in (map (charged_owner whose.uid S.graces moment more_blocks more_inodes) users)
-        (map (charged_owner whose.gid S.graces moment more_blocks more_inodes) groups)
+        ≡ holders_in (map (charged_holder whose.uid S.graces moment more_blocks more_inodes) users)
+        (map (charged_holder whose.gid S.graces moment more_blocks more_inodes) groups)
     holders-after =
         ap (map (with_ends_of S1 moment)) (rises.holders ∙ kept.holders_kept)
         ∙ sym (all-holders-charged S S1 whose more_blocks more_inodes rises S.graces rises.graces moment users
         groups kept.users_counted kept.groups_counted users-end groups-end)
 
-    -- a charge that both owners' records and the totals follow
+    -- a charge that both kept holders' records and the totals follow
     pub counted-charged-both : (ls : List (ℕ × ℕ)) → AreLinks S1 ls → IsSound (ends_after S1 moment)
-        → IsCounted (ends_after S1 moment) (map (charged_owner whose.uid S.graces moment more_blocks more_inodes) users)
-        (map (charged_owner whose.gid S.graces moment more_blocks more_inodes) groups) ls (blocks + more_blocks) (inodes + more_inodes)
+        → IsCounted (ends_after S1 moment) (map (charged_holder whose.uid S.graces moment more_blocks more_inodes) users)
+        (map (charged_holder whose.gid S.graces moment more_blocks more_inodes) groups) ls (blocks + more_blocks) (inodes + more_inodes)
     counted-charged-both ls links_kept sound = record {
       sound = sound;
       holders_kept = holders-after;

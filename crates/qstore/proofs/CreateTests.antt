@@ -1,4 +1,4 @@
--- The tests of a create, as the walk to its place leaves them.
+-- The tests of a create, as the walk to its slot leaves them.
 use Rattle.std.proofs.Common.{◌≡◌, ℕ, ◌<◌, Bool, true, List, [], ◌∷◌, length, Option, Some, None, is_some, Err, refl, ap, arith}
 use Rattle.std.specs.List.{slice_split}
 use Rattle.std.proofs.lemmas.List.Splits.{length-slice_split}

@@ -10,22 +10,22 @@ use Rattle.qplain.specs.Decision.{ends_after}
 use Rattle.qplain.specs.Attempt.{created}
 use Rattle.qplain.specs.Rises.{Rises}
 use Rattle.qplain.proofs.Rising.{Rises-created, absent-next}
-use Rattle.qstore.specs.declared.owner.Owner.{Owner}
-use Rattle.qstore.specs.declared.places.Places.{Places}
+use Rattle.qstore.specs.declared.kept_holder.KeptHolder.{KeptHolder}
+use Rattle.qstore.specs.declared.slots.Slots.{Slots}
 use Rattle.qstore.specs.declared.store.Store.TheInside.{Inside}
 use Rattle.qstore.specs.declared.ledger.TheConstants.{MAX_COUNT}
 use Rattle.qstore.specs.Kept.{IsCounted, state_of, stored_of}
-use Rattle.qstore.specs.Owners.{charged_owner, holders_in}
+use Rattle.qstore.specs.KeptHolders.{charged_holder, holders_in}
 use Rattle.qstore.specs.Ready.{CreateIsReady}
 use Rattle.qstore.specs.Stored.{IsSound}
 use Rattle.qstore.proofs.Chargeable.{CanCharge, can-charge}
 use Rattle.qstore.proofs.Counting.{counted-charged-both, holders-after}
 use Rattle.qstore.proofs.Links.{links-created}
-use Rattle.qstore.proofs.Stores.{place-at_id}
+use Rattle.qstore.proofs.Stores.{slot-at_id}
 
 module _ (a : Inside) (kept : IsCounted (state_of a) a.users a.groups a.tree.links a.blocks a.inodes)
-    (dir : ℕ) (name : List ℕ) (uid gid : ℕ) (places : Places) (moment : ℕ)
-    (can : CreateIsReady (stored_of a) dir name uid gid places moment) where
+    (dir : ℕ) (name : List ℕ) (uid gid : ℕ) (slots : Slots) (moment : ℕ)
+    (can : CreateIsReady (stored_of a) dir name uid gid slots moment) where
   -- the plain result
   abbrev S1 : State
   S1 = created (state_of a) (new_file uid gid) dir name
@@ -44,31 +44,31 @@ module _ (a : Inside) (kept : IsCounted (state_of a) a.users a.groups a.tree.lin
   few_inodes = let more = rises.totals Inodes in let fit = can.few in let low = kept.most_bound in omega (arith, more, fit, low)
 
   -- the user's record has room for it
-  pub can-charge-user : CanCharge a.users places.user 0 1
+  pub can-charge-user : CanCharge a.users slots.user 0 1
   can-charge-user = can-charge (state_of a) S1 (new_file uid gid) 0 1 rises User a.users kept.users_counted
-      places.user (place-at_id a.users places.user uid can.owners.user) few_blocks few_inodes
+      slots.user (slot-at_id a.users slots.user uid can.owners.user) few_blocks few_inodes
 
   -- and so has the group's
-  pub can-charge-group : CanCharge a.groups places.group 0 1
+  pub can-charge-group : CanCharge a.groups slots.group 0 1
   can-charge-group = can-charge (state_of a) S1 (new_file uid gid) 0 1 rises Group a.groups
-      kept.groups_counted places.group (place-at_id a.groups places.group gid can.owners.group) few_blocks
+      kept.groups_counted slots.group (slot-at_id a.groups slots.group gid can.owners.group) few_blocks
       few_inodes
 
   -- what is then kept is what the new state counts to
   pub created-counted : IsSound (ends_after S1 moment)
-      → IsCounted (ends_after S1 moment) (map (charged_owner uid a.graces moment 0 1) a.users) (map (charged_owner gid a.graces moment 0 1) a.groups)
+      → IsCounted (ends_after S1 moment) (map (charged_holder uid a.graces moment 0 1) a.users) (map (charged_holder gid a.graces moment 0 1) a.groups)
       (insert_entry nat_cmp a.tree.links a.next 1) a.blocks (a.inodes + 1)
   created-counted sound =
       let same : a.blocks + 0 ≡ a.blocks = omega arith in
-      subst (λ blocks. IsCounted (ends_after S1 moment) (map (charged_owner uid a.graces moment 0 1) a.users)
-      (map (charged_owner gid a.graces moment 0 1) a.groups)
+      subst (λ blocks. IsCounted (ends_after S1 moment) (map (charged_holder uid a.graces moment 0 1) a.users)
+      (map (charged_holder gid a.graces moment 0 1) a.groups)
       (insert_entry nat_cmp a.tree.links a.next 1) blocks (a.inodes + 1)) same
       (counted-charged-both kept S1 (new_file uid gid) 0 1 rises moment (insert_entry nat_cmp a.tree.links a.next 1)
       (links-created (state_of a) a.tree.links kept.links_counted kept.sound.lawful uid gid dir name can.absent) sound)
 
   -- and the parts are those of the new state
-  pub created-state : (users groups : List Owner) (inodes : List (ℕ × Inode)) (names : List (NameKey × ℕ))
-      → users ≡ map (charged_owner uid a.graces moment 0 1) a.users → groups ≡ map (charged_owner gid a.graces moment 0 1) a.groups
+  pub created-state : (users groups : List KeptHolder) (inodes : List (ℕ × Inode)) (names : List (NameKey × ℕ))
+      → users ≡ map (charged_holder uid a.graces moment 0 1) a.users → groups ≡ map (charged_holder gid a.graces moment 0 1) a.groups
       → inodes ≡ insert_entry nat_cmp a.tree.inodes a.next (new_file uid gid) → names ≡ insert_entry name_key_cmp a.tree.names (dir, name) a.next
       → ◌≡◌ {A = State} (record {
         size = a.size;

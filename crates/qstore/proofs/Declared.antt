@@ -1,4 +1,4 @@
--- The owners that a setup declares: their order, the one of id 0, and that they use nothing.
+-- The kept holders that a setup declares: their order, the one of id 0, and that they use nothing.
 use Rattle.std.proofs.Common.{◌≡◌, ℕ, zero, suc, ◌+◌, ◌<◌, ◌≤◌, Bool, true, false, ◌||◌, ◌==◌, nat_eq, eqb, List, [], ◌∷◌, map, length, get_or, IfSome, slice_get, refl, tests, arith}
 use Rattle.std.specs.List.{AllByRecursion, IsDistinct, list_any}
 use Rattle.std.specs.List.Sorted.{IsNonDecreasing, IsNonDecreasingBy, IsStrictlyIncreasing}
@@ -7,7 +7,7 @@ use Rattle.std.proofs.lemmas.List.{get_or-map, length-map}
 use Rattle.std.proofs.lemmas.Map.Keys.{IsStrictlyIncreasing-from_distinct}
 use Rattle.qplain.specs.declared.principal.Principal.{Principal}
 use Rattle.qplain.specs.Principals.{collide, has_duplicate, has_zero}
-use Rattle.qstore.specs.Owners.{new_owner}
+use Rattle.qstore.specs.KeptHolders.{new_holder}
 
 -- of two that do not hold, the first does not
 pub or-first : (a b : Bool) → (a || b) ≡ false → a ≡ false
@@ -55,19 +55,19 @@ zero-either-way : (n : ℕ) → (0 == n) ≡ (n == 0)
 zero-either-way zero = refl
 zero-either-way (suc n) = grind (arith, tests)
 
--- among the new owners is one of id 0 where there is such a principal
-pub zero-declared : (ps : List Principal) → list_any (λ o. 0 == o.id) (map new_owner ps) ≡ has_zero ps
+-- among the new kept holders is one of id 0 where there is such a principal
+pub zero-declared : (ps : List Principal) → list_any (λ o. 0 == o.id) (map new_holder ps) ≡ has_zero ps
 zero-declared [] = refl
 zero-declared (p ∷ ps) = λ i. zero-either-way p.id i || zero-declared ps i
 
--- a new owner has room for the first charge
-pub blocks-fit-new : (ps : List Principal) (place most : ℕ) → IfSome (slice_get (map new_owner ps) place) (λ o. o.account.blocks + 0 ≤ most)
-blocks-fit-new [] place most = tt
+-- a new kept holder has room for the first charge
+pub blocks-fit-new : (ps : List Principal) (slot most : ℕ) → IfSome (slice_get (map new_holder ps) slot) (λ o. o.account.blocks + 0 ≤ most)
+blocks-fit-new [] slot most = tt
 blocks-fit-new (p ∷ ps) zero most = omega arith
-blocks-fit-new (p ∷ ps) (suc place) most = blocks-fit-new ps place most
+blocks-fit-new (p ∷ ps) (suc slot) most = blocks-fit-new ps slot most
 
 -- and for the root directory
-pub inodes-fit-new : (ps : List Principal) (place most : ℕ) → 1 ≤ most → IfSome (slice_get (map new_owner ps) place) (λ o. o.account.inodes + 1 ≤ most)
-inodes-fit-new [] place most low = tt
+pub inodes-fit-new : (ps : List Principal) (slot most : ℕ) → 1 ≤ most → IfSome (slice_get (map new_holder ps) slot) (λ o. o.account.inodes + 1 ≤ most)
+inodes-fit-new [] slot most low = tt
 inodes-fit-new (p ∷ ps) zero most low = omega arith
-inodes-fit-new (p ∷ ps) (suc place) most low = inodes-fit-new ps place most low
+inodes-fit-new (p ∷ ps) (suc slot) most low = inodes-fit-new ps slot most low

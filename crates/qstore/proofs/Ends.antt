@@ -7,8 +7,8 @@ use Rattle.qrules.specs.Sort.{Inodes, Blocks, grace_of}
 use Rattle.qrules.specs.Account.{Account, HasEnds, is_over_soft}
 use Rattle.qrules.specs.Grace.{end_after, with_ends}
 use Rattle.qplain.proofs.Ends.{next_end-same, next_end-stands}
-use Rattle.qstore.specs.declared.owner.Owner.{Owner}
-use Rattle.qstore.specs.Owners.{charged_owner, relimited_owner}
+use Rattle.qstore.specs.declared.kept_holder.KeptHolder.{KeptHolder}
+use Rattle.qstore.specs.KeptHolders.{charged_holder, relimited_kept}
 
 -- an account whose ends are where they should be keeps its block end
 pub block_end-same : (account : Account) (graces : Graces) (moment : ℕ) → HasEnds account → end_after Blocks account graces moment ≡ account.block_end
@@ -25,10 +25,10 @@ HasEnds-with_ends account graces moment = record {
   blocks = next_end-stands (is_over_soft Blocks account) account.block_end (moment + grace_of Blocks graces);
 }
 
--- ---- the ends of owners
+-- ---- the ends of kept holders
 
--- a change of some owners keeps what it gives, and what all of them have
-all-changed : (P : Owner → Type 0) (test : Owner → Bool) (f : Owner → Owner) (os : List Owner) → ((o : Owner) → P (f o)) → All P os
+-- a change of some kept holders keeps what it gives, and what all of them have
+all-changed : (P : KeptHolder → Type 0) (test : KeptHolder → Bool) (f : KeptHolder → KeptHolder) (os : List KeptHolder) → ((o : KeptHolder) → P (f o)) → All P os
     → All P (map (λ o. cond (test o) (f o) o) os)
 all-changed P test f [] gives all = All-nil P
 all-changed P test f (o ∷ os) gives all =
@@ -40,15 +40,15 @@ all-changed P test f (o ∷ os) gives all =
     chosen false new old = old
 
 -- a charge leaves each end where it should be
-pub ends-charged : (id : ℕ) (graces : Graces) (moment blocks inodes : ℕ) (os : List Owner) → All (λ o. HasEnds o.account) os
-    → All (λ o. HasEnds o.account) (map (charged_owner id graces moment blocks inodes) os)
+pub ends-charged : (id : ℕ) (graces : Graces) (moment blocks inodes : ℕ) (os : List KeptHolder) → All (λ o. HasEnds o.account) os
+    → All (λ o. HasEnds o.account) (map (charged_holder id graces moment blocks inodes) os)
 ends-charged id graces moment blocks inodes os all =
     all-changed (λ o. HasEnds o.account) (λ o. id == o.id) _ os
     (λ o. HasEnds-with_ends (record o.account { blocks = o.account.blocks + blocks; inodes = o.account.inodes + inodes }) graces moment) all
 
 -- and so do new limits
-pub ends-relimited : (id : ℕ) (limits : Limits) (graces : Graces) (moment : ℕ) (os : List Owner) → All (λ o. HasEnds o.account) os
-    → All (λ o. HasEnds o.account) (map (relimited_owner id limits graces moment) os)
+pub ends-relimited : (id : ℕ) (limits : Limits) (graces : Graces) (moment : ℕ) (os : List KeptHolder) → All (λ o. HasEnds o.account) os
+    → All (λ o. HasEnds o.account) (map (relimited_kept id limits graces moment) os)
 ends-relimited id limits graces moment os all =
     all-changed (λ o. HasEnds o.account) (λ o. id == o.id) _ os
     (λ o. HasEnds-with_ends (record o.account { limits = limits; block_end = None; inode_end = None }) graces moment) all

@@ -1,4 +1,4 @@
--- What is asked of the holders of a state, answered by the owners of a kind.
+-- What is asked of the holders of a state, answered by the kept holders of a kind.
 use Rattle.std.proofs.Common.{◌≡◌, ℕ, zero, suc, Bool, true, false, cond, ◌&&◌, ◌||◌, ◌==◌, List, [], ◌∷◌, ◌++◌, map, Some, None, find, slice_get, refl, sym, ap, ◌∙◌}
 use Rattle.std.specs.List.{list_any}
 use Rattle.std.proofs.lemmas.Option.{same_Some}
@@ -7,9 +7,9 @@ use Rattle.qrules.specs.declared.kind.Kind.{Kind}
 use Rattle.qrules.specs.declared.kind.Kind.TheVariants.{User, Group}
 use Rattle.qplain.specs.State.{Holder}
 use Rattle.qplain.specs.Arguments.{is_holder, is_same_kind}
-use Rattle.qstore.specs.declared.owner.Owner.{Owner}
-use Rattle.qstore.specs.Owners.{AreById, holder_in, owners_of}
-use Rattle.qstore.proofs.ById.{by_id-rest, place-first, place-later, place-of}
+use Rattle.qstore.specs.declared.kept_holder.KeptHolder.{KeptHolder}
+use Rattle.qstore.specs.KeptHolders.{AreById, holder_in, kept_of}
+use Rattle.qstore.proofs.ById.{by_id-rest, slot-first, slot-later, slot-of}
 use Rattle.qstore.proofs.Declared.{or-first, or-second}
 
 -- ---- lists one behind the other
@@ -32,18 +32,18 @@ module _ (kind other : Kind) (id : ℕ) where
   other-kind false c apart = refl
 
   -- no holder of the other kind is the one
-  any-other : is_same_kind kind other ≡ false → (os : List Owner) → list_any (is_holder kind id) (map (holder_in other) os) ≡ false
+  any-other : is_same_kind kind other ≡ false → (os : List KeptHolder) → list_any (is_holder kind id) (map (holder_in other) os) ≡ false
   any-other apart [] = refl
   any-other apart (o ∷ os) =
       ap (λ b. b || list_any (is_holder kind id) (map (holder_in other) os)) (other-kind (is_same_kind kind other) (id == o.id) apart) ∙ any-other apart os
 
-  -- a holder of the kind is the one where its owner is
-  any-own : is_same_kind kind kind ≡ true → (os : List Owner) → list_any (is_holder kind id) (map (holder_in kind) os) ≡ list_any (λ o. id == o.id) os
+  -- a holder of the kind is the one where its kept holder is
+  any-own : is_same_kind kind kind ≡ true → (os : List KeptHolder) → list_any (is_holder kind id) (map (holder_in kind) os) ≡ list_any (λ o. id == o.id) os
   any-own same [] = refl
   any-own same (o ∷ os) = λ i. (same i && id == o.id) || any-own same os i
 
   -- nor is one found
-  find-other : is_same_kind kind other ≡ false → (os : List Owner) (rest : List Holder)
+  find-other : is_same_kind kind other ≡ false → (os : List KeptHolder) (rest : List Holder)
       → find (is_holder kind id) (map (holder_in other) os ++ rest) ≡ find (is_holder kind id) rest
   find-other apart [] rest = refl
   find-other apart (o ∷ os) rest =
@@ -52,8 +52,8 @@ module _ (kind other : Kind) (id : ℕ) where
       (other-kind (is_same_kind kind other) (id == o.id) apart)
       ∙ find-other apart os rest
 
-  -- nor behind the owners of whom none has the id
-  find-absent : is_same_kind kind kind ≡ true → (os : List Owner) (rest : List Holder) → list_any (λ o. id == o.id) os ≡ false
+  -- nor behind the kept holders of whom none has the id
+  find-absent : is_same_kind kind kind ≡ true → (os : List KeptHolder) (rest : List Holder) → list_any (λ o. id == o.id) os ≡ false
       → find (is_holder kind id) (map (holder_in kind) os ++ rest) ≡ find (is_holder kind id) rest
   find-absent same [] rest absent = refl
   find-absent same (o ∷ os) rest absent =
@@ -63,26 +63,26 @@ module _ (kind other : Kind) (id : ℕ) where
       (or-first (id == o.id) (list_any (λ p. id == p.id) os) absent)
       ∙ find-absent same os rest (or-second (id == o.id) (list_any (λ p. id == p.id) os) absent)
 
-  -- the holder of the owner at the place of the id is found
-  find-at : is_same_kind kind kind ≡ true → (os : List Owner) (place : ℕ) (o : Owner) (rest : List Holder)
-      → AreById os → slice_get os place ≡ Some o → o.id ≡ id
+  -- the holder of the kept holder at the slot of the id is found
+  find-at : is_same_kind kind kind ≡ true → (os : List KeptHolder) (slot : ℕ) (o : KeptHolder) (rest : List Holder)
+      → AreById os → slice_get os slot ≡ Some o → o.id ≡ id
       → find (is_holder kind id) (map (holder_in kind) os ++ rest) ≡ Some (holder_in kind o)
-  find-at same [] place o rest by_id there is = cc
+  find-at same [] slot o rest by_id there is = cc
   find-at same (p ∷ os) zero o rest by_id there is =
-      let own : (id == p.id) ≡ true = place-first id p os (place-of (p ∷ os) zero id o there is) in
+      let own : (id == p.id) ≡ true = slot-first id p os (slot-of (p ∷ os) zero id o there is) in
       (λ i. cond (same i && own i) (Some (holder_in kind p)) (find (is_holder kind id) (map (holder_in kind) os ++ rest)))
       ∙ ap (λ q. Some (holder_in kind q)) (same_Some p o there)
-  find-at same (p ∷ os) (suc place) o rest by_id there is =
-      let apart : (id == p.id) ≡ false = place-later id p os place by_id (place-of os place id o there is) in
+  find-at same (p ∷ os) (suc slot) o rest by_id there is =
+      let apart : (id == p.id) ≡ false = slot-later id p os slot by_id (slot-of os slot id o there is) in
       (λ i. cond (same i && apart i) (Some (holder_in kind p)) (find (is_holder kind id) (map (holder_in kind) os ++ rest)))
-      ∙ find-at same os place o rest (by_id-rest p os by_id) there is
+      ∙ find-at same os slot o rest (by_id-rest p os by_id) there is
 
 -- ---- users and groups
 
--- a principal is declared where the owners of its kind have its id
-pub declared-owners : (kind : Kind) (id : ℕ) (us gs : List Owner)
-    → list_any (is_holder kind id) (map (holder_in User) us ++ map (holder_in Group) gs) ≡ list_any (λ o. id == o.id) (owners_of kind us gs)
-declared-owners User id us gs =
+-- a principal is declared where the kept holders of its kind have its id
+pub declared-kept : (kind : Kind) (id : ℕ) (us gs : List KeptHolder)
+    → list_any (is_holder kind id) (map (holder_in User) us ++ map (holder_in Group) gs) ≡ list_any (λ o. id == o.id) (kept_of kind us gs)
+declared-kept User id us gs =
     list_any-append (is_holder User id) (map (holder_in User) us) (map (holder_in Group) gs)
     ∙ (λ i. any-own User User id refl us i || any-other User Group id refl gs i)
     ∙ or-false (list_any (λ o. id == o.id) us)
@@ -90,28 +90,28 @@ declared-owners User id us gs =
     or-false : (a : Bool) → (a || false) ≡ a
     or-false true = refl
     or-false false = refl
-declared-owners Group id us gs =
+declared-kept Group id us gs =
     list_any-append (is_holder Group id) (map (holder_in User) us) (map (holder_in Group) gs)
     ∙ (λ i. any-other Group User id refl us i || any-own Group Group id refl gs i)
 
--- the holder of a principal is that of the owner at its place
-pub find-owner : (kind : Kind) (id : ℕ) (us gs : List Owner) (place : ℕ) (o : Owner) → AreById (owners_of kind us gs)
-    → slice_get (owners_of kind us gs) place ≡ Some o → o.id ≡ id
+-- the holder of a principal is that of the kept holder at its slot
+pub find-kept : (kind : Kind) (id : ℕ) (us gs : List KeptHolder) (slot : ℕ) (o : KeptHolder) → AreById (kept_of kind us gs)
+    → slice_get (kept_of kind us gs) slot ≡ Some o → o.id ≡ id
     → find (is_holder kind id) (map (holder_in User) us ++ map (holder_in Group) gs) ≡ Some (holder_in kind o)
-find-owner User id us gs place o by_id there is = find-at User User id refl us place o (map (holder_in Group) gs) by_id there is
-find-owner Group id us gs place o by_id there is =
+find-kept User id us gs slot o by_id there is = find-at User User id refl us slot o (map (holder_in Group) gs) by_id there is
+find-kept Group id us gs slot o by_id there is =
     find-other Group User id refl us (map (holder_in Group) gs)
     ∙ ap (find (is_holder Group id)) (sym (append-nil (map (holder_in Group) gs)))
-    ∙ find-at Group Group id refl gs place o [] by_id there is
+    ∙ find-at Group Group id refl gs slot o [] by_id there is
 
--- there is no holder of a principal whose id no owner has
-pub find-no-owner : (kind : Kind) (id : ℕ) (us gs : List Owner) → list_any (λ o. id == o.id) (owners_of kind us gs) ≡ false
+-- there is no holder of a principal whose id no kept holder has
+pub find-no-kept : (kind : Kind) (id : ℕ) (us gs : List KeptHolder) → list_any (λ o. id == o.id) (kept_of kind us gs) ≡ false
     → find (is_holder kind id) (map (holder_in User) us ++ map (holder_in Group) gs) ≡ None
-find-no-owner User id us gs absent =
+find-no-kept User id us gs absent =
     find-absent User User id refl us (map (holder_in Group) gs) absent
     ∙ ap (find (is_holder User id)) (sym (append-nil (map (holder_in Group) gs)))
     ∙ find-other User Group id refl gs []
-find-no-owner Group id us gs absent =
+find-no-kept Group id us gs absent =
     find-other Group User id refl us (map (holder_in Group) gs)
     ∙ ap (find (is_holder Group id)) (sym (append-nil (map (holder_in Group) gs)))
     ∙ find-absent Group Group id refl gs [] absent

@@ -114,7 +114,7 @@ module _ {K X : Type 0} {R : K → K → Ordering} (o : IsTotalOrder R) (same : 
   in_order-same es fs is = same_sorted (in_order R es) (in_order R fs) (sorted-in_order es)
       (sorted-in_order fs) (λ q. lookup-in_order es q ∙ is q ∙ sym (lookup-in_order fs q))
 
-  -- a list in order that has v at k and else answers as es does is es with k put in its place
+  -- a list in order that has v at k and else answers as es does is es with k put in its slot
   pub sorted-insert : (es fs : List (K × X)) (k : K) (v : X) → T (is_sorted R es) → T (is_sorted R fs)
       → ((q : K) → lookup (eq_by_cmp R q) fs ≡ cond (eq_by_cmp R k q) (Some v) (lookup (eq_by_cmp R q) es))
       → fs ≡ insert_entry R es k v
@@ -126,7 +126,7 @@ module _ {K X : Type 0} {R : K → K → Ordering} (o : IsTotalOrder R) (same : 
       ∙ ap (cond (eq_by_cmp R q k) (Some v)) (sym (map.get-from_entries o es q ∙ find_lookup R q es)) ∙ sym (map.get-insert o (map.from_entries es) k v q)))
       ∙ map.entries-insert o (map.from_entries es) k v ∙ put_insert R k v (in_order R es) ∙ ap (λ xs. insert_entry R xs k v) (in_order-sorted es a)
 
-  -- what has v at k and else answers as es does is in order es with k put in its place
+  -- what has v at k and else answers as es does is in order es with k put in its slot
   pub in_order-insert : (es fs : List (K × X)) (k : K) (v : X)
       → ((q : K) → lookup (eq_by_cmp R q) fs ≡ cond (eq_by_cmp R k q) (Some v) (lookup (eq_by_cmp R q) es))
       → in_order R fs ≡ insert_entry R (in_order R es) k v

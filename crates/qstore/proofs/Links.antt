@@ -30,20 +30,20 @@ module _ (S : State) (links : List (ℕ × ℕ)) (kept : AreLinks S links) (lawf
   old_links number (Some inode) there =
       ap Some (sym (links_of-created-others S (new_file uid gid) dir name lawful.parts absent number inode inode.dir there refl))
 
-  by_place : (number : ℕ) (b : Bool) → is_at (nat_cmp number) S.next ≡ b
+  by_slot : (number : ℕ) (b : Bool) → is_at (nat_cmp number) S.next ≡ b
       → cond b (Some 1) (lookup (is_at (nat_cmp number)) links)
       ≡ option_map (λ inode. links_of S1 number inode.dir)
       (cond b (Some (new_file uid gid)) (inode_at S number))
-  by_place number true at_next =
+  by_slot number true at_next =
       ap Some (sym (links_of-new_file S (new_file uid gid) dir name lawful.parts absent)
       ∙ ap (λ n. links_of S1 n false) (sym (same-number number S.next at_next)))
-  by_place number false other = kept number ∙ old_links number (inode_at S number) refl
+  by_slot number false other = kept number ∙ old_links number (inode_at S number) refl
 
   -- a new file has one link, and the others keep theirs
   pub links-created : AreLinks S1 (insert_entry nat_cmp links S.next 1)
   links-created number =
       lookup-insert_new nat_cmp_total links S.next 1 number (none-kept S links S.next kept (absent-next S lawful))
-      ∙ by_place number (is_at (nat_cmp number) S.next) refl
+      ∙ by_slot number (is_at (nat_cmp number) S.next) refl
       ∙ ap (option_map (λ inode. links_of S1 number inode.dir)) (sym (inode_at-created S (new_file uid gid) dir name number (absent-next S lawful)))
 
 module _ (S : State) (links : List (ℕ × ℕ)) (kept : AreLinks S links) (number : ℕ) (inode : Inode) (file : File) (there : inode_at S number ≡ Some inode) where

@@ -9,7 +9,7 @@ use Rattle.std.specs.Option.{option_map, unwrap_or}
 use Rattle.std.specs.List.Sorted.{IsStrictlySortedBy}
 use Rattle.std.proofs.lemmas.List.Elements.{All-cons, All-nil}
 use Rattle.std.proofs.lemmas.List.Sums.{sum_by-cons}
-use Rattle.std.proofs.lemmas.Map.Entries.{lookup_from_place}
+use Rattle.std.proofs.lemmas.Map.Entries.{lookup_from_slot}
 use Rattle.std.proofs.lemmas.Map.Keys.{IsDistinct-from_sorted}
 use Rattle.qrules.specs.Sort.{Blocks}
 use Rattle.qplain.specs.declared.setup.TheConstants.{MAX_BLOCKS}
@@ -19,7 +19,7 @@ use Rattle.qstore.specs.InOrder.{in_order, read_by}
 use Rattle.qstore.specs.Kept.{IsCounted}
 use Rattle.qstore.specs.Rows.{inode_row_of}
 use Rattle.qstore.specs.Tree.{kept_row}
-use Rattle.qstore.specs.declared.owner.Owner.{Owner}
+use Rattle.qstore.specs.declared.kept_holder.KeptHolder.{KeptHolder}
 use Rattle.qstore.proofs.InOrder.{strictly-in_order}
 use Rattle.qstore.proofs.Rows.{HasFewBlocks}
 
@@ -47,7 +47,7 @@ pub rows-where : {V E Row : Type 0} (items : V → List Row) (result : Result V 
 rows-where items (Ok rows) P made wanted is holds same = is ∙ same holds
 rows-where items (Err e) P made wanted is holds same = tt
 
-module _ {S : State} {users groups : List Owner} {links : List (ℕ × ℕ)} {blocks inodes : ℕ} (kept : IsCounted S users groups links blocks inodes) where
+module _ {S : State} {users groups : List KeptHolder} {links : List (ℕ × ℕ)} {blocks inodes : ℕ} (kept : IsCounted S users groups links blocks inodes) where
   -- no inode of a store has more blocks than fit its row
   pub few-blocks : All HasFewBlocks S.inodes
   few-blocks = let fit = kept.sound.lawful.blocks_fit in let low = kept.size_bound in few-of S.inodes (omega (arith, fit, low))
@@ -71,5 +71,5 @@ module _ {S : State} {users groups : List Owner} {links : List (ℕ × ℕ)} {bl
   -- the rows with the kept links are those with the counted links
   pub inode-rows-counted : IsStrictlySortedBy nat_cmp (keys_of S.inodes) → map (kept_row links) S.inodes ≡ map (inode_row_of S) S.inodes
   inode-rows-counted sorted =
-      rows-counted S.inodes (λ k e there. lookup_from_place (eq_by_cmp_equiv nat_cmp_total) S.inodes k e.0 e.1
+      rows-counted S.inodes (λ k e there. lookup_from_slot (eq_by_cmp_equiv nat_cmp_total) S.inodes k e.0 e.1
       (IsDistinct-from_sorted nat_cmp (keys_of S.inodes) sorted) there)

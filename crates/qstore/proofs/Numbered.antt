@@ -72,7 +72,7 @@ module _ {X Y : Type 0} (f : X → Y) where
       ap (read_by f) (in_order-insert nat_cmp_total nat_cmp-IsAntisymmetric es fs k v (put_at es fs k v put))
       ∙ read_by-insert f nat_cmp (in_order nat_cmp es) k v
 
-  -- a put in the place of another value
+  -- a put in the slot of another value
   pub seen-set : (es fs : List (ℕ × X)) (k : ℕ) (u v : X) → lookup (nat_eq k) es ≡ Some u → IsPut es fs k v
       → read_by f (in_order nat_cmp fs) ≡ set_value (is_at (nat_cmp k)) (read_by f (in_order nat_cmp es))
       (f v)

@@ -9,12 +9,12 @@ use Rattle.qplain.specs.declared.refusal.Refusal.TheVariants.{EINVAL, ENAMETOOLO
 use Rattle.qplain.specs.Walk.{is_too_long, is_well_formed}
 use Rattle.qstore.specs.Paths.{path_fault, paths_fault}
 
--- what a place that is found says of the test
+-- what a slot that is found says of the test
 found_at : (b : Bool) (n at : ℕ) → cond b (Some n) None ≡ Some at → (b ≡ true) × (n ≡ at)
 found_at true n at h = (refl, grind (arith, h))
 found_at false n at h = cc
 
--- what no place says of the test
+-- what no slot says of the test
 found_none : (b : Bool) (n : ℕ) → cond b (Some n) None ≡ None → b ≡ false
 found_none true n h = cc
 found_none false n h = refl

@@ -24,7 +24,7 @@ later_none true v f g none = ap (λ o. first_some o (Some v)) (none refl)
 later_none false v f g none = refl
 
 module _ {K X : Type 0} {R : K → K → Ordering} (o : IsTotalOrder R) (same : IsAntisymmetric R) where
-  -- a look-up after an entry is put in its place
+  -- a look-up after an entry is put in its slot
   pub lookup-insert : (k : K) (v : X) (acc : List (K × X)) (q : K)
       → lookup (eq_by_cmp R q) (insert_entry R acc k v)
       ≡ cond (eq_by_cmp R q k) (Some v) (lookup (eq_by_cmp R q) acc)

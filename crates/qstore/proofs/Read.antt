@@ -18,7 +18,7 @@ pub lookup-keyed_by : {K L X : Type 0} (f : K → L) (test : L → Bool) (es : L
 lookup-keyed_by f test [] = refl
 lookup-keyed_by f test (e ∷ es) = ap (cond (test (f e.0)) (Some e.1)) (lookup-keyed_by f test es)
 
--- to put an entry in its place and to make its key are the same in either order
+-- to put an entry in its slot and to make its key are the same in either order
 pub keyed_by-insert : {K L X : Type 0} (f : K → L) (R : L → L → Ordering) (es : List (K × X)) (k : K) (v : X)
     → keyed_by f (insert_entry (λ x y. R (f x) (f y)) es k v) ≡ insert_entry R (keyed_by f es) (f k) v
 keyed_by-insert f R [] k v = refl
@@ -34,7 +34,7 @@ keyed_by-insert f R (e ∷ es) k v =
     ]
 
 module _ {K X Y : Type 0} (f : X → Y) where
-  -- to put an entry in its place and to read the values are the same in either order
+  -- to put an entry in its slot and to read the values are the same in either order
   pub read_by-insert : (R : K → K → Ordering) (es : List (K × X)) (k : K) (v : X) → read_by f (insert_entry R es k v) ≡ insert_entry R (read_by f es) k (f v)
   read_by-insert R [] k v = refl
   read_by-insert R (e ∷ es) k v =
@@ -47,7 +47,7 @@ module _ {K X Y : Type 0} (f : X → Y) where
         | Greater ↦ ap (λ t. (e.0, f e.1) ∷ t) (read_by-insert R es k v)
       ]
 
-  -- the same for another value in an entry's place
+  -- the same for another value in an entry's slot
   pub read_by-set : (test : K → Bool) (es : List (K × X)) (v : X) → read_by f (set_value test es v) ≡ set_value test (read_by f es) (f v)
   read_by-set test [] v = refl
   read_by-set test (e ∷ es) v =

@@ -1,4 +1,4 @@
--- The first limit in the way of a charge is that of the one owner that is charged.
+-- The first limit in the way of a charge is that of the one kept holder that is charged.
 use Rattle.std.proofs.Common.{◌≡◌, ℕ, zero, suc, ◌+◌, Bool, true, false, cond, ◌==◌, nat_le, List, [], ◌∷◌, ◌++◌, map, All, Option, Some, None, option_map, slice_get, refl, ap, ◌∙◌, tests, arith}
 use Rattle.std.specs.Option.{option_or}
 use Rattle.std.specs.List.{AllByRecursion}
@@ -15,9 +15,9 @@ use Rattle.qplain.specs.Decision.{fault_of_holder, first_refusal}
 use Rattle.qplain.specs.Rises.{Rises}
 use Rattle.qplain.specs.declared.refusal.Refusal.{Refusal}
 use Rattle.qplain.specs.declared.refusal.Refusal.TheVariants.{EDQUOT}
-use Rattle.qstore.specs.declared.owner.Owner.{Owner}
-use Rattle.qstore.specs.Owners.{AreById, IsCountedIn, holder_in}
-use Rattle.qstore.proofs.ById.{above-others-of, by_id-rest, place-first, place-later, place-of}
+use Rattle.qstore.specs.declared.kept_holder.KeptHolder.{KeptHolder}
+use Rattle.qstore.specs.KeptHolders.{AreById, IsCountedIn, holder_in}
+use Rattle.qstore.proofs.ById.{above-others-of, by_id-rest, slot-first, slot-later, slot-of}
 use Rattle.qstore.proofs.Counted.{account_of-counted}
 use Rattle.qstore.proofs.Charges.{blocks-risen, inodes-risen}
 
@@ -53,8 +53,8 @@ or-none None = refl
 or-none (Some x) = refl
 
 module _ (S S1 : State) (whose : Inode) (blocks inodes : ℕ) (rises : Rises S S1 whose blocks inodes) (kind : Kind) (moment : ℕ) where
-  -- the fault of an owner's holder is that of the charge, where it is the owner's
-  fault-risen : (o : Owner) → IsCountedIn S kind o
+  -- the fault of a kept holder's holder is that of the charge, where it is the kept holder's
+  fault-risen : (o : KeptHolder) → IsCountedIn S kind o
       → fault_of_holder S S1 moment (holder_in kind o) ≡ cond (owner kind whose == o.id) (charge_fault o.account moment blocks inodes) None
   fault-risen o counted =
       (λ i. first_fault (account_of-counted S kind o counted i) moment
@@ -62,16 +62,16 @@ module _ (S S1 : State) (whose : Inode) (blocks inodes : ℕ) (rises : Rises S S
       ∙ first_fault-risen (owner kind whose == o.id) o.account moment blocks inodes
 
   -- so the fault of one that is not charged is none
-  fault-other : (o : Owner) → IsCountedIn S kind o → (owner kind whose == o.id) ≡ false → fault_of_holder S S1 moment (holder_in kind o) ≡ None
+  fault-other : (o : KeptHolder) → IsCountedIn S kind o → (owner kind whose == o.id) ≡ false → fault_of_holder S S1 moment (holder_in kind o) ≡ None
   fault-other o counted other = fault-risen o counted ∙ ap (λ b. cond b (charge_fault o.account moment blocks inodes) None) other
 
   -- and that of the one that is charged the charge's
-  fault-own : (o : Owner) → IsCountedIn S kind o → (owner kind whose == o.id) ≡ true
+  fault-own : (o : KeptHolder) → IsCountedIn S kind o → (owner kind whose == o.id) ≡ true
       → fault_of_holder S S1 moment (holder_in kind o) ≡ charge_fault o.account moment blocks inodes
   fault-own o counted own = fault-risen o counted ∙ ap (λ b. cond b (charge_fault o.account moment blocks inodes) None) own
 
-  -- where the owner is none of them, none of them refuses
-  refusal-none : (os : List Owner) → All (IsCountedIn S kind) os → AllByRecursion (λ o. (owner kind whose == o.id) ≡ false) os
+  -- where the kept holder is none of them, none of them refuses
+  refusal-none : (os : List KeptHolder) → All (IsCountedIn S kind) os → AllByRecursion (λ o. (owner kind whose == o.id) ≡ false) os
       → first_refusal (fault_of_holder S S1 moment) (map (holder_in kind) os) ≡ None
   refusal-none [] counted others = refl
   refusal-none (o ∷ os) counted others =
@@ -79,15 +79,15 @@ module _ (S S1 : State) (whose : Inode) (blocks inodes : ℕ) (rises : Rises S S
       ap (λ fault. option_or (option_map (λ over. EDQUOT kind over) fault) (first_refusal (fault_of_holder S S1 moment) (map (holder_in kind) os))) here
       ∙ refusal-none os (All-tail (IsCountedIn S kind) o os counted) others.1
 
-  -- the first refusal among the holders of a kind is that of a charge to the owner
-  pub first_refusal-charged : (os : List Owner) (place : ℕ) (o : Owner) → All (IsCountedIn S kind) os
-      → AreById os → slice_get os place ≡ Some o → o.id ≡ owner kind whose
+  -- the first refusal among the holders of a kind is that of a charge to the kept holder
+  pub first_refusal-charged : (os : List KeptHolder) (slot : ℕ) (o : KeptHolder) → All (IsCountedIn S kind) os
+      → AreById os → slice_get os slot ≡ Some o → o.id ≡ owner kind whose
       → first_refusal (fault_of_holder S S1 moment) (map (holder_in kind) os)
       ≡ option_map (λ over. EDQUOT kind over) (charge_fault o.account moment blocks inodes)
-  first_refusal-charged [] place o counted by_id there same = cc
+  first_refusal-charged [] slot o counted by_id there same = cc
   first_refusal-charged (p ∷ os) zero o counted by_id there same =
       let is : p ≡ o = same_Some p o there in
-      let own : (owner kind whose == p.id) ≡ true = place-first (owner kind whose) p os (place-of (p ∷ os) zero (owner kind whose) o there same) in
+      let own : (owner kind whose == p.id) ≡ true = slot-first (owner kind whose) p os (slot-of (p ∷ os) zero (owner kind whose) o there same) in
       let here : fault_of_holder S S1 moment (holder_in kind p)
       ≡ charge_fault p.account moment blocks inodes =
       fault-own p (All-head (IsCountedIn S kind) p os counted) own in
@@ -96,8 +96,8 @@ module _ (S S1 : State) (whose : Inode) (blocks inodes : ℕ) (rises : Rises S S
       (λ i. option_or (option_map (λ over. EDQUOT kind over) (here i)) (rest i))
       ∙ or-none (option_map (λ over. EDQUOT kind over) (charge_fault p.account moment blocks inodes))
       ∙ ap (λ q. option_map (λ over. EDQUOT kind over) (charge_fault q.account moment blocks inodes)) is
-  first_refusal-charged (p ∷ os) (suc place) o counted by_id there same =
-      let other : (owner kind whose == p.id) ≡ false = place-later (owner kind whose) p os place by_id (place-of os place (owner kind whose) o there same) in
+  first_refusal-charged (p ∷ os) (suc slot) o counted by_id there same =
+      let other : (owner kind whose == p.id) ≡ false = slot-later (owner kind whose) p os slot by_id (slot-of os slot (owner kind whose) o there same) in
       let here : fault_of_holder S S1 moment (holder_in kind p) ≡ None = fault-other p (All-head (IsCountedIn S kind) p os counted) other in
       ap (λ fault. option_or (option_map (λ over. EDQUOT kind over) fault) (first_refusal (fault_of_holder S S1 moment) (map (holder_in kind) os))) here
-      ∙ first_refusal-charged os place o (All-tail (IsCountedIn S kind) p os counted) (by_id-rest p os by_id) there same
+      ∙ first_refusal-charged os slot o (All-tail (IsCountedIn S kind) p os counted) (by_id-rest p os by_id) there same

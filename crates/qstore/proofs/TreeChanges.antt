@@ -35,7 +35,7 @@ module _ {X S : Type 0} (m n : HashMap ℕ X S) (k : ℕ) (v : X) where
   pub put-writes : (u : X) → Some u ≡ hash.get nat_eq m k → hash.WritesThrough nat_eq (nat_eq k) m v n → IsPut m.entries n.entries k v
   put-writes u found w = put-updates (w.3 (subst IsSome found refl))
 
--- the same after the entries changed their places
+-- the same after the entries changed their slots
 pub put-reordered : {X : Type 0} (es ms fs : List (ℕ × X)) (k : ℕ) (v : X)
     → ((q : ℕ) → lookup (nat_eq q) ms ≡ lookup (nat_eq q) es) → IsPut ms fs k v → IsPut es fs k v
 put-reordered es ms fs k v is put = record { at = λ q. put.at q ∙ ap (cond (nat_eq k q) (Some v)) (is q) }

@@ -7,7 +7,7 @@ use Rattle.qrules.specs.declared.graces.TheConstants.{MAX_MOMENT}
 use Rattle.qrules.specs.declared.kind.Kind.TheVariants.{User, Group}
 use Rattle.qrules.specs.Sort.{Inodes, Blocks}
 use Rattle.qblocks.specs.File.{MoreBlocks, after_write}
-use Rattle.qblocks.specs.Room.{IsReady}
+use Rattle.qblocks.specs.WriteRoom.{IsReadyToPut}
 use Rattle.qblocks.specs.declared.file.TheConstants.{MAX_SIZE}
 use Rattle.qplain.specs.State.{Inode, NameKey, State, inode_at}
 use Rattle.qplain.specs.Use.{total_of, weight}
@@ -15,32 +15,32 @@ use Rattle.qplain.specs.Decision.{ends_after}
 use Rattle.qplain.specs.Attempt.{with_file}
 use Rattle.qplain.specs.Rises.{Rises}
 use Rattle.qplain.proofs.Rising.{Rises-with_file}
-use Rattle.qstore.specs.declared.owner.Owner.{Owner}
-use Rattle.qstore.specs.declared.places.Places.{Places}
+use Rattle.qstore.specs.declared.kept_holder.KeptHolder.{KeptHolder}
+use Rattle.qstore.specs.declared.slots.Slots.{Slots}
 use Rattle.qstore.specs.declared.store.Store.TheInside.{Inside}
 use Rattle.qstore.specs.declared.ledger.TheConstants.{MAX_COUNT}
 use Rattle.qstore.specs.Kept.{IsCounted, state_of, stored_of}
-use Rattle.qstore.specs.Owners.{charged_owner, holders_in}
+use Rattle.qstore.specs.KeptHolders.{charged_holder, holders_in}
 use Rattle.qstore.specs.Ready.{WriteIsReady, written_at}
-use Rattle.qstore.specs.Stored.{HasPlaces, IsSound, Stored}
+use Rattle.qstore.specs.Stored.{HasSlots, IsSound, Stored}
 use Rattle.qstore.specs.Tree.{IsSameTree, RoomyTree, file_room}
 use Rattle.qstore.proofs.Chargeable.{CanCharge, can-charge}
 use Rattle.qstore.proofs.Counting.{counted-charged-both, holders-after}
 use Rattle.qstore.proofs.Links.{links-with_file}
-use Rattle.qstore.proofs.Stores.{place-at_id}
+use Rattle.qstore.proofs.Stores.{slot-at_id}
 
--- places of equal ids
-pub places-along : (s : Stored) (places : Places) (uid gid u g : ℕ) → HasPlaces s places uid gid → uid ≡ u → gid ≡ g → HasPlaces s places u g
-places-along s places uid gid u g has same_user same_group = record { user = has.user ∙ ap Some same_user; group = has.group ∙ ap Some same_group }
+-- slots of equal ids
+pub slots-along : (s : Stored) (slots : Slots) (uid gid u g : ℕ) → HasSlots s slots uid gid → uid ≡ u → gid ≡ g → HasSlots s slots u g
+slots-along s slots uid gid u g has same_user same_group = record { user = has.user ∙ ap Some same_user; group = has.group ∙ ap Some same_group }
 
 -- a store in which the room of a write is made is ready for it
 pub write-ready : (a : Inside) (tree : RoomyTree) → IsSameTree a.tree tree
-    → (number off spare : ℕ) (places : Places) (moment : ℕ) (bytes : List ℕ) (inode : Inode) (blocks : ℕ)
+    → (number off spare : ℕ) (slots : Slots) (moment : ℕ) (bytes : List ℕ) (inode : Inode) (blocks : ℕ)
     → inode_at (state_of a) number ≡ Some inode → off + length bytes ≤ MAX_SIZE → MoreBlocks inode.file (after_write inode.file off bytes) blocks
-    → total_of (state_of a) Blocks + blocks ≤ a.size → HasPlaces (stored_of a) places inode.uid inode.gid
-    → is_some (file_room tree.room number) ≡ true → IfSome (file_room tree.room number) (λ f. IsReady f off (length bytes) spare) → moment ≤ MAX_MOMENT
-    → WriteIsReady (stored_of (record a { tree = tree })) number off spare places moment bytes
-write-ready a tree same number off spare places moment bytes inode blocks there bound more few has file room low = record {
+    → total_of (state_of a) Blocks + blocks ≤ a.size → HasSlots (stored_of a) slots inode.uid inode.gid
+    → is_some (file_room tree.room number) ≡ true → IfSome (file_room tree.room number) (λ f. IsReadyToPut f off (length bytes) spare) → moment ≤ MAX_MOMENT
+    → WriteIsReady (stored_of (record a { tree = tree })) number off spare slots moment bytes
+write-ready a tree same number off spare slots moment bytes inode blocks there bound more few has file room low = record {
   inode = inode;
   there = ap (lookup (is_at (nat_cmp number))) same.inodes ∙ there;
   bound = bound;
@@ -55,8 +55,8 @@ write-ready a tree same number off spare places moment bytes inode blocks there 
 }
 
 module _ (a : Inside) (kept : IsCounted (state_of a) a.users a.groups a.tree.links a.blocks a.inodes)
-    (number off spare : ℕ) (places : Places) (moment : ℕ) (bytes : List ℕ)
-    (can : WriteIsReady (stored_of a) number off spare places moment bytes) (blocks : ℕ)
+    (number off spare : ℕ) (slots : Slots) (moment : ℕ) (bytes : List ℕ)
+    (can : WriteIsReady (stored_of a) number off spare slots moment bytes) (blocks : ℕ)
     (more : MoreBlocks can.inode.file (after_write can.inode.file off bytes) blocks) where
   -- the plain result
   abbrev S1 : State
@@ -72,14 +72,14 @@ module _ (a : Inside) (kept : IsCounted (state_of a) a.users a.groups a.tree.lin
   few_inodes = let added = rises.totals Inodes in let fit = kept.sound.lawful.inodes_fit in let low = kept.most_bound in omega (arith, added, fit, low)
 
   -- the user's record has room for it
-  pub can-charge-user : CanCharge a.users places.user blocks 0
+  pub can-charge-user : CanCharge a.users slots.user blocks 0
   can-charge-user = can-charge (state_of a) S1 can.inode blocks 0 rises User a.users kept.users_counted
-      places.user (place-at_id a.users places.user can.inode.uid can.owners.user) few_blocks few_inodes
+      slots.user (slot-at_id a.users slots.user can.inode.uid can.owners.user) few_blocks few_inodes
 
   -- and so has the group's
-  pub can-charge-group : CanCharge a.groups places.group blocks 0
+  pub can-charge-group : CanCharge a.groups slots.group blocks 0
   can-charge-group = can-charge (state_of a) S1 can.inode blocks 0 rises Group a.groups kept.groups_counted
-      places.group (place-at_id a.groups places.group can.inode.gid can.owners.group) few_blocks few_inodes
+      slots.group (slot-at_id a.groups slots.group can.inode.gid can.owners.group) few_blocks few_inodes
 
   -- the total after it is small
   pub total-small : a.blocks + blocks ≤ MAX_COUNT
@@ -91,23 +91,23 @@ module _ (a : Inside) (kept : IsCounted (state_of a) a.users a.groups a.tree.lin
 
   -- what is then kept is what the new state counts to
   pub written-counted : IsSound (ends_after (written_at (state_of a) number off bytes (inode_at (state_of a) number)) moment)
-      → IsCounted (ends_after S1 moment) (map (charged_owner can.inode.uid a.graces moment blocks 0) a.users)
-      (map (charged_owner can.inode.gid a.graces moment blocks 0) a.groups)
+      → IsCounted (ends_after S1 moment) (map (charged_holder can.inode.uid a.graces moment blocks 0) a.users)
+      (map (charged_holder can.inode.gid a.graces moment blocks 0) a.groups)
       a.tree.links (a.blocks + blocks) a.inodes
   written-counted sound =
       let same : a.inodes + 0 ≡ a.inodes = omega arith in
       subst (λ inodes. IsCounted (ends_after S1 moment)
-      (map (charged_owner can.inode.uid a.graces moment blocks 0) a.users)
-      (map (charged_owner can.inode.gid a.graces moment blocks 0) a.groups)
+      (map (charged_holder can.inode.uid a.graces moment blocks 0) a.users)
+      (map (charged_holder can.inode.gid a.graces moment blocks 0) a.groups)
       a.tree.links (a.blocks + blocks) inodes) same
       (counted-charged-both kept S1 can.inode blocks 0 rises moment a.tree.links
       (links-with_file (state_of a) a.tree.links kept.links_counted number can.inode
       (after_write can.inode.file off bytes) can.there) (subst IsSound written-here sound))
 
   -- and the parts are those of the new state
-  pub written-state : (users groups : List Owner) (inodes : List (ℕ × Inode)) (names : List (NameKey × ℕ))
-      → users ≡ map (charged_owner can.inode.uid a.graces moment blocks 0) a.users
-      → groups ≡ map (charged_owner can.inode.gid a.graces moment blocks 0) a.groups
+  pub written-state : (users groups : List KeptHolder) (inodes : List (ℕ × Inode)) (names : List (NameKey × ℕ))
+      → users ≡ map (charged_holder can.inode.uid a.graces moment blocks 0) a.users
+      → groups ≡ map (charged_holder can.inode.gid a.graces moment blocks 0) a.groups
       → inodes ≡ set_value (is_at (nat_cmp number)) a.tree.inodes (record can.inode { file = after_write can.inode.file off bytes }) → names ≡ a.tree.names
       → ◌≡◌ {A = State} (record {
         size = a.size;

@@ -11,9 +11,9 @@ use Rattle.qrules.specs.Range.{are_graces_in_range}
 use Rattle.qplain.specs.declared.setup.TheConstants.{MAX_BLOCKS, MAX_INODES}
 use Rattle.qplain.specs.State.{State, inode_at}
 use Rattle.qplain.specs.Use.{links_of, total_of}
-use Rattle.qstore.specs.declared.owner.Owner.{Owner}
+use Rattle.qstore.specs.declared.kept_holder.KeptHolder.{KeptHolder}
 use Rattle.qstore.specs.declared.store.Store.TheInside.{Inside}
-use Rattle.qstore.specs.Owners.{IsCountedIn, holders_in}
+use Rattle.qstore.specs.KeptHolders.{IsCountedIn, holders_in}
 use Rattle.qstore.specs.Stored.{IsSound, Stored}
 
 -- the plain machine's state that a store stands for
@@ -30,8 +30,8 @@ state_of a = record {
 }
 
 -- the ids of some records
-abbrev pub ids_in : List Owner → List ℕ
-ids_in owners = map (λ o. o.id) owners
+abbrev pub ids_in : List KeptHolder → List ℕ
+ids_in holders = map (λ o. o.id) holders
 
 -- what a caller sees of a store
 abbrev pub stored_of : Inside → Stored
@@ -45,7 +45,7 @@ AreLinks S links =
 
 -- the state is sound, and its bounds and graces are in range, and what is kept beside it is what it counts to: each
 -- record's use, the totals, and each inode's links
-pub record IsCounted (S : State) (users groups : List Owner) (links : List (ℕ × ℕ)) (blocks inodes : ℕ) : Type 0 where
+pub record IsCounted (S : State) (users groups : List KeptHolder) (links : List (ℕ × ℕ)) (blocks inodes : ℕ) : Type 0 where
   pub sound : IsSound S
   pub holders_kept : S.holders ≡ holders_in users groups
   pub users_counted : All (IsCountedIn S User) users

@@ -3,7 +3,7 @@ pub mod Room
 pub mod Stored
 pub mod Ready
 pub mod Rows
-pub mod Owners
+pub mod KeptHolders
 pub mod InOrder
 pub mod Names
 pub mod Nodes

@@ -2,7 +2,7 @@
 use Rattle.std.specs.Prelude.{◌≡◌, ℕ, Bool, true, false, List, [], length, Option, Some, None}
 use Rattle.qrules.specs.declared.inode_row.InodeRow.{InodeRow}
 use Rattle.qblocks.specs.File.{File, empty_file}
-use Rattle.qblocks.specs.Room.{RoomyFile}
+use Rattle.qblocks.specs.WriteRoom.{RoomyFile}
 use Rattle.qplain.specs.State.{Inode}
 use Rattle.qstore.specs.declared.node.Content.{Content}
 use Rattle.qstore.specs.declared.node.Content.TheVariants.{File as AFile, Directory}

@@ -8,7 +8,7 @@ use Rattle.qrules.specs.declared.graces.TheConstants.{MAX_MOMENT}
 use Rattle.qrules.specs.Sort.{Inodes, Blocks}
 use Rattle.qrules.specs.Range.{are_graces_in_range}
 use Rattle.qblocks.specs.File.{MoreBlocks, after_write}
-use Rattle.qblocks.specs.Room.{IsReady as IsReadyFile}
+use Rattle.qblocks.specs.WriteRoom.{IsReadyToPut}
 use Rattle.qblocks.specs.declared.file.TheConstants.{MAX_SIZE}
 use Rattle.qplain.specs.declared.call.Call.{Call}
 use Rattle.qplain.specs.declared.call.Call.TheVariants.{Create as CreateCall, Write as WriteCall, Read, Stat, SetQuota as SetQuotaCall, SetGrace as SetGraceCall, Quota}
@@ -20,12 +20,12 @@ use Rattle.qplain.specs.State.{Inode, State, inode_at, is_directory, named, new_
 use Rattle.qplain.specs.Use.{total_of}
 use Rattle.qplain.specs.Decision.{ends_after}
 use Rattle.qplain.specs.Attempt.{created, with_file, with_limits_of}
-use Rattle.qstore.specs.declared.places.Places.{Places}
+use Rattle.qstore.specs.declared.slots.Slots.{Slots}
 use Rattle.qstore.specs.declared.ready.Plan.{Plan}
 use Rattle.qstore.specs.declared.ready.Plan.TheVariants.{Nothing, Create, Write, SetQuota, SetGrace}
 use Rattle.qstore.specs.declared.ready.Ready.{Ready}
 use Rattle.qstore.specs.Room.{file_room, name_room}
-use Rattle.qstore.specs.Stored.{HasPlaces, IsSound, Stored, ids_of}
+use Rattle.qstore.specs.Stored.{HasSlots, IsSound, Stored, ids_of}
 
 -- the bytes that a call brings
 abbrev pub bytes_of : Call → List ℕ
@@ -59,44 +59,44 @@ written_at S number off bytes (Some inode) = with_file S number inode (after_wri
 -- the state that a plan leaves, told the bytes that the call brings
 abbrev pub effect : State → Plan → List ℕ → State
 effect S Nothing bytes = S
-effect S (Create dir name uid gid places moment) bytes = ends_after (created S (new_file uid gid) dir name) moment
-effect S (Write number off spare places moment) bytes =
+effect S (Create dir name uid gid slots moment) bytes = ends_after (created S (new_file uid gid) dir name) moment
+effect S (Write number off spare slots moment) bytes =
     ends_after (written_at S number off bytes (inode_at S number)) moment
-effect S (SetQuota kind id place limits moment) bytes = ends_after (with_limits_of S kind id limits) moment
+effect S (SetQuota kind id slot limits moment) bytes = ends_after (with_limits_of S kind id limits) moment
 effect S (SetGrace graces) bytes = record S { graces = graces }
 
 -- what a ready call leaves, and its reply
-abbrev pub outcome : State → Ready → State × Reply
-outcome S r = (effect S r.plan r.bytes, r.reply)
+abbrev pub committed : State → Ready → State × Reply
+committed S r = (effect S r.plan r.bytes, r.reply)
 
 -- a new file may be put under this name
-pub record CreateIsReady (s : Stored) (dir : ℕ) (name : List ℕ) (uid gid : ℕ) (places : Places)
+pub record CreateIsReady (s : Stored) (dir : ℕ) (name : List ℕ) (uid gid : ℕ) (slots : Slots)
     (moment : ℕ) : Type 0 where
   pub directory : is_directory s.state dir ≡ true
   pub absent : named s.state dir name ≡ None
   pub few : total_of s.state Inodes + 1 ≤ s.state.most_inodes
   pub number : s.state.next ≤ MAX_NUMBER
-  pub owners : HasPlaces s places uid gid
+  pub owners : HasSlots s slots uid gid
   pub inode_room : 0 < s.room.inodes
   pub name_room : 0 < name_room s.room dir
   pub moment_bound : moment ≤ MAX_MOMENT
 
 -- these bytes may be written
-pub record WriteIsReady (s : Stored) (number off spare : ℕ) (places : Places) (moment : ℕ)
+pub record WriteIsReady (s : Stored) (number off spare : ℕ) (slots : Slots) (moment : ℕ)
     (bytes : List ℕ) : Type 0 where
   pub inode : Inode
   pub there : inode_at s.state number ≡ Some inode
   pub bound : off + length bytes ≤ MAX_SIZE
   pub few : (blocks : ℕ) → MoreBlocks inode.file (after_write inode.file off bytes) blocks
       → total_of s.state Blocks + blocks ≤ s.state.size
-  pub owners : HasPlaces s places inode.uid inode.gid
+  pub owners : HasSlots s slots inode.uid inode.gid
   pub file_there : is_some (file_room s.room number) ≡ true
-  pub file_room : IfSome (file_room s.room number) (λ f. IsReadyFile f off (length bytes) spare)
+  pub file_room : IfSome (file_room s.room number) (λ f. IsReadyToPut f off (length bytes) spare)
   pub moment_bound : moment ≤ MAX_MOMENT
 
 -- these limits may be set
-pub record SetQuotaIsReady (s : Stored) (kind : Kind) (id place : ℕ) (limits : Limits) (moment : ℕ) : Type 0 where
-  pub place_is : slice_get (ids_of s kind) place ≡ Some id
+pub record SetQuotaIsReady (s : Stored) (kind : Kind) (id slot : ℕ) (limits : Limits) (moment : ℕ) : Type 0 where
+  pub slot_is : slice_get (ids_of s kind) slot ≡ Some id
   pub moment_bound : moment ≤ MAX_MOMENT
 
 -- these graces may be set
@@ -106,9 +106,9 @@ pub record SetGraceIsReady (s : Stored) (graces : Graces) : Type 0 where
 -- the store is as the plan needs it, told the bytes that the call brings
 abbrev pub CanCarryOut : Stored → Plan → List ℕ → Type 0
 CanCarryOut s Nothing bytes = Unit {0}
-CanCarryOut s (Create dir name uid gid places moment) bytes = CreateIsReady s dir name uid gid places moment
-CanCarryOut s (Write number off spare places moment) bytes = WriteIsReady s number off spare places moment bytes
-CanCarryOut s (SetQuota kind id place limits moment) bytes = SetQuotaIsReady s kind id place limits moment
+CanCarryOut s (Create dir name uid gid slots moment) bytes = CreateIsReady s dir name uid gid slots moment
+CanCarryOut s (Write number off spare slots moment) bytes = WriteIsReady s number off spare slots moment bytes
+CanCarryOut s (SetQuota kind id slot limits moment) bytes = SetQuotaIsReady s kind id slot limits moment
 CanCarryOut s (SetGrace graces) bytes = SetGraceIsReady s graces
 
 -- the store is as `ready` left it, as far as the call needs

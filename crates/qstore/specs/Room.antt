@@ -4,7 +4,7 @@ use Rattle.std.specs.Option.{unwrap_or}
 use Rattle.std.specs.Ordering.{nat_cmp}
 use Rattle.std.specs.BTreeMap.{is_at}
 use Rattle.std.specs.Map.{lookup}
-use Rattle.qblocks.specs.Room.{RoomyFile}
+use Rattle.qblocks.specs.WriteRoom.{RoomyFile}
 
 -- what is made beforehand: room for so many more inodes, by number for so many more names, and each file's
 pub record Room : Type 0 where

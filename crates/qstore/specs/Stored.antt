@@ -1,5 +1,5 @@
 -- What a caller sees of a store: the plain machine's state, and beside it the room that `ready` makes and the ids by
--- place.
+-- slot.
 use Rattle.std.specs.Prelude.{◌≡◌, ℕ, ◌+◌, ◌≤◌, List, Some}
 use Rattle.std.specs.List.{slice_get}
 use Rattle.qrules.specs.declared.kind.Kind.{Kind}
@@ -9,7 +9,7 @@ use Rattle.qplain.specs.declared.bounds.TheConstants.{MAX_NUMBER}
 use Rattle.qplain.specs.State.{State}
 use Rattle.qplain.specs.Laws.{IsLawful}
 use Rattle.qstore.specs.Room.{Room}
-use Rattle.qstore.specs.declared.places.Places.{Places}
+use Rattle.qstore.specs.declared.slots.Slots.{Slots}
 
 -- a state that a store can be in: a lawful one, whose numbers are within bounds
 pub record IsSound (S : State) : Type 0 where
@@ -29,7 +29,7 @@ abbrev pub ids_of : Stored → Kind → List ℕ
 ids_of s User = s.users
 ids_of s Group = s.groups
 
--- the records of this user and this group stand at these places
-pub record HasPlaces (s : Stored) (places : Places) (uid gid : ℕ) : Type 0 where
-  pub user : slice_get s.users places.user ≡ Some uid
-  pub group : slice_get s.groups places.group ≡ Some gid
+-- the records of this user and this group stand at these slots
+pub record HasSlots (s : Stored) (slots : Slots) (uid gid : ℕ) : Type 0 where
+  pub user : slice_get s.users slots.user ≡ Some uid
+  pub group : slice_get s.groups slots.group ≡ Some gid

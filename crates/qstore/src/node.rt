@@ -5,7 +5,7 @@ ghost use Rattle.std.specs.Cmp.Lexicographic.{slice_cmp};
 ghost use Rattle.std.specs.BTreeMap.{insert_entry, is_at};
 ghost use Rattle.std.specs.Map.{lookup};
 ghost use Rattle.qblocks.specs.File.{Adds, MoreBlocks, after_write};
-ghost use Rattle.qblocks.specs.Room.{IsReady};
+ghost use Rattle.qblocks.specs.WriteRoom.{IsReadyToPut};
 ghost use Rattle.qplain.specs.State.{new_file, root};
 ghost use Rattle.qstore.specs.InOrder.{in_order};
 ghost use Rattle.qstore.specs.Names.{row_in};
@@ -104,7 +104,7 @@ impl Node {
         ensures same { IsSameNode self.old self.new }
         ensures there { is_some (roomy_file_in self.new.content) ≡ true }
         ensures room { IfOk result
-            (λ spare. IfSome (roomy_file_in self.new.content) (λ f. IsReady f off len spare)) }
+            (λ spare. IfSome (roomy_file_in self.new.content) (λ f. IsReadyToPut f off len spare)) }
     {
         match &mut self.content {
             Content::File(file) => file.ready_for(off, len, missing),
@@ -118,7 +118,7 @@ impl Node {
         requires bound { off + length bytes.now ≤ MAX_SIZE }
         requires there { is_some (roomy_file_in self.old.content) ≡ true }
         requires ready { IfSome (roomy_file_in self.old.content)
-            (λ f. IsReady f off (length bytes.now) spare) }
+            (λ f. IsReadyToPut f off (length bytes.now) spare) }
         ensures inode { inode_of self.new
             ≡ record (inode_of self.old) { file = after_write (inode_of self.old).file off bytes.now } }
         ensures count { MoreBlocks (inode_of self.old).file (inode_of self.new).file result }

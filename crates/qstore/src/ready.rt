@@ -1,7 +1,7 @@
 //! A call that is decided, and what is left to do.
 ghost use Rattle.std.specs.Prelude.{◌≡◌, []};
 
-use crate::places::Places;
+use crate::slots::Slots;
 use qblocks::Spare;
 use qplain::{Refusal, Reply};
 use qrules::{Graces, Items, Kind, Limits};
@@ -17,7 +17,7 @@ pub(crate) enum Plan {
         name: Items<u8>,
         uid: u32,
         gid: u32,
-        places: Places,
+        slots: Slots,
         moment: u64,
     },
     /// The call's bytes are to be written.
@@ -25,14 +25,14 @@ pub(crate) enum Plan {
         number: u64,
         off: u64,
         spare: Spare,
-        places: Places,
+        slots: Slots,
         moment: u64,
     },
     /// A record gets other limits.
     SetQuota {
         kind: Kind,
         id: u32,
-        place: usize,
+        slot: usize,
         limits: Limits,
         moment: u64,
     },

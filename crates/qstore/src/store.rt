@@ -7,7 +7,7 @@ ghost use Rattle.qplain.specs.Caller.{is_superuser};
 ghost use Rattle.qplain.specs.Laws.{IsLawful, PassesNoLimit};
 ghost use Rattle.qplain.specs.Step.{step};
 ghost use Rattle.qstore.specs.Stored.{IsSound, Stored};
-ghost use Rattle.qstore.specs.Ready.{CanCarryOut, IsReady, IsRefused, bytes_of, effect, outcome, wants_no_memory};
+ghost use Rattle.qstore.specs.Ready.{CanCarryOut, IsReady, IsRefused, bytes_of, effect, committed, wants_no_memory};
 
 use crate::ledger::Ledger;
 use crate::ready::{Decided, Plan, Ready};
@@ -127,14 +127,14 @@ impl Store {
         ensures answered { wants_no_memory call.now ≡ true → IsOk result }
         ensures nothing { IfOk result (λ d. IsRefused d.reply → d.plan ≡ Plan.Nothing) }
     {
-        let places = match self.check(cred, moment, call) {
-            Ok(places) => places,
+        let slots = match self.check(cred, moment, call) {
+            Ok(slots) => slots,
             Err(refusal) => return Ok(Decided::refused(refusal)),
         };
         match call {
-            Call::Create { path } => self.decide_create(cred, places, moment, path.bytes()),
+            Call::Create { path } => self.decide_create(cred, slots, moment, path.bytes()),
             Call::Write { path, off, bytes } => {
-                self.decide_write(cred, places, moment, path.bytes(), *off, bytes.as_slice())
+                self.decide_write(cred, slots, moment, path.bytes(), *off, bytes.as_slice())
             }
             Call::Read { path, off, len } => {
                 Ok(Decided::answer(self.decide_read(path.bytes(), *off, *len)?))
@@ -161,23 +161,23 @@ impl Store {
                 name,
                 uid,
                 gid,
-                places,
+                slots,
                 moment,
-            } => self.commit_create(dir, name.into_vec(), uid, gid, places, moment),
+            } => self.commit_create(dir, name.into_vec(), uid, gid, slots, moment),
             Plan::Write {
                 number,
                 off,
                 spare,
-                places,
+                slots,
                 moment,
-            } => self.commit_write(number, off, spare, places, moment, bytes),
+            } => self.commit_write(number, off, spare, slots, moment, bytes),
             Plan::SetQuota {
                 kind,
                 id,
-                place,
+                slot,
                 limits,
                 moment,
-            } => self.commit_set_quota(kind, id, place, limits, moment),
+            } => self.commit_set_quota(kind, id, slot, limits, moment),
             Plan::SetGrace { graces } => self.commit_set_grace(graces),
         }
     }
@@ -194,7 +194,7 @@ impl Store {
     /// taken out by that file's next write.
     pub fn ready(&mut self, cred: &Cred, moment: u64, call: &Call) -> Result<Ready, NoMemory>
         ensures state { self.new.state ≡ self.old.state }
-        ensures step { IfOk result (λ r. outcome self.old.state r ≡ step self.old.state cred.now moment call.now) }
+        ensures step { IfOk result (λ r. committed self.old.state r ≡ step self.old.state cred.now moment call.now) }
         ensures ready { IfOk result (IsReady self.new) }
 
         // Want of memory comes after all refusals, and some calls never want any.
@@ -215,7 +215,7 @@ impl Store {
     /// The caller owes that this store had no other `ready`, `apply` or `commit` since.
     pub fn commit(&mut self, ready: Ready) -> Reply
         requires { IsReady self.old ready }
-        ensures { (self.new.state, result) ≡ outcome self.old.state ready }
+        ensures { (self.new.state, result) ≡ committed self.old.state ready }
     {
         let Ready { reply, plan, bytes } = ready;
         self.carry_out(plan, bytes.as_slice());

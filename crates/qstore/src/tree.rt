@@ -7,7 +7,7 @@ ghost use Rattle.std.specs.BTreeMap.{insert_entry, is_at};
 ghost use Rattle.std.specs.List.Sorted.{IsStrictlySortedBy};
 ghost use Rattle.std.specs.Map.{keys_of, lookup, set_value};
 ghost use Rattle.qblocks.specs.File.{Adds, MoreBlocks, after_write};
-ghost use Rattle.qblocks.specs.Room.{IsReady};
+ghost use Rattle.qblocks.specs.WriteRoom.{IsReadyToPut};
 ghost use Rattle.qplain.specs.State.{Inode, is_dir, name_key_cmp, new_file, root};
 ghost use Rattle.qstore.specs.InOrder.{in_order, read_by};
 ghost use Rattle.qstore.specs.Nodes.{inode_of, names_in};
@@ -136,7 +136,7 @@ impl Tree {
         ensures same { IsSameTree self.old self.new }
         ensures there { is_some (file_room self.new.room number) ≡ true }
         ensures room { IfOk result
-            (λ spare. IfSome (file_room self.new.room number) (λ f. IsReady f off len spare)) }
+            (λ spare. IfSome (file_room self.new.room number) (λ f. IsReadyToPut f off len spare)) }
     {
         match self.nodes.get_mut(&number) {
             Some(node) => node.ready_write(off, len, missing),
@@ -150,7 +150,7 @@ impl Tree {
         requires bound { off + length bytes.now ≤ MAX_SIZE }
         requires there { is_some (file_room self.old.room number) ≡ true }
         requires ready { IfSome (file_room self.old.room number)
-            (λ f. IsReady f off (length bytes.now) spare) }
+            (λ f. IsReadyToPut f off (length bytes.now) spare) }
         ensures inodes { (inode : Inode) → lookup (is_at (nat_cmp number)) self.old.inodes ≡ Some inode
             → self.new.inodes ≡ set_value (is_at (nat_cmp number)) self.old.inodes
             (record inode { file = after_write inode.file off bytes.now }) }

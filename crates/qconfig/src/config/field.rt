@@ -3,7 +3,7 @@
 ghost use Rattle.std.specs.Prelude.{◌≡◌, option_map, option_and_then};
 ghost use Rattle.toml.specs.Data.{get_member, as_str, as_integer};
 ghost use Rattle.toml.specs.View.{view, table_view};
-ghost use Rattle.qconfig.specs.ConfigFaults.{Field, Gives, Tells};
+ghost use Rattle.qconfig.specs.ConfigFaults.{Field, GivesBy, Tells};
 ghost use Rattle.qconfig.specs.ConfigFields.{found, text_at, integer_at, limit_of, limit_at};
 
 use crate::ConfigFault;
@@ -27,7 +27,7 @@ pub(super) fn value_at<'a>(table: &'a Table, key: &str) -> Option<&'a Value>
 }
 
 fn text_of<'a>(alloc: Global, value: Option<&'a Value>, key: &str) -> Result<&'a str, ConfigFault>
-    ensures { Gives (λ text. text.now) result
+    ensures { GivesBy (λ text. text.now) result
         (found key.now (option_and_then as_str (option_map (λ value. view value.now) value.entry))) }
 {
     if let Some(value) = value {
@@ -43,13 +43,13 @@ pub(super) fn text_at<'a>(
     table: &'a Table,
     key: &str,
 ) -> Result<&'a str, ConfigFault>
-    ensures { Gives (λ text. text.now) result (text_at key.now (table_view table.now)) }
+    ensures { GivesBy (λ text. text.now) result (text_at key.now (table_view table.now)) }
 {
     text_of(alloc, value_at(table, key), key)
 }
 
 fn integer_of(alloc: Global, value: Option<&Value>, key: &str) -> Result<i64, ConfigFault>
-    ensures { Gives (λ n. n) result
+    ensures { GivesBy (λ n. n) result
         (found key.now (option_and_then as_integer (option_map (λ value. view value.now) value.entry))) }
 {
     if let Some(value) = value {
@@ -61,13 +61,13 @@ fn integer_of(alloc: Global, value: Option<&Value>, key: &str) -> Result<i64, Co
 }
 
 pub(super) fn integer_at(alloc: Global, table: &Table, key: &str) -> Result<i64, ConfigFault>
-    ensures { Gives (λ n. n) result (integer_at key.now (table_view table.now)) }
+    ensures { GivesBy (λ n. n) result (integer_at key.now (table_view table.now)) }
 {
     integer_of(alloc, value_at(table, key), key)
 }
 
 fn limit_of(alloc: Global, value: Option<&Value>, key: &str) -> Result<i64, ConfigFault>
-    ensures { Gives (λ n. n) result (limit_of key.now (option_map (λ value. view value.now) value.entry)) }
+    ensures { GivesBy (λ n. n) result (limit_of key.now (option_map (λ value. view value.now) value.entry)) }
 {
     match value {
         None => Ok(0),
@@ -80,7 +80,7 @@ fn limit_of(alloc: Global, value: Option<&Value>, key: &str) -> Result<i64, Conf
 
 /// The limit at a key, 0 where the key is absent.
 pub(super) fn limit_at(alloc: Global, table: &Table, key: &str) -> Result<i64, ConfigFault>
-    ensures { Gives (λ n. n) result (limit_at key.now (table_view table.now)) }
+    ensures { GivesBy (λ n. n) result (limit_at key.now (table_view table.now)) }
 {
     limit_of(alloc, value_at(table, key), key)
 }

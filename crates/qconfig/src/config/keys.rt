@@ -3,7 +3,7 @@
 ghost use Rattle.std.specs.Prelude.{◌≡◌, ◌++◌, fold, map, option_map};
 ghost use Rattle.std.specs.List.{filter, flat_map};
 ghost use Rattle.toml.specs.View.{table_view};
-ghost use Rattle.qconfig.specs.ConfigFaults.{Gives};
+ghost use Rattle.qconfig.specs.ConfigFaults.{GivesBy};
 ghost use Rattle.qconfig.specs.ConfigKeys.{document_keys, is_unknown, keys_of, known_keys, least_unknown, lesser_of, no_unknown, principal_keys};
 
 use super::field::field;
@@ -35,7 +35,7 @@ const PRINCIPAL_KEYS: [&str; 6] = [
 /// Refuses the least unknown key of the document, or else the least of all tables of its lists.
 #[tactic(auto, unfolding(crate::specs::ConfigKeys::known_keys))]
 pub(super) fn known_keys(alloc: Global, document: &Table) -> Result<(), ConfigFault>
-    ensures { Gives (λ unit. unit) result (known_keys (table_view document.now)) }
+    ensures { GivesBy (λ unit. unit) result (known_keys (table_view document.now)) }
 {
     no_unknown(alloc, unknown_of_document(document))?;
     let users = tables_at(alloc, document, "user")?;
@@ -44,7 +44,7 @@ pub(super) fn known_keys(alloc: Global, document: &Table) -> Result<(), ConfigFa
 }
 
 fn no_unknown(alloc: Global, key: Option<&str>) -> Result<(), ConfigFault>
-    ensures { Gives (λ unit. unit) result (no_unknown (option_map (λ key. key.now) key.entry)) }
+    ensures { GivesBy (λ unit. unit) result (no_unknown (option_map (λ key. key.now) key.entry)) }
 {
     match key {
         None => Ok(()),

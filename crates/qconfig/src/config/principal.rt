@@ -3,7 +3,7 @@
 ghost use Rattle.std.specs.Prelude.{◌≡◌, map};
 ghost use Rattle.toml.specs.View.{table_view};
 ghost use Rattle.qtext.specs.Reading.{each_of};
-ghost use Rattle.qconfig.specs.ConfigFaults.{Gives};
+ghost use Rattle.qconfig.specs.ConfigFaults.{GivesBy};
 ghost use Rattle.qconfig.specs.ConfigPrincipals.{name_at, principal_of, principals_at};
 
 use super::field::{field, integer_at, limit_at, text_at};
@@ -32,14 +32,14 @@ pub(super) fn principals_at(
     document: &Table,
     key: &str,
 ) -> Result<Items<WrittenPrincipal>, ConfigFault>
-    ensures { Gives (λ principals. principals) result (principals_at key.now (table_view document.now)) }
+    ensures { GivesBy (λ principals. principals) result (principals_at key.now (table_view document.now)) }
 {
     let tables = tables_at(alloc, document, key)?;
     principals_of(alloc, &tables)
 }
 
 fn principals_of(alloc: Global, tables: &[&Table]) -> Result<Items<WrittenPrincipal>, ConfigFault>
-    ensures { Gives (λ principals. principals) result
+    ensures { GivesBy (λ principals. principals) result
         (each_of principal_of (map (λ t. table_view t.now) tables.now)) }
 {
     let mut principals = Vec::new(alloc);
@@ -51,7 +51,7 @@ fn principals_of(alloc: Global, tables: &[&Table]) -> Result<Items<WrittenPrinci
 
 #[tactic(auto, unfolding(crate::specs::ConfigPrincipals::principal_of))]
 fn principal_of(alloc: Global, table: &Table) -> Result<WrittenPrincipal, ConfigFault>
-    ensures { Gives (λ principal. principal) result (principal_of (table_view table.now)) }
+    ensures { GivesBy (λ principal. principal) result (principal_of (table_view table.now)) }
 {
     let id = integer_at(alloc, table, "id")?;
     let name = name_at(alloc, table, "name")?;
@@ -71,7 +71,7 @@ fn principal_of(alloc: Global, table: &Table) -> Result<WrittenPrincipal, Config
 
 #[tactic(auto, unfolding(crate::specs::ConfigPrincipals::name_at))]
 fn name_at(alloc: Global, table: &Table, key: &str) -> Result<PrincipalName, ConfigFault>
-    ensures { Gives (λ name. name) result (name_at key.now (table_view table.now)) }
+    ensures { GivesBy (λ name. name) result (name_at key.now (table_view table.now)) }
 {
     let text = text_at(alloc, table, key)?;
     if !is_principal_name(text.as_bytes()) {

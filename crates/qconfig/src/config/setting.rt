@@ -2,8 +2,8 @@
 
 ghost use Rattle.std.specs.Prelude.{◌≡◌};
 ghost use Rattle.qtext.specs.Reading.{each_of};
-ghost use Rattle.qconfig.specs.ConfigFaults.{Gives};
-ghost use Rattle.qconfig.specs.Configs.{Reads, declared_of, id_of, limits_of, number_of, setting_of};
+ghost use Rattle.qconfig.specs.ConfigFaults.{GivesBy};
+ghost use Rattle.qconfig.specs.Configs.{ReadsSetup, declared_of, id_of, limits_of, number_of, setting_of};
 
 use super::principal::WrittenPrincipal;
 use super::written::WrittenConfig;
@@ -15,7 +15,7 @@ use std::alloc::Global;
 /// The setup of these fields, whose numbers are tested first: range, then duplicate, then no zero.
 #[tactic(auto, unfolding(crate::specs::Configs::setting_of))]
 pub(super) fn setup_of(alloc: Global, written: WrittenConfig) -> Result<Setup, ConfigFault>
-    ensures { Reads (λ setup. setup) result (setting_of written) }
+    ensures { ReadsSetup (λ setup. setup) result (setting_of written) }
 {
     let inodes = number_of(written.inodes)?;
     let block = number_of(written.block_grace)?;
@@ -30,7 +30,7 @@ fn each_declared(
     alloc: Global,
     principals: Items<WrittenPrincipal>,
 ) -> Result<Vec<Principal>, ConfigFault>
-    ensures { Gives (λ declared. declared.items) result (each_of declared_of principals) }
+    ensures { GivesBy (λ declared. declared.items) result (each_of declared_of principals) }
 {
     let mut declared = Vec::new(alloc);
     for written in principals.into_vec() {
@@ -41,7 +41,7 @@ fn each_declared(
 
 #[tactic(auto, unfolding(crate::specs::Configs::declared_of))]
 fn declared_of(written: WrittenPrincipal) -> Result<Principal, ConfigFault>
-    ensures { Gives (λ principal. principal) result (declared_of written) }
+    ensures { GivesBy (λ principal. principal) result (declared_of written) }
 {
     let id = id_of(written.id)?;
     let limits = limits_of(&written)?;
@@ -54,7 +54,7 @@ fn declared_of(written: WrittenPrincipal) -> Result<Principal, ConfigFault>
 
 #[tactic(auto, unfolding(crate::specs::Configs::limits_of))]
 fn limits_of(written: &WrittenPrincipal) -> Result<Limits, ConfigFault>
-    ensures { Gives (λ limits. limits) result (limits_of written.now) }
+    ensures { GivesBy (λ limits. limits) result (limits_of written.now) }
 {
     let block_soft = number_of(written.block_soft)?;
     let block_hard = number_of(written.block_hard)?;
@@ -69,7 +69,7 @@ fn limits_of(written: &WrittenPrincipal) -> Result<Limits, ConfigFault>
 }
 
 fn number_of(integer: i64) -> Result<u64, ConfigFault>
-    ensures { Gives (λ n. n) result (number_of integer) }
+    ensures { GivesBy (λ n. n) result (number_of integer) }
 {
     match u64::try_from(integer) {
         Ok(number) => Ok(number),
@@ -78,7 +78,7 @@ fn number_of(integer: i64) -> Result<u64, ConfigFault>
 }
 
 fn id_of(integer: i64) -> Result<u32, ConfigFault>
-    ensures { Gives (λ n. n) result (id_of integer) }
+    ensures { GivesBy (λ n. n) result (id_of integer) }
 {
     match u32::try_from(integer) {
         Ok(id) => Ok(id),

@@ -3,7 +3,7 @@
 ghost use Rattle.std.specs.Prelude.{◌≡◌, map, option_map};
 ghost use Rattle.toml.specs.View.{array_view, table_view, view};
 ghost use Rattle.qtext.specs.Reading.{each_of};
-ghost use Rattle.qconfig.specs.ConfigFaults.{Gives};
+ghost use Rattle.qconfig.specs.ConfigFaults.{GivesBy};
 ghost use Rattle.qconfig.specs.ConfigFields.{list_at, list_of, table_of, tables_at, values_of};
 
 use super::field::{field, value_at};
@@ -13,7 +13,7 @@ use toml::value::Array;
 use toml::{Table, Value};
 
 fn list_of<'a>(alloc: Global, value: Option<&'a Value>, key: &str) -> Result<&'a Array, ConfigFault>
-    ensures { Gives (λ list. values_of (array_view list.now)) result
+    ensures { GivesBy (λ list. values_of (array_view list.now)) result
         (list_of key.now (option_map (λ value. view value.now) value.entry)) }
 {
     if let Some(value) = value {
@@ -25,13 +25,13 @@ fn list_of<'a>(alloc: Global, value: Option<&'a Value>, key: &str) -> Result<&'a
 }
 
 fn list_at<'a>(alloc: Global, table: &'a Table, key: &str) -> Result<&'a Array, ConfigFault>
-    ensures { Gives (λ list. values_of (array_view list.now)) result (list_at key.now (table_view table.now)) }
+    ensures { GivesBy (λ list. values_of (array_view list.now)) result (list_at key.now (table_view table.now)) }
 {
     list_of(alloc, value_at(table, key), key)
 }
 
 fn table_of<'a>(alloc: Global, value: &'a Value, key: &str) -> Result<&'a Table, ConfigFault>
-    ensures { Gives (λ table. table_view table.now) result (table_of key.now (view value.now)) }
+    ensures { GivesBy (λ table. table_view table.now) result (table_of key.now (view value.now)) }
 {
     match value.as_table() {
         Some(table) => Ok(table),
@@ -40,7 +40,7 @@ fn table_of<'a>(alloc: Global, value: &'a Value, key: &str) -> Result<&'a Table,
 }
 
 fn tables_of<'a>(alloc: Global, list: &'a Array, key: &str) -> Result<Vec<&'a Table>, ConfigFault>
-    ensures { Gives (λ tables. map (λ t. table_view t.now) tables.items) result
+    ensures { GivesBy (λ tables. map (λ t. table_view t.now) tables.items) result
         (each_of (table_of key.now) (values_of (array_view list.now))) }
 {
     let mut tables = Vec::new(alloc);
@@ -57,7 +57,7 @@ pub(super) fn tables_at<'a>(
     table: &'a Table,
     key: &str,
 ) -> Result<Vec<&'a Table>, ConfigFault>
-    ensures { Gives (λ tables. map (λ t. table_view t.now) tables.items) result
+    ensures { GivesBy (λ tables. map (λ t. table_view t.now) tables.items) result
         (tables_at key.now (table_view table.now)) }
 {
     let list = list_at(alloc, table, key)?;

@@ -2,7 +2,7 @@
 
 ghost use Rattle.std.specs.Prelude.{◌≡◌};
 ghost use Rattle.toml.specs.View.{table_view};
-ghost use Rattle.qconfig.specs.ConfigFaults.{Gives};
+ghost use Rattle.qconfig.specs.ConfigFaults.{GivesBy};
 ghost use Rattle.qconfig.specs.Configs.{fields_of, size_at};
 
 use super::field::{field, integer_at, text_at};
@@ -27,7 +27,7 @@ pub(super) struct WrittenConfig {
 /// The fields of a document. The first that is missing, of another kind or of another form is at fault.
 #[tactic(auto, unfolding(crate::specs::Configs::fields_of))]
 pub(super) fn fields_of(alloc: Global, document: &Table) -> Result<WrittenConfig, ConfigFault>
-    ensures { Gives (λ written. written) result (fields_of (table_view document.now)) }
+    ensures { GivesBy (λ written. written) result (fields_of (table_view document.now)) }
 {
     let blocks = size_at(alloc, document, "size")?;
     let inodes = integer_at(alloc, document, "nr_inodes")?;
@@ -47,7 +47,7 @@ pub(super) fn fields_of(alloc: Global, document: &Table) -> Result<WrittenConfig
 
 #[tactic(auto, unfolding(crate::specs::Configs::size_at))]
 fn size_at(alloc: Global, document: &Table, key: &str) -> Result<u64, ConfigFault>
-    ensures { Gives (λ blocks. blocks) result (size_at key.now (table_view document.now)) }
+    ensures { GivesBy (λ blocks. blocks) result (size_at key.now (table_view document.now)) }
 {
     let text = text_at(alloc, document, key)?;
     match blocks_of_size(text.as_bytes()) {

@@ -5,9 +5,9 @@ ghost use Rattle.qplain.specs.State.{State, Inode};
 ghost use Rattle.qplain.specs.Use.{total_of};
 ghost use Rattle.qplain.specs.Decision.{fault_of_holder, first_refusal, refusal_between};
 ghost use Rattle.qplain.specs.Rises.{Rises};
-ghost use Rattle.qstore.specs.Stored.{HasPlaces, IsSound};
+ghost use Rattle.qstore.specs.Stored.{HasSlots, IsSound};
 
-use crate::places::Places;
+use crate::slots::Slots;
 use crate::store::Store;
 use qplain::{Cred, MAX_NUMBER, Refusal};
 use qrules::Kind;
@@ -27,18 +27,18 @@ impl Store {
     }
 
     /// The first limit in the way of a charge of these owners.
-    fn fault(&self, places: Places, moment: u64, blocks: u64, inodes: u64) -> Option<Refusal>
+    fn fault(&self, slots: Slots, moment: u64, blocks: u64, inodes: u64) -> Option<Refusal>
         requires few { (blocks ≤ 2 ^ 32) × (inodes ≤ 2 ^ 32) }
-        requires places { (uid : ℕ) × (gid : ℕ) × HasPlaces self.now places uid gid }
-        ensures { (S1 : State) (whose : Inode) → HasPlaces self.now places whose.uid whose.gid
+        requires slots { (uid : ℕ) × (gid : ℕ) × HasSlots self.now slots uid gid }
+        ensures { (S1 : State) (whose : Inode) → HasSlots self.now slots whose.uid whose.gid
             → Rises self.now.state S1 whose blocks inodes
             → result ≡ first_refusal (fault_of_holder self.now.state S1 moment) self.now.state.holders }
     {
-        let user = self.users.at(places.user);
+        let user = self.users.at(slots.user);
         if let Some(refusal) = user.refusal(Kind::User, moment, blocks, inodes) {
             return Some(refusal);
         }
-        let group = self.groups.at(places.group);
+        let group = self.groups.at(slots.group);
         group.refusal(Kind::Group, moment, blocks, inodes)
     }
 
@@ -46,14 +46,14 @@ impl Store {
     pub(super) fn admit(
         &self,
         cred: &Cred,
-        places: Places,
+        slots: Slots,
         moment: u64,
         blocks: u64,
         inodes: u64,
     ) -> Option<Refusal>
         requires few { (blocks ≤ 2 ^ 32) × (inodes ≤ 2 ^ 32) }
-        requires places { (uid : ℕ) × (gid : ℕ) × HasPlaces self.now places uid gid }
-        ensures refusal { (S1 : State) (whose : Inode) → HasPlaces self.now places whose.uid whose.gid
+        requires slots { (uid : ℕ) × (gid : ℕ) × HasSlots self.now slots uid gid }
+        ensures refusal { (S1 : State) (whose : Inode) → HasSlots self.now slots whose.uid whose.gid
             → Rises self.now.state S1 whose blocks inodes
             → result ≡ refusal_between self.now.state S1 cred.now moment }
         ensures sound { IsSound self.now.state }
@@ -67,6 +67,6 @@ impl Store {
         if cred.uid() == 0 {
             return None;
         }
-        self.fault(places, moment, blocks, inodes)
+        self.fault(slots, moment, blocks, inodes)
     }
 }

@@ -5,10 +5,10 @@ ghost use Rattle.qrules.specs.declared.kind.Kind.TheVariants.{User, Group};
 ghost use Rattle.qplain.specs.State.{State};
 ghost use Rattle.qplain.specs.Arguments.{has_bad_number, is_declared, paths_of, refusal_of_arguments};
 ghost use Rattle.qstore.specs.Paths.{path_fault, paths_fault};
-ghost use Rattle.qstore.specs.Stored.{HasPlaces, IsSound, ids_of};
+ghost use Rattle.qstore.specs.Stored.{HasSlots, IsSound, ids_of};
 
 use crate::path::fault_of;
-use crate::places::Places;
+use crate::slots::Slots;
 use crate::store::Store;
 use qplain::{Call, Cred, MAX_DATA, Refusal};
 use qrules::{Kind, MAX_MOMENT};
@@ -41,26 +41,26 @@ fn paths_fault(call: &Call) -> Option<Refusal>
 
 impl Store {
     /// Where the record of this kind and id stands, if it is declared. O(log n), as many as are declared.
-    pub(super) fn place(&self, kind: Kind, id: u32) -> Option<usize>
+    pub(super) fn slot(&self, kind: Kind, id: u32) -> Option<usize>
         ensures declared { is_some result ≡ is_declared self.now.state kind id }
-        ensures place { IfSome result (λ place. slice_get (ids_of self.now kind) place ≡ Some id) }
+        ensures slot { IfSome result (λ slot. slice_get (ids_of self.now kind) slot ≡ Some id) }
         ensures sound { IsSound self.now.state }
     {
         match kind {
-            Kind::User => self.users.place(id),
-            Kind::Group => self.groups.place(id),
+            Kind::User => self.users.slot(id),
+            Kind::Group => self.groups.slot(id),
         }
     }
 
     /// Where the records of this user and this group stand, if both are declared.
-    pub(super) fn places(&self, uid: u32, gid: u32) -> Option<Places>
+    pub(super) fn slots(&self, uid: u32, gid: u32) -> Option<Slots>
         ensures declared { is_some result
             ≡ (is_declared self.now.state User uid && is_declared self.now.state Group gid) }
-        ensures places { IfSome result (λ places. HasPlaces self.now places uid gid) }
+        ensures slots { IfSome result (λ slots. HasSlots self.now slots uid gid) }
         ensures sound { IsSound self.now.state }
     {
-        match (self.place(Kind::User, uid), self.place(Kind::Group, gid)) {
-            (Some(user), Some(group)) => Some(Places { user, group }),
+        match (self.slot(Kind::User, uid), self.slot(Kind::Group, gid)) {
+            (Some(user), Some(group)) => Some(Slots { user, group }),
             _ => None,
         }
     }
@@ -69,7 +69,7 @@ impl Store {
     fn are_groups(&self, ids: &[u32]) -> bool
         ensures { result ≡ list_all (is_declared self.now.state Group) ids.now }
     {
-        ids.iter().all(|id| self.place(Kind::Group, *id).is_some())
+        ids.iter().all(|id| self.slot(Kind::Group, *id).is_some())
     }
 
     /// Whether the moment, a further group of the caller's or a number is none that a call may have.
@@ -81,15 +81,15 @@ impl Store {
     }
 
     /// Where the caller's records stand, or the refusal of a call for what is written.
-    pub(super) fn check(&self, cred: &Cred, moment: u64, call: &Call) -> Result<Places, Refusal>
-        ensures granted { IfOk result (λ places. refusal_of_arguments self.now.state cred.now moment call.now ≡ None) }
-        ensures moment { IfOk result (λ places. moment ≤ MAX_MOMENT) }
-        ensures places { IfOk result (λ places. HasPlaces self.now places cred.now.uid cred.now.gid) }
+    pub(super) fn check(&self, cred: &Cred, moment: u64, call: &Call) -> Result<Slots, Refusal>
+        ensures granted { IfOk result (λ slots. refusal_of_arguments self.now.state cred.now moment call.now ≡ None) }
+        ensures moment { IfOk result (λ slots. moment ≤ MAX_MOMENT) }
+        ensures slots { IfOk result (λ slots. HasSlots self.now slots cred.now.uid cred.now.gid) }
         ensures sound { IsSound self.now.state }
         ensures refused { IfErr result (λ refusal. refusal_of_arguments self.now.state cred.now moment call.now
             ≡ Some refusal) }
     {
-        let Some(places) = self.places(cred.uid(), cred.gid()) else {
+        let Some(slots) = self.slots(cred.uid(), cred.gid()) else {
             return Err(Refusal::EINVAL);
         };
         if self.has_fault(cred, moment, call) {
@@ -97,7 +97,7 @@ impl Store {
         }
         match paths_fault(call) {
             Some(refusal) => Err(refusal),
-            None => Ok(places),
+            None => Ok(slots),
         }
     }
 }

@@ -5,7 +5,7 @@ ghost use Rattle.std.specs.List.Sorted.{IsStrictlyIncreasing};
 ghost use Rattle.qrules.specs.Range.{are_graces_in_range};
 ghost use Rattle.qplain.specs.State.{root, start};
 ghost use Rattle.qplain.specs.Setups.{IsLawfulSetup};
-ghost use Rattle.qstore.specs.Owners.{charged_owner, new_owner};
+ghost use Rattle.qstore.specs.KeptHolders.{charged_holder, new_holder};
 
 use crate::ledger::Ledger;
 use crate::store::Store;
@@ -19,10 +19,10 @@ fn charge_root(ledger: &mut Ledger, graces: Graces)
     requires declared { list_any (λ o. 0 == o.id) ledger.old ≡ true }
     requires unused { All (λ o. (o.account.blocks ≡ 0) × (o.account.inodes ≡ 0)) ledger.old }
     requires range { are_graces_in_range graces ≡ true }
-    ensures { ledger.new ≡ map (charged_owner 0 graces 0 0 1) ledger.old }
+    ensures { ledger.new ≡ map (charged_holder 0 graces 0 0 1) ledger.old }
 {
-    match ledger.place(0) {
-        Some(place) => ledger.charge(place, graces, 0, 0, 1),
+    match ledger.slot(0) {
+        Some(slot) => ledger.charge(slot, graces, 0, 0, 1),
         None => unreachable!(),
     }
 }
@@ -34,9 +34,9 @@ pub(super) fn ledger_of(
     graces: Graces,
 ) -> Result<Ledger, NoMemory>
     requires by_id { IsStrictlyIncreasing (map (λ p. p.id) principals.now) }
-    requires declared { list_any (λ o. 0 == o.id) (map new_owner principals.now) ≡ true }
+    requires declared { list_any (λ o. 0 == o.id) (map new_holder principals.now) ≡ true }
     requires range { are_graces_in_range graces ≡ true }
-    ensures { IfOk result (λ ledger. ledger ≡ map (charged_owner 0 graces 0 0 1) (map new_owner principals.now)) }
+    ensures { IfOk result (λ ledger. ledger ≡ map (charged_holder 0 graces 0 0 1) (map new_holder principals.now)) }
 {
     let mut ledger = Ledger::new(alloc, principals)?;
     charge_root(&mut ledger, graces);
@@ -52,8 +52,8 @@ pub(super) fn begun(
     tree: Tree,
 ) -> Store
     requires lawful { IsLawfulSetup setup.now }
-    requires users { users ≡ map (charged_owner 0 setup.now.graces 0 0 1) (map new_owner setup.now.users) }
-    requires groups { groups ≡ map (charged_owner 0 setup.now.graces 0 0 1) (map new_owner setup.now.groups) }
+    requires users { users ≡ map (charged_holder 0 setup.now.graces 0 0 1) (map new_holder setup.now.users) }
+    requires groups { groups ≡ map (charged_holder 0 setup.now.graces 0 0 1) (map new_holder setup.now.groups) }
     requires inodes { tree.inodes ≡ (ROOT, root) ∷ [] }
     requires names { tree.names ≡ [] }
     requires links { tree.links ≡ (ROOT, 2) ∷ [] }

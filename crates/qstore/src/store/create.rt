@@ -7,11 +7,11 @@ ghost use Rattle.qplain.specs.State.{is_directory, named, new_file};
 ghost use Rattle.qplain.specs.Step.{settle};
 ghost use Rattle.qplain.specs.Walk.{components, last_name};
 ghost use Rattle.qstore.specs.Ready.{CanCarryOut, CreateIsReady, IsRefused, effect};
-ghost use Rattle.qstore.specs.Stored.{HasPlaces, IsSound};
+ghost use Rattle.qstore.specs.Stored.{HasSlots, IsSound};
 
 use crate::changes::ONE_INODE;
 use crate::path::names_of;
-use crate::places::Places;
+use crate::slots::Slots;
 use crate::ready::{Decided, Plan};
 use crate::store::Store;
 use qplain::{Cred, NoMemory, Refusal, Reply};
@@ -22,11 +22,11 @@ impl Store {
     pub(super) fn decide_create(
         &mut self,
         cred: &Cred,
-        places: Places,
+        slots: Slots,
         moment: u64,
         path: &[u8],
     ) -> Result<Decided, NoMemory>
-        requires places { HasPlaces self.old places cred.now.uid cred.now.gid }
+        requires slots { HasSlots self.old slots cred.now.uid cred.now.gid }
         requires moment { moment ≤ MAX_MOMENT }
         ensures state { self.new.state ≡ self.old.state }
         ensures step { IfOk result (λ d. (effect self.old.state d.plan [], d.reply)
@@ -56,12 +56,12 @@ impl Store {
     fn make_file(
         &mut self,
         cred: &Cred,
-        places: Places,
+        slots: Slots,
         moment: u64,
         dir: u64,
         name: &[u8],
     ) -> Result<Decided, NoMemory>
-        requires places { HasPlaces self.old places cred.now.uid cred.now.gid }
+        requires slots { HasSlots self.old slots cred.now.uid cred.now.gid }
         requires moment { moment ≤ MAX_MOMENT }
         requires directory { is_directory self.old.state dir ≡ true }
         requires absent { named self.old.state dir name.now ≡ None }
@@ -76,7 +76,7 @@ impl Store {
             → IsOk result }
         ensures nothing { IfOk result (λ d. IsRefused d.reply → d.plan ≡ Plan.Nothing) }
     {
-        if let Some(refusal) = self.admit(cred, places, moment, 0, 1) {
+        if let Some(refusal) = self.admit(cred, slots, moment, 0, 1) {
             return Ok(Decided::refused(refusal));
         }
         let name = Items::new(Vec::from_slice(self.alloc, name)?);
@@ -88,7 +88,7 @@ impl Store {
                 name,
                 uid: cred.uid(),
                 gid: cred.gid(),
-                places,
+                slots,
                 moment,
             },
         })
@@ -101,17 +101,17 @@ impl Store {
         name: Vec<u8>,
         uid: u32,
         gid: u32,
-        places: Places,
+        slots: Slots,
         moment: u64,
     )
-        requires can { CreateIsReady self.old dir name.items uid gid places moment }
+        requires can { CreateIsReady self.old dir name.items uid gid slots moment }
         requires sound { IsSound (ends_after (created self.old.state (new_file uid gid) dir name.items) moment) }
         ensures { self.new.state ≡ ends_after (created self.old.state (new_file uid gid) dir name.items) moment }
     {
         self.tree
             .add_file(self.next, dir, name, uid, gid, self.alloc);
-        self.users.charge(places.user, self.graces, moment, 0, 1);
-        self.groups.charge(places.group, self.graces, moment, 0, 1);
+        self.users.charge(slots.user, self.graces, moment, 0, 1);
+        self.groups.charge(slots.group, self.graces, moment, 0, 1);
         self.inodes += 1;
         self.next += 1;
     }

@@ -6,9 +6,9 @@ ghost use Rattle.qplain.specs.Caller.{Caller};
 ghost use Rattle.qplain.specs.Arguments.{is_holder};
 ghost use Rattle.qplain.specs.Attempt.{ask_quota, is_own};
 ghost use Rattle.qplain.specs.Step.{settle};
-ghost use Rattle.qstore.specs.Owners.{IsCountedIn, holder_in};
+ghost use Rattle.qstore.specs.KeptHolders.{IsCountedIn, holder_in};
 
-use crate::owner::Owner;
+use crate::kept_holder::KeptHolder;
 use crate::store::Store;
 use qplain::{Cred, Quota, Refusal, Reply};
 use qrules::Kind;
@@ -30,17 +30,17 @@ fn is_own(cred: &Cred, kind: Kind, id: u32) -> bool
     }
 }
 
-/// What an owner's record holds.
-fn quota_of(owner: &Owner) -> Quota
+/// What a kept holder's record holds.
+fn quota_of(holder: &KeptHolder) -> Quota
     ensures { result ≡ record {
-      blocks = owner.now.account.blocks;
-      inodes = owner.now.account.inodes;
-      limits = owner.now.account.limits;
-      block_end = owner.now.account.block_end;
-      inode_end = owner.now.account.inode_end;
+      blocks = holder.now.account.blocks;
+      inodes = holder.now.account.inodes;
+      limits = holder.now.account.limits;
+      block_end = holder.now.account.block_end;
+      inode_end = holder.now.account.inode_end;
     } }
 {
-    let account = &owner.account;
+    let account = &holder.account;
     Quota {
         blocks: account.blocks(),
         inodes: account.inodes(),
@@ -51,8 +51,8 @@ fn quota_of(owner: &Owner) -> Quota
 }
 
 impl Store {
-    /// The owner of this kind and id, if it is declared. O(log n), as many as are declared.
-    fn owner(&self, kind: Kind, id: u32) -> Option<&Owner>
+    /// The kept holder of this kind and id, if it is declared. O(log n), as many as are declared.
+    fn holder(&self, kind: Kind, id: u32) -> Option<&KeptHolder>
         ensures found { option_map (holder_in kind) (option_copied result)
             ≡ find (is_holder kind id) self.now.state.holders }
         ensures counted { IfSome result (λ o. IsCountedIn self.now.state kind o.now) }
@@ -71,8 +71,8 @@ impl Store {
         if cred.uid() != 0 && !is_own(cred, kind, id) {
             return Reply::Refused(Refusal::EPERM);
         }
-        match self.owner(kind, id) {
-            Some(owner) => Reply::Quota(quota_of(owner)),
+        match self.holder(kind, id) {
+            Some(holder) => Reply::Quota(quota_of(holder)),
             None => Reply::Refused(Refusal::ESRCH),
         }
     }

@@ -32,14 +32,14 @@ impl Store {
         if cred.uid() != 0 {
             return Decided::refused(Refusal::EPERM);
         }
-        match self.place(kind, id) {
+        match self.slot(kind, id) {
             None => Decided::refused(Refusal::ESRCH),
-            Some(place) => Decided {
+            Some(slot) => Decided {
                 reply: Reply::Done(0, NO_CHANGE),
                 plan: Plan::SetQuota {
                     kind,
                     id,
-                    place,
+                    slot,
                     limits,
                     moment,
                 },
@@ -47,22 +47,22 @@ impl Store {
         }
     }
 
-    /// Sets the limits of the record at this place.
+    /// Sets the limits of the record at this slot.
     pub(super) fn commit_set_quota(
         &mut self,
         kind: Kind,
         id: u32,
-        place: usize,
+        slot: usize,
         limits: Limits,
         moment: u64,
     )
-        requires can { SetQuotaIsReady self.old kind id place limits moment }
+        requires can { SetQuotaIsReady self.old kind id slot limits moment }
         requires sound { IsSound (ends_after (with_limits_of self.old.state kind id limits) moment) }
         ensures { self.new.state ≡ ends_after (with_limits_of self.old.state kind id limits) moment }
     {
         match kind {
-            Kind::User => self.users.set_limits(place, limits, self.graces, moment),
-            Kind::Group => self.groups.set_limits(place, limits, self.graces, moment),
+            Kind::User => self.users.set_limits(slot, limits, self.graces, moment),
+            Kind::Group => self.groups.set_limits(slot, limits, self.graces, moment),
         }
     }
 }

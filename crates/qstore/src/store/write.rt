@@ -12,12 +12,12 @@ ghost use Rattle.qplain.specs.Step.{settle};
 ghost use Rattle.qplain.specs.Walk.{components, walk};
 ghost use Rattle.qstore.specs.Nodes.{inode_of};
 ghost use Rattle.qstore.specs.Ready.{CanCarryOut, IsRefused, WriteIsReady, effect, written_at};
-ghost use Rattle.qstore.specs.Stored.{HasPlaces, IsSound};
+ghost use Rattle.qstore.specs.Stored.{HasSlots, IsSound};
 ghost use Rattle.qstore.specs.Writes.{IsTarget};
 
 use crate::changes::NO_CHANGE;
 use crate::node::{Content, Node};
-use crate::places::Places;
+use crate::slots::Slots;
 use crate::ready::{Decided, Plan};
 use crate::store::Store;
 use qblocks::{BlockFile, Spare};
@@ -44,13 +44,13 @@ impl Store {
     pub(super) fn decide_write(
         &mut self,
         cred: &Cred,
-        callers: Places,
+        callers: Slots,
         moment: u64,
         path: &[u8],
         off: u64,
         bytes: &[u8],
     ) -> Result<Decided, NoMemory>
-        requires callers { HasPlaces self.old callers cred.now.uid cred.now.gid }
+        requires callers { HasSlots self.old callers cred.now.uid cred.now.gid }
         requires sound { IsSound self.old.state }
         requires moment { moment ≤ MAX_MOMENT }
         requires few { length bytes.now ≤ MAX_DATA }
@@ -106,30 +106,30 @@ impl Store {
     }
 
     /// Where the records of the file's owners stand. Those of the caller are found already.
-    fn owners(&self, cred: &Cred, callers: Places, target: Target) -> Option<Places>
-        requires callers { HasPlaces self.now callers cred.now.uid cred.now.gid }
+    fn owners(&self, cred: &Cred, callers: Slots, target: Target) -> Option<Slots>
+        requires callers { HasSlots self.now callers cred.now.uid cred.now.gid }
         ensures declared { (is_declared self.now.state User target.uid
             && is_declared self.now.state Group target.gid) ≡ true → IsSome result }
-        ensures places { IfSome result (λ places. HasPlaces self.now places target.uid target.gid) }
+        ensures slots { IfSome result (λ slots. HasSlots self.now slots target.uid target.gid) }
     {
         if target.uid == cred.uid() && target.gid == cred.gid() {
             return Some(callers);
         }
-        self.places(target.uid, target.gid)
+        self.slots(target.uid, target.gid)
     }
 
     /// Makes room for a write that passed all tests but those of space and quota, if it is granted.
     fn decide_put(
         &mut self,
         cred: &Cred,
-        callers: Places,
+        callers: Slots,
         moment: u64,
         number: u64,
         off: u64,
         bytes: &[u8],
         target: Target,
     ) -> Result<Decided, NoMemory>
-        requires callers { HasPlaces self.old callers cred.now.uid cred.now.gid }
+        requires callers { HasSlots self.old callers cred.now.uid cred.now.gid }
         requires sound { IsSound self.old.state }
         requires moment { moment ≤ MAX_MOMENT }
         requires target { IsTarget self.old.state cred.now off bytes.now number target }
@@ -143,10 +143,10 @@ impl Store {
             → IsOk result }
         ensures nothing { IfOk result (λ d. IsRefused d.reply → d.plan ≡ Plan.Nothing) }
     {
-        let Some(places) = self.owners(cred, callers, target) else {
+        let Some(slots) = self.owners(cred, callers, target) else {
             unreachable!()
         };
-        if let Some(refusal) = self.admit(cred, places, moment, target.blocks, 0) {
+        if let Some(refusal) = self.admit(cred, slots, moment, target.blocks, 0) {
             return Ok(Decided::refused(refusal));
         }
         let len = bytes.len() as u64;
@@ -157,7 +157,7 @@ impl Store {
                 number,
                 off,
                 spare,
-                places,
+                slots,
                 moment,
             },
         })
@@ -169,11 +169,11 @@ impl Store {
         number: u64,
         off: u64,
         spare: Spare,
-        places: Places,
+        slots: Slots,
         moment: u64,
         bytes: &[u8],
     )
-        requires can { WriteIsReady self.old number off spare places moment bytes.now }
+        requires can { WriteIsReady self.old number off spare slots moment bytes.now }
         requires sound { IsSound (ends_after
             (written_at self.old.state number off bytes.now (inode_at self.old.state number)) moment) }
         ensures { self.new.state ≡ ends_after
@@ -181,9 +181,9 @@ impl Store {
     {
         let blocks = self.tree.put(number, off, bytes, spare);
         self.users
-            .charge(places.user, self.graces, moment, blocks, 0);
+            .charge(slots.user, self.graces, moment, blocks, 0);
         self.groups
-            .charge(places.group, self.graces, moment, blocks, 0);
+            .charge(slots.group, self.graces, moment, blocks, 0);
         self.blocks += blocks;
     }
 }

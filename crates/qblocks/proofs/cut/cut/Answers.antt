@@ -2,8 +2,8 @@ use Rattle.std.proofs.Common.{◌≡◌, ℕ, ◌+◌, ◌/◌, ◌%◌, ap, sym
 use Rattle.std.proofs.lemmas.Bool.{cases_eq, cases_lt}
 use Rattle.qblocks.specs.declared.block.TheConstants.{BLOCK_SIZE}
 use Rattle.qblocks.specs.declared.row.TheConstants.{ROW_BLOCKS, ROW_SIZE}
-use Rattle.qblocks.specs.Row.{place_at, byte_of, row_byte}
-use Rattle.qblocks.specs.Rows.{places_of, has_row, filled, is_used, Frees}
+use Rattle.qblocks.specs.Row.{slot_at, byte_of, row_byte}
+use Rattle.qblocks.specs.Rows.{slots_of, has_row, filled, is_used, Frees}
 use Rattle.qblocks.proofs.Table.{byte_at-own, byte_at-same}
 use Rattle.qblocks.proofs.Freed.{Frees-row, Frees-none, Frees-more, is_used-same, is_used-row, absent_is_unused, there_if_used}
 use Rattle.qblocks.proofs.cut.cut.Goals as goal
@@ -13,26 +13,26 @@ returns-clause-before c = λ o l.
     let e = c.cut_row-cut.ensures in
     let kept = c.pop_rows-freed.ensures.before in
     let row = c.args.size / ROW_SIZE in
-    ap (λ place. byte_of place (o % BLOCK_SIZE)) (c.forget_row.ensures.same.slots (o / BLOCK_SIZE))
+    ap (λ slot. byte_of slot (o % BLOCK_SIZE)) (c.forget_row.ensures.same.slots (o / BLOCK_SIZE))
     ∙ ⊎_elim
     (λ here.
     byte_at-own c.cut_row-cut.new.rows row o here ∙ e.before (o % ROW_SIZE) (omega arith)
-    ∙ ap (λ r. row_byte (places_of r) (o % ROW_SIZE)) (kept row (omega arith)) ∙ sym (byte_at-own c.args.rows.now row o here))
+    ∙ ap (λ r. row_byte (slots_of r) (o % ROW_SIZE)) (kept row (omega arith)) ∙ sym (byte_at-own c.args.rows.now row o here))
     (λ below.
     byte_at-same c.args.rows.now c.cut_row-cut.new.rows o
-    (e.others (o / BLOCK_SIZE / ROW_BLOCKS) (λ at. below (omega (arith, at))) ∙ ap places_of (kept (o / BLOCK_SIZE / ROW_BLOCKS) (omega arith))))
+    (e.others (o / BLOCK_SIZE / ROW_BLOCKS) (λ at. below (omega (arith, at))) ∙ ap slots_of (kept (o / BLOCK_SIZE / ROW_BLOCKS) (omega arith))))
     (cases_eq (o / ROW_SIZE) row)
 
 pub returns-clause-tail : goal.returns-clause-tail
 returns-clause-tail c = λ o l.
     let e = c.cut_row-cut.ensures in
     let q = o / BLOCK_SIZE / ROW_BLOCKS in
-    ap (λ place. byte_of place (o % BLOCK_SIZE)) (c.forget_row.ensures.same.slots (o / BLOCK_SIZE))
+    ap (λ slot. byte_of slot (o % BLOCK_SIZE)) (c.forget_row.ensures.same.slots (o / BLOCK_SIZE))
     ∙ ⊎_elim
     (λ here. byte_at-own c.cut_row-cut.new.rows (c.args.size / ROW_SIZE) o here ∙ e.tail (o % ROW_SIZE) (omega arith))
     (λ past.
-    ap (λ row. byte_of (place_at row (o / BLOCK_SIZE % ROW_BLOCKS)) (o % BLOCK_SIZE))
-    (e.others q (λ at. past (omega (arith, at))) ∙ ap places_of (c.pop_rows-freed.ensures.none q (omega (arith, past)))))
+    ap (λ row. byte_of (slot_at row (o / BLOCK_SIZE % ROW_BLOCKS)) (o % BLOCK_SIZE))
+    (e.others q (λ at. past (omega (arith, at))) ∙ ap slots_of (c.pop_rows-freed.ensures.none q (omega (arith, past)))))
     (cases_eq (o / ROW_SIZE) (c.args.size / ROW_SIZE))
 
 pub returns-clause-used : goal.returns-clause-used
@@ -50,7 +50,7 @@ returns-clause-used c = λ r.
     ∙ ⊎_elim
     (λ below.
     let kept = c.pop_rows-freed.ensures.before r (omega arith) in
-    ap is_some kept ∙ c.requires.used r ∙ sym (same ∙ is_used-row c.args.rows.now popped r (ap places_of kept)))
+    ap is_some kept ∙ c.requires.used r ∙ sym (same ∙ is_used-row c.args.rows.now popped r (ap slots_of kept)))
     (λ past.
     let gone = ap is_some (c.pop_rows-freed.ensures.none r (omega (arith, other))) in
     gone ∙ sym (same ∙ absent_is_unused popped r gone))

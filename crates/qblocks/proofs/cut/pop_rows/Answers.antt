@@ -1,6 +1,6 @@
 use Rattle.std.proofs.Common.{◌≡◌, arith, ◌^◌, ◌+◌, ◌%◌, ◌/◌, ap, sym, ◌∙◌, subst, is_some}
-use Rattle.qblocks.specs.Row.{place_at}
-use Rattle.qblocks.specs.Rows.{Frees, places_of}
+use Rattle.qblocks.specs.Row.{slot_at}
+use Rattle.qblocks.specs.Rows.{Frees, slots_of}
 use Rattle.qblocks.specs.declared.row.TheConstants.{ROW_BLOCKS}
 use Rattle.qblocks.proofs.Freed.{Frees-more, Frees-none, freed_le}
 use Rattle.qblocks.proofs.cut.pop_rows.Goals as goal
@@ -26,7 +26,7 @@ pub returns-clause-frees : goal.returns-clause-frees
 returns-clause-frees c =
     let same = c.in_default.ensures.same in
     let last = Frees-none c.loop-blocks.rows c.pop_row.new.rows
-    (λ k. ap (λ row. is_some (place_at (places_of row) (k % ROW_BLOCKS))) (same (k / ROW_BLOCKS)))
+    (λ k. ap (λ row. is_some (slot_at (slots_of row) (k % ROW_BLOCKS))) (same (k / ROW_BLOCKS)))
     (λ r there. sym (ap is_some (same r)) ∙ there) in
     let sum : c.loop-blocks.freed + 0 ≡ c.loop-blocks.freed = omega arith in
     subst (Frees c.args.rows.now c.pop_row.new.rows) sum

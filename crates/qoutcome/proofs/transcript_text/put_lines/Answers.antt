@@ -2,15 +2,15 @@ use Rattle.qtext.proofs.Fronts.{rows_end, rows_go_on, rows_refused}
 use Rattle.qoutcome.specs.Outcomes.{line_text}
 use Rattle.qoutcome.proofs.transcript_text.put_lines.Goals as goal
 
-pub loop-outcome-preserved : goal.loop-outcome-preserved
-loop-outcome-preserved g c =
-    rows_go_on _ _ _ line_text _ _ c.outcome-item.result _ c.outcome-item.is c.loop-outcome.invariant
-    c.in_ok-put_line.ensures c.loop-outcome-test.true
+pub loop-answer-preserved : goal.loop-answer-preserved
+loop-answer-preserved g c =
+    rows_go_on _ _ _ line_text _ _ c.answer-item.result _ c.answer-item.is c.loop-answer.invariant
+    c.in_ok-put_line.ensures c.loop-answer-test.true
 
 pub returns-in_err-put_line : goal.returns-in_err-put_line
 returns-in_err-put_line g c =
-    rows_refused _ _ _ _ line_text _ _ c.outcome-item.result _ c.outcome-item.is c.from_residual.ensures.0
-    c.loop-outcome.invariant c.in_err-put_line.ensures c.loop-outcome-test.true
+    rows_refused _ _ _ _ line_text _ _ c.answer-item.result _ c.answer-item.is c.from_residual.ensures.0
+    c.loop-answer.invariant c.in_err-put_line.ensures c.loop-answer-test.true
 
 pub returns : goal.returns
-returns g c = rows_end _ _ line_text _ _ c.loop-outcome.invariant c.loop-outcome-test.false
+returns g c = rows_end _ _ line_text _ _ c.loop-answer.invariant c.loop-answer-test.false

@@ -4,7 +4,7 @@ use Rattle.qtext.proofs.Fronts.{Partly}
 use Rattle.qoutcome.specs.Outcomes.{line_text}
 use Rattle.qoutcome.proofs.transcript_text.put_lines.Given as goal
 
-abbrev pub invariant-loop-outcome : goal.invariant-loop-outcome
-invariant-loop-outcome g l =
-    Partly (g.W.Write.contents l.fn.out) (g.W.Write.contents l.out) (flat_map line_text l.outcomes)
-    (flat_map line_text (drop l.outcome-index l.outcomes))
+abbrev pub invariant-loop-answer : goal.invariant-loop-answer
+invariant-loop-answer g l =
+    Partly (g.W.Write.contents l.fn.out) (g.W.Write.contents l.out) (flat_map line_text l.answers)
+    (flat_map line_text (drop l.answer-index l.answers))

@@ -6,9 +6,9 @@ use Rattle.qoutcome.proofs.transcript_text.put_transcript.Goals as goal
 pub returns-in_err-put_pieces : goal.returns-in_err-put_pieces
 returns-in_err-put_pieces g c =
     refused_first _ _ _ (worker_text c.args.transcript.now.worker)
-    (flat_map line_text c.args.transcript.now.outcomes) c.from_residual.ensures.0 c.in_err-put_pieces.ensures
+    (flat_map line_text c.args.transcript.now.answers) c.from_residual.ensures.0 c.in_err-put_pieces.ensures
 
 pub returns : goal.returns
 returns g c = writes_then _ _ _ _ (worker_text c.args.transcript.now.worker)
-    (flat_map line_text c.args.transcript.now.outcomes) c.in_ok-put_pieces.ensures
+    (flat_map line_text c.args.transcript.now.answers) c.in_ok-put_pieces.ensures
     (rw c.as_slice.ensures at c.put_lines.ensures)

@@ -1,6 +1,6 @@
 use Rattle.std.proofs.Common.{subst}
 use Rattle.std.specs.List.Sorted.{IsStrictlyIncreasing}
-use Rattle.qblocks.specs.Room.{RoomyFile}
+use Rattle.qblocks.specs.WriteRoom.{RoomyFile}
 use Rattle.qblocks.proofs.View.{increasing}
 use Rattle.qblocks.proofs.file.BlockFile.allocated.Goals as goal
 

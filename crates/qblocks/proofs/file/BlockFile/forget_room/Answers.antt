@@ -1,6 +1,6 @@
 use Rattle.std.proofs.Common.{◌/◌, ap, arith, sym, ◌∙◌, ℕ}
 use Rattle.qblocks.specs.declared.row.TheConstants.{ROW_SIZE}
-use Rattle.qblocks.specs.Room.{Room, no_room}
+use Rattle.qblocks.specs.WriteRoom.{WriteRoom, no_room}
 use Rattle.qblocks.specs.Row.{in_span}
 use Rattle.qblocks.specs.Rows.{is_used, filled}
 use Rattle.qblocks.proofs.Spans.{or_no}
@@ -14,7 +14,7 @@ invariant_of-self c =
     let old = c.self.inside.rows in
     let new = c.forget_rows.new.rows in
     let e = c.forget_rows.ensures in
-    let room : Room = record { off = c.self.inside.room_off; len = c.self.inside.room_len } in
+    let room : WriteRoom = record { off = c.self.inside.room_off; len = c.self.inside.room_len } in
     let first = c.self.inside.room_off / ROW_SIZE in
     let used = rows_forgotten old new e.same first c.span_end-end.result e.used e.others (λ r out.
     c.self.invariant.rows r ∙ sym (or_no (is_used (filled old) r) _ (ap (λ (end : ℕ). in_span first end r) (sym c.span_end-end.ensures.end) ∙ out))) in

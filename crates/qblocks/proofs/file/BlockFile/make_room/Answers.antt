@@ -1,7 +1,7 @@
 use Rattle.std.proofs.Common.{◌≡◌, ◌/◌, ◌||◌, ap, arith, sym, ◌∙◌, ℕ, length}
 use Rattle.qblocks.specs.declared.row.TheConstants.{ROW_SIZE}
 use Rattle.qblocks.specs.File.{with_touched}
-use Rattle.qblocks.specs.Room.{Room}
+use Rattle.qblocks.specs.WriteRoom.{WriteRoom}
 use Rattle.qblocks.specs.Row.{in_span}
 use Rattle.qblocks.specs.Rows.{is_used, in_room, filled}
 use Rattle.qblocks.proofs.Spans.{or_no, in_span_none}
@@ -16,7 +16,7 @@ invariant_of-self c =
     let old = c.self.inside.rows in
     let made = c.make_rows.new.rows in
     let new = c.forget_rows.new.rows in
-    let room : Room = record { off = c.self.inside.room_off; len = c.self.inside.room_len } in
+    let room : WriteRoom = record { off = c.self.inside.room_off; len = c.self.inside.room_len } in
     let none = ap (λ f. f.room) c.self.view_is ∙ c.requires.room in
     let was = rows_used old c.self.inside.size c.self.inside.count room none c.self.invariant in
     let e = c.in-Err.ensures in
@@ -33,7 +33,7 @@ invariant_of-self-2 c =
     let old = c.self.inside.rows in
     let new = c.make_rows.new.rows in
     let first = c.args.off / ROW_SIZE in
-    let room : Room = record { off = c.args.off; len = c.args.len } in
+    let room : WriteRoom = record { off = c.args.off; len = c.args.len } in
     let was = rows_used old c.self.inside.size c.self.inside.count _ (ap (λ f. f.room) c.self.view_is ∙ c.requires.room) c.self.invariant in
     let e = c.in_default.ensures in
     let before = ap (λ f. length f.file.allocated) c.self.view_is in

@@ -1,4 +1,4 @@
-use Rattle.qblocks.specs.Room.{no_room}
+use Rattle.qblocks.specs.WriteRoom.{no_room}
 use Rattle.qblocks.proofs.View.{file_of-empty}
 use Rattle.qblocks.proofs.Whole.{IsWhole-empty}
 use Rattle.qblocks.proofs.file.BlockFile.new.Goals as goal

@@ -1,7 +1,7 @@
 use Rattle.std.proofs.Common.{◌≡◌, ◌+◌, ℕ, ap, arith, sym, ◌∙◌, length, subst}
 use Rattle.std.proofs.lemmas.Bool.{eqb-true, eqb-false}
 use Rattle.qblocks.specs.File.{after_write, is_allocated}
-use Rattle.qblocks.specs.Room.{no_room}
+use Rattle.qblocks.specs.WriteRoom.{no_room}
 use Rattle.qblocks.specs.Rows.{IsWhole, file_of}
 use Rattle.qblocks.proofs.Touched.{after_write_none, is_allocated-after_write}
 use Rattle.qblocks.proofs.Whole.{put_whole, ready_whole}

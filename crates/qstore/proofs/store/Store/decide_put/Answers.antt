@@ -10,11 +10,11 @@ use Rattle.qplain.specs.Attempt.{with_file}
 use Rattle.qplain.specs.Step.{settle}
 use Rattle.qplain.proofs.Rising.{Rises-with_file, change_between-rises, settle-granted, settle-refused}
 use Rattle.qstore.specs.Ready.{IsRefused, effect, written_at}
-use Rattle.qstore.specs.Stored.{HasPlaces, Stored}
+use Rattle.qstore.specs.Stored.{HasSlots, Stored}
 use Rattle.qplain.proofs.Fitting.{known-owners}
 use Rattle.qstore.proofs.Granted.{granted-unrefused}
 use Rattle.qstore.proofs.WriteTests.{more-of-adds}
-use Rattle.qstore.proofs.Writes.{places-along, write-ready}
+use Rattle.qstore.proofs.Writes.{slots-along, write-ready}
 use Rattle.qstore.proofs.store.Store.decide_put.Goals as goal
 
 pub unreachable-requires : goal.unreachable-requires
@@ -36,10 +36,10 @@ returns-in-Some-admit-clause-step c =
     let S1 = with_file S x.number t.inode (after_write t.inode.file x.off x.bytes.now) in
     let more = more-of-adds t.inode.file x.off x.bytes.now x.target.blocks t.blocks in
     let rises = Rises-with_file S x.number t.inode (after_write t.inode.file x.off x.bytes.now) x.target.blocks t.there more in
-    let places = places-along x.self.now c.in-Some.places x.target.uid x.target.gid t.inode.uid t.inode.gid c.in-Some.ensures.places t.uid t.gid in
+    let slots = slots-along x.self.now c.in-Some.slots x.target.uid x.target.gid t.inode.uid t.inode.gid c.in-Some.ensures.slots t.uid t.gid in
     (λ i. (effect S (c.refused.ensures.plan i) x.bytes.now, c.refused.ensures.reply i))
     ∙ sym (ap (settle S x.cred.now x.moment) t.becomes ∙ settle-refused S S1 x.cred.now x.moment x.number c.in-Some-admit.refusal
-    (sym (c.admit.ensures.refusal S1 t.inode places rises) ∙ c.in-Some-admit.is))
+    (sym (c.admit.ensures.refusal S1 t.inode slots rises) ∙ c.in-Some-admit.is))
 
 pub returns-in_err-spare-clause-refused_first : goal.returns-in_err-spare-clause-refused_first
 returns-in_err-spare-clause-refused_first c refused =
@@ -49,8 +49,8 @@ returns-in_err-spare-clause-refused_first c refused =
     let S1 = with_file S x.number t.inode (after_write t.inode.file x.off x.bytes.now) in
     let more = more-of-adds t.inode.file x.off x.bytes.now x.target.blocks t.blocks in
     let rises = Rises-with_file S x.number t.inode (after_write t.inode.file x.off x.bytes.now) x.target.blocks t.there more in
-    let places = places-along x.self.now c.in-Some.places x.target.uid x.target.gid t.inode.uid t.inode.gid c.in-Some.ensures.places t.uid t.gid in
-    let none = sym (c.admit.ensures.refusal S1 t.inode places rises) ∙ c.in_default-admit.is in
+    let slots = slots-along x.self.now c.in-Some.slots x.target.uid x.target.gid t.inode.uid t.inode.gid c.in-Some.ensures.slots t.uid t.gid in
+    let none = sym (c.admit.ensures.refusal S1 t.inode slots rises) ∙ c.in_default-admit.is in
     let becomes = ap (settle S x.cred.now x.moment) t.becomes in
     granted-unrefused S S1 x.cred.now x.moment x.number none (subst (λ (told : State × Reply). IsRefused told.1) becomes refused)
 
@@ -62,8 +62,8 @@ returns-clause-step c =
     let S1 = with_file S x.number t.inode (after_write t.inode.file x.off x.bytes.now) in
     let more = more-of-adds t.inode.file x.off x.bytes.now x.target.blocks t.blocks in
     let rises = Rises-with_file S x.number t.inode (after_write t.inode.file x.off x.bytes.now) x.target.blocks t.there more in
-    let places = places-along x.self.now c.in-Some.places x.target.uid x.target.gid t.inode.uid t.inode.gid c.in-Some.ensures.places t.uid t.gid in
-    let none = sym (c.admit.ensures.refusal S1 t.inode places rises) ∙ c.in_default-admit.is in
+    let slots = slots-along x.self.now c.in-Some.slots x.target.uid x.target.gid t.inode.uid t.inode.gid c.in-Some.ensures.slots t.uid t.gid in
+    let none = sym (c.admit.ensures.refusal S1 t.inode slots rises) ∙ c.in_default-admit.is in
     (λ i. (
       ends_after (written_at S x.number x.off x.bytes.now (t.there i)) x.moment,
       Done x.number ((c.written.ensures ∙ sym (change_between-rises S S1 t.inode x.target.blocks 0 rises))
@@ -83,8 +83,8 @@ returns-clause-ready c =
     let low = c.admit.ensures.sound.file_bound in
     let fits = c.in_default-admit.ensures.fits in
     let few = subst (λ (v : Stored). total_of v.state Blocks + x.target.blocks ≤ v.state.size) view fits.0 in
-    let places = places-along x.self.now c.in-Some.places x.target.uid x.target.gid t.inode.uid t.inode.gid c.in-Some.ensures.places t.uid t.gid in
-    let owners = subst (λ (v : Stored). HasPlaces v c.in-Some.places t.inode.uid t.inode.gid) view places in
+    let slots = slots-along x.self.now c.in-Some.slots x.target.uid x.target.gid t.inode.uid t.inode.gid c.in-Some.ensures.slots t.uid t.gid in
+    let owners = subst (λ (v : Stored). HasSlots v c.in-Some.slots t.inode.uid t.inode.gid) view slots in
     write-ready a c.ready_write.new.self c.ready_write.ensures.same x.number x.off c.in_ok-spare.spare
-    c.in-Some.places x.moment x.bytes.now t.inode x.target.blocks
-    there (omega (arith, limit, low)) more few owners c.ready_write.ensures.there c.in_ok-spare.ensures.room c.requires.moment
+    c.in-Some.slots x.moment x.bytes.now t.inode x.target.blocks
+    there (omega (arith, limit, low)) more few holders c.ready_write.ensures.there c.in_ok-spare.ensures.room c.requires.moment

@@ -11,9 +11,9 @@ returns-in-Some-clause-step c =
     let x = c.args in
     let S = x.self.now.state in
     let cred = x.cred.now in
-    let sound = c.place.ensures.sound in
+    let sound = c.slot.ensures.sound in
     let super : (cred.uid == 0) ≡ true = let uid = c.uid.ensures in let same = c.if-uid-ne0.false in grind (arith, tests, uid, same) in
-    let declared : is_declared S x.kind x.id ≡ true = sym c.place.ensures.declared ∙ ap (λ o. is_some o) c.in-Some.is in
+    let declared : is_declared S x.kind x.id ≡ true = sym c.slot.ensures.declared ∙ ap (λ o. is_some o) c.in-Some.is in
     sym ((λ i. settle S cred x.moment
     (cond (not (super i)) (Refuse EPERM)
     (cond (not (declared i)) (Refuse ESRCH) (Becomes (with_limits_of S x.kind x.id x.limits) 0))))

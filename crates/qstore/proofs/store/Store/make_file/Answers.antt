@@ -24,7 +24,7 @@ returns-in-Some-clause-step c =
     let S1 = created S (new_file cred.uid cred.gid) x.dir x.name.now in
     (λ i. (effect S (c.refused.ensures.plan i) [], c.refused.ensures.reply i))
     ∙ sym (settle-refused S S1 cred x.moment S.next c.in-Some.refusal
-    (sym (c.admit.ensures.refusal S1 (new_file cred.uid cred.gid) c.requires.places more) ∙ c.in-Some.is))
+    (sym (c.admit.ensures.refusal S1 (new_file cred.uid cred.gid) c.requires.slots more) ∙ c.in-Some.is))
 
 pub returns-in_err-from_slice-clause-refused_first : goal.returns-in_err-from_slice-clause-refused_first
 returns-in_err-from_slice-clause-refused_first c =
@@ -33,7 +33,7 @@ returns-in_err-from_slice-clause-refused_first c =
     let cred = x.cred.now in
     let more = rises S cred.uid cred.gid x.dir x.name.now c.admit.ensures.sound.lawful in
     let S1 = created S (new_file cred.uid cred.gid) x.dir x.name.now in
-    let none = sym (c.admit.ensures.refusal S1 (new_file cred.uid cred.gid) c.requires.places more) ∙ c.in_default.is in
+    let none = sym (c.admit.ensures.refusal S1 (new_file cred.uid cred.gid) c.requires.slots more) ∙ c.in_default.is in
     granted-unrefused S S1 cred x.moment S.next none
 
 pub returns-in_err-make_room-clause-refused_first : goal.returns-in_err-make_room-clause-refused_first
@@ -43,7 +43,7 @@ returns-in_err-make_room-clause-refused_first c =
     let cred = x.cred.now in
     let more = rises S cred.uid cred.gid x.dir x.name.now c.admit.ensures.sound.lawful in
     let S1 = created S (new_file cred.uid cred.gid) x.dir x.name.now in
-    let none = sym (c.admit.ensures.refusal S1 (new_file cred.uid cred.gid) c.requires.places more) ∙ c.in_default.is in
+    let none = sym (c.admit.ensures.refusal S1 (new_file cred.uid cred.gid) c.requires.slots more) ∙ c.in_default.is in
     granted-unrefused S S1 cred x.moment S.next none
 
 pub returns-clause-step : goal.returns-clause-step
@@ -53,7 +53,7 @@ returns-clause-step c =
     let cred = x.cred.now in
     let more = rises S cred.uid cred.gid x.dir x.name.now c.admit.ensures.sound.lawful in
     let S1 = created S (new_file cred.uid cred.gid) x.dir x.name.now in
-    let none = sym (c.admit.ensures.refusal S1 (new_file cred.uid cred.gid) c.requires.places more) ∙ c.in_default.is in
+    let none = sym (c.admit.ensures.refusal S1 (new_file cred.uid cred.gid) c.requires.slots more) ∙ c.in_default.is in
     let next = ap (λ (v : Stored). v.state.next) c.self.view_is in
     let items : c.in_ok-from_slice.field-0.items ≡ x.name.now = search rules in
     let name = c.new-name.ensures ∙ items in

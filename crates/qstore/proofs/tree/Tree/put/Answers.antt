@@ -5,7 +5,7 @@ use Rattle.std.specs.BTreeMap.{is_at}
 use Rattle.std.specs.Option.{option_map, unwrap_or}
 use Rattle.std.specs.Option.{IfSome, is_some}
 use Rattle.qblocks.specs.File.{MoreBlocks, after_write}
-use Rattle.qblocks.specs.Room.{IsReady, RoomyFile}
+use Rattle.qblocks.specs.WriteRoom.{IsReadyToPut, RoomyFile}
 use Rattle.qplain.specs.State.{Inode}
 use Rattle.qstore.specs.Nodes.{inode_of, roomy_file_in}
 use Rattle.qstore.specs.Tree.{file_room}
@@ -24,7 +24,7 @@ put-requires-clause-there c = sym (ap is_some (file_before c)) ∙ c.requires.th
 
 pub put-requires-clause-ready : goal.put-requires-clause-ready
 put-requires-clause-ready c =
-    subst (λ (o : Option RoomyFile). IfSome o (λ f. IsReady f c.args.off (length c.args.bytes.now) c.args.spare)) (file_before c) c.requires.ready
+    subst (λ (o : Option RoomyFile). IfSome o (λ f. IsReadyToPut f c.args.off (length c.args.bytes.now) c.args.spare)) (file_before c) c.requires.ready
 
 pub unreachable-requires : goal.unreachable-requires
 unreachable-requires c =

@@ -4,7 +4,7 @@ use Rattle.std.specs.Option.{option_map, unwrap_or}
 use Rattle.std.specs.Option.{IfSome, is_some}
 use Rattle.std.proofs.lemmas.Result.{IfOk-weaker}
 use Rattle.qblocks.specs.File.{Adds}
-use Rattle.qblocks.specs.Room.{IsReady, RoomyFile}
+use Rattle.qblocks.specs.WriteRoom.{IsReadyToPut, RoomyFile}
 use Rattle.qplain.specs.State.{Inode}
 use Rattle.qstore.specs.Nodes.{inode_of, roomy_file_in}
 use Rattle.qstore.specs.Tree.{file_room, tree_of}
@@ -63,5 +63,5 @@ returns-clause-there c = ap is_some (file_after c) ∙ c.ready_write.ensures.the
 pub returns-clause-room : goal.returns-clause-room
 returns-clause-room c =
     IfOk-weaker c.ready_write.result _ _
-    (λ spare. subst (λ (o : Option RoomyFile). IfSome o (λ f. IsReady f c.args.off c.args.len spare))
+    (λ spare. subst (λ (o : Option RoomyFile). IfSome o (λ f. IsReadyToPut f c.args.off c.args.len spare))
     (sym (file_after c))) c.ready_write.ensures.room

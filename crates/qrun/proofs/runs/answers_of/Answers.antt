@@ -1,13 +1,13 @@
 use Rattle.std.proofs.Common.{◌∙◌, ◌+◌, ap, le_trans, refl}
 use Rattle.qrun.proofs.Telling.{none_told, one_more_told}
-use Rattle.qrun.proofs.runs.outcomes_of.Goals as goal
+use Rattle.qrun.proofs.runs.answers_of.Goals as goal
 
 pub loop-line-init : goal.loop-line-init
 loop-line-init c = (
-  rw c.in_ok-outcomes.ensures.items
+  rw c.in_ok-answers.ensures.items
       (none_told c.args.worker c.args.lines.now c.args.store.now.journal c.requires.fresh),
-  c.in_ok-outcomes.ensures.len,
-  c.in_ok-outcomes.ensures.capacity,
+  c.in_ok-answers.ensures.len,
+  c.in_ok-answers.ensures.capacity,
   refl,
 )
 

@@ -2,7 +2,7 @@ use Rattle.std.proofs.Common.{◌≡◌, false, Option, Some, None, Err, option_
 use Rattle.qrules.specs.declared.over.Over.{Over}
 use Rattle.qrules.specs.Charge.{answer_to, charge_fault}
 use Rattle.qplain.specs.declared.refusal.Refusal.TheVariants.{EDQUOT}
-use Rattle.qstore.proofs.owner.Owner.refusal.Goals as goal
+use Rattle.qstore.proofs.kept_holder.KeptHolder.refusal.Goals as goal
 
 -- the fault that was told
 told : (fault : Option Over) (over : Over) → answer_to false fault ≡ Err over → fault ≡ Some over

@@ -1,25 +1,25 @@
--- What a caller sees of the room in a file: the one write that has its places made beforehand.
---     Room, no_room            the write's offset and length;  where there is no room
+-- What a caller sees of the room in a file: the one write that has its rows made beforehand.
+--     WriteRoom, no_room          the write's offset and length;  where there is no room
 --     RoomyFile                a file and its room, which "as before" does not speak of
---     IsReady f off n blocks   that write needs no memory where so many blocks are at hand
+--     IsReadyToPut f off n blocks   that write needs no memory where so many blocks are at hand
 use Rattle.std.specs.Prelude.{◌≡◌, ℕ}
 use Rattle.qblocks.specs.File.{File, Adds}
 
 -- the offset and the length of the write that there is room for
-pub record Room : Type 0 where
+pub record WriteRoom : Type 0 where
   pub off : ℕ
   pub len : ℕ
 
 -- there is room for no write
-abbrev pub no_room : Room
+abbrev pub no_room : WriteRoom
 no_room = record { off = 0; len = 0 }
 
 -- a file, and the room in it
 pub record RoomyFile : Type 0 where
   pub file : File
-  pub room : Room
+  pub room : WriteRoom
 
 -- there is room for a write of n bytes at the offset, and as many blocks as it allocates
-pub record IsReady (f : RoomyFile) (off n spare : ℕ) : Type 0 where
+pub record IsReadyToPut (f : RoomyFile) (off n spare : ℕ) : Type 0 where
   pub room : f.room ≡ record { off = off; len = n }
   pub blocks : Adds f.file off n spare

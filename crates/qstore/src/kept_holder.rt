@@ -3,7 +3,7 @@ ghost use Rattle.std.specs.Prelude.{◌≡◌, ◌+◌, ◌≤◌, IfOk};
 ghost use Rattle.std.specs.Option.{option_map};
 ghost use Rattle.qrules.specs.Charge.{charge_fault};
 ghost use Rattle.qrules.specs.Grace.{charged, with_limits};
-ghost use Rattle.qstore.specs.Owners.{new_owner, owner_row};
+ghost use Rattle.qstore.specs.KeptHolders.{new_holder, holder_row};
 
 use qplain::{NoMemory, Principal, Refusal};
 use qrules::{
@@ -13,28 +13,28 @@ use std::alloc::Global;
 
 /// A user or a group, with its quota record.
 #[derive(Drop)]
-pub(crate) struct Owner {
+pub(crate) struct KeptHolder {
     pub(crate) id: u32,
     pub(crate) name: PrincipalName,
     pub(crate) account: Record,
 }
 
-/// The owner of a declared principal, who uses nothing.
-pub(crate) fn new_owner(alloc: Global, principal: &Principal) -> Result<Owner, NoMemory>
-    ensures { IfOk result (λ owner. owner ≡ new_owner principal.now) }
+/// The kept holder of a declared principal, who uses nothing.
+pub(crate) fn new_holder(alloc: Global, principal: &Principal) -> Result<KeptHolder, NoMemory>
+    ensures { IfOk result (λ holder. holder ≡ new_holder principal.now) }
 {
     let text = String::from_str(alloc, principal.name.as_str())?;
-    Ok(Owner {
+    Ok(KeptHolder {
         id: principal.id,
         name: PrincipalName::new(text),
         account: Record::new(principal.limits),
     })
 }
 
-impl Owner {
+impl KeptHolder {
     /// The row of this record.
     pub(crate) fn row(&self, alloc: Global, kind: Kind) -> Result<RecordRow, NoMemory>
-        ensures { IfOk result (λ row. row ≡ owner_row kind self.now) }
+        ensures { IfOk result (λ row. row ≡ holder_row kind self.now) }
     {
         let text = String::from_str(alloc, self.name.as_str())?;
         Ok(RecordRow {

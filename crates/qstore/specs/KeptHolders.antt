@@ -13,10 +13,10 @@ use Rattle.qrules.specs.Grace.{charged, unused, with_limits}
 use Rattle.qplain.specs.declared.principal.Principal.{Principal}
 use Rattle.qplain.specs.State.{Holder, State}
 use Rattle.qplain.specs.Use.{use_of}
-use Rattle.qstore.specs.declared.owner.Owner.{Owner}
+use Rattle.qstore.specs.declared.kept_holder.KeptHolder.{KeptHolder}
 
--- the holder whose record an owner's is
-abbrev pub holder_in : Kind → Owner → Holder
+-- the holder whose record a kept holder's is
+abbrev pub holder_in : Kind → KeptHolder → Holder
 holder_in kind o = record {
   kind = kind;
   id = o.id;
@@ -27,49 +27,49 @@ holder_in kind o = record {
 }
 
 -- the holders whose records these are: users come before groups
-abbrev pub holders_in : List Owner → List Owner → List Holder
+abbrev pub holders_in : List KeptHolder → List KeptHolder → List Holder
 holders_in users groups = map (holder_in User) users ++ map (holder_in Group) groups
 
--- the owners of a kind
-abbrev pub owners_of : Kind → List Owner → List Owner → List Owner
-owners_of User users groups = users
-owners_of Group users groups = groups
+-- the kept holders of a kind
+abbrev pub kept_of : Kind → List KeptHolder → List KeptHolder → List KeptHolder
+kept_of User users groups = users
+kept_of Group users groups = groups
 
--- the owners stand in the order of their ids, of which no two are the same
-abbrev pub AreById : List Owner → Type 0
-AreById owners = IsStrictlyIncreasing (map (λ o. o.id) owners)
+-- the kept holders stand in the order of their ids, of which no two are the same
+abbrev pub AreById : List KeptHolder → Type 0
+AreById holders = IsStrictlyIncreasing (map (λ o. o.id) holders)
 
--- the owner of this id stands at this place
-abbrev pub IsPlaceOf : List Owner → ℕ → ℕ → Type 0
-IsPlaceOf owners place id = option_map (λ o. o.id) (slice_get owners place) ≡ Some id
+-- the kept holder of this id stands at this slot
+abbrev pub IsSlotOf : List KeptHolder → ℕ → ℕ → Type 0
+IsSlotOf holders slot id = option_map (λ o. o.id) (slice_get holders slot) ≡ Some id
 
--- this is the owner of this id, and stands at this place
-pub record IsOwnerAt (owners : List Owner) (place id : ℕ) (o : Owner) : Type 0 where
-  pub there : slice_get owners place ≡ Some o
+-- this is the kept holder of this id, and stands at this slot
+pub record IsHolderAt (holders : List KeptHolder) (slot id : ℕ) (o : KeptHolder) : Type 0 where
+  pub there : slice_get holders slot ≡ Some o
   pub same : o.id ≡ id
 
 -- a declared principal that uses nothing
-abbrev pub new_owner : Principal → Owner
-new_owner p = record { id = p.id; name = p.name; account = unused p.limits }
+abbrev pub new_holder : Principal → KeptHolder
+new_holder p = record { id = p.id; name = p.name; account = unused p.limits }
 
--- the owner after a charge to this id
-abbrev pub charged_owner : ℕ → Graces → ℕ → ℕ → ℕ → Owner → Owner
-charged_owner id graces moment blocks inodes o =
+-- the kept holder after a charge to this id
+abbrev pub charged_holder : ℕ → Graces → ℕ → ℕ → ℕ → KeptHolder → KeptHolder
+charged_holder id graces moment blocks inodes o =
     if id == o.id then record o { account = charged o.account graces moment blocks inodes } else o
 
--- the owner after new limits for this id
-abbrev pub relimited_owner : ℕ → Limits → Graces → ℕ → Owner → Owner
-relimited_owner id limits graces moment o =
+-- the kept holder after new limits for this id
+abbrev pub relimited_kept : ℕ → Limits → Graces → ℕ → KeptHolder → KeptHolder
+relimited_kept id limits graces moment o =
     if id == o.id then record o { account = with_limits o.account limits graces moment } else o
 
 -- the kept use is the recounted one
-pub record IsCountedIn (S : State) (kind : Kind) (o : Owner) : Type 0 where
+pub record IsCountedIn (S : State) (kind : Kind) (o : KeptHolder) : Type 0 where
   pub blocks : o.account.blocks ≡ use_of S kind o.id Blocks
   pub inodes : o.account.inodes ≡ use_of S kind o.id Inodes
 
--- the row of an owner's record
-abbrev pub owner_row : Kind → Owner → RecordRow
-owner_row kind o = record {
+-- the row of a kept holder's record
+abbrev pub holder_row : Kind → KeptHolder → RecordRow
+holder_row kind o = record {
   kind = kind;
   id = o.id;
   name = o.name;

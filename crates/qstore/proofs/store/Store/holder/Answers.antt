@@ -3,15 +3,15 @@ use Rattle.std.specs.List.{find}
 use Rattle.qrules.specs.declared.kind.Kind.TheVariants.{User, Group}
 use Rattle.qplain.specs.Arguments.{is_holder}
 use Rattle.qstore.specs.Kept.{state_of}
-use Rattle.qstore.specs.Owners.{IsCountedIn, holder_in}
+use Rattle.qstore.specs.KeptHolders.{IsCountedIn, holder_in}
 use Rattle.qstore.specs.Stored.{Stored}
-use Rattle.qstore.proofs.Stores.{found-counted, found-owner}
-use Rattle.qstore.proofs.store.Store.owner.Goals as goal
+use Rattle.qstore.proofs.Stores.{found-counted, found-kept}
+use Rattle.qstore.proofs.store.Store.holder.Goals as goal
 
 pub returns-in-User-clause-found : goal.returns-in-User-clause-found
 returns-in-User-clause-found c =
     let a = c.self.inside in
-    let found = found-owner User c.args.id a.users a.groups c.find.result c.find.ensures.declared c.find.ensures.there c.find.ensures.by_id in
+    let found = found-kept User c.args.id a.users a.groups c.find.result c.find.ensures.declared c.find.ensures.there c.find.ensures.by_id in
     subst (λ kind. option_map (holder_in kind) (option_copied c.find.result) ≡ find (is_holder kind c.args.id) c.args.self.now.state.holders) (sym c.in-User.is)
     (found ∙ ap (λ (v : Stored). find (is_holder User c.args.id) v.state.holders) c.self.view_is)
 
@@ -24,7 +24,7 @@ returns-in-User-clause-counted c =
 pub returns-in-Group-clause-found : goal.returns-in-Group-clause-found
 returns-in-Group-clause-found c =
     let a = c.self.inside in
-    let found = found-owner Group c.args.id a.users a.groups c.find-in-Group.result
+    let found = found-kept Group c.args.id a.users a.groups c.find-in-Group.result
     c.find-in-Group.ensures.declared c.find-in-Group.ensures.there c.find-in-Group.ensures.by_id in
     subst (λ kind. option_map (holder_in kind) (option_copied c.find-in-Group.result)
     ≡ find (is_holder kind c.args.id) c.args.self.now.state.holders) (sym c.in-Group.is)
