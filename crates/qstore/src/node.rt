@@ -12,7 +12,7 @@ ghost use Rattle.qstore.specs.Names.{row_in};
 ghost use Rattle.qstore.specs.Nodes.{IsSameNode, inode_of, is_dir_content, name_room_in, names_in, node_row, roomy_file_in};
 
 use crate::names::Names;
-use qblocks::{BlockFile, MAX_SIZE, Spare};
+use qblocks::{BlockFile, Input, MAX_SIZE, Spare};
 use qplain::NoMemory;
 use qrules::{InodeRow, NameRow};
 use std::alloc::Global;
@@ -126,7 +126,7 @@ impl Node {
         ensures names { names_in self.new.content ≡ names_in self.old.content }
     {
         match &mut self.content {
-            Content::File(file) => file.put(off, bytes, spare),
+            Content::File(file) => file.put(off, Input::Bytes(bytes), spare),
             Content::Directory(_) => unreachable!(),
         }
     }
