@@ -9,7 +9,7 @@ use Rattle.std.specs.Option.{option_map, unwrap_or}
 use Rattle.std.specs.List.Sorted.{IsStrictlySortedBy}
 use Rattle.std.proofs.lemmas.List.Elements.{All-cons, All-nil}
 use Rattle.std.proofs.lemmas.List.Sums.{sum_by-cons}
-use Rattle.std.proofs.lemmas.Map.Entries.{lookup_from_slot}
+use Rattle.std.proofs.lemmas.Map.Entries.{lookup_from_place}
 use Rattle.std.proofs.lemmas.Map.Keys.{IsDistinct-from_sorted}
 use Rattle.qrules.specs.Sort.{Blocks}
 use Rattle.qplain.specs.declared.setup.TheConstants.{MAX_BLOCKS}
@@ -71,5 +71,5 @@ module _ {S : State} {users groups : List KeptHolder} {links : List (ℕ × ℕ)
   -- the rows with the kept links are those with the counted links
   pub inode-rows-counted : IsStrictlySortedBy nat_cmp (keys_of S.inodes) → map (kept_row links) S.inodes ≡ map (inode_row_of S) S.inodes
   inode-rows-counted sorted =
-      rows-counted S.inodes (λ k e there. lookup_from_slot (eq_by_cmp_equiv nat_cmp_total) S.inodes k e.0 e.1
+      rows-counted S.inodes (λ k e there. lookup_from_place (eq_by_cmp_equiv nat_cmp_total) S.inodes k e.0 e.1
       (IsDistinct-from_sorted nat_cmp (keys_of S.inodes) sorted) there)

@@ -46,7 +46,7 @@ impl Store {
             Err(refusal) => return Ok(Decided::refused(refusal)),
         };
         match self.look(place.dir, place.name) {
-            Ok(None) => self.make_file(cred, places, moment, place.dir, place.name),
+            Ok(None) => self.make_file(cred, slots, moment, place.dir, place.name),
             Ok(Some(_)) => Ok(Decided::refused(Refusal::EEXIST)),
             Err(refusal) => Ok(Decided::refused(refusal)),
         }

@@ -87,4 +87,4 @@ returns-clause-ready c =
     let owners = subst (λ (v : Stored). HasSlots v c.in-Some.slots t.inode.uid t.inode.gid) view slots in
     write-ready a c.ready_write.new.self c.ready_write.ensures.same x.number x.off c.in_ok-spare.spare
     c.in-Some.slots x.moment x.bytes.now t.inode x.target.blocks
-    there (omega (arith, limit, low)) more few holders c.ready_write.ensures.there c.in_ok-spare.ensures.room c.requires.moment
+    there (omega (arith, limit, low)) more few owners c.ready_write.ensures.there c.in_ok-spare.ensures.room c.requires.moment
