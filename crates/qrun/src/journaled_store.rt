@@ -70,9 +70,9 @@ impl JournaledStore {
         ensures err { OnErr result (self.new.journal ≡ self.old.journal) }
     {
         self.journal.reserve(1)?;
-        let call = line.call.copy(self.alloc)?;
+        let call = line.call.copy()?;
         let ready = self.store.ready(&line.cred, line.moment, &line.call)?;
-        let copy = ready.reply().copy(self.alloc)?;
+        let copy = ready.reply().copy()?;
         let reply = self.store.commit(ready);
         let entry = Entry {
             worker,
