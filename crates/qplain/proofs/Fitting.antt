@@ -275,7 +275,7 @@ pub results_fit : (S : State) (cred : Caller) → FitsTogether S → HoldsOfResu
 results_fit S cred fits = record {
   created = λ dir name known stands absent.
       created_fits S (new_file cred.uid cred.gid) dir name fits stands absent (known-caller S cred known);
-  written = λ number inode file there. written_fits S number inode file there fits;
+  written = λ number inode file there may. written_fits S number inode file there fits;
   limited = λ kind id limits may.
       fits-map S (λ h. cond (is_holder kind id h) (relimited limits h) h)
       (λ h. (relimited_keeps (is_holder kind id h) limits h).0, λ h. (relimited_keeps (is_holder kind id h) limits h).1) fits;

@@ -1,5 +1,6 @@
 -- What the proofs of more than one file share: of bytes, of setups, then of the plain machine's laws, then what stores cite of it.
 pub mod Fills
+pub mod Numbering
 pub mod Ordered
 pub mod Refused
 pub mod Within
@@ -12,6 +13,7 @@ pub mod Start
 pub mod Ends
 pub mod Kept
 pub mod Settling
+pub mod Rights
 pub mod Rising
 pub mod Linking
 pub mod Walking

@@ -160,7 +160,7 @@ next-step S cred moment call bound =
     any_result : HoldsOfResults (λ new. Unit {0}) S cred
     any_result = record {
       created = λ dir name known stands absent. tt;
-      written = λ number inode file there. tt;
+      written = λ number inode file there may. tt;
       limited = λ kind id limits may. tt;
       graced = λ graces may. tt;
     }

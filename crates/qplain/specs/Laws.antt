@@ -1,5 +1,5 @@
 -- What holds of new stores, of lawful states and of every step, whatever is called: the laws above the definitions.
-use Rattle.std.specs.Prelude.{◌≡◌, ℕ, ◌≤◌, Bool, true, false, not, ◌&&◌, ◌||◌, ◌==◌, nat_le, nat_lt, is_some, List, filter, map, sum_by, All, None}
+use Rattle.std.specs.Prelude.{◌≡◌, ℕ, ◌≤◌, Bool, true, false, not, ◌&&◌, ◌||◌, ◌==◌, nat_le, nat_lt, is_some, List, filter, map, sum_by, All, Option, None, Some}
 use Rattle.std.specs.List.{IsDistinct, list_any}
 use Rattle.std.specs.Map.{values_of}
 use Rattle.std.specs.BTreeMap.{is_at}
@@ -16,7 +16,7 @@ use Rattle.qplain.specs.declared.reply.Reply.TheVariants.{Refused}
 use Rattle.qplain.specs.declared.bounds.TheConstants.{ROOT}
 use Rattle.qplain.specs.Caller.{Caller, is_superuser}
 use Rattle.qplain.specs.Setups.{Setting, setup_fault}
-use Rattle.qplain.specs.State.{Holder, Inode, NameKey, State, inode_at, is_directory, name_key_cmp, start}
+use Rattle.qplain.specs.State.{Holder, Inode, NameKey, State, inode_at, is_directory, name_key_cmp, named, start}
 use Rattle.qplain.specs.Use.{account_of, total_of, use_of}
 use Rattle.qplain.specs.Arguments.{is_declared, is_holder, is_same_kind}
 use Rattle.qplain.specs.Decision.{ends_after, with_ends_of}
@@ -134,6 +134,35 @@ pub record KeepsLimits (old new : State) : Type 0 where
 abbrev pub LimitsStay : Type 0
 LimitsStay = (S : State) (cred : Caller) (moment : ℕ) (call : Call) → is_superuser cred ≡ false
     → KeepsLimits S (step S cred moment call).0
+
+-- numbers go on: the next one never falls, and each inode of the new state stood before or has the number that was next
+pub record GoesOn (old new : State) : Type 0 where
+  pub next : old.next ≤ new.next
+  pub numbers : All (λ e. (is_some (inode_at old e.0) || e.0 == old.next) ≡ true) new.inodes
+
+-- no number is given again
+abbrev pub NumbersGoOn : Type 0
+NumbersGoOn = (S : State) (cred : Caller) (moment : ℕ) (call : Call) → IsLawful S
+    → GoesOn S (step S cred moment call).0
+
+-- what is there is not the caller's
+abbrev pub is_of_others : Caller → Option Inode → Bool
+is_of_others cred None = true
+is_of_others cred (Some inode) = not (cred.uid == inode.uid)
+
+-- what a caller leaves to others: their inodes, with what these hold and whose they are, and each name in a directory of
+-- others that leads to an inode of others
+pub record LeavesToOthers (cred : Caller) (old new : State) : Type 0 where
+  pub inodes : (number : ℕ) (inode : Inode) → inode_at old number ≡ Some inode
+      → is_of_others cred (Some inode) ≡ true → inode_at new number ≡ Some inode
+  pub names : (dir number : ℕ) (name : List ℕ) → named old dir name ≡ Some number
+      → is_of_others cred (inode_at old dir) ≡ true → is_of_others cred (inode_at old number) ≡ true
+      → named new dir name ≡ Some number
+
+-- no caller but the superuser changes what is not its own
+abbrev pub RightsHold : Type 0
+RightsHold = (S : State) (cred : Caller) (moment : ℕ) (call : Call) → IsLawful S → is_superuser cred ≡ false
+    → LeavesToOthers cred S (step S cred moment call).0
 
 -- the ends of a holder are those of its record by the rules
 abbrev pub EndsAreTheRules : Type 0

@@ -1,5 +1,5 @@
 //! The laws of the plain machine, each the contract of a function that does nothing when it runs.
-ghost use Rattle.qplain.specs.Laws.{EndsAreTheRules, EndsStay, LimitsHold, LimitsStay, NewLimitsAreTheRules, RefusalsChangeNothing, SetupsStay, StartIsLawful, StepsStayLawful, UsesAddUp};
+ghost use Rattle.qplain.specs.Laws.{EndsAreTheRules, EndsStay, LimitsHold, LimitsStay, NewLimitsAreTheRules, NumbersGoOn, RefusalsChangeNothing, RightsHold, SetupsStay, StartIsLawful, StepsStayLawful, UsesAddUp};
 
 /// Totals stay within the bounds, a grace end stands exactly where use is over its soft limit, every inode has
 /// declared owners, and no principal is there twice: in a new store of a setup that is not refused, and after every
@@ -33,6 +33,18 @@ pub fn ends_stay()
 pub fn setups_stay()
     ensures setup { SetupsStay }
     ensures limits { LimitsStay }
+{}
+
+/// From a lawful state the next number never falls, and an inode that a call makes has the number that was next: none is
+/// given again.
+pub fn numbers_go_on()
+    ensures { NumbersGoOn }
+{}
+
+/// From a lawful state no call of anybody but the superuser changes an inode of others, what it holds or whose it is, or
+/// takes away a name that leads to an inode of others from a directory of others.
+pub fn rights_hold()
+    ensures { RightsHold }
 {}
 
 /// The grace ends and the new limits of the plain machine are those of a quota record.

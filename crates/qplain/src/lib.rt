@@ -11,8 +11,8 @@ pub use data::Data;
 pub use entry::Entry;
 pub use examples::worked_examples;
 pub use laws::{
-    ends_stay, holders_keep_the_rules, limits_hold, refusals_change_nothing, setups_stay,
-    stores_stay_lawful, uses_add_up,
+    ends_stay, holders_keep_the_rules, limits_hold, numbers_go_on, refusals_change_nothing,
+    rights_hold, setups_stay, stores_stay_lawful, uses_add_up,
 };
 pub use line::Line;
 pub use path::Path;
