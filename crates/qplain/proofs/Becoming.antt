@@ -29,8 +29,8 @@ OnBecomes P (Becomes S number) = P S
 pub record HoldsOfResults (P : State → Type 0) (S : State) (cred : Caller) : Type 0 where
   pub created : (dir : ℕ) (name : List ℕ) → is_known S cred ≡ true → is_directory S dir ≡ true → named S dir name ≡ None
       → P (created S (new_file cred.uid cred.gid) dir name)
-  pub written : (number : ℕ) (inode : Inode) (file : File) → inode_at S number ≡ Some inode → may_write cred inode ≡ true
-      → P (with_file S number inode file)
+  pub written : (number : ℕ) (inode : Inode) (off : ℕ) (bytes : List ℕ) → inode_at S number ≡ Some inode → inode.dir ≡ false
+      → may_write cred inode ≡ true → P (with_file S number inode (after_write inode.file off bytes))
   pub limited : (kind : Kind) (id : ℕ) (limits : Limits) → is_superuser cred ≡ true → P (with_limits_of S kind id limits)
   pub graced : (graces : Graces) → is_superuser cred ≡ true → P (record S { graces = graces })
 
@@ -96,7 +96,7 @@ module _ (P : State → Type 0) (S : State) (cred : Caller) (holds : HoldsOfResu
       choice P (not (may_write cred inode)) (Refuse EACCES) some tt (λ may.
       choice P (length bytes == 0) (Answer (Done number no_change)) fits tt (λ more.
       choice P (nat_lt S.file_limit (off + length bytes)) (Refuse EFBIG) becomes tt (λ below.
-      holds.written number inode file there (true-from_not (may_write cred inode) may)))))
+      holds.written number inode off bytes there file_too (true-from_not (may_write cred inode) may)))))
 
   write-becomes : (off : ℕ) (bytes : List ℕ) (r : Result ℕ Refusal) → OnBecomes P (write_reached S cred off bytes r)
   write-becomes off bytes (Err e) = tt

@@ -22,7 +22,7 @@ relimited-identity false limits h = refl
 results_keep : (S : State) (cred : Caller) → HoldsOfResults (KeepsSetup S) S cred
 results_keep S cred = record {
   created = λ dir name known stands absent. record { size = refl; most_inodes = refl; file_limit = refl; holders = refl };
-  written = λ number inode file there may. record { size = refl; most_inodes = refl; file_limit = refl; holders = refl };
+  written = λ number inode off bytes there is_file may. record { size = refl; most_inodes = refl; file_limit = refl; holders = refl };
   limited = λ kind id limits may. record {
     size = refl;
     most_inodes = refl;
@@ -47,7 +47,7 @@ setups_stay S cred moment call =
 results_keep_limits : (S : State) (cred : Caller) → is_superuser cred ≡ false → HoldsOfResults (KeepsLimits S) S cred
 results_keep_limits S cred other = record {
   created = λ dir name known stands absent. record { graces = refl; limits = refl };
-  written = λ number inode file there may. record { graces = refl; limits = refl };
+  written = λ number inode off bytes there is_file may. record { graces = refl; limits = refl };
   limited = λ kind id limits may. cc;
   graced = λ graces may. cc;
 }

@@ -30,25 +30,27 @@ pub not_full-granted : (full : Bool) (r : Option Refusal) → cond full (Some EN
 not_full-granted true r h = cc
 not_full-granted false r h = refl
 
-neither : (a b c : Bool) → (a || b || c) ≡ false → (a ≡ false) × (b ≡ false)
-neither true b c h = cc
-neither false true c h = cc
-neither false false c h = (refl, refl)
+none-of : (a b c : Bool) → (a || b || c) ≡ false → (a ≡ false) × (b ≡ false) × (c ≡ false)
+none-of true b c h = cc
+none-of false true c h = cc
+none-of false false c h = (refl, refl, h)
 
-within-bounds : (S : State) → is_too_full S ≡ false → (total_of S Blocks ≤ S.size) × (total_of S Inodes ≤ S.most_inodes)
+-- a state that is not too full is within its bounds
+pub within-bounds : (S : State) → is_too_full S ≡ false → (total_of S Blocks ≤ S.size) × (total_of S Inodes ≤ S.most_inodes) × (S.next ≤ MAX_NUMBER + 1)
 within-bounds S h =
-    let both : (nat_lt S.size (total_of S Blocks) ≡ false) × (nat_lt S.most_inodes (total_of S Inodes) ≡ false) =
-    neither (nat_lt S.size (total_of S Blocks)) (nat_lt S.most_inodes (total_of S Inodes)) (nat_lt (MAX_NUMBER + 1) S.next) h in
-    (grind (arith, tests, both.0), grind (arith, tests, both.1))
+    let all : (nat_lt S.size (total_of S Blocks) ≡ false) × (nat_lt S.most_inodes (total_of S Inodes) ≡ false) × (nat_lt (MAX_NUMBER + 1) S.next ≡ false) =
+    none-of (nat_lt S.size (total_of S Blocks)) (nat_lt S.most_inodes (total_of S Inodes)) (nat_lt (MAX_NUMBER + 1) S.next) h in
+    (grind (arith, tests, all.0), grind (arith, tests, all.1), grind (arith, tests, all.2))
 
 -- a plain result that fits together and is granted is lawful with its new ends
 granted_lawful : (S : State) (moment : ℕ) → FitsTogether S → is_too_full S ≡ false → IsLawful (ends_after S moment)
 granted_lawful S moment fits not_full =
     let ended : FitsTogether (ends_after S moment) = fits-map S (with_ends_of S moment) (λ h. refl, λ h. refl) fits in
-    let bounds : (total_of S Blocks ≤ S.size) × (total_of S Inodes ≤ S.most_inodes) = within-bounds S not_full in
+    let bounds : (total_of S Blocks ≤ S.size) × (total_of S Inodes ≤ S.most_inodes) × (S.next ≤ MAX_NUMBER + 1) = within-bounds S not_full in
     record {
       blocks_fit = bounds.0;
       inodes_fit = bounds.1;
+      next_fits = bounds.2;
       ends_stand = ends_stand-after S moment;
       parts = ended;
     }

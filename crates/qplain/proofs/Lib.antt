@@ -7,6 +7,8 @@ pub mod Within
 pub mod Balance
 pub mod Becoming
 pub mod Tables
+pub mod Orders
+pub mod Sound
 pub mod Fitting
 pub mod Lawful
 pub mod Start

@@ -64,7 +64,7 @@ inode_at-created-there S inode dir name n none there =
 -- another file makes no directory and takes none
 pub is_directory-with_file : (S : State) (number : ℕ) (inode : Inode) (file : File) (q : ℕ) → inode_at S number ≡ Some inode
     → is_directory (with_file S number inode file) q ≡ is_directory S q
-is_directory-with_file S number inode file q there = directory-same S number inode file there q
+is_directory-with_file S number inode file q there = directory-same S number inode (record inode { file = file }) there refl q
 
 -- a new file makes no directory and takes none
 pub is_directory-created : (S : State) (inode : Inode) (dir : ℕ) (name : List ℕ) (q : ℕ) → inode_at S S.next ≡ None → inode.dir ≡ false
@@ -107,7 +107,7 @@ module _ (S : State) (inode : Inode) (dir : ℕ) (name : List ℕ) (fits : FitsT
   S1 = created S inode dir name
 
   none : inode_at S S.next ≡ None
-  none = absent-fresh S.inodes S.next fits.fresh
+  none = absent-fresh S.inodes S.next fits.inodes.fresh
 
   led : (e : NameKey × ℕ) → leads S e ≡ true → (is_directory S e.0.0 ≡ true) × (is_some (inode_at S e.1) ≡ true)
   led e h = and_parts (is_directory S e.0.0) (is_some (inode_at S e.1)) h
@@ -126,13 +126,13 @@ module _ (S : State) (inode : Inode) (dir : ℕ) (name : List ℕ) (fits : FitsT
       let added = sum_by-insert_new (λ (e : NameKey × ℕ). cond (e.0.0 == n && is_directory S1 e.1) 1 0) name_key_cmp S.names (dir, name) S.next absent in
       let same : count_by (λ e. e.0.0 == n && is_directory S1 e.1) S.names ≡ count_by (λ e. e.0.0 == n && is_directory S e.1) S.names =
       count_by-agree (λ e. e.0.0 == n && is_directory S1 e.1) (λ e. e.0.0 == n && is_directory S e.1) S.names
-      (λ k d below. ap (λ b. (slice_index_or S.names k d).0.0 == n && b) (directory-led (slice_index_or S.names k d) (fits.names_lead k d below))) in
+      (λ k d below. ap (λ b. (slice_index_or S.names k d).0.0 == n && b) (directory-led (slice_index_or S.names k d) (fits.names.lead k d below))) in
       ap (λ m. 2 + m) (added ∙ (λ i. same i + cond (dir == n && directory-next i) 1 0)) ∙ omega arith
 
   -- no name but the new one leads to the new inode
   unnamed-next : count_by (λ e. e.1 == S.next) S.names ≡ 0
   unnamed-next = count_by-none (λ e. e.1 == S.next) S.names
-      (λ k d below. apart S (slice_index_or S.names k d).1 S.next (led (slice_index_or S.names k d) (fits.names_lead k d below)).1 none)
+      (λ k d below. apart S (slice_index_or S.names k d).1 S.next (led (slice_index_or S.names k d) (fits.names.lead k d below)).1 none)
 
   -- a new file has one link
   pub links_of-new_file : links_of (created S inode dir name) S.next false ≡ 1
@@ -145,7 +145,7 @@ module _ (S : State) (inode : Inode) (dir : ℕ) (name : List ℕ) (fits : FitsT
   unfilled-next = count_by-none (λ e. e.0.0 == S.next && is_directory S e.1) S.names
       (λ k d below.
       let e : NameKey × ℕ = slice_index_or S.names k d in
-      let stands : is_some (inode_at S e.0.0) ≡ true = some-is_dir (inode_at S e.0.0) (led e (fits.names_lead k d below)).0 in
+      let stands : is_some (inode_at S e.0.0) ≡ true = some-is_dir (inode_at S e.0.0) (led e (fits.names.lead k d below)).0 in
       ap (λ b. b && is_directory S e.1) (apart S e.0.0 S.next stands none))
 
   -- a new directory has two links
@@ -196,7 +196,8 @@ pub links_of-with_file : (S : State) (number : ℕ) (inode : Inode) (file : File
 links_of-with_file S number inode file n false there = refl
 links_of-with_file S number inode file n true there =
     ap (λ m. 2 + m) (count_by-agree (λ e. e.0.0 == n && is_directory (with_file S number inode file) e.1) (λ e. e.0.0 == n && is_directory S e.1) S.names
-    (λ k d below. ap (λ b. (slice_index_or S.names k d).0.0 == n && b) (directory-same S number inode file there (slice_index_or S.names k d).1)))
+    (λ k d below. ap (λ b. (slice_index_or S.names k d).0.0 == n && b) (directory-same S number inode (record inode { file = file }) there refl
+        (slice_index_or S.names k d).1)))
 
 -- new ends leave all links
 pub links_of-ends_after : (S : State) (moment n : ℕ) (b : Bool) → links_of (ends_after S moment) n b ≡ links_of S n b

@@ -4,6 +4,7 @@ use Rattle.std.specs.Ordering.{nat_cmp}
 use Rattle.std.specs.BTreeMap.{is_at}
 use Rattle.std.specs.Map.{lookup}
 use Rattle.std.proofs.lemmas.List.Elements.{All-cons, All-nil}
+use Rattle.qblocks.specs.File.{after_write}
 use Rattle.qplain.specs.Caller.{Caller}
 use Rattle.qplain.specs.State.{Inode, State, inode_at, new_file}
 use Rattle.qplain.specs.Laws.{FitsTogether, GoesOn, NumbersGoOn}
@@ -39,12 +40,13 @@ results_go_on S cred fits = record {
   created = λ dir name known stands absent. record {
     next = omega arith;
     numbers = All-insert_new (λ e. stood S e.0 ≡ true) nat_cmp S.inodes S.next (new_file cred.uid cred.gid)
-        (absent-fresh S.inodes S.next fits.fresh) (all-stood S)
+        (absent-fresh S.inodes S.next fits.inodes.fresh) (all-stood S)
         (or_right (is_some (inode_at S S.next)) (S.next == S.next) (grind (arith, tests)));
   };
-  written = λ number inode file there may. record {
+  written = λ number inode off bytes there is_file may. record {
     next = omega arith;
-    numbers = All-keys-set_value (λ n. stood S n ≡ true) (is_at (nat_cmp number)) S.inodes (record inode { file = file }) (all-stood S);
+    numbers = All-keys-set_value (λ n. stood S n ≡ true) (is_at (nat_cmp number)) S.inodes (record inode { file = after_write inode.file off bytes })
+        (all-stood S);
   };
   limited = λ kind id limits may. record { next = omega arith; numbers = all-stood S };
   graced = λ graces may. record { next = omega arith; numbers = all-stood S };

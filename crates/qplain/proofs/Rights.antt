@@ -4,7 +4,7 @@ use Rattle.std.specs.Ordering.{nat_cmp}
 use Rattle.std.specs.BTreeMap.{is_at}
 use Rattle.std.specs.Map.{lookup}
 use Rattle.std.specs.Cmp.{eq_by_cmp_equiv}
-use Rattle.qblocks.specs.File.{File}
+use Rattle.qblocks.specs.File.{File, after_write}
 use Rattle.qplain.specs.Caller.{Caller, is_superuser}
 use Rattle.qplain.specs.State.{Inode, State, inode_at, name_key_cmp, named, new_file}
 use Rattle.qplain.specs.Attempt.{created, may_write, with_file}
@@ -60,12 +60,12 @@ results_leave : (S : State) (cred : Caller) → FitsTogether S → is_superuser 
 results_leave S cred fits other = record {
   created = λ dir name known stands absent. record {
     inodes = λ number inode there others.
-        inode_at-created-there S (new_file cred.uid cred.gid) dir name number (absent-fresh S.inodes S.next fits.fresh) (ap is_some there) ∙ there;
+        inode_at-created-there S (new_file cred.uid cred.gid) dir name number (absent-fresh S.inodes S.next fits.inodes.fresh) (ap is_some there) ∙ there;
     names = λ parent number name_too leads directory others.
         named-kept S (new_file cred.uid cred.gid) dir name parent number name_too absent leads;
   };
-  written = λ number inode file there may. record {
-    inodes = inode-kept S cred number inode file there (owns cred inode other may);
+  written = λ number inode off bytes there is_file may. record {
+    inodes = inode-kept S cred number inode (after_write inode.file off bytes) there (owns cred inode other may);
     names = λ dir n name leads directory others. leads;
   };
   limited = λ kind id limits may. cc;

@@ -17,7 +17,7 @@ use Rattle.qplain.specs.Attempt.{created, with_file}
 use Rattle.qplain.specs.Step.{change_between}
 use Rattle.qplain.specs.Rises.{Rises, added}
 use Rattle.qplain.proofs.Tables.{sum_by-values-insert_new}
-pub use Rattle.qplain.proofs.Settling.{IsLawful-from_step, IsLawful-step, KeepsSetup-from_step, absent-next, change-none, ends_after-graced, next-from_step, next-step, refusal-none, settle-graced, settle-granted, settle-refused, settle-unchanged, settle-with_limits_of, step-attempted, step-refused}
+pub use Rattle.qplain.proofs.Settling.{IsLawful-from_step, IsLawful-step, KeepsSetup-from_step, absent-next, change-none, ends_after-graced, refusal-none, settle-graced, settle-granted, settle-refused, settle-unchanged, settle-with_limits_of, step-attempted, step-refused}
 
 -- ---- what a charge adds
 

@@ -1,7 +1,6 @@
 -- What an attempt and a step of the plain machine come to, and what every step keeps.
 use Rattle.std.proofs.Common.{◌≡◌, ℕ, ◌+◌, ◌-◌, ◌≤◌, Bool, true, false, ◌||◌, nat_le, nat_lt, cond, List, [], ◌∷◌, Option, Some, None, refl, ap, subst, ◌∙◌, tests, arith}
 use Rattle.std.specs.Option.{option_or, option_map}
-use Rattle.std.proofs.lemmas.Bool.{or_parts}
 use Rattle.qrules.specs.declared.kind.Kind.{Kind}
 use Rattle.qrules.specs.declared.limits.Limits.{Limits}
 use Rattle.qrules.specs.declared.graces.Graces.{Graces}
@@ -17,15 +16,14 @@ use Rattle.qplain.specs.declared.bounds.TheConstants.{MAX_NUMBER}
 use Rattle.qplain.specs.Caller.{Caller, is_superuser}
 use Rattle.qplain.specs.State.{Holder, State, inode_at}
 use Rattle.qplain.specs.Use.{account_of, total_of}
-use Rattle.qplain.specs.Decision.{ends_after, fault_of_holder, first_refusal, is_too_full, refusal_between, refusal_of_charge}
+use Rattle.qplain.specs.Decision.{ends_after, fault_of_holder, first_refusal, refusal_between, refusal_of_charge}
 use Rattle.qplain.specs.Arguments.{refusal_of_arguments}
 use Rattle.qplain.specs.Attempt.{Becomes, attempt_of, no_change, unless, with_limits_of}
 use Rattle.qplain.specs.Step.{change_between, settle, settled, step}
 use Rattle.qplain.specs.Laws.{IsLawful, KeepsSetup}
 use Rattle.qplain.proofs.Tables.{absent-fresh}
 use Rattle.qplain.proofs.Fitting.{fits-graced}
-use Rattle.qplain.proofs.Becoming.{HoldsOfResults, step-becomes}
-use Rattle.qplain.proofs.Lawful.{not_full-granted, steps_stay_lawful}
+use Rattle.qplain.proofs.Lawful.{steps_stay_lawful}
 use Rattle.qplain.proofs.Ends.{ends_stay}
 use Rattle.qplain.proofs.Kept.{setups_stay}
 
@@ -121,6 +119,7 @@ pub ends_after-graced : (S : State) (graces : Graces) (moment : ℕ) → IsLawfu
 ends_after-graced S graces moment lawful = ends_stay (record S { graces = graces }) moment (record {
   blocks_fit = lawful.blocks_fit;
   inodes_fit = lawful.inodes_fit;
+  next_fits = lawful.next_fits;
   ends_stand = lawful.ends_stand;
   parts = fits-graced S graces lawful.parts;
 })
@@ -129,7 +128,7 @@ ends_after-graced S graces moment lawful = ends_stay (record S { graces = graces
 
 -- the next number is nobody's
 pub absent-next : (S : State) → IsLawful S → inode_at S S.next ≡ None
-absent-next S lawful = absent-fresh S.inodes S.next lawful.parts.fresh
+absent-next S lawful = absent-fresh S.inodes S.next lawful.parts.inodes.fresh
 
 -- the state after a call of a lawful state is lawful
 pub IsLawful-step : (S : State) (cred : Caller) (moment : ℕ) (call : Call) → IsLawful S → IsLawful (step S cred moment call).0
@@ -146,27 +145,3 @@ pub KeepsSetup-from_step : (S : State) (cred : Caller) (moment : ℕ) (call : Ca
     → step S cred moment call ≡ (S2, reply) → KeepsSetup S S2
 KeepsSetup-from_step S cred moment call S2 reply e =
     subst (λ (after : State × Reply). KeepsSetup S after.0) e (setups_stay S cred moment call)
-
--- no step gives a number that is too large
-pub next-step : (S : State) (cred : Caller) (moment : ℕ) (call : Call) → S.next ≤ MAX_NUMBER + 1 → (step S cred moment call).0.next ≤ MAX_NUMBER + 1
-next-step S cred moment call bound =
-    step-becomes (λ new. Unit {0}) S cred any_result (λ new. new.next ≤ MAX_NUMBER + 1) moment call bound
-    (λ new p granted.
-    let not_full : is_too_full new ≡ false = not_full-granted (is_too_full new) (refusal_of_charge S new cred moment) granted in
-    let low : nat_lt (MAX_NUMBER + 1) new.next ≡ false =
-    (or_parts (nat_lt new.size (total_of new Blocks) || nat_lt new.most_inodes (total_of new Inodes)) (nat_lt (MAX_NUMBER + 1) new.next) not_full).1 in
-    grind (arith, tests, low))
-  where
-    any_result : HoldsOfResults (λ new. Unit {0}) S cred
-    any_result = record {
-      created = λ dir name known stands absent. tt;
-      written = λ number inode file there may. tt;
-      limited = λ kind id limits may. tt;
-      graced = λ graces may. tt;
-    }
-
--- so it is where the step is known
-pub next-from_step : (S : State) (cred : Caller) (moment : ℕ) (call : Call) (S2 : State) (reply : Reply)
-    → S.next ≤ MAX_NUMBER + 1 → step S cred moment call ≡ (S2, reply) → S2.next ≤ MAX_NUMBER + 1
-next-from_step S cred moment call S2 reply bound e =
-    subst (λ (after : State × Reply). after.0.next ≤ MAX_NUMBER + 1) e (next-step S cred moment call bound)

@@ -1,7 +1,10 @@
 -- A new store of a setup that is not refused is lawful.
-use Rattle.std.proofs.Common.{◌≡◌, ℕ, ◌+◌, ◌*◌, ◌==◌, Bool, true, false, not, ◌&&◌, ◌||◌, nat_le, nat_lt, cond, List, [], ◌∷◌, All, ◌++◌, map, slice_index_or, Some, None, refl, sym, ◌∙◌, tests, arith}
-use Rattle.std.specs.List.{AllByRecursion, IsDistinct, list_any}
-use Rattle.std.proofs.lemmas.List.Elements.{All-append, All-cons, All-map, All-nil}
+use Rattle.std.proofs.Common.{◌≡◌, ℕ, suc, ◌+◌, ◌*◌, ◌<◌, ◌≤◌, ◌==◌, Bool, true, false, not, ◌&&◌, ◌||◌, nat_le, nat_lt, cond, List, [], ◌∷◌, All, ◌++◌, map, slice_index_or, Some, None, refl, sym, ◌∙◌, tests, arith}
+use Rattle.std.specs.List.{AllByRecursion, list_any}
+use Rattle.std.specs.List.Sorted.{IsNonDecreasingBy, IsStrictlySortedBy}
+use Rattle.std.specs.declared.cmp.Ordering.TheVariants.{Less}
+use Rattle.std.specs.Ordering.{nat_cmp, ordering_then}
+use Rattle.std.proofs.lemmas.List.Elements.{All-append, All-cons, All-map, All-nil, recursion_from_All}
 use Rattle.std.proofs.lemmas.List.Folds.{list_any-append}
 use Rattle.qrules.specs.declared.kind.Kind.{Kind}
 use Rattle.qrules.specs.declared.kind.Kind.TheVariants.{User, Group}
@@ -14,11 +17,13 @@ use Rattle.qplain.specs.declared.setup.TheConstants.{MAX_BLOCKS, MAX_INODES}
 use Rattle.qplain.specs.declared.bounds.TheConstants.{ROOT}
 use Rattle.qplain.specs.Principals.{are_in_range, collide, has_duplicate, has_zero}
 use Rattle.qplain.specs.Setups.{Setting, is_in_range}
-use Rattle.qplain.specs.State.{Holder, holder_of, root, start}
+use Rattle.qplain.specs.State.{Holder, holder_cmp, holder_of, rank_of, root, start}
 use Rattle.qplain.specs.Use.{account_of}
 use Rattle.qplain.specs.Arguments.{is_declared, is_holder, is_same_kind}
-use Rattle.qplain.specs.Laws.{StartIsLawful, are_same, has_known_owners, has_name, leads, share_no_directory}
+use Rattle.qplain.specs.Laws.{IsSound, StartIsLawful, has_known_owners, has_right_names, leads}
 use Rattle.qplain.proofs.Fitting.{or_right}
+use Rattle.qplain.proofs.Sound.{empty-sound}
+use Rattle.qplain.proofs.Orders.{nat_cmp-below}
 
 -- what a setting that is not refused has passed
 record HasPassed (in_range users_twice groups_twice user_zero group_zero : Bool) : Type 0 where
@@ -74,43 +79,54 @@ or_parts : (a b : Bool) → (a || b) ≡ false → (a ≡ false) × (b ≡ false
 or_parts true b h = cc
 or_parts false b h = (refl, h)
 
--- principals that do not collide are different holders
-apart-holders : (kind : Kind) (p : Principal) (ps : List Principal) → list_any (collide p) ps ≡ false
-    → AllByRecursion (λ h. are_same (holder_of kind p) h ≡ false) (map (holder_of kind) ps)
-apart-holders kind p [] h = tt
-apart-holders kind p (q ∷ ps) h =
+-- principals by id that do not collide come one after the other
+rank-itself : (kind : Kind) (x y : ℕ) → x < y → ordering_then (nat_cmp (rank_of kind) (rank_of kind)) (nat_cmp x y) ≡ Less
+rank-itself User x y l = nat_cmp-below x y l
+rank-itself Group x y l = nat_cmp-below x y l
+
+above-holders : (kind : Kind) (p : Principal) (ps : List Principal) → AllByRecursion (λ q. p.id ≤ q.id) ps → list_any (collide p) ps ≡ false
+    → AllByRecursion (λ h. holder_cmp (holder_of kind p) h ≡ Less) (map (holder_of kind) ps)
+above-holders kind p [] up h = tt
+above-holders kind p (q ∷ ps) up h =
     let parts : (collide p q ≡ false) × (list_any (collide p) ps ≡ false) = or_parts (collide p q) (list_any (collide p) ps) h in
     let ids : (p.id == q.id) ≡ false = (or_parts (p.id == q.id) _ parts.0).0 in
-    (rw (same_kind-refl kind, ids) refl, apart-holders kind p ps parts.1)
+    let le : p.id ≤ q.id = up.0 in
+    let less : p.id < q.id = grind (arith, tests, ids, le) in
+    (rank-itself kind p.id q.id less, above-holders kind p ps up.1 parts.1)
 
-distinct-holders : (kind : Kind) (ps : List Principal) → has_duplicate ps ≡ false → IsDistinct are_same (map (holder_of kind) ps)
-unfolding IsDistinct
-distinct-holders kind [] h = tt
-distinct-holders kind (p ∷ ps) h =
+sorted-holders : (kind : Kind) (ps : List Principal) → IsNonDecreasingBy (λ p. p.id) ps → has_duplicate ps ≡ false
+    → IsStrictlySortedBy holder_cmp (map (holder_of kind) ps)
+unfolding IsStrictlySortedBy
+sorted-holders kind [] up h = tt
+sorted-holders kind (p ∷ ps) up h =
     let parts : (list_any (collide p) ps ≡ false) × (has_duplicate ps ≡ false) = or_parts (list_any (collide p) ps) (has_duplicate ps) h in
-    (apart-holders kind p ps parts.0, distinct-holders kind ps parts.1)
+    let each : All (λ (q : Principal). p.id ≤ q.id) ps = λ k d below. up 0 (suc k) d (omega arith) (omega arith) in (
+      above-holders kind p ps (recursion_from_All (λ (q : Principal). p.id ≤ q.id) ps each) parts.0,
+      sorted-holders kind ps (λ i j d le below. up (suc i) (suc j) d (omega arith) (omega arith)) parts.1,
+    )
 
--- a user is no group
-apart-kinds : (p : Principal) (gs : List Principal) → AllByRecursion (λ h. are_same (holder_of User p) h ≡ false) (map (holder_of Group) gs)
-apart-kinds p [] = tt
-apart-kinds p (g ∷ gs) = (refl, apart-kinds p gs)
+-- a user comes before every group
+before-groups : (p : Principal) (gs : List Principal) → AllByRecursion (λ h. holder_cmp (holder_of User p) h ≡ Less) (map (holder_of Group) gs)
+before-groups p [] = tt
+before-groups p (g ∷ gs) = (refl, before-groups p gs)
 
-apart-append : (h : Holder) (xs ys : List Holder) → AllByRecursion (λ g. are_same h g ≡ false) xs → AllByRecursion (λ g. are_same h g ≡ false) ys
-    → AllByRecursion (λ g. are_same h g ≡ false) (xs ++ ys)
-apart-append h [] ys p q = q
-apart-append h (x ∷ xs) ys p q = (p.0, apart-append h xs ys p.1 q)
+above-append : (h : Holder) (xs ys : List Holder) → AllByRecursion (λ g. holder_cmp h g ≡ Less) xs → AllByRecursion (λ g. holder_cmp h g ≡ Less) ys
+    → AllByRecursion (λ g. holder_cmp h g ≡ Less) (xs ++ ys)
+above-append h [] ys p q = q
+above-append h (x ∷ xs) ys p q = (p.0, above-append h xs ys p.1 q)
 
-distinct-append : (us : List Principal) (gs : List Principal) → IsDistinct are_same (map (holder_of User) us) → IsDistinct are_same (map (holder_of Group) gs)
-    → IsDistinct are_same (map (holder_of User) us ++ map (holder_of Group) gs)
-unfolding IsDistinct
-distinct-append [] gs p q = q
-distinct-append (u ∷ us) gs p q =
-    (apart-append (holder_of User u) (map (holder_of User) us) (map (holder_of Group) gs) p.0 (apart-kinds u gs), distinct-append us gs p.1 q)
+sorted-append : (us : List Principal) (gs : List Principal) → IsStrictlySortedBy holder_cmp (map (holder_of User) us)
+    → IsStrictlySortedBy holder_cmp (map (holder_of Group) gs) → IsStrictlySortedBy holder_cmp (map (holder_of User) us ++ map (holder_of Group) gs)
+unfolding IsStrictlySortedBy
+sorted-append [] gs p q = q
+sorted-append (u ∷ us) gs p q =
+    (above-append (holder_of User u) (map (holder_of User) us) (map (holder_of Group) gs) p.0 (before-groups u gs), sorted-append us gs p.1 q)
 
 pub start_is_lawful : StartIsLawful
-start_is_lawful s granted =
+unfolding IsStrictlySortedBy
+start_is_lawful s setup =
     let parts : HasPassed (is_in_range s) (has_duplicate s.users) (has_duplicate s.groups) (has_zero s.users) (has_zero s.groups) =
-    passed (is_in_range s) (has_duplicate s.users) (has_duplicate s.groups) (has_zero s.users) (has_zero s.groups) granted in
+    passed (is_in_range s) (has_duplicate s.users) (has_duplicate s.groups) (has_zero s.users) (has_zero s.groups) setup.granted in
     let one : nat_le 1 s.inodes ≡ true =
     third (nat_le 1 s.blocks) (nat_le s.blocks MAX_BLOCKS) (nat_le 1 s.inodes) (nat_le s.inodes MAX_INODES)
     (are_graces_in_range s.graces) (are_in_range s.users) (are_in_range s.groups) parts.range in
@@ -127,15 +143,22 @@ start_is_lawful s granted =
       ends_stand = All-append stands users groups
           (All-map stands (holder_of User) s.users (λ k d below. ends-start s User (slice_index_or s.users k d)))
           (All-map stands (holder_of Group) s.groups (λ k d below. ends-start s Group (slice_index_or s.groups k d)));
+      next_fits = omega arith;
       parts = record {
-        owners_known = All-cons (λ inode. has_known_owners (start s) inode ≡ true) root [] (rw (user, group) refl)
-            (All-nil (λ inode. has_known_owners (start s) inode ≡ true));
-        distinct = distinct-append s.users s.groups (distinct-holders User s.users parts.users) (distinct-holders Group s.groups parts.groups);
-        root_stands = refl;
-        names_lead = All-nil (λ e. leads (start s) e ≡ true);
-        all_named = All-cons (λ e. has_name (start s) e.0 ≡ true) (ROOT, root) [] refl (All-nil (λ e. has_name (start s) e.0 ≡ true));
-        one_name = All-nil (λ e. All (λ f. share_no_directory (start s) e f ≡ true) []);
-        root_unnamed = All-nil (λ e. (e.1 == ROOT) ≡ false);
-        fresh = All-cons (λ e. nat_lt e.0 2 ≡ true) (ROOT, root) [] refl (All-nil (λ e. nat_lt e.0 2 ≡ true));
+        holders = sorted-append s.users s.groups (sorted-holders User s.users setup.users_sorted parts.users)
+            (sorted-holders Group s.groups setup.groups_sorted parts.groups);
+        inodes = record {
+          in_order = (tt, tt);
+          fresh = All-cons (λ e. nat_lt e.0 2 ≡ true) (ROOT, root) [] refl (All-nil (λ e. nat_lt e.0 2 ≡ true));
+          owners_known = All-cons (λ inode. has_known_owners (start s) inode ≡ true) root [] (rw (user, group) refl)
+              (All-nil (λ inode. has_known_owners (start s) inode ≡ true));
+          sound = All-cons IsSound root [] (empty-sound root refl) (All-nil IsSound);
+          root_stands = refl;
+        };
+        names = record {
+          in_order = tt;
+          lead = All-nil (λ e. leads (start s) e ≡ true);
+          counted = All-cons (λ e. has_right_names (start s) e ≡ true) (ROOT, root) [] refl (All-nil (λ e. has_right_names (start s) e ≡ true));
+        };
       };
     }

@@ -1,5 +1,5 @@
 -- What a new entry and a changed one do to the tables of a state.
-use Rattle.std.proofs.Common.{◌≡◌, ℕ, Bool, true, false, ◌||◌, nat_lt, cond, List, [], ◌∷◌, All, Option, Some, None, ◌+◌, sum_by, refl, sym, ap, ◌∙◌, tests, arith}
+use Rattle.std.proofs.Common.{◌≡◌, ℕ, Bool, true, false, ◌||◌, nat_lt, cond, count_by, List, [], ◌∷◌, All, Option, Some, None, ◌+◌, sum_by, refl, sym, ap, ◌∙◌, tests, arith}
 use Rattle.std.specs.List.{list_any}
 use Rattle.std.specs.Map.{lookup, set_value, values_of}
 use Rattle.std.specs.declared.cmp.Ordering.{Ordering}
@@ -152,3 +152,19 @@ sum_by-values-insert_new {K} {X} f R (e ∷ es) k v none =
         sum_by-values-insert_new f R es k v h,
       )
     ] none
+
+-- two tests that agree on all elements count alike
+pub count_by-agree : {X : Type 0} (p q : X → Bool) (xs : List X) → All (λ x. p x ≡ q x) xs → count_by p xs ≡ count_by q xs
+count_by-agree p q [] agree = refl
+count_by-agree p q (x ∷ xs) agree =
+    let here : p x ≡ q x = All-head (λ y. p y ≡ q y) x xs agree in
+    let rest : count_by p xs ≡ count_by q xs = count_by-agree p q xs (All-tail (λ y. p y ≡ q y) x xs agree) in
+    sum_by-cons (λ y. cond (p y) 1 0) x xs ∙ (λ i. cond (here i) 1 0 + rest i) ∙ sym (sum_by-cons (λ y. cond (q y) 1 0) x xs)
+
+-- a test that no element passes counts none
+pub count_by-none : {X : Type 0} (p : X → Bool) (xs : List X) → All (λ x. p x ≡ false) xs → count_by p xs ≡ 0
+count_by-none p [] none = refl
+count_by-none p (x ∷ xs) none =
+    let here : p x ≡ false = All-head (λ y. p y ≡ false) x xs none in
+    let rest : count_by p xs ≡ 0 = count_by-none p xs (All-tail (λ y. p y ≡ false) x xs none) in
+    sum_by-cons (λ y. cond (p y) 1 0) x xs ∙ (λ i. cond (here i) 1 0 + rest i)

@@ -62,10 +62,13 @@ create_under S cred names (Some name) = create_in S cred name (place S names)
 abbrev pub may_write : Caller → Inode → Bool
 may_write cred inode = is_superuser cred || cred.uid == inode.uid
 
+-- the state in which this inode stands under a number that is there
+abbrev pub with_inode : State → ℕ → Inode → State
+with_inode S number inode = record S { inodes = set_value (is_at (nat_cmp number)) S.inodes inode }
+
 -- the state in which the inode of this number holds this file
 abbrev pub with_file : State → ℕ → Inode → File → State
-with_file S number inode file =
-    record S { inodes = set_value (is_at (nat_cmp number)) S.inodes (record inode { file = file }) }
+with_file S number inode file = with_inode S number (record inode { file = file })
 
 -- write into an inode: a write of nothing is done before its offset is looked at
 abbrev pub write_into : State → Caller → ℕ → List ℕ → ℕ → Option Inode → Attempt

@@ -1,8 +1,8 @@
 -- What holds of new stores, of lawful states and of every step, whatever is called: the laws above the definitions.
-use Rattle.std.specs.Prelude.{◌≡◌, ℕ, ◌≤◌, Bool, true, false, not, ◌&&◌, ◌||◌, ◌==◌, nat_le, nat_lt, is_some, List, filter, map, sum_by, All, Option, None, Some}
-use Rattle.std.specs.List.{IsDistinct, list_any}
-use Rattle.std.specs.Map.{values_of}
-use Rattle.std.specs.BTreeMap.{is_at}
+use Rattle.std.specs.Prelude.{◌≡◌, ℕ, ◌+◌, ◌≤◌, Bool, true, false, not, ◌&&◌, ◌||◌, ◌==◌, nat_le, nat_lt, if◌then◌else◌, is_some, List, filter, map, sum_by, All, Option, Some, None}
+use Rattle.std.specs.Map.{keys_of, values_of}
+use Rattle.std.specs.Ordering.{nat_cmp}
+use Rattle.std.specs.List.Sorted.{IsStrictlySortedBy}
 use Rattle.qrules.specs.declared.kind.Kind.{Kind}
 use Rattle.qrules.specs.declared.kind.Kind.TheVariants.{User, Group}
 use Rattle.qrules.specs.Sort.{Sort, Inodes, Blocks, amount_of, hard_limit, soft_limit, is_over}
@@ -10,15 +10,16 @@ use Rattle.qrules.specs.Account.{Account, HasEnds, count_in, end_in}
 use Rattle.qrules.specs.Charge.{has_ended}
 use Rattle.qrules.specs.Grace.{with_ends, with_limits}
 use Rattle.qrules.specs.declared.limits.Limits.{Limits}
+use Rattle.qblocks.specs.File.{empty_file}
 use Rattle.qplain.specs.declared.call.Call.{Call}
 use Rattle.qplain.specs.declared.refusal.Refusal.{Refusal}
 use Rattle.qplain.specs.declared.reply.Reply.TheVariants.{Refused}
-use Rattle.qplain.specs.declared.bounds.TheConstants.{ROOT}
+use Rattle.qplain.specs.declared.bounds.TheConstants.{MAX_NUMBER, ROOT}
 use Rattle.qplain.specs.Caller.{Caller, is_superuser}
-use Rattle.qplain.specs.Setups.{Setting, setup_fault}
-use Rattle.qplain.specs.State.{Holder, Inode, NameKey, State, inode_at, is_directory, name_key_cmp, named, start}
-use Rattle.qplain.specs.Use.{account_of, total_of, use_of}
-use Rattle.qplain.specs.Arguments.{is_declared, is_holder, is_same_kind}
+use Rattle.qplain.specs.Setups.{IsLawfulSetup, Setting}
+use Rattle.qplain.specs.State.{Holder, Inode, NameKey, State, holder_cmp, inode_at, is_directory, name_key_cmp, named, start}
+use Rattle.qplain.specs.Use.{account_of, names_to, total_of, use_of}
+use Rattle.qplain.specs.Arguments.{is_declared, is_same_kind}
 use Rattle.qplain.specs.Decision.{ends_after, with_ends_of}
 use Rattle.qplain.specs.Attempt.{relimited}
 use Rattle.qplain.specs.Step.{step}
@@ -27,40 +28,50 @@ use Rattle.qplain.specs.Step.{step}
 abbrev pub has_known_owners : State → Inode → Bool
 has_known_owners S inode = is_declared S User inode.uid && is_declared S Group inode.gid
 
--- the two holders are one principal
-abbrev pub are_same : Holder → Holder → Bool
-are_same g h = is_holder g.kind g.id h
-
 -- the name stands in a directory and leads to an inode
 abbrev pub leads : State → NameKey × ℕ → Bool
 leads S e = is_directory S e.0.0 && is_some (inode_at S e.1)
 
--- the inode of this number is the root, or some name leads to it
-abbrev pub has_name : State → ℕ → Bool
-has_name S number = number == ROOT || list_any (λ e. e.1 == number) S.names
+-- the inode has as many names as it may: the root none, any other directory one, a file one or more
+abbrev pub has_right_names : State → ℕ × Inode → Bool
+has_right_names S e =
+    if e.0 == ROOT then names_to S e.0 == 0
+    else if e.1.dir then names_to S e.0 == 1
+    else nat_lt 0 (names_to S e.0)
 
--- the two names do not lead to the same directory, or they are the same name
-abbrev pub share_no_directory : State → NameKey × ℕ → NameKey × ℕ → Bool
-share_no_directory S e f = not (e.1 == f.1 && is_directory S e.1) || is_at (name_key_cmp e.0) f.0
+-- what an inode is by itself: a directory holds no bytes and no block, and a file's allocated indexes stand once and in
+-- order
+pub record IsSound (inode : Inode) : Type 0 where
+  pub holds_nothing : inode.dir ≡ true → inode.file ≡ empty_file
+  pub in_order : IsStrictlySortedBy nat_cmp inode.file.allocated
 
--- the parts of a state fit together: each inode is somebody's, no principal stands twice, the root is a directory,
--- every name stands in a directory and leads to an inode, every inode but the root has a name, no directory has two
--- names and the root has none, the next number is above all
-pub record FitsTogether (S : State) : Type 0 where
-  pub owners_known : All (λ inode. has_known_owners S inode ≡ true) (values_of S.inodes)
-  pub distinct : IsDistinct are_same S.holders
-  pub root_stands : is_directory S ROOT ≡ true
-  pub names_lead : All (λ e. leads S e ≡ true) S.names
-  pub all_named : All (λ e. has_name S e.0 ≡ true) S.inodes
-  pub one_name : All (λ e. All (λ f. share_no_directory S e f ≡ true) S.names) S.names
-  pub root_unnamed : All (λ e. (e.1 == ROOT) ≡ false) S.names
+-- inodes stand once and in order, below the next number; each is sound and belongs to a declared user and group; the
+-- root is a directory
+pub record InodesFit (S : State) : Type 0 where
+  pub in_order : IsStrictlySortedBy nat_cmp (keys_of S.inodes)
   pub fresh : All (λ e. nat_lt e.0 S.next ≡ true) S.inodes
+  pub owners_known : All (λ inode. has_known_owners S inode ≡ true) (values_of S.inodes)
+  pub sound : All IsSound (values_of S.inodes)
+  pub root_stands : is_directory S ROOT ≡ true
 
--- what holds of every state that a store can be in: totals within the bounds, each grace end where it belongs, and
--- parts that fit together
+-- names stand once and in order, each in a directory; each leads to an inode, and each inode has as many as it may
+pub record NamesFit (S : State) : Type 0 where
+  pub in_order : IsStrictlySortedBy name_key_cmp (keys_of S.names)
+  pub lead : All (λ e. leads S e ≡ true) S.names
+  pub counted : All (λ e. has_right_names S e ≡ true) S.inodes
+
+-- the parts of a state fit together; holders stand once and in order, users before groups
+pub record FitsTogether (S : State) : Type 0 where
+  pub holders : IsStrictlySortedBy holder_cmp S.holders
+  pub inodes : InodesFit S
+  pub names : NamesFit S
+
+-- what holds of every state that a store can be in: totals and the next number within the bounds, each grace end where
+-- it belongs, and parts that fit together
 pub record IsLawful (S : State) : Type 0 where
   pub blocks_fit : total_of S Blocks ≤ S.size
   pub inodes_fit : total_of S Inodes ≤ S.most_inodes
+  pub next_fits : S.next ≤ MAX_NUMBER + 1
   pub ends_stand : All (λ h. HasEnds (account_of S h)) S.holders
   pub parts : FitsTogether S
 
@@ -80,9 +91,9 @@ pub record PassesNoLimit (old new : State) (moment : ℕ) (h : Holder) : Type 0 
   pub inodes : is_within Inodes (account_of old h) moment (use_of new h.kind h.id Inodes) ≡ true
   pub blocks : is_within Blocks (account_of old h) moment (use_of new h.kind h.id Blocks) ≡ true
 
--- a new store of a setup that is not refused is lawful
+-- a new store of a lawful setup is lawful
 abbrev pub StartIsLawful : Type 0
-StartIsLawful = (s : Setting) → setup_fault s ≡ None → IsLawful (start s)
+StartIsLawful = (s : Setting) → IsLawfulSetup s → IsLawful (start s)
 
 -- every step of a lawful state leaves a lawful state
 abbrev pub StepsStayLawful : Type 0

@@ -23,6 +23,15 @@ pub record Holder : Type 0 where
   pub block_end : Option ℕ
   pub inode_end : Option ℕ
 
+-- users stand before groups
+abbrev pub rank_of : Kind → ℕ
+rank_of User = 0
+rank_of Group = 1
+
+-- by kind, then by id
+abbrev pub holder_cmp : Holder → Holder → Ordering
+holder_cmp = then_cmp (on (λ h. rank_of h.kind) nat_cmp) (on (λ h. h.id) nat_cmp)
+
 -- a file or a directory, its owners, and what it holds; a directory's file is empty
 pub record Inode : Type 0 where
   pub dir : Bool

@@ -29,10 +29,14 @@ use_of S kind id sort = sum_by (charge_to kind id sort) (values_of S.inodes)
 abbrev pub total_of : State → Sort → ℕ
 total_of S sort = sum_by (weight sort) (values_of S.inodes)
 
+-- how many names lead to the inode of this number
+abbrev pub names_to : State → ℕ → ℕ
+names_to S number = count_by (λ e. e.1 == number) S.names
+
 -- the links of an inode, told whether it is a directory: of a file its names, of a directory 2 and the names in it that
 -- lead to directories (profile)
 abbrev pub links_of : State → ℕ → Bool → ℕ
-links_of S number false = count_by (λ e. e.1 == number) S.names
+links_of S number false = names_to S number
 links_of S number true = 2 + count_by (λ e. e.0.0 == number && is_directory S e.1) S.names
 
 -- a holder's quota record: its recounted use beside its limits and its ends
