@@ -1,7 +1,7 @@
 //! The words of all texts, both ways: pieces of lines for any writer, and the words of a line with their numbers and data.
 #![tactic(auto)]
 
-pub use data::{byte_of, copies_of, data_of};
+pub use data::{byte_of, data_of};
 pub use numbers::{id_of, number, number_of};
 pub use piece::Piece;
 pub use read_fault::ReadFault;
