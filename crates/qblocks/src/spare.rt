@@ -2,14 +2,14 @@
 ghost use Rattle.std.specs.Prelude.{◌≡◌, ℕ, ◌+◌, ◌<◌, ◌≤◌, ◌^◌, IfOk, OnOk, All, vec_len};
 ghost use Rattle.qblocks.specs.Row.{IsZero};
 
-use crate::block::{Block, zero_block};
+use crate::block::Block;
 use std::alloc::{AllocError as NoMemory, Global};
 use std::marker::Model;
 
 /// Blocks made beforehand by `BlockFile::ready`. Contracts see their number. It may be dropped.
 #[derive(Drop)]
 pub struct Spare {
-    blocks: Vec<Box<Block>>,
+    blocks: Vec<Block>,
 }
 
 impl Model for Spare {
@@ -20,7 +20,7 @@ impl Model for Spare {
 
     ghost view = { λ spare. vec_len spare.blocks };
 
-    ghost invariant = { λ spare. All (λ block. IsZero block.value) spare.blocks.items };
+    ghost invariant = { λ spare. All IsZero spare.blocks.items };
 }
 
 impl Spare {
@@ -42,20 +42,20 @@ impl Spare {
     }
 
     /// Takes one of the blocks, whose bytes are all 0.
-    pub(crate) fn take(&mut self) -> Box<Block>
+    pub(crate) fn take(&mut self) -> Block
         requires { 0 < self.old }
-        ensures zero { IsZero result.value }
+        ensures zero { IsZero result }
         ensures left { self.new + 1 ≡ self.old }
     {
         self.blocks.take_last()
     }
 }
 
-fn push_block(blocks: &mut Vec<Box<Block>>, alloc: Global) -> Result<(), NoMemory>
-    requires zero { All (λ block. IsZero block.value) blocks.old.items }
-    ensures zero { All (λ block. IsZero block.value) blocks.new.items }
+fn push_block(blocks: &mut Vec<Block>, alloc: Global) -> Result<(), NoMemory>
+    requires zero { All IsZero blocks.old.items }
+    ensures zero { All IsZero blocks.new.items }
     ensures len { OnOk result (vec_len blocks.new ≡ vec_len blocks.old + 1) }
 {
-    blocks.push(zero_block(alloc)?)?;
+    blocks.push(Block::new(alloc)?)?;
     Ok(())
 }

@@ -5,5 +5,5 @@ use Rattle.qblocks.proofs.spare.Spare.new.Given as goal
 abbrev pub invariant-loop-made : goal.invariant-loop-made
 invariant-loop-made l = record {
   len : vec_len l.blocks ≡ l._made;
-  zero : All (λ block. IsZero block.value) l.blocks.items;
+  zero : All IsZero l.blocks.items;
 }
