@@ -7,10 +7,6 @@ use Rattle.std.specs.Prelude.{◌≡◌, ℕ, zero, suc, ◌+◌, ◌-◌, ◌/�
 use Rattle.qblocks.specs.declared.block.TheConstants.{BLOCK_SIZE}
 use Rattle.qblocks.specs.declared.row.TheConstants.{ROW_BLOCKS}
 
--- every byte is 0, as those past the end of a list are
-abbrev pub IsZero : List ℕ → Type 0
-IsZero block = (i : ℕ) → slice_index block i ≡ 0
-
 -- the index is one of those from first up to end
 abbrev pub in_span : ℕ → ℕ → ℕ → Bool
 in_span first end k = nat_le first k && nat_lt k end

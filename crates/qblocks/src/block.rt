@@ -1,9 +1,9 @@
 //! A block: the memory of 4096 bytes, of which those that were not written yet are 0.
-ghost use Rattle.std.specs.Prelude.{◌≡◌, ◌≢◌, ℕ, ◌+◌, ◌<◌, ◌≤◌, ◌^◌, ◌++◌, length, slice_index, map, vec_len, IfOk, OnOk};
+ghost use Rattle.std.specs.Prelude.{◌≡◌, ◌≢◌, ℕ, ◌+◌, ◌<◌, ◌≤◌, ◌^◌, ◌++◌, [], length, slice_index, map, vec_len, IfOk, OnOk};
 ghost use Rattle.std.specs.List.{range_with_len};
 ghost use Rattle.qblocks.specs.File.{resized};
 ghost use Rattle.qblocks.specs.Input.{input_bytes};
-ghost use Rattle.qblocks.specs.Row.{IsZero, Overwrites};
+ghost use Rattle.qblocks.specs.Row.{Overwrites};
 
 use crate::input::Input;
 use std::alloc::{AllocError as NoMemory, Global};
@@ -31,7 +31,7 @@ impl Model for Block {
 
 impl Block {
     pub(crate) fn new(alloc: Global) -> Result<Block, NoMemory>
-        ensures { IfOk result IsZero }
+        ensures { IfOk result (λ block. block ≡ []) }
     {
         Ok(Block {
             bytes: Vec::with_capacity(alloc, 4096)?,
@@ -48,9 +48,19 @@ impl Block {
         if end <= self.bytes.len() {
             place(&mut self.bytes[at..end], input);
         } else {
-            self.resize(at);
-            self.append(input);
+            self.extend(at, input);
         }
+    }
+
+    /// Writes `input` at the byte `at`, where it does not end before the last byte that was written.
+    pub(crate) fn extend(&mut self, at: usize, input: Input)
+        requires fits { at + length (input_bytes input) ≤ 4096 }
+        requires behind { length self.old ≤ at + length (input_bytes input) }
+        ensures { Overwrites (slice_index self.old) (slice_index self.new) at
+            (input_bytes input.entry) }
+    {
+        self.resize(at);
+        self.append(input);
     }
 
     /// Cuts it off at `at`, or fills it up to there with zeros. It takes no memory.

@@ -54,11 +54,12 @@ fn put_block(row: &mut Row, j: u64, at: u64, input: Input, spare: &mut Spare)
     ensures spare { spare.new + (if row_filled row.old j then 0 else 1) ≡ spare.old }
 {
     let slot = &mut row[j as usize];
-    let mut block = match slot.take() {
-        Some(block) => block,
-        None => spare.take(),
-    };
-    block.overwrite(at as usize, input);
+    if let Some(block) = slot {
+        block.overwrite(at as usize, input);
+        return;
+    }
+    let mut block = spare.take();
+    block.extend(at as usize, input);
     *slot = Some(block);
 }
 

@@ -1,6 +1,5 @@
 //! Blocks made beforehand for a write.
-ghost use Rattle.std.specs.Prelude.{◌≡◌, ℕ, ◌+◌, ◌<◌, ◌≤◌, ◌^◌, IfOk, OnOk, All, vec_len};
-ghost use Rattle.qblocks.specs.Row.{IsZero};
+ghost use Rattle.std.specs.Prelude.{◌≡◌, ℕ, ◌+◌, ◌<◌, ◌≤◌, ◌^◌, IfOk, OnOk, All, [], vec_len};
 
 use crate::block::Block;
 use std::alloc::{AllocError as NoMemory, Global};
@@ -13,14 +12,13 @@ pub struct Spare {
 }
 
 impl Model for Spare {
-    ghost use Rattle.std.specs.Prelude.{ℕ, vec_len, All};
-    ghost use Rattle.qblocks.specs.Row.{IsZero};
+    ghost use Rattle.std.specs.Prelude.{◌≡◌, ℕ, [], vec_len, All};
 
     ghost Value = { ℕ };
 
     ghost view = { λ spare. vec_len spare.blocks };
 
-    ghost invariant = { λ spare. All IsZero spare.blocks.items };
+    ghost invariant = { λ spare. All (λ block. block ≡ []) spare.blocks.items };
 }
 
 impl Spare {
@@ -41,10 +39,10 @@ impl Spare {
         self.blocks.len() as u64
     }
 
-    /// Takes one of the blocks, whose bytes are all 0.
+    /// Takes one of the blocks, in which no byte is written yet.
     pub(crate) fn take(&mut self) -> Block
         requires { 0 < self.old }
-        ensures zero { IsZero result }
+        ensures empty { result ≡ [] }
         ensures left { self.new + 1 ≡ self.old }
     {
         self.blocks.take_last()
@@ -52,8 +50,8 @@ impl Spare {
 }
 
 fn push_block(blocks: &mut Vec<Block>, alloc: Global) -> Result<(), NoMemory>
-    requires zero { All IsZero blocks.old.items }
-    ensures zero { All IsZero blocks.new.items }
+    requires empty { All (λ block. block ≡ []) blocks.old.items }
+    ensures empty { All (λ block. block ≡ []) blocks.new.items }
     ensures len { OnOk result (vec_len blocks.new ≡ vec_len blocks.old + 1) }
 {
     blocks.push(Block::new(alloc)?)?;

@@ -1,17 +1,13 @@
-use Rattle.std.proofs.Common.{ℕ, List, ◌++◌, length, slice_index, sym, ap, ◌∙◌, subst, arith}
-use Rattle.qblocks.specs.Input.{input_bytes}
-use Rattle.qblocks.specs.Row.{Overwrites}
-use Rattle.qblocks.proofs.Bytes.{Overwrites-end, length-resized}
+use Rattle.std.proofs.Common.{ℕ, length, ap, arith}
 use Rattle.qblocks.proofs.block.Block.overwrite.Goals as goal
 
-pub append-requires : goal.append-requires
-append-requires c = omega (arith, ap {B = ℕ} length c.resize.ensures, length-resized c.args.self.now c.args.at, c.requires)
-
-pub returns-else-end-len : goal.returns-else-end-len
-returns-else-end-len c =
-    let old = c.args.self.now in
-    let input = input_bytes c.args.input in
-    let Written : List ℕ → Type 0 = λ new. Overwrites (slice_index old) (slice_index new) c.args.at input in
-    let long = ap {B = ℕ} length c.self.view_is in
-    subst Written (sym (c.append.ensures ∙ ap (λ xs. xs ++ input) c.resize.ensures))
-    (Overwrites-end old c.args.at input (omega (arith, long, c.self.inside.bytes.ok.0, c.if-end-len.false, c.len.ensures, c.len-2.ensures)))
+pub extend-requires-clause-behind : goal.extend-requires-clause-behind
+extend-requires-clause-behind c =
+    omega (
+      arith,
+      ap {B = ℕ} length c.self.view_is,
+      c.self.inside.bytes.ok.0,
+      c.if-end-len.false,
+      c.len.ensures,
+      c.len-2.ensures,
+    )

@@ -22,9 +22,10 @@ put-requires-clause-spare c =
 pub overflow_add-self : goal.overflow_add-self
 overflow_add-self c =
     let some = eqb-false (length (input_bytes c.args.input)) 0 (sym c.if-is_empty.ensures) in
+    let size = c.max-self-inside.ensures ∙ ap (λ (x : ℕ). max c.self.inside.size (c.args.off + x)) c.len.ensures in
     let put = put_whole c.self.inside.rows c.put.new.rows c.self.inside.size c.self.inside.count _
     c.args.self.now c.args.off (input_bytes c.args.input) c.args.spare _ _ c.max-self-inside.result c.self.view_is
-    c.requires.ready c.self.invariant c.put.ensures.puts (omega (arith, some)) (c.max-self-inside.ensures ∙ ap (λ (x : ℕ). max c.self.inside.size (c.args.off + x)) c.len.ensures)
+    c.requires.ready c.self.invariant c.put.ensures.puts (omega (arith, some)) size
     c.put.ensures.rows in
     omega (arith, put.0)
 
@@ -35,9 +36,10 @@ put_is : (c : goal.After-drop-spare-inside-2)
     ≡ after_write c.args.self.now.file c.args.off (input_bytes c.args.input))
 put_is c =
     let some = eqb-false (length (input_bytes c.args.input)) 0 (sym c.if-is_empty.ensures) in
+    let size = c.max-self-inside.ensures ∙ ap (λ (x : ℕ). max c.self.inside.size (c.args.off + x)) c.len.ensures in
     let put = put_whole c.self.inside.rows c.put.new.rows c.self.inside.size c.self.inside.count _
     c.args.self.now c.args.off (input_bytes c.args.input) c.args.spare _ _ c.max-self-inside.result c.self.view_is
-    c.requires.ready c.self.invariant c.put.ensures.puts (omega (arith, some)) (c.max-self-inside.ensures ∙ ap (λ (x : ℕ). max c.self.inside.size (c.args.off + x)) c.len.ensures)
+    c.requires.ready c.self.invariant c.put.ensures.puts (omega (arith, some)) size
     c.put.ensures.rows in
     (put.1, put.2)
 

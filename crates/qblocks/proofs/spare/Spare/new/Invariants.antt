@@ -1,9 +1,8 @@
-use Rattle.std.proofs.Common.{◌≡◌, vec_len, All}
-use Rattle.qblocks.specs.Row.{IsZero}
+use Rattle.std.proofs.Common.{◌≡◌, [], vec_len, All}
 use Rattle.qblocks.proofs.spare.Spare.new.Given as goal
 
 abbrev pub invariant-loop-made : goal.invariant-loop-made
 invariant-loop-made l = record {
   len : vec_len l.blocks ≡ l._made;
-  zero : All IsZero l.blocks.items;
+  empty : All (λ block. block ≡ []) l.blocks.items;
 }
