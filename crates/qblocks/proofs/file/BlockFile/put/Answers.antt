@@ -30,7 +30,7 @@ overflow_add-self c =
     omega (arith, put.0)
 
 -- the fields after the write, and the file that they stand for
-put_is : (c : goal.After-drop-spare-inside-2)
+put_is : (c : goal.After-drop-spare-inside-3)
     → IsWhole c.put.new.rows c.max-self-inside.result (c.self.inside.count + c.args.spare) no_room
     × (file_of c.put.new.rows c.max-self-inside.result
     ≡ after_write c.args.self.now.file c.args.off (input_bytes c.args.input))

@@ -1,5 +1,5 @@
 use Rattle.std.proofs.Common.{◌≡◌, [], vec_len, All}
-use Rattle.qblocks.proofs.spare.Spare.new.Given as goal
+use Rattle.qblocks.proofs.spare.empty_blocks.Given as goal
 
 abbrev pub invariant-loop-made : goal.invariant-loop-made
 invariant-loop-made l = record {
