@@ -1,5 +1,7 @@
 """The scripts that `bench/program` counts: for each its name, its lines, the configuration under which they run, and
-what a program without proofs takes for them. Its figures were counted once, on another machine, by the same counter."""
+what a program without proofs takes for such a script. Its figures were counted once, by the same counter, on scripts of
+the same kinds; these here are made so that the program of that day takes for them what it took for those, within a
+twentieth."""
 
 from typing import NamedTuple
 
@@ -14,116 +16,131 @@ class Workload(NamedTuple):
     peak_bar: float = 2.5  # at most so many times its peak
 
 
+LINES = 65_536
 CHUNK = 65_536
+# The caller of most lines: user 1000 and group 100.
+CALLER = "1000:100"
 
 
-def config(users=1, groups=1, size="4g"):
-    """A configuration of so many users and groups, from id 0 on, without limits."""
-    head = f'size = "{size}"\nnr_inodes = 65536\nblock_grace = 100\ninode_grace = 100\n'
-    tables = [("user", id) for id in range(users)] + [("group", id) for id in range(groups)]
-    return head + "".join(f'[[{kind}]]\nid = {id}\nname = "{kind[0]}{id}"\n' for kind, id in tables)
+def config(users=(0, 1000), groups=(0, 100)):
+    """A configuration of these users and groups, without limits."""
+    head = 'size = "4g"\nnr_inodes = 65536\nblock_grace = 100\ninode_grace = 100\n'
+    ids = [("user", id) for id in users] + [("group", id) for id in groups]
+    return head + "".join(f'[[{kind}]]\nid = {id}\nname = "{kind[0]}{id}"\n' for kind, id in ids)
+
+
+def repeated(*calls, first=(), lines=LINES):
+    """So many lines: the first calls, and then the others one after the other, over and over, each with its caller."""
+    rest = lines - len(first)
+    return [f"0 {call}" for call in (*first, *(calls[i % len(calls)] for i in range(rest)))]
 
 
 def creates():
-    files = [f"0 0:0 create /f{i:05}" for i in range(60_000)]
-    return files + [f"0 0:0 stat /f{i * 7:05}" for i in range(5_536)]
+    files = [f"{i} {CALLER} create /file{i:05}.txt" for i in range(60_000)]
+    return files + [f"{i} {CALLER} stat /file{i * 7:05}.txt" for i in range(5_536)]
 
 
-def mixed(calls, lines=CHUNK):
-    """So many lines, the calls one after the other, over and over."""
-    return [f"0 0:0 {calls[i % len(calls)]}" for i in range(lines)]
+def stats_and_quotas(*more):
+    """A file of 4 KiB looked at and a record asked for, in turn, and more calls."""
+    first = f"{CALLER} create /file00001", f"{CALLER} fill /file00001 0 4096 ab"
+    return repeated(f"{CALLER} stat /file00001", f"{CALLER} quota user 1000", *more, first=first)
 
 
 def refusals():
-    """A file of user 1 and 16 kinds of refusals, one of them of 64 KiB of data."""
+    """16 kinds of refusals, one of them of 64 KiB of data."""
     calls = [
-        "0 0:0 create a", "0 0:0 create /" + "n" * 256, "0 0:0 stat /none", "0 0:0 stat /f/x", "0 0:0 create /f",
-        "0 1:0 write /g 0 00", "0 0:0 read / 0 1", "0 1:0 fill /g 0 65536 ab", "0 0:0 write /f 1073741824 00",
-        "0 1:0 setquota user 1 0 0 0 0", "0 0:0 setquota user 9 0 0 0 0", "0 0:0 quota user 9", "0 1:0 quota user 0",
-        "0 9:0 stat /", "0 0:0 setgrace 0 1", "0 0:0 read /f 0 65537",
+        "create file", "create /" + "n" * 256, "stat /file00009", "stat /file00001/name", "create /file00001",
+        "write /file00002 0 0123", "read / 0 1", "fill /file00002 0 65536 ab", "write /file00001 1073741824 0123",
+        "setquota user 1000 400 800 100 200", "setgrace 1000 1000", "quota user 0", "quota group 0", "setgrace 0 1000",
+        "read /file00001 0 65537", "stat /file00001/",
     ]
-    return ["0 0:0 create /f", "0 0:0 create /g"] + [calls[i % 16] for i in range(CHUNK - 2)]
+    first = f"{CALLER} create /file00001", "0:0 create /file00002"
+    return repeated(*(f"{CALLER} {call}" for call in calls), first=first)
 
 
 def many_principals():
-    """64 users, each with a group and a file, who write 8 bytes into it, block after block."""
-    files = [f"0 {u}:{u} create /u{u}" for u in range(64)]
-    return files + [f"0 {i % 64}:{i % 64} write /u{i % 64} {i // 64 * 4096 % 1_000_000} 0123456789abcdef"
-                    for i in range(CHUNK - 64)]
+    """63 users beside the superuser, each with a group and a file, who write 8 bytes into it, block after block."""
+    callers = [f"{1000 + u}:{2000 + u}" for u in range(63)]
+    first = [f"{caller} create /file{u:05}" for u, caller in enumerate(callers)]
+    return [f"0 {call}" for call in first] + [
+        f"0 {callers[i % 63]} write /file{i % 63:05} {i // 63 * 4096 % 1_500_000} 0123456789abcdef"
+        for i in range(LINES - 63)]
 
 
 def many_groups():
-    caller = "0:0," + ",".join(str(g) for g in range(1, 17))
-    return [f"0 {caller} stat /" for _ in range(CHUNK)]
+    caller = f"{CALLER}," + ",".join(str(group) for group in range(200, 216))
+    return repeated(f"{caller} stat /")
 
 
-def long_names():
-    """32,768 files under names of 255 bytes, each looked at once."""
-    names = [f"{i:05}" + "n" * 250 for i in range(CHUNK // 2)]
-    return [f"0 0:0 {verb} /{name}" for verb in ("create", "stat") for name in names]
+def long_names(files=60_000):
+    """Files under names of 255 bytes, some of them looked at."""
+    names = [f"{i:05}" + "n" * 250 for i in range(files)]
+    return [f"0 {CALLER} create /{name}" for name in names] + [
+        f"0 {CALLER} stat /{name}" for name in names[:LINES - files]]
 
 
 def scattered():
     """One byte at a time, at offsets all over 64 files of up to 1 GiB."""
-    files = [f"0 0:0 create /f{i}" for i in range(64)]
-    return files + [f"0 0:0 write /f{i % 64} {i * 2_654_435_761 % (1 << 30)} 7f" for i in range(CHUNK - 64)]
+    first = [f"0 {CALLER} create /file{i:05}" for i in range(64)]
+    return first + [f"0 {CALLER} write /file{i % 64:05} {i * 2_654_435_761 % (1 << 30)} 7f" for i in range(LINES - 64)]
 
 
 def grown(blocks=100_000):
     """A file of so many blocks, and then one byte at a time in it."""
-    chunks = [f"0 0:0 fill /f {i * CHUNK} {CHUNK} 01" for i in range(blocks // 16)]
-    size = blocks * 4096
-    return ["0 0:0 create /f", *chunks] + [f"0 0:0 write /f {i * 2_654_435_761 % size} 7f" for i in range(59_000)]
+    first = [f"0 {CALLER} create /file"] + [
+        f"0 {CALLER} fill /file {i * CHUNK} {CHUNK} 01" for i in range(blocks // 16)]
+    return first + [f"0 {CALLER} write /file {i * 2_654_435_761 % (blocks * 4096)} 7f" for i in range(59_000)]
 
 
 def fresh_fills():
     """64 files of 128 fills each: 512 MiB."""
-    files = [f"0 0:0 create /f{i}" for i in range(64)]
-    return files + [f"0 0:0 fill /f{i % 64} {i // 64 * CHUNK} {CHUNK} ab" for i in range(8_192)]
+    first = [f"0 {CALLER} create /file{i:05}" for i in range(64)]
+    return first + [f"0 {CALLER} fill /file{i % 64:05} {i // 64 * CHUNK} {CHUNK} ab" for i in range(8_192)]
 
 
 def same_fills():
-    return ["0 0:0 create /f"] + [f"0 0:0 fill /f 0 {CHUNK} ab"] * 4_095
+    return repeated(f"{CALLER} fill /file00001 0 {CHUNK} ab", first=[f"{CALLER} create /file00001"], lines=4_096)
 
 
 def small_writes_and_reads():
     """Writes and reads of 64 bytes, in turn, in 256 files."""
-    files = [f"0 0:0 create /f{i}" for i in range(256)]
-    return files + [f"0 0:0 write /f{i // 2 % 256} {i // 512 * 64} " + "5a" * 64 if i % 2 == 0 else
-                    f"0 0:0 read /f{i // 2 % 256} {i // 512 * 64} 64" for i in range(CHUNK - 256)]
+    first = [f"0 {CALLER} create /file{i:05}" for i in range(256)]
+    return first + [f"0 {CALLER} write /file{i // 2 % 256:05} {i // 512 * 64} " + "5a" * 64 if i % 2 == 0 else
+                    f"0 {CALLER} read /file{i // 2 % 256:05} {i // 512 * 64} 64" for i in range(LINES - 256)]
 
 
 def hex_lines():
-    return ["0 0:0 create /f"] + [f"0 0:0 write /f {i % 16 * CHUNK} " + "a5" * CHUNK for i in range(1_000)]
+    first = [f"0 {CALLER} create /file00001"]
+    return first + [f"0 {CALLER} write /file00001 {i % 16 * CHUNK} " + "a5" * CHUNK for i in range(1_000)]
 
 
 def long_reads():
-    fills = [f"0 0:0 fill /f {i * CHUNK} {CHUNK} ab" for i in range(16)]
-    return ["0 0:0 create /f", *fills] + [f"0 0:0 read /f {i % 16 * CHUNK} {CHUNK}" for i in range(2_048)]
+    first = [f"0 {CALLER} create /file00001"] + [
+        f"0 {CALLER} fill /file00001 {i * CHUNK} {CHUNK} ab" for i in range(16)]
+    return first + [f"0 {CALLER} read /file00001 {i % 16 * CHUNK} {CHUNK}" for i in range(2_048)]
 
 
 def workloads():
-    one = config()
-    reads = ["create /f", "fill /f 0 4096 ab"]
+    two = config()
+    sixty_four = config([0, *range(1000, 1063)], [0, *range(2000, 2063)])
     return [
-        Workload("60,000 creates, then 5,536 stats", creates(), one, 1_936, 25),
-        Workload("stat /", mixed(["stat /"]), one, 1_103, 11),
-        Workload("stats and quotas", mixed(["stat /", "quota user 0"]), one, 1_770, 15),
-        Workload(".. a third of them reads of 64 bytes",
-                 mixed(reads, 2) + mixed(["stat /", "quota user 0", "read /f 0 64"], CHUNK - 2), one, 1_809, 16),
-        Workload("quota", mixed(["quota user 0"]), one, 1_757, 17, 1.6),
-        Workload("setquota", mixed(["setquota user 0 40 80 5 6"]), one, 1_603, 13),
-        Workload("16 kinds of refusals", refusals(), config(2), 1_367, 13.5),
-        Workload("64 users and groups, small writes", many_principals(), config(64, 64), 2_371, 108),
-        Workload("callers of 16 further groups", many_groups(), config(1, 17), 1_249, 16),
-        Workload("names of 255 bytes", long_names(), one, 5_901, 56),
-        Workload("one byte anywhere in 64 files", scattered(), one, 3_072, 287),
-        Workload("one byte in a file of 100,000 blocks", grown(), one, 2_762, 407),
-        Workload("fills of 64 KiB, fresh", fresh_fills(), one, 8_112, 518),
-        Workload("fills of 64 KiB onto one place", same_fills(), one, 6_473, 3),
-        Workload("small writes and reads", small_writes_and_reads(), one, 3_267, 58, 5.0),
-        Workload("64 KiB a line as hex digits", hex_lines(), one, 389_925, 192, 7.5),
-        Workload("reads of 64 KiB", long_reads(), one, 116_633, 132, 6.0),
-        Workload("an empty script, the whole process", [], one, 450_661, 0),
-        Workload(".. with 64 users and 64 groups", [], config(64, 64), 2_308_861, 0),
+        Workload("60,000 creates, then 5,536 stats", creates(), two, 1_936, 25),
+        Workload("stat /", repeated("0:0 stat /"), two, 1_103, 11),
+        Workload("stats and quotas", stats_and_quotas(), two, 1_770, 15),
+        Workload(".. a third of them reads of 64 bytes", stats_and_quotas(f"{CALLER} read /file00001 0 64"), two, 1_809, 16),
+        Workload("quota", repeated("0:0 quota user 1000"), two, 1_757, 17, 1.6),
+        Workload("setquota", repeated("0:0 setquota user 1000 400 800 100 200"), two, 1_603, 13),
+        Workload("16 kinds of refusals", refusals(), two, 1_367, 13.5),
+        Workload("64 users and groups, small writes", many_principals(), sixty_four, 2_371, 108),
+        Workload("callers of 16 further groups", many_groups(), config(groups=[0, 100, *range(200, 216)]), 1_249, 16),
+        Workload("names of 255 bytes", long_names(), two, 5_901, 56),
+        Workload("one byte anywhere in 64 files", scattered(), two, 3_072, 287),
+        Workload("one byte in a file of 100,000 blocks", grown(), two, 2_762, 407),
+        Workload("fills of 64 KiB, fresh", fresh_fills(), two, 8_112, 518),
+        Workload("fills of 64 KiB onto one place", same_fills(), two, 6_473, 3),
+        Workload("small writes and reads", small_writes_and_reads(), two, 3_267, 58, 5.0),
+        Workload("64 KiB a line as hex digits", hex_lines(), two, 389_925, 192, 7.5),
+        Workload("reads of 64 KiB", long_reads(), two, 116_633, 132, 6.0),
+        Workload("an empty script, the whole process", [], two, 450_661, 0),
+        Workload(".. with 64 users and 64 groups", [], sixty_four, 2_308_861, 0),
     ]

@@ -1,8 +1,6 @@
 -- Lemmas on lists of bytes.
-use Rattle.std.proofs.Common.{◌≡◌, ℕ, ◌+◌, ◌-◌, ◌<◌, ◌≤◌, List, [], ◌++◌, length, get_or, take, drop, replicate, map, max, sym, ap, ◌∙◌, arith, ⊎_elim, length-drop, length-append}
-use Rattle.std.proofs.Math.ListN.{drop_of_length-le, length-take}
-use Rattle.std.proofs.Math.Seq.{get_or-append_right as get_or-append_right_of}
-use borrow.Rule.Slice.PartMut.{put_mid, post_of}
+use Rattle.std.proofs.Common.{◌≡◌, ℕ, ◌+◌, ◌-◌, ◌<◌, ◌≤◌, List, ◌++◌, length, get_or, take, drop, replicate, map, max, sym, ap, ◌∙◌, arith, ⊎_elim, length-drop, length-append}
+use Rattle.std.proofs.Math.ListN.{length-take}
 use Rattle.std.proofs.lemmas.Bool.{cases_lt}
 use Rattle.std.proofs.lemmas.Grind.{common_steps, same_number_lists}
 use Rattle.std.proofs.lemmas.List.{get_or_append_left, get_or-append_right, get_or-take, get_or-drop, get_or-replicate, get_or_past, length-replicate}
@@ -15,15 +13,6 @@ use Rattle.qblocks.specs.Row.{Overwrites}
 pub zeros : (n i : ℕ) → get_or {A = ℕ} (replicate n 0) i 0 ≡ 0
 zeros n i =
     ⊎_elim (λ l. get_or-replicate n i 0 0 l) (λ l. get_or_past (replicate n 0) i 0 (omega (arith, length-replicate {A = ℕ} n 0))) (cases_lt i n)
-
--- a list whose end is overwritten by zeros reads as 0 there
-pub put_mid_zeros : (a k : ℕ) (xs ys : List ℕ) → a + k ≡ length xs → ys ≡ replicate k 0 → (i : ℕ)
-    → a ≤ i → get_or (put_mid a k xs ys) i 0 ≡ 0
-put_mid_zeros a k xs ys whole blank i above =
-    let long : length ys ≡ k = ap length blank ∙ length-replicate k 0 in
-    let read : get_or ys (i - a) 0 ≡ 0 = ap (λ l. get_or l (i - a) 0) blank ∙ zeros k (i - a) in
-    let rest : post_of a k xs ≡ [] = drop_of_length-le (drop a xs) (omega (arith, length-drop a xs)) in
-    grind (arith, common_steps, long, read, rest, length-take {A = ℕ}, get_or-append_right_of {A = ℕ})
 
 -- at another size there are as many bytes as it says
 pub length-resized : (bytes : List ℕ) (size : ℕ) → length (resized bytes size) ≡ size
@@ -42,6 +31,21 @@ get_or-resized bytes size o l =
     get_or-append_right (take size bytes) zeros' (length bytes) o 0 (omega (arith, length-take size bytes)) late
     ∙ zeros (size - length bytes) (o - length bytes) ∙ sym (get_or_past bytes o 0 late))
     (cases_lt o (length bytes))
+
+-- a write that goes past the last byte, or up to it: filled up to the write's offset, then the write's own
+pub Overwrites-end : (bytes : List ℕ) (at : ℕ) (input : List ℕ) → length bytes ≤ at + length input
+    → Overwrites (λ i. get_or bytes i 0) (λ i. get_or (resized bytes at ++ input) i 0) at input
+Overwrites-end bytes at input ends =
+    let long = length-resized bytes at in
+    record {
+      inside = λ i l.
+          let byte : at + i - at ≡ i = omega arith in
+          get_or-append_right (resized bytes at) input at (at + i) 0 long (omega arith) ∙ ap (λ (x : ℕ). get_or input x 0) byte;
+      before = λ o l. get_or_append_left (resized bytes at) input 0 o (omega (arith, long)) ∙ get_or-resized bytes at o l;
+      behind = λ o l.
+          get_or_past (resized bytes at ++ input) o 0 (omega (arith, long, length-append (resized bytes at) input))
+          ∙ sym (get_or_past bytes o 0 (omega arith));
+    }
 
 -- a write ends at its own end or leaves the size
 pub length-written : (bytes : List ℕ) (off : ℕ) (input : List ℕ)

@@ -15,14 +15,14 @@ pub is_used-same : (p q : ℕ → Bool) (r : ℕ) → ((k : ℕ) → q k ≡ p k
 is_used-same p q r same =
     ap (λ (x : ℕ). nat_lt x ROW_BLOCKS) (gaps-same p q (r * ROW_BLOCKS) ROW_BLOCKS (λ k _ _. same k))
 
-module _ {Z : Type 0} where
-  -- a slot that is not filled is empty
-  no_block : (slot : Slot Z) → is_some slot ≡ false → slot ≡ None
-  no_block None e = refl
-  no_block (Some block) e = absurd (both_ways _ e refl)
+-- a slot that is not filled is empty
+no_block : (slot : Slot) → is_some slot ≡ false → slot ≡ None
+no_block None e = refl
+no_block (Some block) e = absurd (both_ways _ e refl)
 
+module _ {Z : Type 0} where
   -- a change of the row r leaves the other rows
-  pub other_rows : (m n : Table Z) (r : ℕ) (row : Option (Box (List (Slot Z)) Z))
+  pub other_rows : (m n : Table Z) (r : ℕ) (row : Option (Box (List Slot) Z))
       → tree.Updates nat_cmp m n r row → (q : ℕ) → (q ≡ r → ⊥)
       → tree.get nat_cmp n q ≡ tree.get nat_cmp m q
   other_rows m n r row u q ne = u.2 q (unsigned_tied r q ∙ ne_eqb r q (λ e. ne (sym e)))
@@ -35,9 +35,9 @@ module _ {Z : Type 0} where
       ap (λ (x : ℕ). gaps (filled m) x ROW_BLOCKS) at ∙ gaps-row m r 0 ROW_BLOCKS (omega arith)
 
   -- a row that is not there holds no block
-  pub gaps_absent : (row : Option (Box (List (Slot Z)) Z)) → is_some row ≡ false
+  pub gaps_absent : (row : Option (Box (List Slot) Z)) → is_some row ≡ false
       → gaps (row_filled (slots_of row)) 0 ROW_BLOCKS ≡ ROW_BLOCKS
-  gaps_absent None e = gaps-all (row_filled {Z = Z} []) 0 ROW_BLOCKS (λ k _ _. refl)
+  gaps_absent None e = gaps-all (row_filled []) 0 ROW_BLOCKS (λ k _ _. refl)
   gaps_absent (Some row) e = absurd (both_ways _ e refl)
 
   -- a row that is not there is not used

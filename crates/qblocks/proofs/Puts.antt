@@ -163,7 +163,7 @@ gaps_in-block p j at n some fits =
     ∙ ap (λ (x : ℕ). x + cond (p j) 0 1) (gaps_none p first 0 refl) ∙ omega arith
 
 -- a write into one block of a row
-module _ {Z : Type 0} (row new : List (Slot Z)) (j at : ℕ) (part : List ℕ) (some : 0 < length part) (fits : at + length part ≤ BLOCK_SIZE) where
+module _ (row new : List Slot) (j at : ℕ) (part : List ℕ) (some : 0 < length part) (fits : at + length part ≤ BLOCK_SIZE) where
   -- as `Puts` says it
   pub Puts-block : (a b : ℕ) → row_filled new j ≡ true
       → Overwrites (byte_of (slot_at row j)) (byte_of (slot_at new j)) at part

@@ -1,7 +1,8 @@
 -- Lemmas on bytes that are read piece by piece.
-use Rattle.std.proofs.Common.{◌≡◌, ℕ, ◌+◌, ◌-◌, ◌<◌, ◌≤◌, zero, suc, List, ◌∷◌, ◌++◌, length, get_or, take, drop, replicate, map, refl, sym, ap, ◌∙◌, arith, append_assoc, length-drop, length-take-le, length-append}
+use Rattle.std.proofs.Common.{◌≡◌, ℕ, ◌+◌, ◌-◌, ◌<◌, ◌≤◌, zero, suc, List, ◌∷◌, ◌++◌, length, get_or, take, drop, replicate, map, min, refl, sym, ap, ◌∙◌, arith, append_assoc, ⊎_elim, length-drop, length-take-le, length-append}
 use Rattle.std.proofs.lemmas.Grind.{same_number_lists}
-use Rattle.std.proofs.lemmas.List.{get_or-take, get_or-drop, length-replicate, take_all}
+use Rattle.std.proofs.lemmas.Bool.{cases_lt}
+use Rattle.std.proofs.lemmas.List.{get_or_append_left, get_or-append_right, get_or-take, get_or-drop, get_or_past, length-replicate, take_all}
 use Rattle.std.proofs.lemmas.List.FromFn.{length-map-range_with_len, get_or-map-range_with_len}
 use Rattle.std.specs.List.{range_with_len}
 use Rattle.qblocks.proofs.Bytes.{zeros}
@@ -39,6 +40,43 @@ reads-resized f old new a n was long is known ends none =
     let count : long - was ≡ n = omega arith in
     is ∙ ap (λ xs. xs ++ replicate (long - was) 0) (take_all long old (omega arith))
     ∙ ap (λ (x : ℕ). old ++ replicate x 0) count ∙ ap (λ xs. old ++ xs) (reads-zeros f a n none)
+
+-- the bytes of a list up to its end, and zeros for those past it
+reads-past : (xs : List ℕ) (at n from to : ℕ) → from ≡ min at (length xs) → to ≡ min (at + n) (length xs)
+    → take (to - from) (drop from xs) ++ replicate (n - (to - from)) 0
+    ≡ map (λ i. get_or xs i 0) (range_with_len at n)
+reads-past xs at n from to start ends =
+    let f : ℕ → ℕ = λ i. get_or xs i 0 in
+    let part = take (to - from) (drop from xs) in
+    let long = length-take-le (to - from) (drop from xs) (omega (arith, length-drop from xs)) in
+    let none = length-replicate {A = ℕ} (n - (to - from)) 0 in
+    let all = length-append part (replicate (n - (to - from)) 0) in
+    same_number_lists (part ++ replicate (n - (to - from)) 0) (map f (range_with_len at n))
+    (omega (arith, all, long, none, length-map-range_with_len f at n)) (λ i h.
+    let low : i < n = omega (arith, all, long, none) in
+    ⊎_elim
+    (λ early.
+    let byte : from + i ≡ at + i = omega arith in
+    get_or_append_left part (replicate (n - (to - from)) 0) 0 i (omega (arith, long))
+    ∙ get_or-take (to - from) (drop from xs) i 0 early ∙ get_or-drop from xs i 0 ∙ ap f byte)
+    (λ late.
+    get_or-append_right part (replicate (n - (to - from)) 0) (to - from) i 0 long late
+    ∙ zeros (n - (to - from)) (i - (to - from)) ∙ sym (get_or_past xs (at + i) 0 (omega arith)))
+    (cases_lt i (to - from))
+    ∙ sym (get_or-map-range_with_len f at n i (at + i) 0 low refl))
+
+-- the same, behind what was read before
+pub reads-padded : (xs old mid new : List ℕ) (at n from to end was : ℕ) → from ≡ min at (length xs)
+    → to ≡ min (at + n) (length xs) → mid ≡ old ++ take (to - from) (drop from xs)
+    → new ≡ take end mid ++ replicate (end - was) 0 → was ≡ length mid → end ≡ length old + n
+    → new ≡ old ++ map (λ i. get_or xs i 0) (range_with_len at n)
+reads-padded xs old mid new at n from to end was start ends part padded known goal =
+    let long = length-take-le (to - from) (drop from xs) (omega (arith, length-drop from xs)) in
+    let all = ap length part ∙ length-append old (take (to - from) (drop from xs)) in
+    let count : end - was ≡ n - (to - from) = omega (arith, all, long) in
+    padded ∙ ap (λ l. l ++ replicate (end - was) 0) (take_all end mid (omega (arith, all, long)) ∙ part)
+    ∙ append_assoc old (take (to - from) (drop from xs)) (replicate (end - was) 0)
+    ∙ ap (λ l. old ++ l) (ap (λ (x : ℕ). take (to - from) (drop from xs) ++ replicate x 0) count ∙ reads-past xs at n from to start ends)
 
 -- two pieces beside each other
 reads-append : (f : ℕ → ℕ) (a n m : ℕ)

@@ -3,13 +3,9 @@
 --     row_filled row j    it holds a block
 --     row_byte row o      the byte at the offset o in the row, or 0
 --     Puts ..             what a write does to bytes, to slots and to the blocks that are spare
-use Rattle.std.specs.Prelude.{◌≡◌, ℕ, zero, suc, ◌+◌, ◌-◌, ◌/◌, ◌%◌, ◌<◌, ◌≤◌, Bool, ◌||◌, ◌&&◌, nat_le, nat_lt, nat_eq, if◌then◌else◌, List, length, slice_index, slice_index_or, is_some, Option, Some, None, Box}
+use Rattle.std.specs.Prelude.{◌≡◌, ℕ, zero, suc, ◌+◌, ◌-◌, ◌/◌, ◌%◌, ◌<◌, ◌≤◌, Bool, ◌||◌, ◌&&◌, nat_le, nat_lt, nat_eq, if◌then◌else◌, List, length, slice_index, slice_index_or, is_some, Option, Some, None}
 use Rattle.qblocks.specs.declared.block.TheConstants.{BLOCK_SIZE}
 use Rattle.qblocks.specs.declared.row.TheConstants.{ROW_BLOCKS}
-
--- every byte is 0
-abbrev pub IsZero : List ℕ → Type 0
-IsZero block = (i : ℕ) → slice_index block i ≡ 0
 
 -- the index is one of those from first up to end
 abbrev pub in_span : ℕ → ℕ → ℕ → Bool
@@ -46,32 +42,31 @@ pub record Puts (f g : ℕ → ℕ) (p q : ℕ → Bool) (old new off : ℕ) (in
   pub spare : new + gaps_in p off (length input) ≡ old
 
 -- a slot, which may hold a block
-abbrev pub Slot : Type 0 → Type 0
-Slot Z = Option (Box (List ℕ) Z)
+abbrev pub Slot : Type 0
+Slot = Option (List ℕ)
 
-module _ {Z : Type 0} where
-  -- the byte of the block at the slot, or 0
-  abbrev pub byte_of : Slot Z → ℕ → ℕ
-  byte_of None i = 0
-  byte_of (Some block) i = slice_index block.value i
+-- the byte of the block at the slot, or 0
+abbrev pub byte_of : Slot → ℕ → ℕ
+byte_of None i = 0
+byte_of (Some block) i = slice_index block i
 
-  -- the slot j of the row
-  abbrev pub slot_at : List (Slot Z) → ℕ → Slot Z
-  slot_at row j = slice_index_or row j None
+-- the slot j of the row
+abbrev pub slot_at : List Slot → ℕ → Slot
+slot_at row j = slice_index_or row j None
 
-  -- the slot j of the row holds a block
-  abbrev pub row_filled : List (Slot Z) → ℕ → Bool
-  row_filled row j = is_some (slot_at row j)
+-- the slot j of the row holds a block
+abbrev pub row_filled : List Slot → ℕ → Bool
+row_filled row j = is_some (slot_at row j)
 
-  -- the byte at the offset o in the row, or 0
-  abbrev pub row_byte : List (Slot Z) → ℕ → ℕ
-  row_byte row o = byte_of (slot_at row (o / BLOCK_SIZE)) (o % BLOCK_SIZE)
+-- the byte at the offset o in the row, or 0
+abbrev pub row_byte : List Slot → ℕ → ℕ
+row_byte row o = byte_of (slot_at row (o / BLOCK_SIZE)) (o % BLOCK_SIZE)
 
-  -- the write into a row, as `Puts` says it
-  abbrev pub PutsInRow : List (Slot Z) → List (Slot Z) → ℕ → ℕ → ℕ → List ℕ → Type 0
-  PutsInRow row new = Puts (row_byte row) (row_byte new) (row_filled row) (row_filled new)
+-- the write into a row, as `Puts` says it
+abbrev pub PutsInRow : List Slot → List Slot → ℕ → ℕ → ℕ → List ℕ → Type 0
+PutsInRow row new = Puts (row_byte row) (row_byte new) (row_filled row) (row_filled new)
 
-  -- the row has so many blocks fewer
-  abbrev pub LosesBlocks : List (Slot Z) → List (Slot Z) → ℕ → Type 0
-  LosesBlocks row new freed =
-      gaps (row_filled new) 0 ROW_BLOCKS ≡ gaps (row_filled row) 0 ROW_BLOCKS + freed
+-- the row has so many blocks fewer
+abbrev pub LosesBlocks : List Slot → List Slot → ℕ → Type 0
+LosesBlocks row new freed =
+    gaps (row_filled new) 0 ROW_BLOCKS ≡ gaps (row_filled row) 0 ROW_BLOCKS + freed

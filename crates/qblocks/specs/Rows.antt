@@ -24,16 +24,16 @@ in_room room r = in_pieces ROW_SIZE room.off room.len r
 
 -- the numbered rows
 abbrev pub Table : Type 0 → Type 0
-Table Z = BTreeMap ℕ (Box (List (Slot Z)) Z)
+Table Z = BTreeMap ℕ (Box (List Slot) Z)
 
 module _ {Z : Type 0} where
   -- the slots of a row, if it is there
-  abbrev pub slots_of : Option (Box (List (Slot Z)) Z) → List (Slot Z)
+  abbrev pub slots_of : Option (Box (List Slot) Z) → List Slot
   slots_of None = []
   slots_of (Some row) = row.value
 
   -- the slots of the row r
-  abbrev pub row_of : Table Z → ℕ → List (Slot Z)
+  abbrev pub row_of : Table Z → ℕ → List Slot
   row_of m r = slots_of (tree.get nat_cmp m r)
 
   -- there is a row r
@@ -41,7 +41,7 @@ module _ {Z : Type 0} where
   has_row m r = is_some (tree.get nat_cmp m r)
 
   -- the slot of the index k
-  abbrev pub slot_in : Table Z → ℕ → Slot Z
+  abbrev pub slot_in : Table Z → ℕ → Slot
   slot_in m k = slot_at (row_of m (k / ROW_BLOCKS)) (k % ROW_BLOCKS)
 
   -- the slot of the index k holds a block

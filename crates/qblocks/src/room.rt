@@ -6,6 +6,7 @@ ghost use Rattle.qblocks.specs.Rows.{SameBlocks, IsThereIfUsed, has_row};
 use crate::row::{ROW_BLOCKS, empty_row};
 use crate::rows::{Rows, missing_in_row};
 use std::alloc::{AllocError as NoMemory, Global};
+use std::collections::btree_map::Entry;
 
 /// Makes the row `r` if it is not there.
 fn make_row(rows: &mut Rows, r: u64, alloc: Global) -> Result<(), NoMemory>
@@ -13,8 +14,8 @@ fn make_row(rows: &mut Rows, r: u64, alloc: Global) -> Result<(), NoMemory>
     ensures made { OnOk result (has_row rows.new r ≡ true) }
     ensures others { (q : ℕ) → q ≢ r → has_row rows.new q ≡ has_row rows.old q }
 {
-    if !rows.contains_key(&r) {
-        rows.insert(r, empty_row(alloc)?)?;
+    if let Entry::Vacant(place) = rows.entry(r)? {
+        let _row = place.insert(empty_row(alloc)?);
     }
     Ok(())
 }

@@ -4,7 +4,7 @@ ghost use Rattle.std.specs.List.{range_with_len};
 ghost use Rattle.qblocks.specs.Input.{input_bytes};
 ghost use Rattle.qblocks.specs.Row.{Overwrites, PutsInRow, LosesBlocks, byte_of, slot_at, row_filled, row_byte, gaps, gaps_in};
 
-use crate::block::{BLOCK_SIZE, Block, overwrite, zero_from};
+use crate::block::{BLOCK_SIZE, Block};
 use crate::input::Input;
 use crate::spare::Spare;
 use std::alloc::{AllocError as NoMemory, Global};
@@ -16,14 +16,14 @@ pub(crate) const ROW_BLOCKS: u64 = 16;
 pub(crate) const ROW_SIZE: u64 = 65536;
 
 /// Room for a block, which may be there.
-pub(crate) type Slot = Option<Box<Block>>;
+pub(crate) type Slot = Option<Block>;
 
 pub(crate) type Row = [Slot; 16];
 
 pub(crate) fn empty_row(alloc: Global) -> Result<Box<Row>, NoMemory>
     ensures { IfOk result (λ row. (j : ℕ) → slot_at row.value j ≡ None) }
 {
-    Ok(Box::new(alloc, [const { None }; 16])?)
+    Ok(Box::new(alloc, std::array::from_fn(|_| None))?)
 }
 
 /// How many slots from `first` up to `end` hold no block.
@@ -54,11 +54,12 @@ fn put_block(row: &mut Row, j: u64, at: u64, input: Input, spare: &mut Spare)
     ensures spare { spare.new + (if row_filled row.old j then 0 else 1) ≡ spare.old }
 {
     let slot = &mut row[j as usize];
-    let mut block = match slot.take() {
-        Some(block) => block,
-        None => spare.take(),
-    };
-    overwrite(&mut block, at as usize, input);
+    if let Some(block) = slot {
+        block.overwrite(at as usize, input);
+        return;
+    }
+    let mut block = spare.take();
+    block.extend(at as usize, input);
     *slot = Some(block);
 }
 
@@ -106,7 +107,7 @@ fn zero_tail(row: &mut Row, j: u64, at: u64)
 {
     let slot = &mut row[j as usize];
     if let Some(mut block) = slot.take() {
-        zero_from(&mut block, at as usize);
+        block.cut(at as usize);
         *slot = Some(block);
     }
 }
@@ -138,7 +139,7 @@ fn read_block(row: &Row, j: u64, at: u64, len: u64, out: &mut Vec<u8>) -> Result
         (out.new.items ≡ out.old.items ++ map (byte_of (slot_at row.now j)) (range_with_len at len)) }
 {
     match &row[j as usize] {
-        Some(block) => out.extend_from_slice(&block[at as usize..(at + len) as usize])?,
+        Some(block) => block.read(at as usize, len as usize, out)?,
         None => out.resize(out.len() + len as usize, 0)?,
     }
     Ok(())

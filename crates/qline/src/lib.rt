@@ -3,7 +3,7 @@
 
 pub use call::{MAX_FILL, call_in};
 pub use caller::caller_of;
-pub use reply_text::put_reply;
+pub use reply_text::{REPLY_PLACE, put_reply};
 
 mod argument;
 mod call;

@@ -1,24 +1,43 @@
 //! Replies as text.
-ghost use Rattle.std.specs.Prelude.{◌≡◌};
+ghost use Rattle.std.specs.Prelude.{◌≡◌, ◌≤◌, ◌<◌, ◌+◌, ◌∷◌, ◌++◌, length, codes};
 ghost use Rattle.qtext.specs.Written.{Writes};
-ghost use Rattle.qtext.specs.Pieces.{piece_text};
 ghost use Rattle.qline.specs.Replies.{done_text, end_text, quota_text, refusal_text, reply_text, stat_text};
 
 use qplain::{Change, Quota, Refusal, Reply, Stat};
-use qtext::{Piece, RefusedWrite, kind_word, over_word, put_pieces};
+use qrules::{Kind, Over};
+use qtext::{HEAD_ROOM, LINE_ROOM, RefusedWrite, TextLine, kind_word, over_word};
 use std::io::Write;
 
-fn end<'a>(end: Option<u64>) -> Piece<'a>
-    ensures { piece_text result ≡ end_text end }
+/// How many bytes may stand before a reply.
+pub const REPLY_PLACE: usize = 32;
+
+/// Puts a space and a grace end.
+fn put_end(line: &mut TextLine, end: Option<u64>)
+    requires { length line.old + 21 ≤ LINE_ROOM }
+    ensures text { line.new ≡ line.old ++ 32 ∷ end_text end }
+    ensures short { length line.new ≤ length line.old + 21 }
 {
     match end {
-        None => Piece::Text(b"-"),
-        Some(end) => Piece::Number(end),
+        None => line.text(b" -"),
+        Some(end) => line.field(end),
     }
 }
 
-fn put_refusal<W: Write>(out: &mut W, refusal: Refusal) -> Result<(), RefusedWrite>
-    ensures { Writes (W.contents out.old) (W.contents out.new) result (refusal_text refusal) }
+fn put_over(line: &mut TextLine, kind: Kind, over: Over)
+    requires { length line.old ≤ HEAD_ROOM }
+    ensures text { line.new ≡ line.old ++ refusal_text (Refusal.EDQUOT kind over) }
+    ensures short { length line.new < LINE_ROOM }
+{
+    line.text(b"EDQUOT ");
+    line.text(kind_word(kind));
+    line.text(b" ");
+    line.text(over_word(over));
+}
+
+fn put_refusal(line: &mut TextLine, refusal: Refusal)
+    requires { length line.old ≤ HEAD_ROOM }
+    ensures text { line.new ≡ line.old ++ refusal_text refusal }
+    ensures short { length line.new < LINE_ROOM }
 {
     let name: &[u8] = match refusal {
         Refusal::EINVAL => b"EINVAL",
@@ -27,15 +46,7 @@ fn put_refusal<W: Write>(out: &mut W, refusal: Refusal) -> Result<(), RefusedWri
         Refusal::ENOTDIR => b"ENOTDIR",
         Refusal::EEXIST => b"EEXIST",
         Refusal::ENOSPC => b"ENOSPC",
-        Refusal::EDQUOT(kind, over) => {
-            let pieces = [
-                Piece::Text(b"EDQUOT "),
-                Piece::Text(kind_word(kind)),
-                Piece::Text(b" "),
-                Piece::Text(over_word(over)),
-            ];
-            return put_pieces(out, &pieces);
-        }
+        Refusal::EDQUOT(kind, over) => return put_over(line, kind, over),
         Refusal::EISDIR => b"EISDIR",
         Refusal::EACCES => b"EACCES",
         Refusal::EFBIG => b"EFBIG",
@@ -45,86 +56,81 @@ fn put_refusal<W: Write>(out: &mut W, refusal: Refusal) -> Result<(), RefusedWri
         Refusal::EBUSY => b"EBUSY",
         Refusal::ESRCH => b"ESRCH",
     };
-    put_pieces(out, &[Piece::Text(name)])
+    line.text(name);
 }
 
-fn put_done<W: Write>(out: &mut W, number: u64, change: &Change) -> Result<(), RefusedWrite>
-    ensures { Writes (W.contents out.old) (W.contents out.new) result (done_text number change.now) }
+fn put_done(line: &mut TextLine, number: u64, change: &Change)
+    requires { length line.old ≤ HEAD_ROOM }
+    ensures text { line.new ≡ line.old ++ done_text number change.now }
+    ensures short { length line.new < LINE_ROOM }
 {
-    let pieces = [
-        Piece::Text(b"done"),
-        Piece::Field(number),
-        Piece::Text(b" blocks +"),
-        Piece::Number(change.blocks_charged),
-        Piece::Text(b" -"),
-        Piece::Number(change.blocks_released),
-        Piece::Text(b" inodes +"),
-        Piece::Number(change.inodes_charged),
-        Piece::Text(b" -"),
-        Piece::Number(change.inodes_released),
-    ];
-    put_pieces(out, &pieces)
+    line.text(b"done");
+    line.field(number);
+    line.text(b" blocks +");
+    line.number(change.blocks_charged);
+    line.text(b" -");
+    line.number(change.blocks_released);
+    line.text(b" inodes +");
+    line.number(change.inodes_charged);
+    line.text(b" -");
+    line.number(change.inodes_released);
 }
 
-fn put_stat<W: Write>(out: &mut W, stat: &Stat) -> Result<(), RefusedWrite>
-    ensures { Writes (W.contents out.old) (W.contents out.new) result (stat_text stat.now) }
+fn put_stat(line: &mut TextLine, stat: &Stat)
+    requires { length line.old ≤ HEAD_ROOM }
+    ensures text { line.new ≡ line.old ++ stat_text stat.now }
+    ensures short { length line.new < LINE_ROOM }
 {
     let dir: &[u8] = if stat.dir { b" dir" } else { b" file" };
-    let pieces = [
-        Piece::Text(b"stat"),
-        Piece::Field(stat.ino),
-        Piece::Text(dir),
-        Piece::Field(stat.uid as u64),
-        Piece::Field(stat.gid as u64),
-        Piece::Field(stat.size),
-        Piece::Field(stat.blocks),
-        Piece::Field(stat.links),
-    ];
-    put_pieces(out, &pieces)
+    line.text(b"stat");
+    line.field(stat.ino);
+    line.text(dir);
+    line.field(stat.uid as u64);
+    line.field(stat.gid as u64);
+    line.field(stat.size);
+    line.field(stat.blocks);
+    line.field(stat.links);
 }
 
-fn put_quota<W: Write>(out: &mut W, quota: &Quota) -> Result<(), RefusedWrite>
-    ensures { Writes (W.contents out.old) (W.contents out.new) result (quota_text quota.now) }
+fn put_quota(line: &mut TextLine, quota: &Quota)
+    requires { length line.old ≤ HEAD_ROOM }
+    ensures text { line.new ≡ line.old ++ quota_text quota.now }
+    ensures short { length line.new < LINE_ROOM }
 {
-    let space = Piece::Text(b" ");
-    let pieces = [
-        Piece::Text(b"quota"),
-        Piece::Field(quota.blocks),
-        Piece::Field(quota.inodes),
-        Piece::Field(quota.limits.block_soft),
-        Piece::Field(quota.limits.block_hard),
-        Piece::Field(quota.limits.inode_soft),
-        Piece::Field(quota.limits.inode_hard),
-        space,
-        end(quota.block_end),
-        space,
-        end(quota.inode_end),
-    ];
-    put_pieces(out, &pieces)
+    line.text(b"quota");
+    line.field(quota.blocks);
+    line.field(quota.inodes);
+    line.field(quota.limits.block_soft);
+    line.field(quota.limits.block_hard);
+    line.field(quota.limits.inode_soft);
+    line.field(quota.limits.inode_hard);
+    put_end(line, quota.block_end);
+    put_end(line, quota.inode_end);
 }
 
-#[tactic(auto, using(qtext::proofs::Fronts::front_of_first, qtext::proofs::Fronts::writes_then))]
-fn put_refused<W: Write>(out: &mut W, refusal: Refusal) -> Result<(), RefusedWrite>
-    ensures { Writes (W.contents out.old) (W.contents out.new) result (reply_text (Reply.Refused refusal)) }
-{
-    put_pieces(out, &[Piece::Text(b"refused ")])?;
-    put_refusal(out, refusal)
-}
-
-/// Writes a reply, with no line end.
-pub fn put_reply<W: Write>(out: &mut W, reply: &Reply) -> Result<(), RefusedWrite>
-    ensures { Writes (W.contents out.old) (W.contents out.new) result (reply_text reply.now) }
+/// Writes what the line holds, a reply and a line end, by one write where the writer takes all of it and the reply
+/// has no more bytes than a piece of data.
+pub fn put_reply<W: Write>(
+    out: &mut W,
+    line: &mut TextLine,
+    reply: &Reply,
+) -> Result<(), RefusedWrite>
+    requires { length line.old ≤ REPLY_PLACE }
+    ensures { Writes (W.contents out.old) (W.contents out.new) result
+        (line.old ++ reply_text reply.now ++ codes "\n") }
 {
     match reply {
-        Reply::Done(number, change) => put_done(out, *number, change),
+        Reply::Done(number, change) => put_done(line, *number, change),
         Reply::Bytes(bytes) => {
-            put_pieces(
-                out,
-                &[Piece::Text(b"bytes "), Piece::Data(bytes.as_slice())],
-            )
+            line.text(b"bytes ");
+            return line.put_data(out, bytes.as_slice());
         }
-        Reply::Stat(stat) => put_stat(out, stat),
-        Reply::Quota(quota) => put_quota(out, quota),
-        Reply::Refused(refusal) => put_refused(out, *refusal),
+        Reply::Stat(stat) => put_stat(line, stat),
+        Reply::Quota(quota) => put_quota(line, quota),
+        Reply::Refused(refusal) => {
+            line.text(b"refused ");
+            put_refusal(line, *refusal);
+        }
     }
+    line.put_end(out)
 }

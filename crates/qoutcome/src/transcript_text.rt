@@ -6,7 +6,7 @@ ghost use Rattle.qoutcome.specs.Outcomes.{call_fault_text, line_text, transcript
 
 use qline::put_reply;
 use qplain::{CallFault, Receipt, Transcript};
-use qtext::{Piece, RefusedWrite, put, put_pieces};
+use qtext::{Piece, RefusedWrite, TextLine, put_pieces};
 use std::io::Write;
 
 fn fault_word(fault: CallFault) -> &'static [u8]
@@ -18,20 +18,29 @@ fn fault_word(fault: CallFault) -> &'static [u8]
     }
 }
 
-#[tactic(auto, using(qtext::proofs::Fronts::front_of_first, qtext::proofs::Fronts::writes_then))]
-fn put_receipt<W: Write>(out: &mut W, receipt: &Receipt) -> Result<(), RefusedWrite>
+/// Puts a line together in place of the one before, and writes it.
+fn put_receipt<W: Write>(
+    out: &mut W,
+    line: &mut TextLine,
+    receipt: &Receipt,
+) -> Result<(), RefusedWrite>
     ensures { Writes (W.contents out.old) (W.contents out.new) result (line_text (Ok receipt.now)) }
 {
-    put_pieces(out, &[Piece::Number(receipt.place), Piece::Text(b" ")])?;
-    put_reply(out, &receipt.reply)?;
-    put(out, b"\n")
+    line.clear();
+    line.number(receipt.place);
+    line.text(b" ");
+    put_reply(out, line, &receipt.reply)
 }
 
-fn put_line<W: Write>(out: &mut W, answer: &Result<Receipt, CallFault>) -> Result<(), RefusedWrite>
+fn put_line<W: Write>(
+    out: &mut W,
+    line: &mut TextLine,
+    answer: &Result<Receipt, CallFault>,
+) -> Result<(), RefusedWrite>
     ensures { Writes (W.contents out.old) (W.contents out.new) result (line_text answer.now) }
 {
     match answer {
-        Ok(receipt) => put_receipt(out, receipt),
+        Ok(receipt) => put_receipt(out, line, receipt),
         Err(fault) => {
             let pieces = [
                 Piece::Text(b"- failed "),
@@ -49,8 +58,9 @@ fn put_lines<W: Write>(
 ) -> Result<(), RefusedWrite>
     ensures { Writes (W.contents out.old) (W.contents out.new) result (flat_map line_text answers.now) }
 {
+    let mut line = TextLine::new();
     for answer in answers {
-        put_line(out, answer)?;
+        put_line(out, &mut line, answer)?;
     }
     Ok(())
 }

@@ -10,7 +10,7 @@ use Rattle.qplain.specs.declared.receipt.Receipt.{Receipt}
 use Rattle.qrun.specs.declared.outcome.Outcome.{Outcome}
 use Rattle.qplain.specs.declared.transcript.Transcript.{Transcript}
 use Rattle.qrun.specs.Journaled.{IsPlayed, Journaled}
-use Rattle.qrun.specs.Runs.{AreTranscriptsOf, Belongs, IsFullOf, IsOutcomeOf, journaled_lines}
+use Rattle.qrun.specs.Runs.{AreTranscriptsOf, Belongs, FullIsToldFirst, IsFullOf, IsOutcomeOf, journaled_lines}
 use Rattle.qrun.proofs.Telling.{IsOf}
 
 -- the only worker's transcript
@@ -20,10 +20,17 @@ only_transcript lines answers = record { worker = 1; lines = lines; answers = an
 -- the transcripts of one worker
 pub one_transcript : (lines : List Line) (journal : List Entry) (answers : List (Result Receipt CallFault))
     → length answers ≡ length lines → journaled_lines 1 lines answers ≡ entries_of journal 1
-    → All (IsFullOf journal) answers
+    → All (IsFullOf journal) answers → FullIsToldFirst answers
     → AreTranscriptsOf 1 (lines ∷ []) journal (only_transcript lines answers ∷ [])
 unfolding AreTranscriptsOf
-one_transcript lines journal answers each own full = (record { worker_is = refl; lines_are = refl; each = each; own = own; full = full }, tt)
+one_transcript lines journal answers each own full first = (record {
+  worker_is = refl;
+  lines_are = refl;
+  each = each;
+  own = own;
+  full = full;
+  first = first;
+}, tt)
 
 -- the entries of one worker belong to its transcript
 pub all_belong : (lines : List Line) (journal : List Entry) (answers : List (Result Receipt CallFault))

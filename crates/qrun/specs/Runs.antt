@@ -7,7 +7,7 @@ use Rattle.qplain.specs.State.{start}
 use Rattle.qplain.specs.Journal.{IsLegal, entries_of, play}
 use Rattle.qstore.specs.Rows.{record_row_of}
 use Rattle.qplain.specs.declared.call_fault.CallFault.{CallFault}
-use Rattle.qplain.specs.declared.call_fault.CallFault.TheVariants.{JournalFull}
+use Rattle.qplain.specs.declared.call_fault.CallFault.TheVariants.{JournalFull, OutOfMemory}
 use Rattle.qrun.specs.declared.journaled_store.TheConstants.{MAX_ENTRIES}
 use Rattle.qplain.specs.declared.receipt.Receipt.{Receipt}
 use Rattle.qplain.specs.declared.transcript.Transcript.{Transcript}
@@ -30,14 +30,27 @@ journaled_lines worker (line ∷ lines) [] = []
 abbrev pub IsFullOf : List Entry → Result Receipt CallFault → Type 0
 IsFullOf journal answer = answer ≡ Err JournalFull → length journal ≡ MAX_ENTRIES
 
--- a worker's transcript: its script's lines, one answer to each, the receipts are its own entries, and no outcome
--- tells of a full journal that is not full
+-- the journal is full behind this answer: it has the last place, or tells so
+abbrev pub IsFullBehind : Result Receipt CallFault → Type 0
+IsFullBehind (Ok receipt) = receipt.place ≡ MAX_ENTRIES
+IsFullBehind (Err JournalFull) = Unit {0}
+IsFullBehind (Err OutOfMemory) = ⊥
+
+-- once the journal is full, each further line is told so, whether there is memory or not
+unfoldable pub FullIsToldFirst : List (Result Receipt CallFault) → Type 0
+FullIsToldFirst [] = Unit {0}
+FullIsToldFirst (answer ∷ later) =
+    (IsFullBehind answer → All (λ a. a ≡ Err JournalFull) later) × FullIsToldFirst later
+
+-- a worker's transcript: its script's lines, one answer to each, the receipts are its own entries, no answer tells of a
+-- full journal that is not full, and a full one is told of before want of memory
 pub record IsTranscriptOf (worker : ℕ) (lines : List Line) (journal : List Entry) (t : Transcript) : Type 0 where
   pub worker_is : t.worker ≡ worker
   pub lines_are : t.lines ≡ lines
   pub each : length t.answers ≡ length lines
   pub own : journaled_lines worker lines t.answers ≡ entries_of journal worker
   pub full : All (IsFullOf journal) t.answers
+  pub first : FullIsToldFirst t.answers
 
 -- worker by worker, from this number on, the transcripts are those of the scripts
 unfoldable pub AreTranscriptsOf : ℕ → List (List Line) → List Entry → List Transcript → Type 0

@@ -3,7 +3,7 @@ ghost use Rattle.std.specs.Prelude.{◌≡◌, [], ◌∷◌, length, All, IfOk,
 ghost use Rattle.qplain.specs.Journal.{entries_of};
 ghost use Rattle.qstore.specs.Rows.{record_row_of};
 ghost use Rattle.qrun.specs.Journaled.{IsPlayed};
-ghost use Rattle.qrun.specs.Runs.{AreTranscriptsOf, Belongs, IsFullOf, IsOutcomeOf, IsTranscriptOf, journaled_lines};
+ghost use Rattle.qrun.specs.Runs.{AreTranscriptsOf, Belongs, FullIsToldFirst, IsFullOf, IsOutcomeOf, IsTranscriptOf, journaled_lines};
 
 use crate::Outcome;
 use crate::journaled_store::{JournaledStore, append};
@@ -43,6 +43,7 @@ fn answers_of(
         ≡ entries_of store.new.journal worker) }
     ensures all { OnOk result (All (λ e. e.worker ≡ worker) store.new.journal) }
     ensures full { IfOk result (λ answers. All (IsFullOf store.new.journal) answers.items) }
+    ensures first { IfOk result (λ answers. FullIsToldFirst answers.items) }
 {
     let mut answers = Vec::with_capacity(alloc, lines.len())?;
     for line in lines {

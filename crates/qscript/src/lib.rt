@@ -3,6 +3,7 @@
 
 pub use script::{MAX_LINES, Script};
 
+mod callers;
 mod line;
 mod raw_line;
 mod script;

@@ -1,18 +1,24 @@
-ghost use Rattle.std.specs.Prelude.{◌≡◌, ◌≤◌, map, IfOk};
+ghost use Rattle.std.specs.Prelude.{◌≡◌, ◌≤◌, true, map, IfOk};
 ghost use Rattle.std.specs.List.{list_all};
 ghost use Rattle.qtext.specs.Gives.{Gives};
-ghost use Rattle.qtext.specs.Words.{is_text_byte};
+ghost use Rattle.qtext.specs.Words.{is_text_byte, words as words_of};
 ghost use Rattle.qscript.specs.Scripts.{line_in, line_of};
 
+use crate::callers::Callers;
+use crate::raw_line::NextLine;
 use crate::script::MAX_LINES;
-use qline::{call_in, caller_of};
+use qline::call_in;
 use qplain::Line;
-use qtext::{ReadFault, TextKind, are_text_bytes, number, put_words};
+use qtext::{ReadFault, TextKind, number};
 use std::alloc::Global;
 
 /// `MOMENT CALLER CALL`.
 #[tactic(auto, unfolding(crate::specs::Scripts::line_in))]
-fn line_in(alloc: Global, words: &[&[u8]]) -> Result<Line, ReadFault>
+fn line_in<'a>(
+    alloc: Global,
+    callers: &mut Callers<'a>,
+    words: &[&'a [u8]],
+) -> Result<Line, ReadFault>
     ensures { Gives result (line_in (map (λ word. word.now) words.now)) }
 {
     match words {
@@ -23,35 +29,36 @@ fn line_in(alloc: Global, words: &[&[u8]]) -> Result<Line, ReadFault>
         }
         [moment, cred, call @ ..] => {
             let moment = number(moment)?;
-            let cred = caller_of(alloc, cred)?;
+            let cred = callers.read(alloc, cred)?;
             let call = call_in(alloc, call)?;
             Ok(Line { cred, moment, call })
         }
     }
 }
 
-/// The line of that number, which is whole where a line end stands behind it. Its words are put
-/// into the room, whatever that holds, so that lines share one allocation.
+/// The line of that number, whose words these are.
 #[tactic(auto, unfolding(crate::specs::Scripts::line_of))]
 pub(crate) fn line_of<'a>(
     alloc: Global,
-    room: &mut Vec<&'a [u8]>,
+    callers: &mut Callers<'a>,
     number: u64,
-    bytes: &'a [u8],
-    whole: bool,
+    line: &NextLine<'a>,
+    words: &[&'a [u8]],
 ) -> Result<Line, ReadFault>
-    ensures reads { Gives result (line_of (record { number = number; bytes = bytes.now; whole = whole })) }
+    requires bytes { line.now.is_text ≡ list_all is_text_byte line.now.bytes.now }
+    requires words { line.now.is_text ≡ true → map (λ word. word.now) words.now ≡ words_of line.now.bytes.now }
+    ensures reads { Gives result
+        (line_of (record { number = number; bytes = line.now.bytes.now; whole = line.now.whole })) }
     ensures few { IfOk result (λ _. number ≤ MAX_LINES) }
 {
     if number > MAX_LINES as u64 {
         return Err(ReadFault::Fault(TextKind::TooMany));
     }
-    if !whole {
+    if !line.whole {
         return Err(ReadFault::Fault(TextKind::Cut));
     }
-    if !are_text_bytes(bytes) {
+    if !line.is_text {
         return Err(ReadFault::Fault(TextKind::BadByte));
     }
-    put_words(room, bytes)?;
-    line_in(alloc, room)
+    line_in(alloc, callers, words)
 }

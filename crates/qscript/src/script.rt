@@ -3,6 +3,7 @@ ghost use Rattle.qplain.specs.declared.line.Line.{Line};
 ghost use Rattle.qtext.specs.Gives.{Reads};
 ghost use Rattle.qscript.specs.Scripts.{script_of};
 
+use crate::callers::Callers;
 use crate::line::line_of;
 use crate::raw_line::next_line;
 use qplain::Line;
@@ -46,12 +47,15 @@ fn lines_of(alloc: Global, text: &[u8]) -> Result<Items<Line>, TextFault>
 {
     let mut lines = Vec::new(alloc);
     let mut room = Vec::new(alloc);
+    let mut callers = Callers::new();
     let mut rest = text;
     let mut number = 0u64;
     while !rest.is_empty() {
         number += 1;
-        let (line, whole, after) = next_line(rest);
-        match line_of(alloc, &mut room, number, line, whole) {
+        let Ok(next) = next_line(&mut room, rest) else {
+            return Err(WANT_OF_MEMORY);
+        };
+        match line_of(alloc, &mut callers, number, &next, &room) {
             Ok(line) => match lines.push(line) {
                 Ok(()) => {}
                 Err(_) => return Err(WANT_OF_MEMORY),
@@ -59,7 +63,7 @@ fn lines_of(alloc: Global, text: &[u8]) -> Result<Items<Line>, TextFault>
             Err(ReadFault::Memory) => return Err(WANT_OF_MEMORY),
             Err(ReadFault::Fault(kind)) => return Err(TextFault { line: number, kind }),
         }
-        rest = after;
+        rest = next.after;
     }
     Ok(Items::new(lines))
 }

@@ -58,7 +58,8 @@ abbrev pub kept_at_start : Graces → List Principal → List KeptHolder
 kept_at_start graces ps = map (charged_holder 0 graces 0 0 1) (map new_holder ps)
 
 -- the charge of new kept holders makes them
-pub kept-at-start : (charged holders : List KeptHolder) (made ps : List Principal) (graces kept : Graces) → charged ≡ map (charged_holder 0 graces 0 0 1) holders
+pub kept-at-start : (charged holders : List KeptHolder) (made ps : List Principal) (graces kept : Graces) → charged ≡ map
+    (charged_holder 0 graces 0 0 1) holders
     → holders ≡ map new_holder made → made ≡ ps → graces ≡ kept → charged ≡ kept_at_start kept ps
 kept-at-start charged holders made ps graces kept is new same g =
     is ∙ ap (map (charged_holder 0 graces 0 0 1)) (new ∙ ap (map new_holder) same) ∙ ap (λ x. kept_at_start x ps) g

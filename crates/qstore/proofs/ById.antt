@@ -105,7 +105,8 @@ set-changed id f (o ∷ os) (suc slot) old new by_id there read written =
     λ i. here i ∷ rest i
 
 -- a change of kept holders that keeps their ids keeps their order
-by_id-changed : (id : ℕ) (f : KeptHolder → KeptHolder) → ((o : KeptHolder) → (f o).id ≡ o.id) → (os : List KeptHolder) → AreById os → AreById (map (changed id f) os)
+by_id-changed : (id : ℕ) (f : KeptHolder → KeptHolder) → ((o : KeptHolder) → (f o).id ≡ o.id) → (os : List KeptHolder) → AreById os → AreById
+    (map (changed id f) os)
 by_id-changed id f keeps os by_id = subst (λ ids. (k : ℕ) → k + 1 < length ids → get_or ids k 0 < get_or ids (k + 1) 0) (sym (ids os)) by_id
   where
     kept : (b : Bool) (o : KeptHolder) → (cond b (f o) o).id ≡ o.id

@@ -55,7 +55,8 @@ module _ (S S1 : State) (whose : Inode) (blocks inodes : ℕ) (rises : Rises S S
   inodes-risen o counted = rises.uses kind o.id Inodes ∙ ap (λ n. n + cond (owner kind whose == o.id) inodes 0) (sym counted.inodes)
 
   -- the new account of a kept holder's holder is the old one with the charge, where it is the kept holder's
-  pub account_of-risen : (o : KeptHolder) → IsCountedIn S kind o → account_of S1 (holder_in kind o) ≡ more_used (owner kind whose == o.id) blocks inodes o.account
+  pub account_of-risen : (o : KeptHolder) → IsCountedIn S kind o → account_of S1 (holder_in kind o) ≡ more_used
+      (owner kind whose == o.id) blocks inodes o.account
   account_of-risen o counted =
       more_used-counts (owner kind whose == o.id) blocks inodes o.account (use_of S1 kind o.id Blocks)
       (use_of S1 kind o.id Inodes) (blocks-risen o counted) (inodes-risen o counted)

@@ -26,7 +26,8 @@ counted-same S T kind os same all = All-weaker (IsCountedIn S kind) (IsCountedIn
     moved o counted = record { blocks = counted.blocks ∙ uses o.id Blocks; inodes = counted.inodes ∙ uses o.id Inodes }
 
 -- the ends of counted kept holders are where they should be where their holders' are
-pub ends-of-counted : (S : State) (kind : Kind) (os : List KeptHolder) → All (IsCountedIn S kind) os → All (λ h. HasEnds (account_of S h)) (map (holder_in kind) os)
+pub ends-of-counted : (S : State) (kind : Kind) (os : List KeptHolder) → All (IsCountedIn S kind) os → All (λ h. HasEnds (account_of S h))
+    (map (holder_in kind) os)
     → All (λ o. HasEnds o.account) os
 ends-of-counted S kind [] counted ends = All-nil (λ o. HasEnds o.account)
 ends-of-counted S kind (o ∷ os) counted ends =
@@ -52,5 +53,6 @@ rows-of-counted S kind (o ∷ os) all =
     let counted : IsCountedIn S kind o = All-head (IsCountedIn S kind) o os all in
     let here : holder_row kind o ≡ record_row_of S (holder_in kind o) =
     λ i. record (holder_row kind o) { blocks = counted.blocks i; inodes = counted.inodes i } in
-    let rest : map (holder_row kind) os ≡ map (record_row_of S) (map (holder_in kind) os) = rows-of-counted S kind os (All-tail (IsCountedIn S kind) o os all) in
+    let rest : map (holder_row kind) os ≡ map (record_row_of S) (map (holder_in kind) os) = rows-of-counted S kind os
+        (All-tail (IsCountedIn S kind) o os all) in
     λ i. here i ∷ rest i

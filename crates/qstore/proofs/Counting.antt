@@ -35,7 +35,8 @@ module _ {S : State} {users groups : List KeptHolder} {links : List (ℕ × ℕ)
   groups-end = group-ends S users groups kept.groups_counted all_ends
 
   -- what is kept stays so along equal values
-  pub counted-along : {T : State} {us gs : List KeptHolder} {ls : List (ℕ × ℕ)} → S ≡ T → users ≡ us → groups ≡ gs → links ≡ ls → IsCounted T us gs ls blocks inodes
+  pub counted-along : {T : State} {us gs : List KeptHolder} {ls : List (ℕ × ℕ)} → S ≡ T → users ≡ us → groups ≡ gs → links ≡ ls
+      → IsCounted T us gs ls blocks inodes
   counted-along {T} {us} {gs} {ls} p q r s =
       subst (λ x. IsCounted T us gs x blocks inodes) s (subst (λ x. IsCounted T us x links blocks inodes) r
       (subst (λ x. IsCounted T x groups links blocks inodes) q (subst (λ x. IsCounted x users groups links blocks inodes) p kept)))

@@ -28,7 +28,8 @@ HasEnds-with_ends account graces moment = record {
 -- ---- the ends of kept holders
 
 -- a change of some kept holders keeps what it gives, and what all of them have
-all-changed : (P : KeptHolder → Type 0) (test : KeptHolder → Bool) (f : KeptHolder → KeptHolder) (os : List KeptHolder) → ((o : KeptHolder) → P (f o)) → All P os
+all-changed : (P : KeptHolder → Type 0) (test : KeptHolder → Bool) (f : KeptHolder → KeptHolder) (os : List KeptHolder) → ((o : KeptHolder) → P (f o))
+    → All P os
     → All P (map (λ o. cond (test o) (f o) o) os)
 all-changed P test f [] gives all = All-nil P
 all-changed P test f (o ∷ os) gives all =

@@ -36,7 +36,8 @@ id-at_slot found kind id holders s (Some slot) same kept there =
     ap (λ k. slice_get (ids_of s k) slot) (sym same) ∙ ap (λ ids. slice_get ids slot) (sym kept) ∙ id-at holders slot id there
 
 -- the kept holder that stands at the slot of an id has it
-pub kept-at_slot : (holders : List KeptHolder) (slot id : ℕ) (o : KeptHolder) → slice_get (ids_in holders) slot ≡ Some id → slice_get holders slot ≡ Some o → o.id ≡ id
+pub kept-at_slot : (holders : List KeptHolder) (slot id : ℕ) (o : KeptHolder) → slice_get (ids_in holders) slot ≡ Some id → slice_get holders slot ≡ Some o
+    → o.id ≡ id
 kept-at_slot holders slot id o there is =
     let mapped : option_map (λ p. p.id) (slice_get holders slot) ≡ Some id = sym (slice_get-map (λ p. p.id) holders slot) ∙ there in
     let known : option_map (λ p. p.id) (slice_get holders slot) ≡ Some o.id = ap (option_map (λ p. p.id)) is in
@@ -76,7 +77,8 @@ pub id-seen : (holders : List KeptHolder) (ids : List ℕ) (slot id : ℕ) (o : 
 id-seen holders ids slot id o same there is = kept-at_slot holders slot id o (ap (λ xs. slice_get xs slot) same ∙ there) is
 
 -- what a kept holder uses is no more than the bounds
-pub small-kept : (S : State) (kind : Kind) (os : List KeptHolder) (slot : ℕ) (o : KeptHolder) → All (IsCountedIn S kind) os → slice_get os slot ≡ Some o → IsLawful S
+pub small-kept : (S : State) (kind : Kind) (os : List KeptHolder) (slot : ℕ) (o : KeptHolder) → All (IsCountedIn S kind) os → slice_get os slot ≡ Some o
+    → IsLawful S
     → (o.account.blocks ≤ S.size) × (o.account.inodes ≤ S.most_inodes)
 small-kept S kind os slot o counted there lawful =
     let here : IsCountedIn S kind o =

@@ -111,12 +111,14 @@ module _ (S S1 : State) (whose : Inode) (blocks inodes : ℕ) (rises : Rises S S
         let risen = inodes-risen S S1 whose blocks inodes rises kind o counted-there ∙ ap (λ b. o.account.inodes + cond b inodes 0) own in
         omega (arith, risen, use-le-total S1 kind o.id Inodes)
 
-  module _ (kind : Kind) (os : List KeptHolder) (counted : All (IsCountedIn S kind) os) (slot : ℕ) (there : IsSlotOf os slot (owner kind whose)) (most : ℕ) where
+  module _ (kind : Kind) (os : List KeptHolder) (counted : All (IsCountedIn S kind) os) (slot : ℕ) (there : IsSlotOf os slot (owner kind whose))
+      (most : ℕ) where
     -- a charge of blocks fits where the new total does
     pub blocks-fit-at : total_of S1 Blocks ≤ most → IfSome (slice_get os slot) (λ o. o.account.blocks + blocks ≤ most)
     blocks-fit-at low = by (slice_get os slot) refl there
       where
-        by : (r : Option KeptHolder) → slice_get os slot ≡ r → option_map (λ o. o.id) r ≡ Some (owner kind whose) → IfSome r (λ o. o.account.blocks + blocks ≤ most)
+        by : (r : Option KeptHolder) → slice_get os slot ≡ r → option_map (λ o. o.id) r ≡ Some (owner kind whose) → IfSome r
+            (λ o. o.account.blocks + blocks ≤ most)
         by None e is = tt
         by (Some o) e is = omega (arith, blocks-fit kind os counted slot o e (same_Some o.id (owner kind whose) is))
 
@@ -124,11 +126,13 @@ module _ (S S1 : State) (whose : Inode) (blocks inodes : ℕ) (rises : Rises S S
     pub inodes-fit-at : total_of S1 Inodes ≤ most → IfSome (slice_get os slot) (λ o. o.account.inodes + inodes ≤ most)
     inodes-fit-at low = by (slice_get os slot) refl there
       where
-        by : (r : Option KeptHolder) → slice_get os slot ≡ r → option_map (λ o. o.id) r ≡ Some (owner kind whose) → IfSome r (λ o. o.account.inodes + inodes ≤ most)
+        by : (r : Option KeptHolder) → slice_get os slot ≡ r → option_map (λ o. o.id) r ≡ Some (owner kind whose) → IfSome r
+            (λ o. o.account.inodes + inodes ≤ most)
         by None e is = tt
         by (Some o) e is = omega (arith, inodes-fit kind os counted slot o e (same_Some o.id (owner kind whose) is))
 
-module _ (S : State) (id : ℕ) (limits : Limits) (moment : ℕ) (us gs : List KeptHolder) (users : All (IsCountedIn S User) us) (groups : All (IsCountedIn S Group) gs)
+module _ (S : State) (id : ℕ) (limits : Limits) (moment : ℕ) (us gs : List KeptHolder) (users : All (IsCountedIn S User) us)
+    (groups : All (IsCountedIn S Group) gs)
     (user_ends : All (λ o. HasEnds o.account) us) (group_ends : All (λ o. HasEnds o.account) gs) where
   -- two changes of all holders are those of users and of groups
   split : (f g : Holder → Holder) → map f (map g (holders_in us gs)) ≡ map f (map g (map (holder_in User) us)) ++ map f (map g (map (holder_in Group) gs))

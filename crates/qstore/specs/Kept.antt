@@ -45,7 +45,8 @@ AreLinks S links =
 
 -- the state is sound, and its bounds and graces are in range, and what is kept beside it is what it counts to: each
 -- record's use, the totals, and each inode's links
-pub record IsCounted (S : State) (users groups : List KeptHolder) (links : List (ℕ × ℕ)) (blocks inodes : ℕ) : Type 0 where
+pub record IsCounted (S : State) (users groups : List KeptHolder) (links : List (ℕ × ℕ))
+    (blocks inodes : ℕ) : Type 0 where
   pub sound : IsSound S
   pub holders_kept : S.holders ≡ holders_in users groups
   pub users_counted : All (IsCountedIn S User) users

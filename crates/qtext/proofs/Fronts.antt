@@ -103,6 +103,11 @@ partly_taken a b c text rest n p q = partly_more a b c text rest (take n rest) (
 pub partly_next : (a b c : Option (List ℕ)) (text rest xs ys : List ℕ) → Partly a b text rest → Appends b c xs → rest ≡ xs ++ ys → Partly a c text ys
 partly_next a b c text rest xs ys p q e = partly_more a b c text rest xs ys p e q
 
+-- all that is left was written, or a beginning of it
+pub partly_last : {T E : Type 0} (a b c : Option (List ℕ)) (r : Result T E) (text rest : List ℕ)
+    → Partly a b text rest → Writes b c r rest → Writes a c r text
+partly_last a b c r text rest p q = rw p.parts (writes_then a b c r p.front rest p.appends q)
+
 -- how a loop ends at a refusal
 pub ends_refused : {T E : Type 0} (a b c : Option (List ℕ)) (r : Result T E) (text rest xs ys : List ℕ)
     → IsErr r → Partly a b text rest → AppendsFront b c xs → rest ≡ xs ++ ys → Writes a c r text

@@ -9,7 +9,7 @@ use Rattle.qtext.specs.Words.{parts}
 abbrev pub lacks : ℕ → List ℕ → Bool
 lacks s xs = list_all (λ b. not (eqb b s)) xs
 
-not_true : (b : Bool) → not b ≡ true → b ≡ false
+pub not_true : (b : Bool) → not b ≡ true → b ≡ false
 not_true true e = absurd cc
 not_true false e = refl
 

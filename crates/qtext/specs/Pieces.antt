@@ -3,7 +3,7 @@ use Rattle.std.specs.Prelude.{ℕ, ◌-◌, ◌||◌, Bool, nat_lt, nat_le, List
 use Rattle.std.specs.List.{filter, flat_map}
 use Rattle.hex.specs.Hex.{encode_lower}
 use Rattle.qtext.specs.declared.piece.Piece.{Piece}
-use Rattle.qtext.specs.declared.piece.Piece.TheVariants.{Text, Number, Field, Data, Left, Right, RightNumber}
+use Rattle.qtext.specs.declared.piece.Piece.TheVariants.{Text, Number, Byte, Left, Right, RightNumber}
 
 -- so many spaces
 abbrev pub spaces : ℕ → List ℕ
@@ -34,8 +34,7 @@ data_text (b ∷ bs) = encode_lower (b ∷ bs)
 abbrev pub piece_text : Piece → List ℕ
 piece_text (Text t) = t.now
 piece_text (Number n) = decimal n
-piece_text (Field n) = 32 ∷ decimal n
-piece_text (Data bs) = data_text bs.now
+piece_text (Byte b) = encode_lower (b ∷ [])
 piece_text (Left t places) = left_in places t.now
 piece_text (Right t places) = right_in places t.now
 piece_text (RightNumber n places) = right_in places (decimal n)

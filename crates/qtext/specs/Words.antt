@@ -23,6 +23,10 @@ words line = parts 0x20 line
 abbrev pub is_text_byte : ℕ → Bool
 is_text_byte byte = nat_le 0x20 byte && nat_le byte 0x7e
 
+-- a byte that prints
+abbrev pub is_word_byte : ℕ → Bool
+is_word_byte byte = nat_le 0x21 byte && nat_le byte 0x7e
+
 -- decimal digits alone
 abbrev pub AreDigits : List ℕ → Type 0
 AreDigits word = list_all is_ascii_digit word ≡ true

@@ -5,10 +5,8 @@ pub enum Piece<'a> {
     Text(&'a [u8]),
     /// A number in decimal digits.
     Number(u64),
-    /// A space and a number in decimal digits.
-    Field(u64),
-    /// Bytes as lower case hexadecimal digits, or `-` for none.
-    Data(&'a [u8]),
+    /// A byte in two lower case hexadecimal digits.
+    Byte(u8),
     /// A text at the left of that many places, a character each; a longer one stands whole.
     Left(&'a [u8], usize),
     /// A text at the right of that many places, a character each; a longer one stands whole.

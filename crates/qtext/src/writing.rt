@@ -1,14 +1,11 @@
-ghost use Rattle.std.specs.Prelude.{◌≡◌, ◌≤◌, ◌-◌, ◌++◌, ◌∷◌, [], length, decimal};
+ghost use Rattle.std.specs.Prelude.{◌≡◌, ◌-◌, ◌∷◌, [], decimal};
 ghost use Rattle.hex.specs.Hex.{encode_lower};
 ghost use Rattle.qtext.specs.Written.{Writes};
-ghost use Rattle.qtext.specs.Pieces.{characters_in, spaces, left_in, right_in, data_text, piece_text, pieces_text};
+ghost use Rattle.qtext.specs.Pieces.{characters_in, spaces, left_in, right_in, piece_text, pieces_text};
 
 use crate::{Piece, RefusedWrite};
 use itoa::Buffer;
 use std::io::Write;
-
-/// How many bytes' digits are written at once.
-const HEX_PIECE: usize = 256;
 
 /// Writes all of the text. A writer that takes nothing refuses. After an Err some beginning of the text went out.
 pub fn put<W: Write>(out: &mut W, text: &[u8]) -> Result<(), RefusedWrite>
@@ -41,39 +38,13 @@ fn put_number<W: Write>(out: &mut W, n: u64) -> Result<(), RefusedWrite>
     put(out, buffer.format(n).as_bytes())
 }
 
-/// Writes a space and a number at once.
-fn put_field<W: Write>(out: &mut W, n: u64) -> Result<(), RefusedWrite>
-    ensures { Writes (W.contents out.old) (W.contents out.new) result (32 ∷ decimal n) }
+/// Writes the two digits of a byte at once.
+fn put_byte<W: Write>(out: &mut W, byte: u8) -> Result<(), RefusedWrite>
+    ensures { Writes (W.contents out.old) (W.contents out.new) result (encode_lower (byte ∷ [])) }
 {
-    let mut buffer = Buffer::new();
-    let digits = buffer.format(n).as_bytes();
-    let mut text = [b' '; 41];
-    let end = digits.len() + 1;
-    text[1..end].copy_from_slice(digits);
-    put(out, &text[..end])
-}
-
-/// Writes the digits of no more bytes than a piece of data has, at once.
-fn put_digits<W: Write>(out: &mut W, bytes: &[u8]) -> Result<(), RefusedWrite>
-    requires { length bytes.now ≤ HEX_PIECE }
-    ensures { Writes (W.contents out.old) (W.contents out.new) result (encode_lower bytes.now) }
-{
-    let mut digits = [0u8; 2 * HEX_PIECE];
-    let text = &mut digits[..2 * bytes.len()];
-    hex::encode_to_slice(bytes, text).unwrap();
-    put(out, text)
-}
-
-fn put_hex<W: Write>(out: &mut W, bytes: &[u8]) -> Result<(), RefusedWrite>
-    ensures { Writes (W.contents out.old) (W.contents out.new) result (encode_lower bytes.now) }
-{
-    let mut rest = bytes;
-    while !rest.is_empty() {
-        let (piece, after) = rest.split_at(rest.len().min(HEX_PIECE));
-        put_digits(out, piece)?;
-        rest = after;
-    }
-    Ok(())
+    let mut digits = [0u8; 2];
+    hex::encode_to_slice(&[byte], &mut digits).unwrap();
+    put(out, &digits)
 }
 
 /// How many characters of UTF-8 the text has.
@@ -107,9 +78,7 @@ fn put_piece<W: Write>(out: &mut W, piece: Piece<'_>) -> Result<(), RefusedWrite
     match piece {
         Piece::Text(text) => put(out, text),
         Piece::Number(n) => put_number(out, n),
-        Piece::Field(n) => put_field(out, n),
-        Piece::Data([]) => put(out, b"-"),
-        Piece::Data(bytes) => put_hex(out, bytes),
+        Piece::Byte(byte) => put_byte(out, byte),
         Piece::Left(text, places) => put_left(out, text, places),
         Piece::Right(text, places) => put_right(out, text, places),
         Piece::RightNumber(n, places) => {

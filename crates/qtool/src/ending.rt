@@ -137,7 +137,7 @@ fn put_name_byte<E: Write>(err: &mut E, byte: u8) -> Result<(), RefusedWrite> {
         b'\n' => put(err, b"\\n"),
         0x0c => put(err, b"\\f"),
         b'\r' => put(err, b"\\r"),
-        0..0x20 | 0x7f => put_pieces(err, &[Piece::Text(b"\\u00"), Piece::Data(&[byte])]),
+        0..0x20 | 0x7f => put_pieces(err, &[Piece::Text(b"\\u00"), Piece::Byte(byte)]),
         _ => put(err, &[byte]),
     }
 }

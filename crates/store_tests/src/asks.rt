@@ -44,8 +44,9 @@ pub(crate) fn new_store(rt: &impl Abort, alloc: Global) -> Result<Store, NoMemor
 }
 
 /// The superuser, in group 7 alone.
-pub(crate) fn caller(rt: &impl Abort) -> Cred {
-    Cred::new(0, 7, &[]).expect(rt, "a caller")
+pub(crate) fn caller(rt: &(impl Abort + Alloc)) -> Cred {
+    let caller = Cred::new(rt.alloc(), 0, 7, &[]).ok().flatten();
+    caller.expect(rt, "a caller")
 }
 
 fn path(rt: &impl Abort, alloc: Global, text: &str) -> Result<Path, NoMemory> {
@@ -154,7 +155,7 @@ pub(crate) type Row<'a> = (Ask<'a>, Told<'a>);
 
 /// Fails where a row is told otherwise.
 pub(crate) fn play(
-    rt: &impl Abort,
+    rt: &(impl Abort + Alloc),
     alloc: Global,
     store: &mut Store,
     rows: &[Row<'_>],

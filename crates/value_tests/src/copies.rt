@@ -20,7 +20,7 @@ fn copies_of_setups_and_paths_are_equal(rt: HostRuntime) -> Result<(), NoMemory>
 
 #[test]
 fn copies_of_lines_are_equal(rt: HostRuntime) -> Result<(), NoMemory> {
-    let cred = Cred::new(1001, 0, &[100]).expect(&rt, "a caller");
+    let cred = Cred::new(rt.alloc(), 1001, 0, &[100])?.expect(&rt, "a caller");
     let line = Line {
         cred,
         moment: 1099,
@@ -39,7 +39,7 @@ fn copies_of_lines_are_equal(rt: HostRuntime) -> Result<(), NoMemory> {
 
 #[test]
 fn copies_of_entries_are_equal(rt: HostRuntime) -> Result<(), NoMemory> {
-    let cred = Cred::new(1001, 0, &[100]).expect(&rt, "a caller");
+    let cred = Cred::new(rt.alloc(), 1001, 0, &[100])?.expect(&rt, "a caller");
     let entry = Entry {
         worker: 1,
         cred,

@@ -4,15 +4,19 @@ use qplain::{Cred, Data, NoMemory, Path, Shared};
 use std::alloc::Global;
 
 #[test]
-fn a_caller_keeps_its_further_groups_in_order(rt: HostRuntime) {
+fn a_caller_keeps_its_further_groups_in_order(rt: HostRuntime) -> Result<(), NoMemory> {
+    let alloc = rt.alloc();
     let groups = [9, 7, 7, 0, 1, 2, 3, 4, 5, 6, 7, 8, 9, 10, 11, 12, 13];
     let sixteen = &groups[..16];
-    let caller = Cred::new(1001, 100, sixteen).expect(&rt, "a caller");
+    let caller = Cred::new(alloc, 1001, 100, sixteen)?.expect(&rt, "a caller");
     assert_eq!(rt; caller.more(), sixteen);
     assert_eq!(rt; (caller.uid(), caller.gid()), (1001, 100));
-    assert!(rt; Cred::new(1001, 100, groups.as_slice()).is_none());
-    assert!(rt; Cred::new(1001, 100, &[7, 9]) != Cred::new(1001, 100, &[9, 7]));
-    assert!(rt; Cred::new(1001, 100, &[0]) != Cred::new(1001, 100, &[]));
+    assert!(rt; Cred::new(alloc, 1001, 100, groups.as_slice())?.is_none());
+    assert!(rt; Cred::new(alloc, 1001, 100, &[7, 9])? != Cred::new(alloc, 1001, 100, &[9, 7])?);
+    assert!(rt; Cred::new(alloc, 1001, 100, &[0])? != Cred::new(alloc, 1001, 100, &[])?);
+    assert!(rt; Cred::new(alloc, 1001, 100, &[7, 9])? == Cred::new(alloc, 1001, 100, &[7, 9])?);
+    assert!(rt; caller.copy()? == caller);
+    Ok(())
 }
 
 #[test]

@@ -1,25 +1,17 @@
-use Rattle.std.proofs.Common.{◌≡◌, ◌-◌, ap, ◌∙◌, sym, arith, None, Some, ◌++◌, get_or, ℕ, ◌+◌, map}
-use Rattle.std.specs.List.{range_with_len}
+use Rattle.std.proofs.Common.{◌≡◌, ◌++◌, ◌+◌, ap, ◌∙◌, sym, arith, None, Some}
 use Rattle.std.proofs.lemmas.List.{get_or_default}
 use Rattle.qblocks.specs.Row.{slot_at, byte_of}
-use Rattle.qblocks.proofs.Reading.{reads-part, reads-resized, reads_same}
+use Rattle.qblocks.proofs.Reading.{reads-resized, reads_same}
 use Rattle.qblocks.proofs.row.read_block.Goals as goal
 
-pub returns-in_ok-extend_from_slice-in-Some : goal.returns-in_ok-extend_from_slice-in-Some
-returns-in_ok-extend_from_slice-in-Some c =
+pub returns-in_ok-read-in-Some : goal.returns-in_ok-read-in-Some
+returns-in_ok-read-in-Some c =
     let row = c.args.row.now in
     let j = c.args.j in
-    let block = c.deref.result.now in
-    let n = c.args.at + c.args.len - c.args.at in
-    let count : c.args.at + c.args.len - c.args.at ≡ c.args.len = omega arith in
     let here : slot_at row j ≡ Some c.in-Some.block = get_or_default row j None c.index-row-j.result (omega arith) ∙ c.in-Some.is in
-    let bytes : (i : ℕ) → get_or block i 0 ≡ byte_of (slot_at row j) i =
-    λ i. ap (λ xs. get_or xs i 0) c.deref.ensures ∙ sym (ap (λ slot. byte_of slot i) here) in
-    c.in_ok-extend_from_slice-in-Some.ensures.items
-    ∙ ap (λ xs. c.args.out.now.items ++ xs) (reads-part block c.args.at n (omega arith)
-    ∙ reads_same (λ i. get_or block i 0) (byte_of (slot_at row j)) c.args.at c.args.at n
-    (λ i _. bytes (c.args.at + i))
-    ∙ ap (λ (x : ℕ). map (byte_of (slot_at row j)) (range_with_len c.args.at x)) count)
+    c.in_ok-read-in-Some.ensures
+    ∙ ap (λ xs. c.args.out.now.items ++ xs) (reads_same (byte_of (Some c.in-Some.block)) (byte_of (slot_at row j)) c.args.at c.args.at c.args.len
+    (λ i _. ap (λ slot. byte_of slot (c.args.at + i)) (sym here)))
 
 pub returns-in_ok-resize-in-None : goal.returns-in_ok-resize-in-None
 returns-in_ok-resize-in-None c =

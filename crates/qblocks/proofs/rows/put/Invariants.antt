@@ -7,7 +7,8 @@ use Rattle.qblocks.proofs.rows.put.Given as goal
 
 abbrev pub invariant-loop-done : goal.invariant-loop-done
 invariant-loop-done l = record {
-  puts : Puts (byte_at l.initial.rows) (byte_at l.rows) (filled l.initial.rows) (filled l.rows) l.initial.spare l.spare l.off (take l.done (input_bytes l.input));
+  puts : Puts (byte_at l.initial.rows) (byte_at l.rows) (filled l.initial.rows) (filled l.rows) l.initial.spare
+      l.spare l.off (take l.done (input_bytes l.input));
   rows : (q : ℕ) → has_row l.rows q ≡ has_row l.initial.rows q;
   within : l.done ≤ length (input_bytes l.input);
   aligned : 0 < l.done → l.done < length (input_bytes l.input) → (l.off + l.done) % ROW_SIZE ≡ 0;

@@ -1,5 +1,5 @@
 use Rattle.std.proofs.Common.{◌∙◌, ◌+◌, ap, le_trans, refl}
-use Rattle.qrun.proofs.Telling.{none_told, one_more_told}
+use Rattle.qrun.proofs.Telling.{full_of, none_told, one_more_told}
 use Rattle.qrun.proofs.runs.answers_of.Goals as goal
 
 pub loop-line-init : goal.loop-line-init
@@ -20,3 +20,6 @@ loop-line-preserved c = (
   le_trans c.loop-line.invariant.2 c.append.ensures.capacity,
   c.call.ensures.setting ∙ c.loop-line.invariant.3,
 )
+
+pub returns-clause-full : goal.returns-clause-full
+returns-clause-full c = full_of c.loop-line.store.journal c.loop-line.answers.items c.loop-line.invariant.0.full

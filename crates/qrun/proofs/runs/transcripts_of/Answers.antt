@@ -9,7 +9,8 @@ pub returns-clause-transcripts : goal.returns-clause-transcripts
 returns-clause-transcripts c =
     rw (only c) (one_transcript c.args.lines.items _ _
     (rw c.deref.ensures.value at c.in_ok-answers.ensures.each)
-    (rw c.deref.ensures.value at c.in_ok-answers.ensures.own) c.in_ok-answers.ensures.full)
+    (rw c.deref.ensures.value at c.in_ok-answers.ensures.own) c.in_ok-answers.ensures.full
+    c.in_ok-answers.ensures.first)
 
 pub returns-clause-belong : goal.returns-clause-belong
 returns-clause-belong c = rw (only c) (all_belong c.args.lines.items _ c.in_ok-answers.answers.items c.in_ok-answers.ensures.all)

@@ -22,22 +22,24 @@ put-requires-clause-spare c =
 pub overflow_add-self : goal.overflow_add-self
 overflow_add-self c =
     let some = eqb-false (length (input_bytes c.args.input)) 0 (sym c.if-is_empty.ensures) in
+    let size = c.max-self-inside.ensures ∙ ap (λ (x : ℕ). max c.self.inside.size (c.args.off + x)) c.len.ensures in
     let put = put_whole c.self.inside.rows c.put.new.rows c.self.inside.size c.self.inside.count _
     c.args.self.now c.args.off (input_bytes c.args.input) c.args.spare _ _ c.max-self-inside.result c.self.view_is
-    c.requires.ready c.self.invariant c.put.ensures.puts (omega (arith, some)) (c.max-self-inside.ensures ∙ ap (λ (x : ℕ). max c.self.inside.size (c.args.off + x)) c.len.ensures)
+    c.requires.ready c.self.invariant c.put.ensures.puts (omega (arith, some)) size
     c.put.ensures.rows in
     omega (arith, put.0)
 
 -- the fields after the write, and the file that they stand for
-put_is : (c : goal.After-drop-spare-inside-2)
+put_is : (c : goal.After-drop-spare-inside-3)
     → IsWhole c.put.new.rows c.max-self-inside.result (c.self.inside.count + c.args.spare) no_room
     × (file_of c.put.new.rows c.max-self-inside.result
     ≡ after_write c.args.self.now.file c.args.off (input_bytes c.args.input))
 put_is c =
     let some = eqb-false (length (input_bytes c.args.input)) 0 (sym c.if-is_empty.ensures) in
+    let size = c.max-self-inside.ensures ∙ ap (λ (x : ℕ). max c.self.inside.size (c.args.off + x)) c.len.ensures in
     let put = put_whole c.self.inside.rows c.put.new.rows c.self.inside.size c.self.inside.count _
     c.args.self.now c.args.off (input_bytes c.args.input) c.args.spare _ _ c.max-self-inside.result c.self.view_is
-    c.requires.ready c.self.invariant c.put.ensures.puts (omega (arith, some)) (c.max-self-inside.ensures ∙ ap (λ (x : ℕ). max c.self.inside.size (c.args.off + x)) c.len.ensures)
+    c.requires.ready c.self.invariant c.put.ensures.puts (omega (arith, some)) size
     c.put.ensures.rows in
     (put.1, put.2)
 

@@ -23,7 +23,8 @@ ledger_of-requires-2 c = record {
 }
 
 pub begun-requires-clause-users : goal.begun-requires-clause-users
-begun-requires-clause-users c = kept-at-start _ _ c.users.result.now _ c.graces.result _ c.in_ok-users.ensures refl c.users.ensures.users c.graces.ensures.graces
+begun-requires-clause-users c =
+    kept-at-start _ _ c.users.result.now _ c.graces.result _ c.in_ok-users.ensures refl c.users.ensures.users c.graces.ensures.graces
 
 pub begun-requires-clause-groups : goal.begun-requires-clause-groups
 begun-requires-clause-groups c =

@@ -1,0 +1,43 @@
+ghost use Rattle.std.specs.Prelude.{◌≡◌, Ok};
+ghost use Rattle.qtext.specs.Gives.{Gives};
+ghost use Rattle.qline.specs.Callers.{caller_of};
+
+use qline::caller_of;
+use qplain::Cred;
+use qtext::ReadFault;
+use std::alloc::Global;
+
+/// A caller that was read, beside its word.
+#[derive(Clone, Copy)]
+struct KeptCaller<'a> {
+    word: &'a [u8],
+    cred: Cred,
+    ghost same: { caller_of word.now ≡ Ok cred },
+}
+
+/// Reads callers one after the other, and keeps the last one: mostly the next is the same.
+#[derive(Drop)]
+pub(crate) struct Callers<'a> {
+    last: Option<KeptCaller<'a>>,
+}
+
+impl<'a> Callers<'a> {
+    /// With none kept.
+    pub(crate) fn new() -> Self {
+        Callers { last: None }
+    }
+
+    /// `UID:GID`, then at most 16 times `,GROUP`.
+    pub(crate) fn read(&mut self, alloc: Global, word: &'a [u8]) -> Result<Cred, ReadFault>
+        ensures { Gives result (caller_of word.now) }
+    {
+        if let Some(last) = &self.last {
+            if last.word == word {
+                return Ok(last.cred);
+            }
+        }
+        let cred = caller_of(alloc, word)?;
+        self.last = Some(KeptCaller { word, cred });
+        Ok(cred)
+    }
+}
