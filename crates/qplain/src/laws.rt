@@ -1,9 +1,10 @@
 //! The laws of the plain machine, each the contract of a function that does nothing when it runs.
 ghost use Rattle.qplain.specs.Laws.{EndsAreTheRules, EndsStay, LimitsHold, LimitsStay, NewLimitsAreTheRules, NumbersGoOn, RefusalsChangeNothing, RightsHold, SetupsStay, StartIsLawful, StepsStayLawful, UsesAddUp};
 
-/// Totals stay within the bounds, a grace end stands exactly where use is over its soft limit, every inode has
-/// declared owners, and no principal is there twice: in a new store of a setup that is not refused, and after every
-/// step of a lawful one.
+/// Totals and inode numbers stay within the bounds, and a grace end stands exactly where use is over its soft limit.
+/// Principals, inodes and names stand once and in order. Every inode has declared owners and as many names as it may, a
+/// directory holds no bytes and no block, and each name stands in a directory and leads to an inode. So it is in a new
+/// store of a lawful setup, and after every step of a lawful state.
 pub fn stores_stay_lawful()
     ensures start { StartIsLawful }
     ensures steps { StepsStayLawful }

@@ -88,7 +88,7 @@ module _ (s : Setting) (lawful : IsLawfulSetup s) where
   pub start-counted : s.blocks ≤ MAX_BLOCKS → s.inodes ≤ MAX_INODES → are_graces_in_range s.graces ≡ true
       → IsCounted (start s) (kept_at_start s.graces s.users) (kept_at_start s.graces s.groups) ((ROOT, 2) ∷ []) 0 1
   start-counted few_blocks few_inodes graces = record {
-    sound = record { lawful = start_is_lawful s lawful.granted; file_bound = omega arith; next_bound = omega arith };
+    sound = record { lawful = start_is_lawful s lawful; file_bound = omega arith };
     holders_kept = sym (all-holders-begun s s.graces 0);
     users_counted = counted-begun s User s.graces 0 s.users;
     groups_counted = counted-begun s Group s.graces 0 s.groups;

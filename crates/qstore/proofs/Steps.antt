@@ -5,7 +5,7 @@ use Rattle.qplain.specs.declared.reply.Reply.{Reply}
 use Rattle.qplain.specs.Caller.{Caller}
 use Rattle.qplain.specs.State.{State}
 use Rattle.qplain.specs.Step.{step}
-use Rattle.qplain.proofs.Rising.{IsLawful-from_step, KeepsSetup-from_step, next-from_step}
+use Rattle.qplain.proofs.Rising.{IsLawful-from_step, KeepsSetup-from_step}
 use Rattle.qstore.specs.Stored.{IsSound}
 
 -- a step of a sound state leaves a sound state
@@ -16,5 +16,4 @@ IsSound-from_step S T cred moment call reply sound is = record {
       let same = (KeepsSetup-from_step S cred moment call T reply (sym is)).file_limit in
       let low = sound.file_bound in
       omega (arith, same, low);
-  next_bound = next-from_step S cred moment call T reply sound.next_bound (sym is);
 }

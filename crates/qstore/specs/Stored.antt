@@ -5,17 +5,15 @@ use Rattle.std.specs.List.{slice_get}
 use Rattle.qrules.specs.declared.kind.Kind.{Kind}
 use Rattle.qrules.specs.declared.kind.Kind.TheVariants.{User, Group}
 use Rattle.qblocks.specs.declared.file.TheConstants.{MAX_SIZE}
-use Rattle.qplain.specs.declared.bounds.TheConstants.{MAX_NUMBER}
 use Rattle.qplain.specs.State.{State}
 use Rattle.qplain.specs.Laws.{IsLawful}
 use Rattle.qstore.specs.Room.{Room}
 use Rattle.qstore.specs.declared.slots.Slots.{Slots}
 
--- a state that a store can be in: a lawful one, whose numbers are within bounds
+-- a state that a store can be in: a lawful one, whose file limit is within what a file can hold
 pub record IsSound (S : State) : Type 0 where
   pub lawful : IsLawful S
   pub file_bound : S.file_limit ≤ MAX_SIZE
-  pub next_bound : S.next ≤ MAX_NUMBER + 1
 
 -- the state, the room that is made in it, and the ids of the users and of the groups in the order of their records
 pub record Stored : Type 0 where

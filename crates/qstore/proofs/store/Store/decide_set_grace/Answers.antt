@@ -13,5 +13,5 @@ returns-clause-step c moment =
     let sound = c.requires.sound in
     let super : (cred.uid == 0) ≡ true = let uid = c.uid.ensures in let same = c.if-uid-ne0.false in grind (arith, tests, uid, same) in
     sym (ap (λ b. settle S cred moment (cond (not b) (Refuse EPERM) (Becomes (record S { graces = c.args.graces }) 0))) super
-    ∙ settle-graced S c.args.graces cred moment sound.lawful.blocks_fit sound.lawful.inodes_fit sound.next_bound
+    ∙ settle-graced S c.args.graces cred moment sound.lawful.blocks_fit sound.lawful.inodes_fit sound.lawful.next_fits
     ∙ ap (λ T. (T, Done 0 no_change)) (ends_after-graced S c.args.graces moment sound.lawful))

@@ -17,4 +17,4 @@ returns-in-Some-clause-step c =
     sym ((λ i. settle S cred x.moment
     (cond (not (super i)) (Refuse EPERM)
     (cond (not (declared i)) (Refuse ESRCH) (Becomes (with_limits_of S x.kind x.id x.limits) 0))))
-    ∙ settle-with_limits_of S x.kind x.id x.limits cred x.moment sound.lawful.blocks_fit sound.lawful.inodes_fit sound.next_bound)
+    ∙ settle-with_limits_of S x.kind x.id x.limits cred x.moment sound.lawful.blocks_fit sound.lawful.inodes_fit sound.lawful.next_fits)
