@@ -1,3 +1,4 @@
+//! The quota report as text.
 ghost use Rattle.std.specs.Prelude.{◌≡◌, decimal};
 ghost use Rattle.qrules.specs.Sort.{is_over};
 ghost use Rattle.qtext.specs.Written.{Writes};

@@ -1,3 +1,4 @@
+//! Why a text is no configuration.
 ghost use Rattle.std.specs.Prelude.{◌≡◌, Some};
 ghost use Rattle.qconfig.specs.ConfigFaults.{cause_of, cause_of_setup, config_fault_number};
 ghost use Rattle.qconfig.specs.declared.config_fault.ConfigFault.TheVariants.{Memory};

@@ -1,3 +1,4 @@
+//! The arguments that more than one call takes.
 ghost use Rattle.qtext.specs.Gives.{Gives};
 ghost use Rattle.qtext.specs.Data.{data_of};
 ghost use Rattle.qline.specs.Arguments.{path_of, kind_of};

@@ -1,3 +1,4 @@
+//! Calls as words.
 ghost use Rattle.std.specs.Prelude.{map};
 ghost use Rattle.qtext.specs.Gives.{Gives};
 ghost use Rattle.qline.specs.Calls.{create_of, write_of, fill_of, read_of, stat_of, limits_of, setquota_of, setgrace_of, quota_of, call_of, call_in};

@@ -1,3 +1,4 @@
+//! Callers as words.
 ghost use Rattle.std.specs.Prelude.{◌≡◌};
 ghost use Rattle.std.specs.Option.{option_map};
 ghost use Rattle.qtext.specs.Gives.{Gives};

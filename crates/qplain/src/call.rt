@@ -1,3 +1,4 @@
+//! What is asked of a store.
 ghost use Rattle.std.specs.Prelude.{◌≡◌, IfOk};
 
 use crate::{Data, NoMemory, Path};

@@ -1,3 +1,4 @@
+//! Names of principals.
 ghost use Rattle.std.specs.Prelude.{◌≡◌, ℕ, List, string_bytes, nat_eq};
 ghost use Rattle.std.proofs.Common.{rules};
 ghost use Rattle.std.specs.Cmp.Lexicographic.{pointwise};

@@ -1,3 +1,4 @@
+//! One quota record: its use, its limits and its grace ends.
 ghost use Rattle.std.specs.Prelude.{◌≡◌, ◌+◌, ◌-◌, ◌*◌, ◌<◌, ◌≤◌, ℕ, IsTrue, IsOk, true, false, None};
 ghost use Rattle.qrules.specs.declared.graces.Graces.{Graces};
 ghost use Rattle.qrules.specs.Sort.{Blocks, Inodes, amount_of};

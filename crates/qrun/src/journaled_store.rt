@@ -1,3 +1,4 @@
+//! A store with the journal of its calls.
 ghost use Rattle.std.specs.Prelude.{◌≡◌, ◌<◌, ◌≤◌, ◌+◌, ◌++◌, ◌∷◌, [], ◌↔◌, length, map, vec_len, vec_capacity, IfOk, OnErr, OnOk, Err};
 ghost use Rattle.qplain.specs.State.{start};
 ghost use Rattle.qstore.specs.Rows.{record_row_of};

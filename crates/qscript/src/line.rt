@@ -1,3 +1,4 @@
+//! One line of a script.
 ghost use Rattle.std.specs.Prelude.{◌≡◌, ◌≤◌, true, map, IfOk};
 ghost use Rattle.std.specs.List.{list_all};
 ghost use Rattle.qtext.specs.Gives.{Gives};

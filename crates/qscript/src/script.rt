@@ -1,3 +1,4 @@
+//! Scripts: the lines of one worker.
 ghost use Rattle.std.specs.Prelude.{◌≡◌, ◌≤◌, ◌⊎◌, List, Ok, Err, IfOk, length};
 ghost use Rattle.qplain.specs.declared.line.Line.{Line};
 ghost use Rattle.qtext.specs.Gives.{Reads};

@@ -1,3 +1,4 @@
+//! The store: its parts, and one call from its decision to its commit.
 ghost use Rattle.std.specs.Prelude.{◌≡◌, true, false, [], All, IfOk, OnOk, OnErr};
 ghost use Rattle.std.specs.Result.{IsOk};
 ghost use Rattle.qrules.specs.Sort.{Blocks, Inodes};

@@ -1,3 +1,4 @@
+//! Bytes as hexadecimal digits.
 ghost use Rattle.qtext.specs.Gives.{Gives};
 ghost use Rattle.qtext.specs.Data.{data_of, byte_of};
 

@@ -1,3 +1,4 @@
+//! The parts of a text.
 ghost use Rattle.std.specs.Prelude.{◌≡◌, ◌<◌, ◌∷◌, length, IfSome, IsNone};
 ghost use Rattle.std.specs.Option.{option_map};
 ghost use Rattle.qtext.specs.Words.{parts, parts_after};

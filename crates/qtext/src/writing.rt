@@ -1,3 +1,4 @@
+//! Pieces of text for any writer.
 ghost use Rattle.std.specs.Prelude.{◌≡◌, ◌-◌, ◌∷◌, [], decimal};
 ghost use Rattle.hex.specs.Hex.{encode_lower};
 ghost use Rattle.qtext.specs.Written.{Writes};

@@ -1,3 +1,4 @@
+//! Runs of the scripts of a command line.
 ghost use Rattle.std.specs.Prelude.{◌≡◌, IfOk, vec_len};
 ghost use Rattle.qrun.specs.Runs.{IsOutcomeOf};
 
