@@ -4,11 +4,16 @@
 
 ghost use Rattle.std.specs.Prelude.{◌≡◌, ◌+◌, ◌*◌, ◌^◌, ◌<◌, ◌≤◌, length, IfOk};
 
-use qblocks::{BLOCK_SIZE, BlockFile, NoMemory};
+use qblocks::{BLOCK_SIZE, BlockFile, Input, NoMemory};
 use std::alloc::Global;
 use std::io;
 
 const CHUNK: u64 = 65536;
+
+const FILL: Input = Input::Fill {
+    count: CHUNK,
+    byte: 7,
+};
 
 #[inline(never)]
 fn copy_chunk(to: &mut [u8], from: &[u8], times: u64)
@@ -37,7 +42,7 @@ fn write_new_chunks(file: &mut BlockFile, chunk: &[u8], times: u64) -> Result<u6
 {
     let mut fresh = 0u64;
     for i in 0..times {
-        fresh = fresh.wrapping_add(file.write(i * CHUNK, chunk)?);
+        fresh = fresh.wrapping_add(file.write(i * CHUNK, Input::Bytes(chunk))?);
     }
     Ok(fresh)
 }
@@ -48,7 +53,7 @@ fn overwrite_chunk(file: &mut BlockFile, chunk: &[u8], times: u64) -> Result<u64
 {
     let mut fresh = 0u64;
     for _ in 0..times {
-        fresh = fresh.wrapping_add(file.write(CHUNK, chunk)?);
+        fresh = fresh.wrapping_add(file.write(CHUNK, Input::Bytes(chunk))?);
     }
     Ok(fresh)
 }
@@ -59,7 +64,37 @@ fn overwrite_across_rows(file: &mut BlockFile, chunk: &[u8], times: u64) -> Resu
 {
     let mut fresh = 0u64;
     for _ in 0..times {
-        fresh = fresh.wrapping_add(file.write(CHUNK + 100, chunk)?);
+        fresh = fresh.wrapping_add(file.write(CHUNK + 100, Input::Bytes(chunk))?);
+    }
+    Ok(fresh)
+}
+
+#[inline(never)]
+fn fill_new_chunks(file: &mut BlockFile, times: u64) -> Result<u64, NoMemory>
+    requires { times ≤ 2 ^ 20 }
+{
+    let mut fresh = 0u64;
+    for i in 0..times {
+        fresh = fresh.wrapping_add(file.write(i * CHUNK, FILL)?);
+    }
+    Ok(fresh)
+}
+
+#[inline(never)]
+fn refill_chunk(file: &mut BlockFile, times: u64) -> Result<u64, NoMemory> {
+    let mut fresh = 0u64;
+    for _ in 0..times {
+        fresh = fresh.wrapping_add(file.write(CHUNK, FILL)?);
+    }
+    Ok(fresh)
+}
+
+#[inline(never)]
+fn write_bytes_far_apart(file: &mut BlockFile, times: u64) -> Result<u64, NoMemory> {
+    let mut fresh = 0u64;
+    for i in 0..times {
+        let at = i.wrapping_mul(2_654_435_761) % 16384;
+        fresh = fresh.wrapping_add(file.write(at * CHUNK + 7, Input::Bytes(b"z"))?);
     }
     Ok(fresh)
 }
@@ -90,7 +125,7 @@ fn fill_blocks(file: &mut BlockFile, blocks: u64) -> Result<u64, NoMemory>
 {
     let mut fresh = 0u64;
     for k in 0..blocks {
-        fresh = fresh.wrapping_add(file.write(k * BLOCK_SIZE, b"x")?);
+        fresh = fresh.wrapping_add(file.write(k * BLOCK_SIZE, Input::Bytes(b"x"))?);
     }
     Ok(fresh)
 }
@@ -99,7 +134,7 @@ fn fill_blocks(file: &mut BlockFile, blocks: u64) -> Result<u64, NoMemory>
 fn overwrite_byte_of_10(file: &mut BlockFile, times: u64) -> Result<u64, NoMemory> {
     let mut fresh = 0u64;
     for i in 0..times {
-        fresh = fresh.wrapping_add(file.write(i % 10 * BLOCK_SIZE + 7, b"y")?);
+        fresh = fresh.wrapping_add(file.write(i % 10 * BLOCK_SIZE + 7, Input::Bytes(b"y"))?);
     }
     Ok(fresh)
 }
@@ -109,7 +144,7 @@ fn overwrite_byte_of_100000(file: &mut BlockFile, times: u64) -> Result<u64, NoM
     let mut fresh = 0u64;
     for i in 0..times {
         let k = i.wrapping_mul(7919) % 100_000;
-        fresh = fresh.wrapping_add(file.write(k * BLOCK_SIZE + 7, b"y")?);
+        fresh = fresh.wrapping_add(file.write(k * BLOCK_SIZE + 7, Input::Bytes(b"y"))?);
     }
     Ok(fresh)
 }
@@ -135,6 +170,10 @@ fn chunks(rt: &impl Print, alloc: Global) -> io::Result<()> {
     let again = overwrite_chunk(&mut file, &chunk, 100)?;
     let across = overwrite_across_rows(&mut file, &chunk, 100)?;
     println!(rt; "64 KiB writes: {fresh} new blocks, then {again} and {across}")?;
+    let mut file = BlockFile::new(alloc);
+    let fresh = fill_new_chunks(&mut file, 100)?;
+    let again = refill_chunk(&mut file, 100)?;
+    println!(rt; "64 KiB fills: {fresh} new blocks, then {again}")?;
     let missing = missing_in_chunk(&file, 100);
     let bytes = read_chunk(&file, 100)?;
     println!(rt; "64 KiB reads: {bytes} bytes, {missing} blocks missing")
@@ -145,6 +184,9 @@ fn bytes(rt: &impl Print, alloc: Global) -> io::Result<()> {
     let few = fill_blocks(&mut small, 10)?;
     let again = overwrite_byte_of_10(&mut small, 1000)?;
     println!(rt; "{few} blocks: {again} more by 1000 writes of a byte")?;
+    let mut wide = BlockFile::new(alloc);
+    let many = write_bytes_far_apart(&mut wide, 1000)?;
+    println!(rt; "{many} new blocks by 1000 writes of a byte")?;
     let mut large = BlockFile::new(alloc);
     let many = fill_blocks(&mut large, 100_000)?;
     let again = overwrite_byte_of_100000(&mut large, 1000)?;

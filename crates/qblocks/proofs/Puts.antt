@@ -109,15 +109,16 @@ span_end_aligned off n aligned =
     (λ some. let even = aligned (omega arith) in span_end_some BLOCK_SIZE off n (omega arith) ∙ omega arith)
     (cases_lt n 1)
 
--- the same, with the numbers as a loop has them: n bytes are written, and m more at s
-pub Puts-next : (f g h : ℕ → ℕ) (p q r : ℕ → Bool) (a b c off n m to s : ℕ) (input : List ℕ)
-    → Puts f g p q a b off (take n input) → Puts g h q r b c s (take m (drop n input)) → s ≡ off + n
+-- the same, with the numbers as a loop has them: n bytes are written, and a part of m more at s
+pub Puts-next : (f g h : ℕ → ℕ) (p q r : ℕ → Bool) (a b c off n m to s : ℕ) (input part : List ℕ)
+    → Puts f g p q a b off (take n input) → Puts g h q r b c s part → part ≡ take m (drop n input) → s ≡ off + n
     → to ≡ n + m → n + m ≤ length input → 0 < m → (0 < n → (off + n) % BLOCK_SIZE ≡ 0)
     → Puts f h p r a c off (take to input)
-Puts-next f g h p q r a b c off n m to s input first then' at ends l some aligned =
+Puts-next f g h p q r a b c off n m to s input part first then' is at ends l some aligned =
+    let Part : List ℕ → Type 0 = Puts g h q r b c s in
     let Then : ℕ → Type 0 = λ x. Puts g h q r b c x (take m (drop n input)) in
     let Both : ℕ → Type 0 = λ x. Puts f h p r a c off (take x input) in
-    subst Both (sym ends) (Puts-more f g h p q r a b c off n m input first (subst Then at then') l some (span_end_aligned off n aligned))
+    subst Both (sym ends) (Puts-more f g h p q r a b c off n m input first (subst Then at (subst Part is then')) l some (span_end_aligned off n aligned))
 
 -- what is spare is enough for the next piece
 pub Puts-rest : (f g : ℕ → ℕ) (p q : ℕ → Bool) (a b off n m s : ℕ) (input : List ℕ)

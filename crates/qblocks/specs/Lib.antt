@@ -1,4 +1,5 @@
 pub mod File
+pub mod Input
 pub mod WriteRoom
 pub mod Row
 pub mod Rows

@@ -1,7 +1,9 @@
 //! A block: 4096 bytes, all 0 at first.
 ghost use Rattle.std.specs.Prelude.{◌≡◌, ℕ, ◌+◌, ◌<◌, ◌≤◌, length, slice_index, IfOk};
+ghost use Rattle.qblocks.specs.Input.{input_bytes};
 ghost use Rattle.qblocks.specs.Row.{IsZero, Overwrites};
 
+use crate::input::Input;
 use std::alloc::{AllocError as NoMemory, Global};
 
 /// How many bytes a block has.
@@ -15,11 +17,15 @@ pub(crate) fn zero_block(alloc: Global) -> Result<Box<Block>, NoMemory>
     Ok(Box::new(alloc, [0; 4096])?)
 }
 
-pub(crate) fn overwrite(block: &mut Block, at: usize, part: &[u8])
-    requires { at + length part.now ≤ 4096 }
-    ensures { Overwrites (slice_index block.old) (slice_index block.new) at part.now }
+pub(crate) fn overwrite(block: &mut Block, at: usize, input: Input)
+    requires { at + length (input_bytes input) ≤ 4096 }
+    ensures { Overwrites (slice_index block.old) (slice_index block.new) at
+        (input_bytes input.entry) }
 {
-    block[at..at + part.len()].copy_from_slice(part);
+    match input {
+        Input::Bytes(bytes) => block[at..at + bytes.len()].copy_from_slice(bytes),
+        Input::Fill { count, byte } => block[at..at + count as usize].fill(byte),
+    }
 }
 
 /// Forgets the bytes from `at` on.

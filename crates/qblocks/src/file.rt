@@ -2,10 +2,12 @@
 ghost use Rattle.std.specs.Prelude.{◌≡◌, ℕ, ◌+◌, ◌≤◌, ◌^◌, ◌||◌, length, IfOk, OnOk, OnErr};
 ghost use Rattle.std.specs.List.Sorted.{IsStrictlyIncreasing};
 ghost use Rattle.qblocks.specs.File.{empty_file, size_of, blocks_of, MoreBlocks, Adds, AllocatesTouched, after_write, after_truncate, read_at};
+ghost use Rattle.qblocks.specs.Input.{input_bytes};
 ghost use Rattle.qblocks.specs.WriteRoom.{no_room, IsReadyToPut};
 
 use crate::block::BLOCK_SIZE;
 use crate::cut::cut;
+use crate::input::Input;
 use crate::room::{forget_rows, make_rows};
 use crate::row::ROW_SIZE;
 use crate::rows::{self, Rows};
@@ -171,12 +173,13 @@ impl BlockFile {
 
     /// Writes `input` at `off` with what `ready` made for that offset and length, and gives the
     /// number of blocks newly allocated. It takes no memory and always succeeds.
-    pub fn put(&mut self, off: u64, input: &[u8], spare: Spare) -> u64
-        requires bound { off + length input.now ≤ MAX_SIZE }
-        requires ready { IsReadyToPut self.old off (length input.now) spare }
-        ensures file { self.new.file ≡ after_write self.old.file off input.now }
+    pub fn put(&mut self, off: u64, input: Input, spare: Spare) -> u64
+        requires bound { off + length (input_bytes input) ≤ MAX_SIZE }
+        requires ready { IsReadyToPut self.old off (length (input_bytes input)) spare }
+        ensures file { self.new.file ≡ after_write self.old.file off (input_bytes input.entry) }
         ensures count { MoreBlocks self.old.file self.new.file result }
-        ensures touched { AllocatesTouched self.old.file self.new.file off (length input.now) }
+        ensures touched { AllocatesTouched self.old.file self.new.file off
+            (length (input_bytes input.entry)) }
         ensures room { self.new.room ≡ no_room }
     {
         self.room_off = 0;
@@ -187,7 +190,7 @@ impl BlockFile {
         let mut spare = spare;
         let fresh = spare.len();
         rows::put(&mut self.rows, off, input, &mut spare);
-        self.size = self.size.max(off + input.len() as u64);
+        self.size = self.size.max(off + input.len());
         self.count += fresh;
         fresh
     }
@@ -196,16 +199,17 @@ impl BlockFile {
     ///
     /// The write is whole or refused; of no bytes it changes nothing, not the size either (profile,
     /// after write(2)). O(bytes written), and O(log n) for each 64 KiB that it touches.
-    pub fn write(&mut self, off: u64, input: &[u8]) -> Result<u64, NoMemory>
-        requires { off + length input.now ≤ MAX_SIZE }
-        ensures ok { OnOk result (self.new.file ≡ after_write self.old.file off input.now) }
+    pub fn write(&mut self, off: u64, input: Input) -> Result<u64, NoMemory>
+        requires { off + length (input_bytes input) ≤ MAX_SIZE }
+        ensures ok { OnOk result
+            (self.new.file ≡ after_write self.old.file off (input_bytes input.entry)) }
         ensures count { IfOk result (MoreBlocks self.old.file self.new.file) }
         ensures touched { OnOk result
-            (AllocatesTouched self.old.file self.new.file off (length input.now)) }
+            (AllocatesTouched self.old.file self.new.file off (length (input_bytes input.entry))) }
         ensures err { OnErr result (self.new.file ≡ self.old.file) }
         ensures room { self.new.room ≡ no_room }
     {
-        let spare = self.ready(off, input.len() as u64)?;
+        let spare = self.ready(off, input.len())?;
         Ok(self.put(off, input, spare))
     }
 

@@ -4,6 +4,7 @@
 mod block;
 mod cut;
 mod file;
+mod input;
 mod room;
 mod row;
 mod rows;
@@ -12,5 +13,6 @@ mod spare;
 
 pub use block::BLOCK_SIZE;
 pub use file::{BlockFile, MAX_SIZE};
+pub use input::Input;
 pub use spare::Spare;
 pub use std::alloc::AllocError as NoMemory;

@@ -1,9 +1,11 @@
 //! A row: 16 slots beside each other, for 64 KiB of the file.
 ghost use Rattle.std.specs.Prelude.{◌≡◌, ◌≢◌, true, ℕ, ◌+◌, ◌-◌, ◌*◌, ◌/◌, ◌<◌, ◌≤◌, ◌&&◌, ◌^◌, nat_lt, length, is_some, IfOk, OnOk, None, if◌then◌else◌, ◌++◌, map, vec_len};
 ghost use Rattle.std.specs.List.{range_with_len};
+ghost use Rattle.qblocks.specs.Input.{input_bytes};
 ghost use Rattle.qblocks.specs.Row.{Overwrites, PutsInRow, LosesBlocks, byte_of, slot_at, row_filled, row_byte, gaps, gaps_in};
 
 use crate::block::{BLOCK_SIZE, Block, overwrite, zero_from};
+use crate::input::Input;
 use crate::spare::Spare;
 use std::alloc::{AllocError as NoMemory, Global};
 
@@ -40,14 +42,14 @@ pub(crate) fn missing(row: &Row, first: u64, end: u64) -> u64
     missing
 }
 
-/// Writes `part` at the byte `at` of the block `j`, which comes from `spare` where there is none yet.
-fn put_block(row: &mut Row, j: u64, at: u64, part: &[u8], spare: &mut Spare)
+/// Writes `input` at the byte `at` of the block `j`, which comes from `spare` where there is none yet.
+fn put_block(row: &mut Row, j: u64, at: u64, input: Input, spare: &mut Spare)
     requires slot { j < ROW_BLOCKS }
-    requires fits { at + length part.now ≤ BLOCK_SIZE }
+    requires fits { at + length (input_bytes input) ≤ BLOCK_SIZE }
     requires spare { (if row_filled row.old j then 0 else 1) ≤ spare.old }
     ensures filled { row_filled row.new j ≡ true }
     ensures writes { Overwrites (byte_of (slot_at row.old j)) (byte_of (slot_at row.new j)) at
-        part.now }
+        (input_bytes input.entry) }
     ensures others { (q : ℕ) → q ≢ j → slot_at row.new q ≡ slot_at row.old q }
     ensures spare { spare.new + (if row_filled row.old j then 0 else 1) ≡ spare.old }
 {
@@ -56,23 +58,28 @@ fn put_block(row: &mut Row, j: u64, at: u64, part: &[u8], spare: &mut Spare)
         Some(block) => block,
         None => spare.take(),
     };
-    overwrite(&mut block, at as usize, part);
+    overwrite(&mut block, at as usize, input);
     *slot = Some(block);
 }
 
-/// Writes `part` at the byte `at` of the row, with a block of `spare` for each that is missing.
-pub(crate) fn put(row: &mut Row, at: u64, part: &[u8], spare: &mut Spare)
-    requires some { 0 < length part.now }
-    requires fits { at + length part.now ≤ ROW_SIZE }
-    requires spare { gaps_in (row_filled row.old) at (length part.now) ≤ spare.old }
-    ensures { PutsInRow row.old row.new spare.old spare.new at part.now }
+/// Writes `input` at the byte `at` of the row, with a block of `spare` for each that is missing.
+pub(crate) fn put(row: &mut Row, at: u64, input: Input, spare: &mut Spare)
+    requires some { 0 < length (input_bytes input) }
+    requires fits { at + length (input_bytes input) ≤ ROW_SIZE }
+    requires spare { gaps_in (row_filled row.old) at (length (input_bytes input)) ≤ spare.old }
+    ensures { PutsInRow row.old row.new spare.old spare.new at (input_bytes input.entry) }
 {
     let mut done = 0;
-    while done < part.len() as u64 {
+    while done < input.len() {
         let at = at + done;
-        let len = (BLOCK_SIZE - at % BLOCK_SIZE).min(part.len() as u64 - done);
-        let input = &part[done as usize..(done + len) as usize];
-        put_block(row, at / BLOCK_SIZE, at % BLOCK_SIZE, input, spare);
+        let len = (BLOCK_SIZE - at % BLOCK_SIZE).min(input.len() - done);
+        put_block(
+            row,
+            at / BLOCK_SIZE,
+            at % BLOCK_SIZE,
+            input.part(done, len),
+            spare,
+        );
         done += len;
     }
 }

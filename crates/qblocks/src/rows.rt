@@ -1,10 +1,12 @@
 //! The rows of a file by their numbers: what is missing, writing and reading.
 ghost use Rattle.std.specs.Prelude.{◌≡◌, ◌≢◌, true, ℕ, ◌+◌, ◌-◌, ◌*◌, ◌/◌, ◌<◌, ◌≤◌, ◌^◌, ◌++◌, ◌||◌, length, map, vec_len, OnOk};
 ghost use Rattle.std.specs.List.{range_with_len};
+ghost use Rattle.qblocks.specs.Input.{input_bytes};
 ghost use Rattle.qblocks.specs.Row.{PutsInRow, gaps, gaps_in, in_pieces, row_filled, row_byte};
 ghost use Rattle.qblocks.specs.Rows.{PutsInRows, has_row, row_of, filled, byte_at};
 
 use crate::block::BLOCK_SIZE;
+use crate::input::Input;
 use crate::row::{self, ROW_BLOCKS, ROW_SIZE, Row};
 use crate::span::span_end;
 use crate::spare::Spare;
@@ -26,18 +28,19 @@ pub(crate) fn missing_in_row(rows: &Rows, r: u64, first: u64, end: u64) -> u64
     }
 }
 
-/// Writes `part` at the byte `at` of the row `r`.
-fn put_in_row(rows: &mut Rows, r: u64, at: u64, part: &[u8], spare: &mut Spare)
-    requires some { 0 < length part.now }
-    requires fits { at + length part.now ≤ ROW_SIZE }
+/// Writes `input` at the byte `at` of the row `r`.
+fn put_in_row(rows: &mut Rows, r: u64, at: u64, input: Input, spare: &mut Spare)
+    requires some { 0 < length (input_bytes input) }
+    requires fits { at + length (input_bytes input) ≤ ROW_SIZE }
     requires row { has_row rows.old r ≡ true }
-    requires spare { gaps_in (row_filled (row_of rows.old r)) at (length part.now) ≤ spare.old }
-    ensures puts { PutsInRow (row_of rows.old r) (row_of rows.new r) spare.old spare.new at part.now }
+    requires spare { gaps_in (row_filled (row_of rows.old r)) at (length (input_bytes input)) ≤ spare.old }
+    ensures puts { PutsInRow (row_of rows.old r) (row_of rows.new r) spare.old spare.new at
+        (input_bytes input.entry) }
     ensures others { (q : ℕ) → q ≢ r → row_of rows.new q ≡ row_of rows.old q }
     ensures rows { (q : ℕ) → has_row rows.new q ≡ has_row rows.old q }
 {
     if let Some(row) = rows.get_mut(&r) {
-        row::put(row, at, part, spare);
+        row::put(row, at, input, spare);
     }
 }
 
@@ -75,21 +78,26 @@ pub(crate) fn missing(rows: &Rows, off: u64, len: u64) -> u64
 }
 
 /// Writes `input` at `off`, with a block of `spare` for each that is missing.
-pub(crate) fn put(rows: &mut Rows, off: u64, input: &[u8], spare: &mut Spare)
-    requires bound { off + length input.now ≤ 2 ^ 40 }
-    requires some { 0 < length input.now }
-    requires rows { (r : ℕ) → in_pieces ROW_SIZE off (length input.now) r ≡ true
+pub(crate) fn put(rows: &mut Rows, off: u64, input: Input, spare: &mut Spare)
+    requires bound { off + length (input_bytes input) ≤ 2 ^ 40 }
+    requires some { 0 < length (input_bytes input) }
+    requires rows { (r : ℕ) → in_pieces ROW_SIZE off (length (input_bytes input)) r ≡ true
         → has_row rows.old r ≡ true }
-    requires spare { gaps_in (filled rows.old) off (length input.now) ≤ spare.old }
-    ensures puts { PutsInRows rows.old rows.new spare.old spare.new off input.now }
+    requires spare { gaps_in (filled rows.old) off (length (input_bytes input)) ≤ spare.old }
+    ensures puts { PutsInRows rows.old rows.new spare.old spare.new off (input_bytes input.entry) }
     ensures rows { (r : ℕ) → has_row rows.new r ≡ has_row rows.old r }
 {
     let mut done = 0;
-    while done < input.len() as u64 {
+    while done < input.len() {
         let at = off + done;
-        let len = (ROW_SIZE - at % ROW_SIZE).min(input.len() as u64 - done);
-        let part = &input[done as usize..(done + len) as usize];
-        put_in_row(rows, at / ROW_SIZE, at % ROW_SIZE, part, spare);
+        let len = (ROW_SIZE - at % ROW_SIZE).min(input.len() - done);
+        put_in_row(
+            rows,
+            at / ROW_SIZE,
+            at % ROW_SIZE,
+            input.part(done, len),
+            spare,
+        );
         done += len;
     }
 }

@@ -1,5 +1,5 @@
 -- The call that a verb and its arguments spell. Arguments are read from left to right.
-use Rattle.std.specs.Prelude.{ℕ, List, [], ◌∷◌, Result, Ok, Err}
+use Rattle.std.specs.Prelude.{ℕ, List, [], ◌∷◌, Result, Ok, Err, replicate}
 use Rattle.qrules.specs.declared.limits.Limits.{Limits}
 use Rattle.qplain.specs.declared.call.Call.{Call}
 use Rattle.qplain.specs.declared.call.Call.TheVariants.{Create, Write, Read, Stat, SetQuota, SetGrace, Quota}
@@ -12,7 +12,7 @@ use Rattle.qtext.specs.Reading.{◌>>=◌}
 use Rattle.qtext.specs.Words.{number, number_of, id_of}
 use Rattle.qline.specs.Arguments.{path_of, kind_of}
 use Rattle.qline.specs.Verbs.{verb_of}
-use Rattle.qtext.specs.Data.{data_of, byte_of, copies_of}
+use Rattle.qtext.specs.Data.{data_of, byte_of}
 
 -- create PATH
 unfoldable pub create_of : List ℕ → Result Call TextKind
@@ -35,8 +35,7 @@ fill_of p o c b = do
   off ← number o
   count ← number_of BadNumber MAX_FILL c
   byte ← byte_of b
-  bytes ← copies_of count byte
-  Ok (Write path off bytes)
+  Ok (Write path off (replicate count byte))
 
 -- read PATH OFF LEN
 unfoldable pub read_of : List ℕ → List ℕ → List ℕ → Result Call TextKind

@@ -1,20 +1,28 @@
 ghost use Rattle.qtext.specs.Gives.{Gives};
+ghost use Rattle.qtext.specs.Data.{data_of};
 ghost use Rattle.qline.specs.Arguments.{path_of, kind_of};
 
-use qplain::Path;
+use qplain::{Data, Path, Shared};
 use qrules::Kind;
-use qtext::{ReadFault, TextKind};
+use qtext::{ReadFault, TextKind, data_of as bytes_of};
 use std::alloc::Global;
 
 /// A path: whether it leads anywhere is for the store to say.
 pub(crate) fn path_of(alloc: Global, word: &[u8]) -> Result<Path, ReadFault>
     ensures { Gives result (path_of word.now) }
 {
-    let bytes = Vec::from_slice(alloc, word)?;
-    match Path::new(bytes) {
+    match Path::new(alloc, word)? {
         Some(path) => Ok(path),
         None => Err(ReadFault::Fault(TextKind::BadWord)),
     }
+}
+
+/// The bytes of a write, which calls share from here on.
+pub(crate) fn data_of(alloc: Global, word: &[u8]) -> Result<Data, ReadFault>
+    ensures { Gives result (data_of word.now) }
+{
+    let bytes = bytes_of(alloc, word)?;
+    Ok(Data::new(Shared::new(bytes.into_vec())?))
 }
 
 /// `user` or `group`.

@@ -2,11 +2,11 @@ ghost use Rattle.std.specs.Prelude.{map};
 ghost use Rattle.qtext.specs.Gives.{Gives};
 ghost use Rattle.qline.specs.Calls.{create_of, write_of, fill_of, read_of, stat_of, limits_of, setquota_of, setgrace_of, quota_of, call_of, call_in};
 
-use crate::argument::{kind_of, path_of};
+use crate::argument::{data_of, kind_of, path_of};
 use crate::verb::{Verb, verb_of};
-use qplain::Call;
+use qplain::{Call, Data};
 use qrules::{Graces, Limits};
-use qtext::{ReadFault, TextKind, byte_of, copies_of, data_of, id_of, number, number_of};
+use qtext::{ReadFault, TextKind, byte_of, id_of, number, number_of};
 use std::alloc::Global;
 
 /// The most bytes that `fill` may ask for.
@@ -44,8 +44,11 @@ fn fill_of(
     let off = number(off)?;
     let count = number_of(TextKind::BadNumber, MAX_FILL, count)?;
     let byte = byte_of(byte)?;
-    let bytes = copies_of(alloc, count, byte)?;
-    Ok(Call::Write { path, off, bytes })
+    Ok(Call::Write {
+        path,
+        off,
+        bytes: Data::fill(count, byte),
+    })
 }
 
 #[tactic(auto, unfolding(crate::specs::Calls::read_of))]

@@ -53,7 +53,7 @@ fn caller_from(alloc: Global, own: &[u8], groups: Option<&[u8]>) -> Result<Cred,
 {
     let (uid, gid) = own_ids_of(own)?;
     let more = groups_of(alloc, groups)?;
-    match Cred::new(uid, gid, more.as_slice()) {
+    match Cred::new(alloc, uid, gid, more.as_slice())? {
         Some(cred) => Ok(cred),
         None => Err(ReadFault::Fault(TextKind::BadCred)),
     }

@@ -1,4 +1,5 @@
--- What the proofs of more than one file share: of setups, then of the plain machine's laws, then what stores cite of it.
+-- What the proofs of more than one file share: of bytes, of setups, then of the plain machine's laws, then what stores cite of it.
+pub mod Fills
 pub mod Ordered
 pub mod Refused
 pub mod Within

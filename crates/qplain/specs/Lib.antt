@@ -17,4 +17,5 @@ pub mod Laws
 pub mod Rises
 pub mod Examples
 pub mod KeptCred
+pub mod KeptData
 pub mod KeptSetup

@@ -70,14 +70,14 @@ impl JournaledStore {
         ensures err { OnErr result (self.new.journal ≡ self.old.journal) }
     {
         self.journal.reserve(1)?;
-        let call = line.call.copy(self.alloc)?;
+        let Line { cred, moment, call } = line.copy()?;
         let ready = self.store.ready(&line.cred, line.moment, &line.call)?;
-        let copy = ready.reply().copy(self.alloc)?;
+        let copy = ready.reply().copy()?;
         let reply = self.store.commit(ready);
         let entry = Entry {
             worker,
-            cred: line.cred,
-            moment: line.moment,
+            cred,
+            moment,
             call,
             reply: copy,
         };

@@ -5,12 +5,12 @@ pub use ready::Ready;
 pub use store::Store;
 
 mod changes;
+mod kept_holder;
 mod ledger;
 mod names;
 mod node;
-mod kept_holder;
 mod path;
-mod slots;
 mod ready;
+mod slots;
 mod store;
 mod tree;

@@ -13,7 +13,7 @@ ghost use Rattle.qstore.specs.Nodes.{IsSameNode, inode_of, is_dir_content, name_
 
 use crate::names::Names;
 use qblocks::{BlockFile, MAX_SIZE, Spare};
-use qplain::NoMemory;
+use qplain::{Data, NoMemory};
 use qrules::{InodeRow, NameRow};
 use std::alloc::Global;
 
@@ -114,7 +114,7 @@ impl Node {
 
     /// Writes into this file where room is made, and gives the number of blocks newly allocated. It
     /// takes no memory and always succeeds.
-    pub(crate) fn put(&mut self, off: u64, bytes: &[u8], spare: Spare) -> u64
+    pub(crate) fn put(&mut self, off: u64, bytes: &Data, spare: Spare) -> u64
         requires bound { off + length bytes.now ≤ MAX_SIZE }
         requires there { is_some (roomy_file_in self.old.content) ≡ true }
         requires ready { IfSome (roomy_file_in self.old.content)
@@ -126,7 +126,7 @@ impl Node {
         ensures names { names_in self.new.content ≡ names_in self.old.content }
     {
         match &mut self.content {
-            Content::File(file) => file.put(off, bytes, spare),
+            Content::File(file) => file.put(off, bytes.input(), spare),
             Content::Directory(_) => unreachable!(),
         }
     }

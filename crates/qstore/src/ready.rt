@@ -3,7 +3,7 @@ ghost use Rattle.std.specs.Prelude.{◌≡◌, []};
 
 use crate::slots::Slots;
 use qblocks::Spare;
-use qplain::{Refusal, Reply};
+use qplain::{Data, Refusal, Reply};
 use qrules::{Graces, Items, Kind, Limits};
 
 /// What a granted call still has to do, for which all room is made.
@@ -75,7 +75,7 @@ impl Decided {
 pub struct Ready {
     pub(crate) reply: Reply,
     pub(crate) plan: Plan,
-    pub(crate) bytes: Items<u8>,
+    pub(crate) bytes: Data,
 }
 
 impl Ready {

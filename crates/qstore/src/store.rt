@@ -13,8 +13,8 @@ use crate::ledger::Ledger;
 use crate::ready::{Decided, Plan, Ready};
 use crate::store::begin::{begun, ledger_of};
 use crate::tree::Tree;
-use qplain::{Call, Cred, NoMemory, Reply, Setup};
-use qrules::{Graces, Items};
+use qplain::{Call, Cred, Data, NoMemory, Reply, Setup};
+use qrules::Graces;
 use std::alloc::Global;
 use std::marker::Model;
 
@@ -61,28 +61,18 @@ impl Model for Store {
     ghost invariant = { λ a. IsCounted (state_of a) a.users a.groups a.tree.links a.blocks a.inodes };
 }
 
-/// The bytes of the call that its plan has to write.
-fn bytes_for<'a>(plan: &Plan, call: &'a Call) -> &'a [u8]
-    ensures effect { (S : State) → effect S plan.now result.now ≡ effect S plan.now (bytes_of call.now) }
-    ensures can { (s : Stored) → CanCarryOut s plan.now (bytes_of call.now) → CanCarryOut s plan.now result.now }
-    ensures nothing { plan.now ≡ Plan.Nothing → result.now ≡ [] }
-    ensures none { bytes_of call.now ≡ [] → result.now ≡ [] }
+/// The bytes of the call that its plan has to write, which the call goes on to share.
+fn bytes_for(plan: &Plan, call: &Call) -> Result<Data, NoMemory>
+    ensures effect { IfOk result (λ bytes. (S : State)
+        → effect S plan.now bytes ≡ effect S plan.now (bytes_of call.now)) }
+    ensures can { IfOk result (λ bytes. (s : Stored)
+        → CanCarryOut s plan.now (bytes_of call.now) → CanCarryOut s plan.now bytes) }
+    ensures nothing { plan.now ≡ Plan.Nothing → IsOk result }
+    ensures answered { wants_no_memory call.now ≡ true → IsOk result }
 {
     match (plan, call) {
-        (Plan::Write { .. }, Call::Write { bytes, .. }) => bytes.as_slice(),
-        _ => &[],
-    }
-}
-
-/// A copy of the bytes. No bytes take no memory.
-fn copy_of(alloc: Global, bytes: &[u8]) -> Result<Vec<u8>, NoMemory>
-    ensures copy { IfOk result (λ copy. copy.items ≡ bytes.now) }
-    ensures none { bytes.now ≡ [] → IsOk result }
-{
-    if bytes.is_empty() {
-        Ok(Vec::new(alloc))
-    } else {
-        Vec::from_slice(alloc, bytes)
+        (Plan::Write { .. }, Call::Write { bytes, .. }) => bytes.copy(),
+        _ => Ok(Data::fill(0, 0)),
     }
 }
 
@@ -134,7 +124,7 @@ impl Store {
         match call {
             Call::Create { path } => self.decide_create(cred, slots, moment, path.bytes()),
             Call::Write { path, off, bytes } => {
-                self.decide_write(cred, slots, moment, path.bytes(), *off, bytes.as_slice())
+                self.decide_write(cred, slots, moment, path.bytes(), *off, bytes)
             }
             Call::Read { path, off, len } => {
                 Ok(Decided::answer(self.decide_read(path.bytes(), *off, *len)?))
@@ -149,7 +139,7 @@ impl Store {
     }
 
     /// Does what is decided. It takes no memory and always succeeds.
-    fn carry_out(&mut self, plan: Plan, bytes: &[u8])
+    fn carry_out(&mut self, plan: Plan, bytes: &Data)
         requires can { CanCarryOut self.old plan bytes.now }
         requires sound { IsSound (effect self.old.state plan bytes.now) }
         ensures { self.new.state ≡ effect self.old.state plan bytes.now }
@@ -187,7 +177,7 @@ impl Store {
     /// `moment` is in seconds; above 2^40 the reply is EINVAL. A refusal is a reply, and wants no memory: EINVAL first,
     /// then ENAMETOOLONG, the call's own tests, ENOSPC, EDQUOT. Err is want of memory alone. It comes after all
     /// refusals, so only a create, a write or a read that would be granted meets it, and it leaves the state as it was,
-    /// too. The bytes of a write are copied.
+    /// too. The bytes of a write are not copied: the call and what is ready share them.
     ///
     /// The `Ready` is for `commit` of this store, before any other `ready`, `apply` or `commit` of it. It may be
     /// dropped: a create's room serves the next create, a write's blocks go with it, and what is left in its file is
@@ -202,12 +192,8 @@ impl Store {
         ensures answered { wants_no_memory call.now ≡ true → IsOk result }
     {
         let Decided { reply, plan } = self.decide(cred, moment, call)?;
-        let bytes = copy_of(self.alloc, bytes_for(&plan, call))?;
-        Ok(Ready {
-            reply,
-            plan,
-            bytes: Items::new(bytes),
-        })
+        let bytes = bytes_for(&plan, call)?;
+        Ok(Ready { reply, plan, bytes })
     }
 
     /// Does what is ready, and gives the reply. It takes no memory and always succeeds.
@@ -218,7 +204,7 @@ impl Store {
         ensures { (self.new.state, result) ≡ committed self.old.state ready }
     {
         let Ready { reply, plan, bytes } = ready;
-        self.carry_out(plan, bytes.as_slice());
+        self.carry_out(plan, &bytes);
         reply
     }
 
@@ -241,9 +227,7 @@ impl Store {
         ensures limits { OnOk result (is_superuser cred.now ≡ false
             → All (PassesNoLimit self.old.state self.new.state moment) self.old.state.holders) }
     {
-        let Decided { reply, plan } = self.decide(cred, moment, call)?;
-        let bytes = bytes_for(&plan, call);
-        self.carry_out(plan, bytes);
-        Ok(reply)
+        let ready = self.ready(cred, moment, call)?;
+        Ok(self.commit(ready))
     }
 }

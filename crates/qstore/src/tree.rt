@@ -17,7 +17,7 @@ ghost use Rattle.qstore.specs.Rows.{name_row_of};
 use crate::names::Names;
 use crate::node::Node;
 use qblocks::{MAX_SIZE, Spare};
-use qplain::{NoMemory, ROOT};
+use qplain::{Data, NoMemory, ROOT};
 use qrules::{InodeRow, NameRow};
 use std::alloc::Global;
 use std::collections::{BTreeMap, HashMap};
@@ -146,7 +146,7 @@ impl Tree {
 
     /// Writes where room is made, and gives the number of blocks newly allocated. It takes no memory
     /// and always succeeds.
-    pub(crate) fn put(&mut self, number: u64, off: u64, bytes: &[u8], spare: Spare) -> u64
+    pub(crate) fn put(&mut self, number: u64, off: u64, bytes: &Data, spare: Spare) -> u64
         requires bound { off + length bytes.now ≤ MAX_SIZE }
         requires there { is_some (file_room self.old.room number) ≡ true }
         requires ready { IfSome (file_room self.old.room number)

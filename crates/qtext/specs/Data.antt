@@ -1,5 +1,5 @@
 -- Bytes as hexadecimal digits.
-use Rattle.std.specs.Prelude.{ℕ, ◌==◌, List, [], length, codes, Result, Ok, Err, if◌then◌else◌, replicate, slice_index}
+use Rattle.std.specs.Prelude.{ℕ, ◌==◌, List, [], length, codes, Result, Ok, Err, if◌then◌else◌, slice_index}
 use Rattle.std.specs.Str.{bytes_eq}
 use Rattle.hex.specs.Hex.{decode_of}
 use Rattle.hex.specs.declared.error.FromHexError.{FromHexError}
@@ -24,7 +24,3 @@ unfoldable pub byte_of : List ℕ → Result ℕ TextKind
 byte_of word = if length word == 2 then (do
   bytes ← hex_or_fault (decode_of word)
   Ok (slice_index bytes 0)) else Err BadHex
-
--- that many copies of a byte
-abbrev pub copies_of : ℕ → ℕ → Result (List ℕ) TextKind
-copies_of count byte = Ok (replicate count byte)

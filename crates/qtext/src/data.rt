@@ -1,5 +1,5 @@
 ghost use Rattle.qtext.specs.Gives.{Gives};
-ghost use Rattle.qtext.specs.Data.{data_of, byte_of, copies_of};
+ghost use Rattle.qtext.specs.Data.{data_of, byte_of};
 
 use crate::{ReadFault, TextKind};
 use hex::FromHexError;
@@ -34,11 +34,4 @@ pub fn byte_of(word: &[u8]) -> Result<u8, ReadFault>
         Ok(()) => Ok(byte[0]),
         Err(_) => Err(ReadFault::Fault(TextKind::BadHex)),
     }
-}
-
-/// That many copies of a byte.
-pub fn copies_of(alloc: Global, count: u64, byte: u8) -> Result<Items<u8>, ReadFault>
-    ensures { Gives result (copies_of count byte) }
-{
-    Ok(Items::new(vec![in alloc; byte; count as usize]?))
 }

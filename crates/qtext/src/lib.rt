@@ -2,7 +2,7 @@
 #![tactic(auto)]
 
 pub use cut::{CutLine, cut_line};
-pub use data::{byte_of, copies_of, data_of};
+pub use data::{byte_of, data_of};
 pub use numbers::{id_of, number, number_of};
 pub use piece::Piece;
 pub use read_fault::ReadFault;

@@ -42,7 +42,7 @@ impl Bench {
     pub(crate) fn new(alloc: Global) -> io::Result<Bench> {
         Ok(Bench {
             store: Store::new(alloc, setting(alloc)?)?,
-            cred: caller()?,
+            cred: caller(alloc)?,
         })
     }
 

@@ -1,15 +1,14 @@
 //! Calls made beforehand, so that to make them is not counted.
 ghost use Rattle.std.specs.Prelude.{◌≤◌};
 
-use qplain::{Call, NoMemory, Path};
-use qrules::Items;
+use qplain::{Call, Data, NoMemory, Path, Shared};
 use std::alloc::Global;
 use std::io;
 
 /// The path of a file of the root directory. The first has the number 10,000, so that all names are of one length.
 fn path_of(alloc: Global, file: u64) -> io::Result<Path> {
     let text = format!(in alloc; "/f{}", file.wrapping_add(10_000))?;
-    match Path::new(text.into_bytes()) {
+    match Path::new(alloc, text.as_bytes())? {
         Some(path) => Ok(path),
         None => Err(io::Error::from(io::ErrorKind::InvalidInput)),
     }
@@ -49,7 +48,7 @@ fn write(alloc: Global, file: u64, off: u64, bytes: &[u8]) -> io::Result<Call> {
     Ok(Call::Write {
         path: path_of(alloc, file)?,
         off,
-        bytes: Items::new(Vec::from_slice(alloc, bytes)?),
+        bytes: Data::new(Shared::new(Vec::from_slice(alloc, bytes)?)?),
     })
 }
 

@@ -44,8 +44,8 @@ pub(crate) fn setting(alloc: Global) -> io::Result<Setup> {
 }
 
 /// The user with limits to pass, who is in both groups.
-pub(crate) fn caller() -> io::Result<Cred> {
-    match Cred::new(1000, 100, &[0]) {
+pub(crate) fn caller(alloc: Global) -> io::Result<Cred> {
+    match Cred::new(alloc, 1000, 100, &[0])? {
         Some(cred) => Ok(cred),
         None => Err(io::Error::from(io::ErrorKind::InvalidInput)),
     }

@@ -2,8 +2,8 @@
 
 use Ask::{Create, Read, SetGrace, SetUser, Stat, User, Write};
 use Told::{Bytes, Done, File, Record};
-use qplain::{Call, Change, Cred, NoMemory, Path, Principal, Quota, Reply, Setup};
-use qrules::{Graces, Items, Kind, Limits, PrincipalName};
+use qplain::{Call, Change, Cred, Data, NoMemory, Path, Principal, Quota, Reply, Setup, Shared};
+use qrules::{Graces, Kind, Limits, PrincipalName};
 use qstore::Store;
 use std::alloc::Global;
 use std::process::Abort;
@@ -44,12 +44,17 @@ pub(crate) fn new_store(rt: &impl Abort, alloc: Global) -> Result<Store, NoMemor
 }
 
 /// The superuser, in group 7 alone.
-pub(crate) fn caller(rt: &impl Abort) -> Cred {
-    Cred::new(0, 7, &[]).expect(rt, "a caller")
+pub(crate) fn caller(rt: &(impl Abort + Alloc)) -> Cred {
+    let caller = Cred::new(rt.alloc(), 0, 7, &[]).ok().flatten();
+    caller.expect(rt, "a caller")
 }
 
 fn path(rt: &impl Abort, alloc: Global, text: &str) -> Result<Path, NoMemory> {
-    Ok(Path::new(Vec::from_slice(alloc, text.as_bytes())?).expect(rt, "a path"))
+    Ok(Path::new(alloc, text.as_bytes())?.expect(rt, "a path"))
+}
+
+fn shared(alloc: Global, bytes: &[u8]) -> Result<Shared<u8>, NoMemory> {
+    Shared::new(Vec::from_slice(alloc, bytes)?)
 }
 
 fn limits(block_soft: u64) -> Limits {
@@ -67,7 +72,7 @@ pub(crate) fn call(rt: &impl Abort, alloc: Global, ask: Ask<'_>) -> Result<Call,
         Write(text, off, bytes) => Call::Write {
             path: path(rt, alloc, text)?,
             off,
-            bytes: Items::new(Vec::from_slice(alloc, bytes)?),
+            bytes: Data::new(shared(alloc, bytes)?),
         },
         Read(text, off, len) => Call::Read {
             path: path(rt, alloc, text)?,
@@ -139,7 +144,7 @@ fn record(blocks: u64, inodes: u64, block_soft: u64, end: u64) -> Reply {
 pub(crate) fn reply(alloc: Global, told: Told<'_>) -> Result<Reply, NoMemory> {
     Ok(match told {
         Done(number, blocks, inodes) => done(number, blocks, inodes),
-        Bytes(bytes) => Reply::Bytes(Items::new(Vec::from_slice(alloc, bytes)?)),
+        Bytes(bytes) => Reply::Bytes(shared(alloc, bytes)?),
         File(ino, size, blocks) => file(ino, size, blocks),
         Record(blocks, inodes, block_soft, end) => record(blocks, inodes, block_soft, end),
     })
@@ -150,7 +155,7 @@ pub(crate) type Row<'a> = (Ask<'a>, Told<'a>);
 
 /// Fails where a row is told otherwise.
 pub(crate) fn play(
-    rt: &impl Abort,
+    rt: &(impl Abort + Alloc),
     alloc: Global,
     store: &mut Store,
     rows: &[Row<'_>],

@@ -17,7 +17,7 @@ const DROPPED: [Ask<'static>; 4] = [
 
 /// Makes a call ready, and drops it.
 fn drop_ready(
-    rt: &impl Abort,
+    rt: &(impl Abort + Alloc),
     alloc: Global,
     store: &mut Store,
     ask: Ask<'_>,

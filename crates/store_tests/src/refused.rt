@@ -33,11 +33,16 @@ fn again<T, F: FnMut() -> Result<T, NoMemory>>(rt: &impl Print, mut make: F) -> 
 #[derive(Clone, Copy, Debug)]
 enum Way {
     Apply,
-    /// It is made ready and then committed, which copies what it has to keep.
+    /// It is made ready and then committed, which keeps what it has to write.
     Commit,
 }
 
-fn answer(rt: &impl Abort, store: &mut Store, way: Way, call: &Call) -> Result<Reply, NoMemory> {
+fn answer(
+    rt: &(impl Abort + Alloc),
+    store: &mut Store,
+    way: Way,
+    call: &Call,
+) -> Result<Reply, NoMemory> {
     match way {
         Apply => store.apply(&caller(rt), 0, call),
         Commit => {
@@ -61,7 +66,7 @@ fn quota(kind: Kind, id: u32) -> Call {
     Call::Quota { kind, id }
 }
 
-fn look(rt: &impl Abort, store: &mut Store, stat: &Call) -> Result<Seen, NoMemory> {
+fn look(rt: &(impl Abort + Alloc), store: &mut Store, stat: &Call) -> Result<Seen, NoMemory> {
     let root = caller(rt);
     Ok(Seen {
         blocks: store.blocks(),
@@ -74,7 +79,7 @@ fn look(rt: &impl Abort, store: &mut Store, stat: &Call) -> Result<Seen, NoMemor
 
 /// The reply to a call. Where an allocation is refused, the store is to look as before, and is asked once more.
 fn insist(
-    rt: &(impl Abort + Print),
+    rt: &(impl Abort + Alloc + Print),
     store: &mut Store,
     stat: &Call,
     way: Way,
@@ -93,7 +98,7 @@ fn insist(
 
 /// Fails where the reply to the call is another.
 fn ask(
-    rt: &(impl Abort + Print),
+    rt: &(impl Abort + Alloc + Print),
     alloc: Global,
     store: &mut Store,
     way: Way,

@@ -10,7 +10,8 @@ fn a_caller_keeps_its_further_groups_in_order(rt: HostRuntime) -> Result<(), Fai
     let script = Script::read(rt.alloc(), text).ok().ok_or("a script")?;
     assert_eq!(rt; script.lines().len(), 1);
     for line in script.lines() {
-        assert_eq!(rt; Some(line.cred), Cred::new(1001, 0, &[100, 5, 100]));
+        let caller = Cred::new(rt.alloc(), 1001, 0, &[100, 5, 100])?;
+        assert_eq!(rt; Some(line.cred.copy()?), caller);
         assert_eq!(rt; line.moment, 7);
     }
     Ok(())

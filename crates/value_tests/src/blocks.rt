@@ -1,14 +1,14 @@
 //! What no script does with a file: cuts, sizes past the store's limit, and each allocation refused in turn.
 
-use qblocks::{BlockFile, MAX_SIZE, NoMemory};
+use qblocks::{BlockFile, Input, MAX_SIZE, NoMemory};
 use std::io::Print;
 use std::process::Abort;
 
 #[test]
 fn a_cut_forgets_what_stood_behind_it(rt: HostRuntime) -> Result<(), NoMemory> {
     let mut file = BlockFile::new(rt.alloc());
-    assert_eq!(rt; file.write(0, b"abc")?, 1);
-    assert_eq!(rt; file.write(8191, b"xyz")?, 2);
+    assert_eq!(rt; file.write(0, Input::Bytes(b"abc"))?, 1);
+    assert_eq!(rt; file.write(8191, Input::Bytes(b"xyz"))?, 2);
     assert_eq!(rt; file.truncate(1), 2);
     assert_eq!(rt; file.truncate(3), 0);
     assert!(rt; file.read(0, 9)?.as_slice() == b"a\0\0".as_slice());
@@ -21,7 +21,7 @@ fn a_cut_forgets_what_stood_behind_it(rt: HostRuntime) -> Result<(), NoMemory> {
 #[test]
 fn the_last_byte_below_the_limit_is_kept(rt: HostRuntime) -> Result<(), NoMemory> {
     let mut file = BlockFile::new(rt.alloc());
-    assert_eq!(rt; file.write(MAX_SIZE - 1, b"z")?, 1);
+    assert_eq!(rt; file.write(MAX_SIZE - 1, Input::Bytes(b"z"))?, 1);
     assert_eq!(rt; file.size(), 1_099_511_627_776);
     assert!(rt; file.read(MAX_SIZE - 3, 9)?.as_slice() == b"\0\0z".as_slice());
     assert_eq!(rt; file.truncate(MAX_SIZE - 1), 0);
@@ -36,7 +36,7 @@ fn what_was_made_ready_is_put(rt: HostRuntime) -> Result<(), NoMemory> {
     drop(dropped);
     let spare = file.ready(65530, 12)?;
     assert_eq!(rt; file.allocated(), 0);
-    assert_eq!(rt; file.put(65530, b"abcdefghijkl", spare), 2);
+    assert_eq!(rt; file.put(65530, Input::Bytes(b"abcdefghijkl"), spare), 2);
     assert!(rt; file.read(65534, 3)?.as_slice() == b"efg".as_slice());
     Ok(())
 }
@@ -59,20 +59,20 @@ fn tell_refused(rt: &impl Print) {
 #[test]
 fn a_refused_call_changes_nothing(rt: HostRuntime) -> Result<(), NoMemory> {
     let mut file = BlockFile::new(rt.alloc());
-    if file.write(0, b"abc").is_err() {
+    if file.write(0, Input::Bytes(b"abc")).is_err() {
         tell_refused(&rt);
         check(&rt, &file, 0, b"")?;
-        assert_eq!(rt; file.write(0, b"abc")?, 1);
+        assert_eq!(rt; file.write(0, Input::Bytes(b"abc"))?, 1);
     }
     if file.ready(65530, 12).is_err() {
         tell_refused(&rt);
         check(&rt, &file, 1, b"abc")?;
         let _spare = file.ready(65530, 12)?;
     }
-    if file.write(65530, b"abcdefghijkl").is_err() {
+    if file.write(65530, Input::Bytes(b"abcdefghijkl")).is_err() {
         tell_refused(&rt);
         check(&rt, &file, 1, b"abc")?;
-        assert_eq!(rt; file.write(65530, b"abcdefghijkl")?, 2);
+        assert_eq!(rt; file.write(65530, Input::Bytes(b"abcdefghijkl"))?, 2);
     }
     let bytes = match file.read(65534, 3) {
         Ok(bytes) => bytes,

@@ -13,20 +13,20 @@ fn copies_of_setups_and_paths_are_equal(rt: HostRuntime) -> Result<(), NoMemory>
     let alloc = rt.alloc();
     let setup = setup(alloc, 10, [(7, "ann"), (0, "root")], "root")?.expect(&rt, "a setup");
     assert!(rt; setup.copy(alloc)? == setup);
-    let path = Path::new(Vec::from_slice(alloc, b"/a")?).expect(&rt, "a path");
-    assert!(rt; path.copy(alloc)? == path);
+    let path = Path::new(alloc, b"/a")?.expect(&rt, "a path");
+    assert!(rt; path.copy()? == path);
     Ok(())
 }
 
 #[test]
 fn copies_of_lines_are_equal(rt: HostRuntime) -> Result<(), NoMemory> {
-    let cred = Cred::new(1001, 0, &[100]).expect(&rt, "a caller");
+    let cred = Cred::new(rt.alloc(), 1001, 0, &[100])?.expect(&rt, "a caller");
     let line = Line {
         cred,
         moment: 1099,
         call: SET_GRACE,
     };
-    let copy = line.copy(rt.alloc())?;
+    let copy = line.copy()?;
     assert!(rt; copy == line);
     assert!(rt;
         Line {
@@ -39,7 +39,7 @@ fn copies_of_lines_are_equal(rt: HostRuntime) -> Result<(), NoMemory> {
 
 #[test]
 fn copies_of_entries_are_equal(rt: HostRuntime) -> Result<(), NoMemory> {
-    let cred = Cred::new(1001, 0, &[100]).expect(&rt, "a caller");
+    let cred = Cred::new(rt.alloc(), 1001, 0, &[100])?.expect(&rt, "a caller");
     let entry = Entry {
         worker: 1,
         cred,
@@ -47,7 +47,7 @@ fn copies_of_entries_are_equal(rt: HostRuntime) -> Result<(), NoMemory> {
         call: SET_GRACE,
         reply: Reply::Refused(Refusal::EPERM),
     };
-    let copy = entry.copy(rt.alloc())?;
+    let copy = entry.copy()?;
     assert!(rt; copy == entry);
     assert!(rt; Entry { worker: 2, ..copy } != entry);
     Ok(())

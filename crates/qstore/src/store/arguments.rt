@@ -18,7 +18,7 @@ fn has_bad_number(call: &Call) -> bool
     ensures { (S : State) → result ≡ has_bad_number S call.now }
 {
     match call {
-        Call::Write { bytes, .. } => bytes.as_slice().len() as u64 > MAX_DATA,
+        Call::Write { bytes, .. } => bytes.len() > MAX_DATA,
         Call::Read { len, .. } => *len > MAX_DATA,
         Call::SetQuota { limits, .. } => !limits.are_in_range(),
         Call::SetGrace { graces } => !graces.are_in_range(),

@@ -11,8 +11,8 @@ ghost use Rattle.qstore.specs.Stored.{HasSlots, IsSound};
 
 use crate::changes::ONE_INODE;
 use crate::path::names_of;
-use crate::slots::Slots;
 use crate::ready::{Decided, Plan};
+use crate::slots::Slots;
 use crate::store::Store;
 use qplain::{Cred, NoMemory, Refusal, Reply};
 use qrules::{Items, MAX_MOMENT};

@@ -9,8 +9,7 @@ ghost use Rattle.qstore.specs.Ready.{IsRefused};
 
 use crate::node::Content;
 use crate::store::Store;
-use qplain::{NoMemory, Refusal, Reply};
-use qrules::Items;
+use qplain::{NoMemory, Refusal, Reply, Shared};
 
 impl Store {
     /// The reply to a read.
@@ -30,7 +29,7 @@ impl Store {
         };
         match &node.content {
             Content::Directory(_) => Ok(Reply::Refused(Refusal::EISDIR)),
-            Content::File(file) => Ok(Reply::Bytes(Items::new(file.read(off, len)?))),
+            Content::File(file) => Ok(Reply::Bytes(Shared::new(file.read(off, len)?)?)),
         }
     }
 }

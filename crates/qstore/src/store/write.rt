@@ -17,11 +17,11 @@ ghost use Rattle.qstore.specs.Writes.{IsTarget};
 
 use crate::changes::NO_CHANGE;
 use crate::node::{Content, Node};
-use crate::slots::Slots;
 use crate::ready::{Decided, Plan};
+use crate::slots::Slots;
 use crate::store::Store;
 use qblocks::{BlockFile, Spare};
-use qplain::{Change, Cred, MAX_DATA, NoMemory, Refusal, Reply};
+use qplain::{Change, Cred, Data, MAX_DATA, NoMemory, Refusal, Reply};
 use qrules::MAX_MOMENT;
 
 /// A file that may be written into: its owners, and how many blocks the write allocates.
@@ -48,7 +48,7 @@ impl Store {
         moment: u64,
         path: &[u8],
         off: u64,
-        bytes: &[u8],
+        bytes: &Data,
     ) -> Result<Decided, NoMemory>
         requires callers { HasSlots self.old callers cred.now.uid cred.now.gid }
         requires sound { IsSound self.old.state }
@@ -76,7 +76,8 @@ impl Store {
     }
 
     /// The file of this number, if the write comes so far, or else its reply.
-    fn target(&self, cred: &Cred, number: u64, off: u64, bytes: &[u8]) -> Result<Target, Reply>
+    fn target(&self, cred: &Cred, number: u64, off: u64, bytes: &Data) -> Result<Target, Reply>
+        requires { length bytes.now ≤ MAX_DATA }
         ensures granted { IfOk result (IsTarget self.now.state cred.now off bytes.now number) }
         ensures refused { IfErr result (λ reply. (moment : ℕ) → settle self.now.state cred.now moment
             (write_into self.now.state cred.now off bytes.now number (inode_at self.now.state number))
@@ -94,7 +95,7 @@ impl Store {
         if bytes.is_empty() {
             return Err(Reply::Done(number, NO_CHANGE));
         }
-        let len = bytes.len() as u64;
+        let len = bytes.len();
         if off > self.file_limit || off + len > self.file_limit {
             return Err(Reply::Refused(Refusal::EFBIG));
         }
@@ -126,7 +127,7 @@ impl Store {
         moment: u64,
         number: u64,
         off: u64,
-        bytes: &[u8],
+        bytes: &Data,
         target: Target,
     ) -> Result<Decided, NoMemory>
         requires callers { HasSlots self.old callers cred.now.uid cred.now.gid }
@@ -149,7 +150,7 @@ impl Store {
         if let Some(refusal) = self.admit(cred, slots, moment, target.blocks, 0) {
             return Ok(Decided::refused(refusal));
         }
-        let len = bytes.len() as u64;
+        let len = bytes.len();
         let spare = self.tree.ready_write(number, off, len, target.blocks)?;
         Ok(Decided {
             reply: Reply::Done(number, written(target.blocks)),
@@ -171,7 +172,7 @@ impl Store {
         spare: Spare,
         slots: Slots,
         moment: u64,
-        bytes: &[u8],
+        bytes: &Data,
     )
         requires can { WriteIsReady self.old number off spare slots moment bytes.now }
         requires sound { IsSound (ends_after

@@ -19,7 +19,11 @@ untrue : false ≡ true → ⊥
 untrue e = cc
 
 pub returns-in-Some : goal.returns-in-Some
-returns-in-Some c = rw (← c.in_ok-bytes.ensures.items, c.in-Some.ensures.bytes) (path_is _ (c.in-Some.ensures.form.0 refl))
+returns-in-Some c =
+    let made = rw c.in-Some.is at c.in_ok-path.ensures in
+    rw made.bytes (path_is _ (made.form.0 refl))
 
 pub returns-in-None : goal.returns-in-None
-returns-in-None c = rw (← c.in_ok-bytes.ensures.items) (no_path _ _ _ refl refl (λ h. untrue (c.in-None.ensures.form.1 h)))
+returns-in-None c =
+    let made = rw c.in-None.is at c.in_ok-path.ensures in
+    no_path _ _ _ refl refl (λ h. untrue (made.form.1 h))

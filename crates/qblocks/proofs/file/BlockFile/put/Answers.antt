@@ -1,5 +1,6 @@
-use Rattle.std.proofs.Common.{◌≡◌, ◌+◌, ℕ, ap, arith, sym, ◌∙◌, length, subst}
+use Rattle.std.proofs.Common.{◌≡◌, max, ◌+◌, ℕ, ap, arith, sym, ◌∙◌, length, subst}
 use Rattle.std.proofs.lemmas.Bool.{eqb-true, eqb-false}
+use Rattle.qblocks.specs.Input.{input_bytes}
 use Rattle.qblocks.specs.File.{after_write, is_allocated}
 use Rattle.qblocks.specs.WriteRoom.{no_room}
 use Rattle.qblocks.specs.Rows.{IsWhole, file_of}
@@ -10,20 +11,20 @@ use Rattle.qblocks.proofs.file.BlockFile.put.Goals as goal
 pub returns-then-is_empty-clause-file : goal.returns-then-is_empty-clause-file
 returns-then-is_empty-clause-file c =
     ap (λ f. f.file) c.self.view_is
-    ∙ sym (after_write_none c.args.self.now.file c.args.off c.args.input.now (eqb-true _ _ (sym c.if-is_empty.ensures)))
+    ∙ sym (after_write_none c.args.self.now.file c.args.off (input_bytes c.args.input) (eqb-true _ _ (sym c.if-is_empty.ensures)))
 
 pub put-requires-clause-spare : goal.put-requires-clause-spare
 put-requires-clause-spare c =
     let ready = ready_whole c.self.inside.rows c.self.inside.size c.self.inside.count _ c.args.self.now
-    c.args.off (length c.args.input.now) c.args.spare c.self.view_is c.requires.ready c.self.invariant in
+    c.args.off (length (input_bytes c.args.input)) c.args.spare c.self.view_is c.requires.ready c.self.invariant in
     omega (arith, ready.1)
 
 pub overflow_add-self : goal.overflow_add-self
 overflow_add-self c =
-    let some = eqb-false (length c.args.input.now) 0 (sym c.if-is_empty.ensures) in
+    let some = eqb-false (length (input_bytes c.args.input)) 0 (sym c.if-is_empty.ensures) in
     let put = put_whole c.self.inside.rows c.put.new.rows c.self.inside.size c.self.inside.count _
-    c.args.self.now c.args.off c.args.input.now c.args.spare _ _ c.max-self-inside.result c.self.view_is
-    c.requires.ready c.self.invariant c.put.ensures.puts (omega (arith, some)) c.max-self-inside.ensures
+    c.args.self.now c.args.off (input_bytes c.args.input) c.args.spare _ _ c.max-self-inside.result c.self.view_is
+    c.requires.ready c.self.invariant c.put.ensures.puts (omega (arith, some)) (c.max-self-inside.ensures ∙ ap (λ (x : ℕ). max c.self.inside.size (c.args.off + x)) c.len.ensures)
     c.put.ensures.rows in
     omega (arith, put.0)
 
@@ -31,12 +32,12 @@ overflow_add-self c =
 put_is : (c : goal.After-drop-spare-inside-2)
     → IsWhole c.put.new.rows c.max-self-inside.result (c.self.inside.count + c.args.spare) no_room
     × (file_of c.put.new.rows c.max-self-inside.result
-    ≡ after_write c.args.self.now.file c.args.off c.args.input.now)
+    ≡ after_write c.args.self.now.file c.args.off (input_bytes c.args.input))
 put_is c =
-    let some = eqb-false (length c.args.input.now) 0 (sym c.if-is_empty.ensures) in
+    let some = eqb-false (length (input_bytes c.args.input)) 0 (sym c.if-is_empty.ensures) in
     let put = put_whole c.self.inside.rows c.put.new.rows c.self.inside.size c.self.inside.count _
-    c.args.self.now c.args.off c.args.input.now c.args.spare _ _ c.max-self-inside.result c.self.view_is
-    c.requires.ready c.self.invariant c.put.ensures.puts (omega (arith, some)) c.max-self-inside.ensures
+    c.args.self.now c.args.off (input_bytes c.args.input) c.args.spare _ _ c.max-self-inside.result c.self.view_is
+    c.requires.ready c.self.invariant c.put.ensures.puts (omega (arith, some)) (c.max-self-inside.ensures ∙ ap (λ (x : ℕ). max c.self.inside.size (c.args.off + x)) c.len.ensures)
     c.put.ensures.rows in
     (put.1, put.2)
 
@@ -57,4 +58,4 @@ returns-clause-count c =
 pub returns-clause-touched : goal.returns-clause-touched
 returns-clause-touched c = λ k.
     ap (λ file. is_allocated file k) (put_is c).1
-    ∙ is_allocated-after_write c.args.self.now.file c.args.off c.args.input.now k
+    ∙ is_allocated-after_write c.args.self.now.file c.args.off (input_bytes c.args.input) k

@@ -1,4 +1,4 @@
-use Rattle.std.proofs.Common.{◌≡◌, ◌<◌, [], ◌∷◌, ◌++◌, length, ap, ◌∙◌, refl}
+use Rattle.std.proofs.Common.{◌≡◌, ◌<◌, [], ◌∷◌, ◌++◌, length, refl, ap, ◌∙◌}
 use Rattle.qrun.specs.declared.journaled_store.TheConstants.{MAX_ENTRIES}
 use Rattle.qrun.specs.Journaled.{entry_of}
 use Rattle.qrun.specs.KeptJournaled.{journaled_of}
@@ -10,7 +10,8 @@ invariant_of-self-2 c =
     let few : length c.self.inside.journal.items < MAX_ENTRIES = rw (ap (λ j. j.journal) c.self.view_is) c.requires.few in
     let entries : c.append.new.items.items ≡ c.self.inside.journal.items
     ++ entry_of c.args.worker c.args.line.now c.in_ok-copy.copy ∷ [] =
-    c.append.ensures.items ∙ rw (c.in_ok-reserve.ensures.items, c.in_ok-call.ensures) refl in
+    c.append.ensures.items ∙ rw c.in_ok-reserve.ensures.items
+    (ap (λ line. c.self.inside.journal.items ++ entry_of c.args.worker line c.in_ok-copy.copy ∷ []) c.in_ok-cred.ensures) in
     played_on (journaled_of c.self.inside) _ c.args.worker c.args.line.now c.in_ok-copy.copy c.self.invariant few refl entries
     (carried_out _ _ _ c.in_ok-ready.ready _ _ _ c.args.line.now c.in_ok-ready.ensures.state
     c.in_ok-ready.ensures.step c.commit-reply.ensures c.reply.ensures c.in_ok-copy.ensures)

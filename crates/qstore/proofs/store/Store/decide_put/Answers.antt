@@ -1,6 +1,8 @@
-use Rattle.std.proofs.Common.{◌+◌, ◌≤◌, rules, sym, ap, subst, ◌∙◌, arith}
+use Rattle.std.proofs.Common.{ℕ, ◌+◌, ◌≤◌, rules, sym, ap, subst, ◌∙◌, arith}
+use Rattle.std.specs.Option.{IfSome}
 use Rattle.qrules.specs.Sort.{Blocks}
 use Rattle.qblocks.specs.File.{after_write}
+use Rattle.qblocks.specs.WriteRoom.{IsReadyToPut}
 use Rattle.qplain.specs.declared.reply.Reply.{Reply}
 use Rattle.qplain.specs.declared.reply.Reply.TheVariants.{Done}
 use Rattle.qplain.specs.State.{State, inode_at}
@@ -10,6 +12,7 @@ use Rattle.qplain.specs.Attempt.{with_file}
 use Rattle.qplain.specs.Step.{settle}
 use Rattle.qplain.proofs.Rising.{Rises-with_file, change_between-rises, settle-granted, settle-refused}
 use Rattle.qstore.specs.Ready.{IsRefused, effect, written_at}
+use Rattle.qstore.specs.Room.{file_room}
 use Rattle.qstore.specs.Stored.{HasSlots, Stored}
 use Rattle.qplain.proofs.Fitting.{known-owners}
 use Rattle.qstore.proofs.Granted.{granted-unrefused}
@@ -85,6 +88,8 @@ returns-clause-ready c =
     let few = subst (λ (v : Stored). total_of v.state Blocks + x.target.blocks ≤ v.state.size) view fits.0 in
     let slots = slots-along x.self.now c.in-Some.slots x.target.uid x.target.gid t.inode.uid t.inode.gid c.in-Some.ensures.slots t.uid t.gid in
     let owners = subst (λ (v : Stored). HasSlots v c.in-Some.slots t.inode.uid t.inode.gid) view slots in
+    let Ready : ℕ → Type 0 = λ n. IfSome (file_room c.ready_write.new.self.room x.number) (λ f. IsReadyToPut f x.off n c.in_ok-spare.spare) in
+    let room = subst Ready c.len-len.ensures c.in_ok-spare.ensures.room in
     write-ready a c.ready_write.new.self c.ready_write.ensures.same x.number x.off c.in_ok-spare.spare
     c.in-Some.slots x.moment x.bytes.now t.inode x.target.blocks
-    there (omega (arith, limit, low)) more few owners c.ready_write.ensures.there c.in_ok-spare.ensures.room c.requires.moment
+    there (omega (arith, limit, low)) more few owners c.ready_write.ensures.there room c.requires.moment
