@@ -8,7 +8,7 @@ use qtext::ReadFault;
 use std::alloc::Global;
 
 /// A caller that was read, beside its word.
-#[derive(Clone, Copy)]
+#[derive(Drop)]
 struct KeptCaller<'a> {
     word: &'a [u8],
     cred: Cred,
@@ -33,11 +33,12 @@ impl<'a> Callers<'a> {
     {
         if let Some(last) = &self.last {
             if last.word == word {
-                return Ok(last.cred);
+                return Ok(last.cred.copy()?);
             }
         }
         let cred = caller_of(alloc, word)?;
-        self.last = Some(KeptCaller { word, cred });
+        let kept = cred.copy()?;
+        self.last = Some(KeptCaller { word, cred: kept });
         Ok(cred)
     }
 }

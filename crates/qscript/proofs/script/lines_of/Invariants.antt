@@ -7,12 +7,12 @@ use Rattle.qtext.proofs.Loops.{with_front}
 use Rattle.qscript.proofs.script.lines_of.Given as goal
 
 -- the lines so far, and what is still read
-abbrev pub invariant-loop-callers : goal.invariant-loop-callers
-invariant-loop-callers l = record {
+abbrev pub invariant-loop-rest : goal.invariant-loop-rest
+invariant-loop-rest l = record {
   few : l.number ≤ MAX_LINES;
   count : vec_len l.lines ≡ l.number;
   reads : with_front l.lines.items (each_of at_line (raw_lines_from (l.number + 1) (parts 10 l.rest))) ≡ script_of l.fn.text;
 }
 
-abbrev pub decreases-loop-callers : goal.decreases-loop-callers
-decreases-loop-callers l = length l.rest
+abbrev pub decreases-loop-rest : goal.decreases-loop-rest
+decreases-loop-rest l = length l.rest
