@@ -161,8 +161,8 @@ abbrev pub is_of_others : Caller → Option Inode → Bool
 is_of_others cred None = true
 is_of_others cred (Some inode) = not (cred.uid == inode.uid)
 
--- what a caller leaves to others: their inodes, with what these hold and whose they are, and each name in a directory of
--- others that leads to an inode of others
+-- what a caller leaves to others: their inodes, with what these hold and whose they are, and each name in a directory
+-- of others that leads to an inode of others
 pub record LeavesToOthers (cred : Caller) (old new : State) : Type 0 where
   pub inodes : (number : ℕ) (inode : Inode) → inode_at old number ≡ Some inode
       → is_of_others cred (Some inode) ≡ true → inode_at new number ≡ Some inode
