@@ -2,4 +2,5 @@
 pub mod ArgumentsAgain
 pub mod CallersAgain
 pub mod CallsAgain
+mod FewGroups
 mod Regrouped

@@ -23,18 +23,18 @@ own_ids_of _ = Err BadCred
 abbrev pub groups_of : List (List ℕ) → Result (List ℕ) TextKind
 groups_of words = each_of (id_of BadCred) words
 
--- a caller of these ids, where the further groups are not too many
-abbrev pub caller_with : ℕ × ℕ → List ℕ → Result Caller TextKind
-caller_with own more =
-    if nat_le (length more) MAX_MORE_GROUPS then Ok (record { uid = own.0; gid = own.1; more = more })
-    else Err BadCred
+-- the further groups, where they are not too many
+unfoldable pub few_groups_of : List (List ℕ) → Result (List ℕ) TextKind
+few_groups_of words = do
+  more ← groups_of words
+  if nat_le (length more) MAX_MORE_GROUPS then Ok more else Err BadCred
 
 -- the caller of the text of its own ids and the words of the further groups
 unfoldable pub caller_from : List ℕ → List (List ℕ) → Result Caller TextKind
 caller_from first groups = do
   own ← own_ids_of (parts 58 first)
-  more ← groups_of groups
-  caller_with own more
+  more ← few_groups_of groups
+  Ok (record { uid = own.0; gid = own.1; more = more })
 
 -- the caller whose parts between commas these are
 unfoldable pub caller_in : List (List ℕ) → Result Caller TextKind

@@ -1,12 +1,12 @@
 //! Callers as words.
-ghost use Rattle.std.specs.Prelude.{◌≡◌};
+ghost use Rattle.std.specs.Prelude.{◌≡◌, Ok, IfOk, IfErr};
 ghost use Rattle.std.specs.Option.{option_map};
-ghost use Rattle.qtext.specs.Gives.{Gives};
+ghost use Rattle.qtext.specs.Gives.{Fails, Gives};
 ghost use Rattle.qtext.specs.Words.{parts, parts_after};
-ghost use Rattle.qline.specs.Callers.{own_ids_in, own_ids_of, groups_of, caller_from, caller_of};
+ghost use Rattle.qline.specs.Callers.{own_ids_in, own_ids_of, few_groups_of, caller_from, caller_of};
 
-use qplain::Cred;
-use qrules::Items;
+use arrayvec::ArrayVec;
+use qplain::{Cred, MAX_MORE_GROUPS};
 use qtext::{ReadFault, TextKind, first_part, id_of};
 use std::alloc::Global;
 
@@ -34,18 +34,25 @@ fn own_ids_of(text: &[u8]) -> Result<(u32, u32), ReadFault>
     }
 }
 
-/// The further groups of a caller, where there are any.
-fn groups_of(alloc: Global, text: Option<&[u8]>) -> Result<Items<u32>, ReadFault>
-    ensures { Gives result (groups_of (parts_after 44 (option_map (λ t. t.now) text.entry))) }
+/// The further groups of a caller, where there are any, and no more than a caller may name. They take no memory.
+fn groups_of(text: Option<&[u8]>) -> Result<ArrayVec<u32, MAX_MORE_GROUPS>, ReadFault>
+    ensures groups { IfOk result (λ groups.
+        few_groups_of (parts_after 44 (option_map (λ t. t.now) text.entry)) ≡ Ok groups.items) }
+    ensures fault { IfErr result (λ fault.
+        Fails fault (few_groups_of (parts_after 44 (option_map (λ t. t.now) text.entry)))) }
 {
-    let mut groups = Vec::new(alloc);
+    let mut groups = ArrayVec::new();
     let mut left = text;
     while let Some(rest) = left {
         let (group, after) = first_part(rest, b',');
-        groups.push(id_of(TextKind::BadCred, group)?)?;
+        let group = id_of(TextKind::BadCred, group)?;
+        if groups.is_full() {
+            return Err(ReadFault::Fault(TextKind::BadCred));
+        }
+        groups.push(group);
         left = after;
     }
-    Ok(Items::new(groups))
+    Ok(groups)
 }
 
 #[tactic(auto, unfolding(crate::specs::Callers::caller_from))]
@@ -53,7 +60,7 @@ fn caller_from(alloc: Global, own: &[u8], groups: Option<&[u8]>) -> Result<Cred,
     ensures { Gives result (caller_from own.now (parts_after 44 (option_map (λ t. t.now) groups.entry))) }
 {
     let (uid, gid) = own_ids_of(own)?;
-    let more = groups_of(alloc, groups)?;
+    let more = groups_of(groups)?;
     match Cred::new(alloc, uid, gid, more.as_slice())? {
         Some(cred) => Ok(cred),
         None => Err(ReadFault::Fault(TextKind::BadCred)),
