@@ -3,7 +3,8 @@ ghost use Rattle.std.specs.Prelude.{map};
 ghost use Rattle.qtext.specs.Gives.{Gives};
 ghost use Rattle.qline.specs.Calls.{create_of, write_of, fill_of, read_of, stat_of, limits_of, setquota_of, setgrace_of, quota_of, call_of, call_in};
 
-use crate::argument::{data_of, kind_of, path_of};
+use crate::argument::{data_of, kind_of};
+use crate::paths::Paths;
 use crate::verb::{Verb, verb_of};
 use qplain::{Call, Data};
 use qrules::{Graces, Limits};
@@ -14,34 +15,41 @@ use std::alloc::Global;
 pub const MAX_FILL: u64 = 131_072;
 
 #[tactic(auto, unfolding(crate::specs::Calls::create_of))]
-fn create_of(alloc: Global, path: &[u8]) -> Result<Call, ReadFault>
+fn create_of<'a>(alloc: Global, paths: &mut Paths<'a>, path: &'a [u8]) -> Result<Call, ReadFault>
     ensures { Gives result (create_of path.now) }
 {
-    let path = path_of(alloc, path)?;
+    let path = paths.read(alloc, path)?;
     Ok(Call::Create { path })
 }
 
 #[tactic(auto, unfolding(crate::specs::Calls::write_of))]
-fn write_of(alloc: Global, path: &[u8], off: &[u8], digits: &[u8]) -> Result<Call, ReadFault>
+fn write_of<'a>(
+    alloc: Global,
+    paths: &mut Paths<'a>,
+    path: &'a [u8],
+    off: &[u8],
+    digits: &[u8],
+) -> Result<Call, ReadFault>
     ensures { Gives result (write_of path.now off.now digits.now) }
 {
-    let path = path_of(alloc, path)?;
+    let path = paths.read(alloc, path)?;
     let off = number(off)?;
     let bytes = data_of(alloc, digits)?;
     Ok(Call::Write { path, off, bytes })
 }
 
 #[tactic(auto, unfolding(crate::specs::Calls::fill_of))]
-fn fill_of(
+fn fill_of<'a>(
     alloc: Global,
-    path: &[u8],
+    paths: &mut Paths<'a>,
+    path: &'a [u8],
     off: &[u8],
     count: &[u8],
     byte: &[u8],
 ) -> Result<Call, ReadFault>
     ensures { Gives result (fill_of path.now off.now count.now byte.now) }
 {
-    let path = path_of(alloc, path)?;
+    let path = paths.read(alloc, path)?;
     let off = number(off)?;
     let count = number_of(TextKind::BadNumber, MAX_FILL, count)?;
     let byte = byte_of(byte)?;
@@ -53,20 +61,26 @@ fn fill_of(
 }
 
 #[tactic(auto, unfolding(crate::specs::Calls::read_of))]
-fn read_of(alloc: Global, path: &[u8], off: &[u8], len: &[u8]) -> Result<Call, ReadFault>
+fn read_of<'a>(
+    alloc: Global,
+    paths: &mut Paths<'a>,
+    path: &'a [u8],
+    off: &[u8],
+    len: &[u8],
+) -> Result<Call, ReadFault>
     ensures { Gives result (read_of path.now off.now len.now) }
 {
-    let path = path_of(alloc, path)?;
+    let path = paths.read(alloc, path)?;
     let off = number(off)?;
     let len = number(len)?;
     Ok(Call::Read { path, off, len })
 }
 
 #[tactic(auto, unfolding(crate::specs::Calls::stat_of))]
-fn stat_of(alloc: Global, path: &[u8]) -> Result<Call, ReadFault>
+fn stat_of<'a>(alloc: Global, paths: &mut Paths<'a>, path: &'a [u8]) -> Result<Call, ReadFault>
     ensures { Gives result (stat_of path.now) }
 {
-    let path = path_of(alloc, path)?;
+    let path = paths.read(alloc, path)?;
     Ok(Call::Stat { path })
 }
 
@@ -130,15 +144,20 @@ fn quota_of(kind: &[u8], id: &[u8]) -> Result<Call, ReadFault>
 
 /// The call of a verb and its arguments, of which there are as many as it takes.
 #[tactic(auto, unfolding(crate::specs::Calls::call_of))]
-fn call_of(alloc: Global, verb: Verb, arguments: &[&[u8]]) -> Result<Call, ReadFault>
+fn call_of<'a>(
+    alloc: Global,
+    paths: &mut Paths<'a>,
+    verb: Verb,
+    arguments: &[&'a [u8]],
+) -> Result<Call, ReadFault>
     ensures { Gives result (call_of verb (map (λ word. word.now) arguments.now)) }
 {
     match (verb, arguments) {
-        (Verb::Create, [path]) => create_of(alloc, path),
-        (Verb::Write, [path, off, data]) => write_of(alloc, path, off, data),
-        (Verb::Fill, [path, off, count, byte]) => fill_of(alloc, path, off, count, byte),
-        (Verb::Read, [path, off, len]) => read_of(alloc, path, off, len),
-        (Verb::Stat, [path]) => stat_of(alloc, path),
+        (Verb::Create, [path]) => create_of(alloc, paths, path),
+        (Verb::Write, [path, off, data]) => write_of(alloc, paths, path, off, data),
+        (Verb::Fill, [path, off, count, byte]) => fill_of(alloc, paths, path, off, count, byte),
+        (Verb::Read, [path, off, len]) => read_of(alloc, paths, path, off, len),
+        (Verb::Stat, [path]) => stat_of(alloc, paths, path),
         (Verb::SetQuota, [kind, id, block_soft, block_hard, inode_soft, inode_hard]) => {
             setquota_of(kind, id, block_soft, block_hard, inode_soft, inode_hard)
         }
@@ -151,16 +170,21 @@ fn call_of(alloc: Global, verb: Verb, arguments: &[&[u8]]) -> Result<Call, ReadF
 /// The call that words spell, the first of them its verb.
 ///
 /// Of faults the first is told: the verb, the count of arguments, the arguments from left to right. That a call is read
-/// says nothing of whether a store takes it. An Err gives no call.
+/// says nothing of whether a store takes it. An Err gives no call. Where its path is the one that was read last, it shares
+/// that one's bytes.
 #[tactic(auto, unfolding(crate::specs::Calls::call_in))]
-pub fn call_in(alloc: Global, words: &[&[u8]]) -> Result<Call, ReadFault>
+pub fn call_in<'a>(
+    alloc: Global,
+    paths: &mut Paths<'a>,
+    words: &[&'a [u8]],
+) -> Result<Call, ReadFault>
     ensures { Gives result (call_in (map (λ word. word.now) words.now)) }
 {
     match words {
         [] => Err(ReadFault::Fault(TextKind::BadVerb)),
         [verb, arguments @ ..] => {
             let verb = verb_of(verb)?;
-            call_of(alloc, verb, arguments)
+            call_of(alloc, paths, verb, arguments)
         }
     }
 }

@@ -3,10 +3,12 @@
 
 pub use call::{MAX_FILL, call_in};
 pub use caller::caller_of;
+pub use paths::Paths;
 pub use reply_text::{REPLY_PLACE, put_reply};
 
 mod argument;
 mod call;
 mod caller;
+mod paths;
 mod reply_text;
 mod verb;

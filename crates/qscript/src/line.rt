@@ -8,7 +8,7 @@ ghost use Rattle.qscript.specs.Scripts.{line_in, line_of};
 use crate::callers::Callers;
 use crate::raw_line::NextLine;
 use crate::script::MAX_LINES;
-use qline::call_in;
+use qline::{Paths, call_in};
 use qplain::Line;
 use qtext::{ReadFault, TextKind, number};
 use std::alloc::Global;
@@ -18,6 +18,7 @@ use std::alloc::Global;
 fn line_in<'a>(
     alloc: Global,
     callers: &mut Callers<'a>,
+    paths: &mut Paths<'a>,
     words: &[&'a [u8]],
 ) -> Result<Line, ReadFault>
     ensures { Gives result (line_in (map (λ word. word.now) words.now)) }
@@ -31,7 +32,7 @@ fn line_in<'a>(
         [moment, cred, call @ ..] => {
             let moment = number(moment)?;
             let cred = callers.read(alloc, cred)?;
-            let call = call_in(alloc, call)?;
+            let call = call_in(alloc, paths, call)?;
             Ok(Line { cred, moment, call })
         }
     }
@@ -42,6 +43,7 @@ fn line_in<'a>(
 pub(crate) fn line_of<'a>(
     alloc: Global,
     callers: &mut Callers<'a>,
+    paths: &mut Paths<'a>,
     number: u64,
     line: &NextLine<'a>,
     words: &[&'a [u8]],
@@ -61,5 +63,5 @@ pub(crate) fn line_of<'a>(
     if !line.is_text {
         return Err(ReadFault::Fault(TextKind::BadByte));
     }
-    line_in(alloc, callers, words)
+    line_in(alloc, callers, paths, words)
 }

@@ -7,6 +7,7 @@ ghost use Rattle.qscript.specs.Scripts.{script_of};
 use crate::callers::Callers;
 use crate::line::line_of;
 use crate::raw_line::next_line;
+use qline::Paths;
 use qplain::Line;
 use qrules::Items;
 use qtext::{ReadFault, TextFault, TextKind};
@@ -49,6 +50,7 @@ fn lines_of(alloc: Global, text: &[u8]) -> Result<Items<Line>, TextFault>
     let mut lines = Vec::new(alloc);
     let mut room = Vec::new(alloc);
     let mut callers = Callers::new();
+    let mut paths = Paths::new();
     let mut rest = text;
     let mut number = 0u64;
     while !rest.is_empty() {
@@ -56,7 +58,7 @@ fn lines_of(alloc: Global, text: &[u8]) -> Result<Items<Line>, TextFault>
         let Ok(next) = next_line(&mut room, rest) else {
             return Err(WANT_OF_MEMORY);
         };
-        match line_of(alloc, &mut callers, number, &next, &room) {
+        match line_of(alloc, &mut callers, &mut paths, number, &next, &room) {
             Ok(line) => match lines.push(line) {
                 Ok(()) => {}
                 Err(_) => return Err(WANT_OF_MEMORY),
