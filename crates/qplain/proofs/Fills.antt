@@ -2,7 +2,6 @@
 use Rattle.std.proofs.Common.{◌≡◌, ℕ, zero, suc, Bool, true, false, ◌==◌, ◌&&◌, nat_eq, List, [], ◌∷◌, length, replicate, refl, sym, ap, ◌∙◌}
 use Rattle.std.proofs.Math.Dec.{eqb, eqb-suc-zero, eqb-zero-suc, eqb-suc-suc}
 use Rattle.std.specs.List.{list_all}
-use Rattle.std.specs.Cmp.{IsEquivalence}
 use Rattle.std.proofs.lemmas.Cmp.{nat_list_eq_equiv}
 use Rattle.std.specs.Cmp.Lexicographic.{pointwise}
 
