@@ -49,12 +49,12 @@ pub(crate) fn append<T: Drop>(items: &mut Vec<T>, item: T)
 }
 
 impl JournaledStore {
-    /// A new store of the setup, with an empty journal. After an Err nothing was made.
-    pub(crate) fn new(alloc: Global, setup: Setup) -> Result<JournaledStore, NoMemory>
+    /// A new store of the setup, with an empty journal. The seed is that of its names. After an Err nothing was made.
+    pub(crate) fn new(alloc: Global, setup: Setup, seed: u64) -> Result<JournaledStore, NoMemory>
         ensures setting { IfOk result (λ j. j.setting ≡ setup) }
         ensures journal { IfOk result (λ j. j.journal ≡ []) }
     {
-        let store = Store::new(alloc, setup.copy(alloc)?)?;
+        let store = Store::new(alloc, setup.copy(alloc)?, seed)?;
         Ok(JournaledStore {
             alloc,
             setup,

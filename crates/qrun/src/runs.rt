@@ -112,10 +112,10 @@ fn play_lines(
 }
 
 /// Plays the lines of one worker on a new store of the setup.
-fn play(alloc: Global, setup: Setup, lines: Vec<Line>) -> Result<Outcome, NoMemory>
+fn play(alloc: Global, setup: Setup, lines: Vec<Line>, seed: u64) -> Result<Outcome, NoMemory>
     ensures { IfOk result (IsOutcomeOf setup (lines.items ∷ [])) }
 {
-    match JournaledStore::new(alloc, setup) {
+    match JournaledStore::new(alloc, setup, seed) {
         Ok(store) => play_lines(alloc, store, lines),
         Err(refused) => Err(refused),
     }
@@ -124,11 +124,17 @@ fn play(alloc: Global, setup: Setup, lines: Vec<Line>) -> Result<Outcome, NoMemo
 /// Plays the lines of a script on a new store of the setup: the worker makes their calls one after the other, and goes
 /// on after any answer.
 ///
-/// O(lines), and what each call takes. After an Err the store is given up.
-pub fn run_lines(alloc: Global, setup: Setup, lines: Vec<Line>) -> Result<Outcome, RunFault>
+/// The hashes of names begin at `seed`, which may be any number; nothing of the outcome depends on it. O(lines), and
+/// what each call takes. After an Err the store is given up.
+pub fn run_lines(
+    alloc: Global,
+    setup: Setup,
+    lines: Vec<Line>,
+    seed: u64,
+) -> Result<Outcome, RunFault>
     ensures outcome { IfOk result (IsOutcomeOf setup (lines.items ∷ [])) }
 {
-    match play(alloc, setup, lines) {
+    match play(alloc, setup, lines, seed) {
         Ok(outcome) => Ok(outcome),
         Err(_) => Err(RunFault::Memory),
     }

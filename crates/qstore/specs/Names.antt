@@ -1,5 +1,5 @@
 -- The names in one directory, as a store keeps them. No public clause cites this module.
-use Rattle.std.specs.Prelude.{ℕ, List, Vec}
+use Rattle.std.specs.Prelude.{ℕ, List, String, string_bytes}
 use Rattle.std.specs.Ordering.{nat_cmp}
 use Rattle.std.specs.Cmp.Lexicographic.{slice_cmp}
 use Rattle.qrules.specs.declared.name_row.NameRow.{NameRow}
@@ -11,8 +11,8 @@ pub record RoomyNames : Type 0 where
   pub room : ℕ
 
 -- a table's names by their bytes
-abbrev pub names_of : {A : Type 0} → List (Vec ℕ A × ℕ) → List (List ℕ × ℕ)
-names_of entries = in_order (slice_cmp nat_cmp) (keyed_by (λ name. name.items) entries)
+abbrev pub names_of : {A : Type 0} → List (String A × ℕ) → List (List ℕ × ℕ)
+names_of entries = in_order (slice_cmp nat_cmp) (keyed_by string_bytes entries)
 
 -- the row of a name in this directory
 abbrev pub row_in : ℕ → List ℕ × ℕ → NameRow

@@ -7,6 +7,7 @@ pub use store::Store;
 mod changes;
 mod kept_holder;
 mod ledger;
+mod name_hasher;
 mod names;
 mod node;
 mod path;

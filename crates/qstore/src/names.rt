@@ -1,5 +1,5 @@
 //! The names in one directory.
-ghost use Rattle.std.specs.Prelude.{◌≡◌, ◌<◌, ◌++◌, [], map, None, IfOk, OnOk};
+ghost use Rattle.std.specs.Prelude.{◌≡◌, ◌<◌, ◌++◌, [], map, string_bytes, None, IfOk, OnOk};
 ghost use Rattle.std.specs.Ordering.{nat_cmp};
 ghost use Rattle.std.specs.Cmp.Lexicographic.{slice_cmp};
 ghost use Rattle.std.specs.BTreeMap.{insert_entry, is_at};
@@ -8,6 +8,7 @@ ghost use Rattle.std.specs.Map.{keys_of, lookup};
 ghost use Rattle.qstore.specs.InOrder.{keyed_by};
 ghost use Rattle.qstore.specs.Names.{names_of, row_in};
 
+use crate::name_hasher::NameHasher;
 use qplain::NoMemory;
 use qrules::NameRow;
 use std::alloc::Global;
@@ -19,7 +20,7 @@ use std::marker::Model;
 /// Contracts see them in the order of their bytes, and beside them how many more there is room for.
 #[derive(Drop)]
 pub(crate) struct Names {
-    table: HashMap<Vec<u8>, u64>,
+    table: HashMap<String, u64, NameHasher>,
 }
 
 impl Model for Names {
@@ -34,17 +35,17 @@ impl Model for Names {
 }
 
 impl Names {
-    /// No names. It takes no memory.
-    pub(crate) fn new(alloc: Global) -> Names
+    /// No names. It takes no memory. The hashes of names begin at the seed, on which no answer depends.
+    pub(crate) fn new(alloc: Global, seed: u64) -> Names
         ensures { result.entries ≡ [] }
     {
         Names {
-            table: HashMap::new(alloc),
+            table: HashMap::with_hasher(alloc, NameHasher::new(seed)),
         }
     }
 
     /// The inode that a name leads to.
-    pub(crate) fn get(&self, name: &[u8]) -> Option<u64>
+    pub(crate) fn get(&self, name: &str) -> Option<u64>
         ensures { result ≡ lookup (is_at (slice_cmp nat_cmp name.now)) self.now.entries }
     {
         self.table.get(name).copied()
@@ -59,10 +60,10 @@ impl Names {
     }
 
     /// Puts a new name, for which there is room. It takes no memory and always succeeds.
-    pub(crate) fn put(&mut self, name: Vec<u8>, number: u64)
+    pub(crate) fn put(&mut self, name: String, number: u64)
         requires room { 0 < self.old.room }
-        requires absent { lookup (is_at (slice_cmp nat_cmp name.items)) self.old.entries ≡ None }
-        ensures { self.new.entries ≡ insert_entry (slice_cmp nat_cmp) self.old.entries name.items number }
+        requires absent { lookup (is_at (slice_cmp nat_cmp (string_bytes name))) self.old.entries ≡ None }
+        ensures { self.new.entries ≡ insert_entry (slice_cmp nat_cmp) self.old.entries (string_bytes name) number }
     {
         match self.table.insert(name, number) {
             Ok(_) => {}
@@ -94,11 +95,11 @@ impl Names {
 
 /// The numbers under their names, in the order of the names' bytes.
 fn by_bytes(
-    table: &HashMap<Vec<u8>, u64>,
+    table: &HashMap<String, u64, NameHasher>,
     alloc: Global,
-) -> Result<BTreeMap<&Vec<u8>, u64>, NoMemory>
+) -> Result<BTreeMap<&String, u64>, NoMemory>
     ensures { IfOk result (λ numbers.
-        keyed_by (λ name. name.now.items) numbers.entries ≡ names_of table.now.entries) }
+        keyed_by (λ name. string_bytes name.now) numbers.entries ≡ names_of table.now.entries) }
 {
     let mut numbers = BTreeMap::new(alloc);
     for (name, number) in table.iter() {

@@ -1,5 +1,5 @@
 //! One inode, as a store keeps it.
-ghost use Rattle.std.specs.Prelude.{◌≡◌, ◌+◌, ◌<◌, ◌≤◌, ◌^◌, ◌++◌, [], length, map, None, true, is_some, IfOk, IfSome, OnOk};
+ghost use Rattle.std.specs.Prelude.{◌≡◌, ◌+◌, ◌<◌, ◌≤◌, ◌^◌, ◌++◌, [], length, map, string_bytes, None, true, is_some, IfOk, IfSome, OnOk};
 ghost use Rattle.std.specs.Ordering.{nat_cmp};
 ghost use Rattle.std.specs.Cmp.Lexicographic.{slice_cmp};
 ghost use Rattle.std.specs.BTreeMap.{insert_entry, is_at};
@@ -35,7 +35,7 @@ pub(crate) struct Node {
 
 impl Node {
     /// The root directory, with no name in it. It takes no memory.
-    pub(crate) fn new_root(alloc: Global) -> Node
+    pub(crate) fn new_root(alloc: Global, seed: u64) -> Node
         ensures inode { inode_of result ≡ root }
         ensures links { result.links ≡ 2 }
         ensures names { names_in result.content ≡ [] }
@@ -44,7 +44,7 @@ impl Node {
             uid: 0,
             gid: 0,
             links: 2,
-            content: Content::Directory(Names::new(alloc)),
+            content: Content::Directory(Names::new(alloc, seed)),
         }
     }
 
@@ -75,14 +75,14 @@ impl Node {
     }
 
     /// Puts a new name into this directory, where there is room. It takes no memory and always succeeds.
-    pub(crate) fn put_name(&mut self, name: Vec<u8>, number: u64)
+    pub(crate) fn put_name(&mut self, name: String, number: u64)
         requires room { 0 < name_room_in self.old.content }
-        requires absent { lookup (is_at (slice_cmp nat_cmp name.items)) (names_in self.old.content)
+        requires absent { lookup (is_at (slice_cmp nat_cmp (string_bytes name))) (names_in self.old.content)
             ≡ None }
         ensures inode { inode_of self.new ≡ inode_of self.old }
         ensures links { self.new.links ≡ self.old.links }
         ensures names { names_in self.new.content
-            ≡ insert_entry (slice_cmp nat_cmp) (names_in self.old.content) name.items number }
+            ≡ insert_entry (slice_cmp nat_cmp) (names_in self.old.content) (string_bytes name) number }
     {
         match &mut self.content {
             Content::Directory(names) => names.put(name, number),

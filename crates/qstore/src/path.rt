@@ -6,46 +6,39 @@ ghost use Rattle.qstore.specs.Paths.{parts_in, path_fault};
 
 use qplain::{MAX_NAME, MAX_PATH, Refusal};
 
-/// Where the first slash stands.
-fn slash_in(bytes: &[u8]) -> Option<usize>
-    ensures { result ≡ position is_slash bytes.now }
+/// The text before the first slash, and that behind it, if there is one.
+pub(crate) fn cut(text: &str) -> (&str, Option<&str>)
+    ensures parts { slice_split is_slash text.now ≡ result.0.now ∷ parts_in (option_map (λ rest. rest.now) result.1) }
+    ensures less { IfSome result.1 (λ rest. length rest.now < length text.now) }
 {
-    bytes.iter().position(|byte| *byte == b'/')
-}
-
-/// The bytes before the first slash, and those behind it, if there is one.
-pub(crate) fn cut(bytes: &[u8]) -> (&[u8], Option<&[u8]>)
-    ensures parts { slice_split is_slash bytes.now ≡ result.0.now ∷ parts_in (option_map (λ rest. rest.now) result.1) }
-    ensures less { IfSome result.1 (λ rest. length rest.now < length bytes.now) }
-{
-    match slash_in(bytes) {
-        Some(slash) => (&bytes[..slash], Some(&bytes[slash + 1..])),
-        None => (bytes, None),
+    match text.split_once('/') {
+        Some((name, rest)) => (name, Some(rest)),
+        None => (text, None),
     }
 }
 
 /// The components of a path, with slashes between them, if there are any.
-pub(crate) fn names_of(path: &[u8]) -> Option<&[u8]>
+pub(crate) fn names_of(path: &str) -> Option<&str>
     ensures { components path.now ≡ parts_in (option_map (λ names. names.now) result) }
 {
-    match path {
+    match path.as_bytes() {
         [b'/'] => None,
         _ => cut(path).1,
     }
 }
 
 /// Whether it may be a component: it is not empty, and neither `.` nor `..`.
-fn is_name(name: &[u8]) -> bool
+fn is_name(name: &str) -> bool
     ensures { result ≡ is_name name.now }
 {
-    !matches!(name, [] | [b'.'] | [b'.', b'.'])
+    !matches!(name.as_bytes(), [] | [b'.'] | [b'.', b'.'])
 }
 
 /// What is wrong with a path: EINVAL for its form, else ENAMETOOLONG.
-pub(crate) fn fault_of(path: &[u8]) -> Option<Refusal>
+pub(crate) fn fault_of(path: &str) -> Option<Refusal>
     ensures { result ≡ path_fault path.now }
 {
-    if path.first() != Some(&b'/') {
+    if path.as_bytes().first() != Some(&b'/') {
         return Some(Refusal::EINVAL);
     }
     let mut is_too_long = path.len() > MAX_PATH;

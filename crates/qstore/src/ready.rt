@@ -4,7 +4,7 @@ ghost use Rattle.std.specs.Prelude.{◌≡◌, []};
 use crate::slots::Slots;
 use qblocks::Spare;
 use qplain::{Data, Refusal, Reply};
-use qrules::{Graces, Items, Kind, Limits};
+use qrules::{Graces, Kind, Limits};
 
 /// What a granted call still has to do, for which all room is made.
 #[derive(Drop)]
@@ -14,7 +14,7 @@ pub(crate) enum Plan {
     /// An empty file is to stand in the directory.
     Create {
         dir: u64,
-        name: Items<u8>,
+        name: String,
         uid: u32,
         gid: u32,
         slots: Slots,

@@ -81,13 +81,15 @@ impl Store {
     /// A new store of a setup. It holds the root directory, inode 1 of user 0 and group 0; the next number is 2, and a
     /// file has at most 2^30 bytes (tmpfs(5), profile).
     ///
-    /// The allocator is kept for later growth. After an Err nothing was made. O(n), as many principals as there are.
-    pub fn new(alloc: Global, setup: Setup) -> Result<Store, NoMemory>
+    /// The allocator is kept for later growth. The hashes of names begin at `seed`, which may be any number: where nobody
+    /// knows it beforehand, nobody can search beforehand for names that collide. No answer and no row depends on it.
+    /// After an Err nothing was made. O(n), as many principals as there are.
+    pub fn new(alloc: Global, setup: Setup, seed: u64) -> Result<Store, NoMemory>
         ensures { IfOk result (λ s. s.state ≡ start setup) }
     {
         let users = ledger_of(alloc, setup.users(), setup.graces())?;
         let groups = ledger_of(alloc, setup.groups(), setup.graces())?;
-        let tree = Tree::new(alloc)?;
+        let tree = Tree::new(alloc, seed)?;
         Ok(begun(alloc, &setup, users, groups, tree))
     }
 
@@ -123,14 +125,14 @@ impl Store {
             Err(refusal) => return Ok(Decided::refused(refusal)),
         };
         match call {
-            Call::Create { path } => self.decide_create(cred, slots, moment, path.bytes()),
+            Call::Create { path } => self.decide_create(cred, slots, moment, path.text()),
             Call::Write { path, off, bytes } => {
-                self.decide_write(cred, slots, moment, path.bytes(), *off, bytes)
+                self.decide_write(cred, slots, moment, path.text(), *off, bytes)
             }
             Call::Read { path, off, len } => {
-                Ok(Decided::answer(self.decide_read(path.bytes(), *off, *len)?))
+                Ok(Decided::answer(self.decide_read(path.text(), *off, *len)?))
             }
-            Call::Stat { path } => Ok(Decided::answer(self.decide_stat(path.bytes()))),
+            Call::Stat { path } => Ok(Decided::answer(self.decide_stat(path.text()))),
             Call::SetQuota { kind, id, limits } => {
                 Ok(self.decide_set_quota(cred, moment, *kind, *id, *limits))
             }
@@ -154,7 +156,7 @@ impl Store {
                 gid,
                 slots,
                 moment,
-            } => self.commit_create(dir, name.into_vec(), uid, gid, slots, moment),
+            } => self.commit_create(dir, name, uid, gid, slots, moment),
             Plan::Write {
                 number,
                 off,

@@ -1,5 +1,5 @@
 //! All inodes of a store, and in its directories the names that lead to them.
-ghost use Rattle.std.specs.Prelude.{◌≡◌, ℕ, ◌+◌, ◌<◌, ◌≤◌, ◌^◌, [], ◌∷◌, List, false, true, None, Some, length, map, All, is_some, option_copied, IfOk, IfSome, OnOk};
+ghost use Rattle.std.specs.Prelude.{◌≡◌, ℕ, ◌+◌, ◌<◌, ◌≤◌, ◌^◌, [], ◌∷◌, List, false, true, None, Some, length, map, string_bytes, All, is_some, option_copied, IfOk, IfSome, OnOk};
 ghost use Rattle.std.specs.Option.{option_map};
 ghost use Rattle.std.specs.Ordering.{nat_cmp};
 ghost use Rattle.std.specs.Cmp.Lexicographic.{slice_cmp};
@@ -42,13 +42,13 @@ impl Model for Tree {
 
 impl Tree {
     /// The root directory, with no name in it.
-    pub(crate) fn new(alloc: Global) -> Result<Tree, NoMemory>
+    pub(crate) fn new(alloc: Global, seed: u64) -> Result<Tree, NoMemory>
         ensures inodes { IfOk result (λ t. t.inodes ≡ (ROOT, root) ∷ []) }
         ensures names { IfOk result (λ t. t.names ≡ []) }
         ensures links { IfOk result (λ t. t.links ≡ (ROOT, 2) ∷ []) }
     {
         let mut nodes = HashMap::new(alloc);
-        nodes.insert(ROOT, Node::new_root(alloc))?;
+        nodes.insert(ROOT, Node::new_root(alloc, seed))?;
         Ok(Tree { nodes })
     }
 
@@ -97,18 +97,18 @@ impl Tree {
         &mut self,
         number: u64,
         dir: u64,
-        name: Vec<u8>,
+        name: String,
         uid: u32,
         gid: u32,
         alloc: Global,
     )
         requires room { HasRoomFor self.old dir }
         requires absent { lookup (is_at (nat_cmp number)) self.old.inodes ≡ None }
-        requires unnamed { lookup (is_at (name_key_cmp (dir, name.items))) self.old.names ≡ None }
+        requires unnamed { lookup (is_at (name_key_cmp (dir, string_bytes name))) self.old.names ≡ None }
         ensures inodes { self.new.inodes
             ≡ insert_entry nat_cmp self.old.inodes number (new_file uid gid) }
         ensures names { self.new.names
-            ≡ insert_entry name_key_cmp self.old.names (dir, name.items) number }
+            ≡ insert_entry name_key_cmp self.old.names (dir, string_bytes name) number }
         ensures links { self.new.links ≡ insert_entry nat_cmp self.old.links number 1 }
     {
         match self.nodes.get_mut(&dir) {

@@ -10,6 +10,7 @@ use crate::{
 };
 use std::alloc::Global;
 use std::io::Write;
+use std::mem;
 
 /// The ending of a file that cannot be read.
 fn unreadable(alloc: Global, name: &str) -> Ending {
@@ -65,6 +66,7 @@ fn run_one<O: Write>(
     alloc: Global,
     config: Config,
     script: Script,
+    seed: u64,
     at: u64,
     out: &mut O,
 ) -> Result<(), Ending>
@@ -74,16 +76,19 @@ fn run_one<O: Write>(
     if scripts.push(script).is_err() {
         return Err(Ending::Memory);
     }
-    match run(alloc, config, scripts) {
-        Ok(outcome) => put_outcome(&outcome, at, out),
+    match run(alloc, config, scripts, seed) {
+        Ok(outcome) => put_outcome(outcome, at, out),
         Err(RunFault::Memory) => Err(Ending::Memory),
     }
 }
 
-fn put_outcome<O: Write>(outcome: &Outcome, at: u64, out: &mut O) -> Result<(), Ending>
+/// Writes what came of a run. Its memory is left to the system: to give back each piece takes as long as a call.
+fn put_outcome<O: Write>(outcome: Outcome, at: u64, out: &mut O) -> Result<(), Ending>
     ensures { IfErr result (λ ending. ending ≡ Output) }
 {
-    if write_outcome(outcome, at, out).is_err() || out.flush().is_err() {
+    let written = write_outcome(&outcome, at, out);
+    mem::forget(outcome);
+    if written.is_err() || out.flush().is_err() {
         return Err(Ending::Output);
     }
     Ok(())
@@ -92,6 +97,7 @@ fn put_outcome<O: Write>(outcome: &Outcome, at: u64, out: &mut O) -> Result<(), 
 /// Reads what the job names, in the order in which faults are told, runs it, and writes what came of it.
 fn do_job<F: Files, O: Write>(
     alloc: Global,
+    seed: u64,
     job: &Job,
     files: &mut F,
     out: &mut O,
@@ -108,7 +114,7 @@ fn do_job<F: Files, O: Write>(
         return Err(Ending::TooManyScripts);
     };
     let script = script(alloc, files, 1, name.as_str())?;
-    run_one(alloc, config, script, *at, out)
+    run_one(alloc, config, script, seed, *at, out)
 }
 
 /// The whole program: reads the words of the command line, its own name the first of them, reads the files that they
@@ -117,8 +123,14 @@ fn do_job<F: Files, O: Write>(
 /// The first fault ends it with one line on the error output: 2 for the command line, the configuration or a script,
 /// 3 for want of memory, 4 for an output that refuses, also when it is flushed. Help and the version go to the output,
 /// with 0. The line is flushed, so that a buffered error output gets it by one write.
+///
+/// The program ends behind it, so the memory of a run is not given back.
+///
+/// `seed` is any number, best one that nobody knows beforehand: where it is known, names can be searched that collide,
+/// and then calls take long. Neither the output nor the status depends on it.
 pub fn tool<F: Files, O: Write, E: Write>(
     alloc: Global,
+    seed: u64,
     words: &[String],
     files: &mut F,
     out: &mut O,
@@ -128,7 +140,7 @@ pub fn tool<F: Files, O: Write, E: Write>(
     ensures untouched { IsUntouchedAt result (O.contents out.old) (O.contents out.new) }
 {
     let done = match Job::read(alloc, words) {
-        Ok(job) => do_job(alloc, &job, files, out),
+        Ok(job) => do_job(alloc, seed, &job, files, out),
         Err(LineFault::Line { help, text }) => Err(Ending::Line { help, text }),
         Err(LineFault::Memory) => Err(Ending::Memory),
     };

@@ -9,13 +9,19 @@ use std::alloc::Global;
 /// Runs scripts on a new store of the configuration: worker k makes the calls of script k one after the other, and goes
 /// on after any outcome.
 ///
-/// The caller owes one script. O(lines), and what each call takes. After an Err the store is given up.
-pub fn run(alloc: Global, config: Config, mut scripts: Vec<Script>) -> Result<Outcome, RunFault>
+/// The caller owes one script. The hashes of names begin at `seed`, which may be any number; nothing of the outcome
+/// depends on it. O(lines), and what each call takes. After an Err the store is given up.
+pub fn run(
+    alloc: Global,
+    config: Config,
+    mut scripts: Vec<Script>,
+    seed: u64,
+) -> Result<Outcome, RunFault>
     requires one { vec_len scripts ≡ 1 }
     ensures outcome { IfOk result (IsOutcomeOf config.setup scripts.items) }
 {
     let Some(script) = scripts.pop() else {
         unreachable!()
     };
-    run_lines(alloc, config.setup, script.into_lines())
+    run_lines(alloc, config.setup, script.into_lines(), seed)
 }

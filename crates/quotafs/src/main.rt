@@ -5,6 +5,7 @@ use qtool::{FileFault, Files, tool};
 use std::fs::{self, File};
 use std::io::{self, BufWriter, ErrorKind};
 use std::process::ExitCode;
+use std::random::RandomSource;
 
 /// As much output is gathered before it is written, in bytes.
 const OUTPUT_BUFFER: usize = 262_144;
@@ -44,6 +45,15 @@ fn words(rt: &HostRuntime) -> io::Result<Vec<String>> {
     Ok(words)
 }
 
+/// A number that nobody knows beforehand, or 0 where the machine has no source of chance.
+fn seed(rt: &HostRuntime) -> u64 {
+    let mut bytes = [0; 8];
+    match rt.fill_bytes(&mut bytes) {
+        Ok(()) => u64::from_le_bytes(bytes),
+        Err(_) => 0,
+    }
+}
+
 /// Ends for want of memory.
 fn out_of_memory(rt: &HostRuntime) -> ExitCode {
     let _ = eprintln!(rt; "quotafs: memory");
@@ -72,5 +82,6 @@ fn main(rt: HostRuntime) -> ExitCode {
         return out_of_memory(&rt);
     };
     let mut files = MachineFiles { rt: &rt };
-    ExitCode::from(tool(alloc, &words, &mut files, &mut out, &mut err))
+    let seed = seed(&rt);
+    ExitCode::from(tool(alloc, seed, &words, &mut files, &mut out, &mut err))
 }

@@ -40,7 +40,7 @@ pub(crate) fn new_store(rt: &impl Abort, alloc: Global) -> Result<Store, NoMemor
     let users = vec![in alloc; principal(alloc, 0, "root")?]?;
     let groups = vec![in alloc; principal(alloc, 0, "root")?, principal(alloc, 7, "staff")?]?;
     let setup = Setup::new(10, 6, graces, users, groups).expect(rt, "a setup");
-    Store::new(alloc, setup)
+    Store::new(alloc, setup, 7)
 }
 
 /// The superuser, in group 7 alone.

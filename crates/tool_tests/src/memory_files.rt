@@ -69,6 +69,7 @@ pub(crate) fn told_into<O: Write>(
     let mut err = Vec::new(alloc);
     let status = tool(
         alloc,
+        7,
         &words,
         &mut MemoryFiles { alloc, short },
         out,

@@ -34,7 +34,7 @@ fn paths_fault(call: &Call) -> Option<Refusal>
         Call::Create { path }
         | Call::Write { path, .. }
         | Call::Read { path, .. }
-        | Call::Stat { path } => fault_of(path.bytes()),
+        | Call::Stat { path } => fault_of(path.text()),
         Call::SetQuota { .. } | Call::SetGrace { .. } | Call::Quota { .. } => None,
     }
 }

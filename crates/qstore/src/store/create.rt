@@ -1,5 +1,5 @@
 //! To create a file (open(2)).
-ghost use Rattle.std.specs.Prelude.{◌≡◌, ◌≤◌, true, [], None, IfOk};
+ghost use Rattle.std.specs.Prelude.{◌≡◌, ◌≤◌, true, [], string_bytes, None, IfOk};
 ghost use Rattle.std.specs.Result.{IsOk};
 ghost use Rattle.qplain.specs.Attempt.{Becomes, created, create_under};
 ghost use Rattle.qplain.specs.Decision.{ends_after};
@@ -15,7 +15,7 @@ use crate::ready::{Decided, Plan};
 use crate::slots::Slots;
 use crate::store::Store;
 use qplain::{Cred, NoMemory, Refusal, Reply};
-use qrules::{Items, MAX_MOMENT};
+use qrules::MAX_MOMENT;
 
 impl Store {
     /// Decides the creation of a file, and makes room for it.
@@ -24,7 +24,7 @@ impl Store {
         cred: &Cred,
         slots: Slots,
         moment: u64,
-        path: &[u8],
+        path: &str,
     ) -> Result<Decided, NoMemory>
         requires slots { HasSlots self.old slots cred.now.uid cred.now.gid }
         requires moment { moment ≤ MAX_MOMENT }
@@ -59,7 +59,7 @@ impl Store {
         slots: Slots,
         moment: u64,
         dir: u64,
-        name: &[u8],
+        name: &str,
     ) -> Result<Decided, NoMemory>
         requires slots { HasSlots self.old slots cred.now.uid cred.now.gid }
         requires moment { moment ≤ MAX_MOMENT }
@@ -79,7 +79,7 @@ impl Store {
         if let Some(refusal) = self.admit(cred, slots, moment, 0, 1) {
             return Ok(Decided::refused(refusal));
         }
-        let name = Items::new(Vec::from_slice(self.alloc, name)?);
+        let name = String::from_str(self.alloc, name)?;
         self.tree.make_room(dir)?;
         Ok(Decided {
             reply: Reply::Done(self.next, ONE_INODE),
@@ -98,15 +98,15 @@ impl Store {
     pub(super) fn commit_create(
         &mut self,
         dir: u64,
-        name: Vec<u8>,
+        name: String,
         uid: u32,
         gid: u32,
         slots: Slots,
         moment: u64,
     )
-        requires can { CreateIsReady self.old dir name.items uid gid slots moment }
-        requires sound { IsSound (ends_after (created self.old.state (new_file uid gid) dir name.items) moment) }
-        ensures { self.new.state ≡ ends_after (created self.old.state (new_file uid gid) dir name.items) moment }
+        requires can { CreateIsReady self.old dir (string_bytes name) uid gid slots moment }
+        requires sound { IsSound (ends_after (created self.old.state (new_file uid gid) dir (string_bytes name)) moment) }
+        ensures { self.new.state ≡ ends_after (created self.old.state (new_file uid gid) dir (string_bytes name)) moment }
     {
         self.tree
             .add_file(self.next, dir, name, uid, gid, self.alloc);

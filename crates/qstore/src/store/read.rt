@@ -13,7 +13,7 @@ use qplain::{NoMemory, Refusal, Reply, Shared};
 
 impl Store {
     /// The reply to a read.
-    pub(super) fn decide_read(&self, path: &[u8], off: u64, len: u64) -> Result<Reply, NoMemory>
+    pub(super) fn decide_read(&self, path: &str, off: u64, len: u64) -> Result<Reply, NoMemory>
         ensures step { IfOk result (λ reply. (cred : Caller) (moment : ℕ) → (self.now.state, reply)
             ≡ settle self.now.state cred moment
             (read_reached self.now.state off len (walk self.now.state (components path.now)))) }

@@ -40,7 +40,7 @@ fn stat_of(number: u64, node: &Node) -> Stat
 
 impl Store {
     /// The reply to a stat.
-    pub(super) fn decide_stat(&self, path: &[u8]) -> Reply
+    pub(super) fn decide_stat(&self, path: &str) -> Reply
         ensures { (cred : Caller) (moment : ℕ) → (self.now.state, result)
             ≡ settle self.now.state cred moment
             (stat_reached self.now.state (walk self.now.state (components path.now))) }

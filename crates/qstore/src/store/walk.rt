@@ -13,12 +13,12 @@ use qplain::{ROOT, Refusal};
 #[derive(Clone, Copy)]
 pub(super) struct Place<'a> {
     pub(super) dir: u64,
-    pub(super) name: &'a [u8],
+    pub(super) name: &'a str,
 }
 
 impl Store {
     /// What a name leads to, if it is there, or ENOTDIR where it is looked for in no directory.
-    pub(super) fn look(&self, dir: u64, name: &[u8]) -> Result<Option<u64>, Refusal>
+    pub(super) fn look(&self, dir: u64, name: &str) -> Result<Option<u64>, Refusal>
         ensures found { IfOk result (λ found. (is_directory self.now.state dir ≡ true)
             × (found ≡ named self.now.state dir name.now)) }
         ensures fault { IfErr result (λ refusal. (is_directory self.now.state dir ≡ false)
@@ -31,7 +31,7 @@ impl Store {
     }
 
     /// One step of a walk.
-    fn follow(&self, dir: u64, name: &[u8]) -> Result<u64, Refusal>
+    fn follow(&self, dir: u64, name: &str) -> Result<u64, Refusal>
         ensures { result ≡ follow self.now.state (Ok dir) name.now }
     {
         match self.look(dir, name)? {
@@ -41,7 +41,7 @@ impl Store {
     }
 
     /// The inode that a path leads to.
-    pub(super) fn walk(&self, path: &[u8]) -> Result<u64, Refusal>
+    pub(super) fn walk(&self, path: &str) -> Result<u64, Refusal>
         ensures { result ≡ walk self.now.state (components path.now) }
     {
         let mut reached = ROOT;
@@ -55,7 +55,7 @@ impl Store {
     }
 
     /// What the names of a path but the last lead to, and that last name.
-    pub(super) fn parent<'a>(&self, names: &'a [u8]) -> Result<Place<'a>, Refusal>
+    pub(super) fn parent<'a>(&self, names: &'a str) -> Result<Place<'a>, Refusal>
         ensures dir { IfOk result (λ place. parent self.now.state (slice_split is_slash names.now) ≡ Ok place.dir) }
         ensures name { IfOk result (λ place. last_name (slice_split is_slash names.now) ≡ Some place.name.now) }
         ensures fault { IfErr result (λ refusal. parent self.now.state (slice_split is_slash names.now) ≡ Err refusal) }

@@ -46,7 +46,7 @@ impl Store {
         cred: &Cred,
         callers: Slots,
         moment: u64,
-        path: &[u8],
+        path: &str,
         off: u64,
         bytes: &Data,
     ) -> Result<Decided, NoMemory>

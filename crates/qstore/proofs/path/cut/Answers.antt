@@ -1,15 +1,19 @@
-use Rattle.std.proofs.Common.{◌+◌, ◌∷◌, take, sym, ap, ◌∙◌}
+use Rattle.std.proofs.Common.{◌∷◌, None, Some, sym, ◌∙◌, lit<}
 use Rattle.std.specs.List.{slice_split}
+use Rattle.std.proofs.lemmas.List.Splits.{slice_split_first}
+use Rattle.std.proofs.lemmas.Str.Pattern.{split_once_first}
 use Rattle.qplain.specs.Walk.{is_slash}
-use Rattle.qstore.proofs.Parts.{rest_by_length, slice_split-no_position, slice_split-position}
+use Rattle.qstore.proofs.Parts.{slice_split-nowhere}
 use Rattle.qstore.proofs.path.cut.Goals as goal
 
 pub returns-in-Some-clause-parts : goal.returns-in-Some-clause-parts
 returns-in-Some-clause-parts c =
-    let bytes = c.args.bytes.now in
-    let slash = c.in-Some.slash in
-    slice_split-position is_slash bytes slash (sym c.slash_in.ensures ∙ c.in-Some.is)
-    ∙ ap (λ rest. take slash bytes ∷ slice_split is_slash rest) (sym (rest_by_length (slash + 1) bytes))
+    let text = c.args.text.now in
+    let found = split_once_first 0x2f text (Some (c.in-Some.name, c.in-Some.rest)) c.in-Some.ensures.cases (lit< tt) in
+    slice_split_first is_slash text 0 found.0
+    ∙ (λ i. sym found.1 i ∷ slice_split is_slash (sym found.2 i))
 
 pub returns-in-None-clause-parts : goal.returns-in-None-clause-parts
-returns-in-None-clause-parts c = slice_split-no_position is_slash c.args.bytes.now (sym c.slash_in.ensures ∙ c.in-None.is)
+returns-in-None-clause-parts c =
+    let text = c.args.text.now in
+    slice_split-nowhere is_slash text (split_once_first 0x2f text None c.in-None.ensures.cases (lit< tt))

@@ -1,4 +1,4 @@
-use Rattle.std.proofs.Common.{◌≡◌, ℕ, List, sym, ap, subst, ◌∙◌}
+use Rattle.std.proofs.Common.{string_bytes, ◌≡◌, ℕ, List, sym, ap, subst, ◌∙◌}
 use Rattle.qplain.specs.State.{new_file}
 use Rattle.qplain.specs.Decision.{ends_after}
 use Rattle.qplain.specs.Attempt.{created}
@@ -20,70 +20,70 @@ can-inside a s dir name uid gid slots moment view can = subst (λ (v : Stored). 
 pub add_file-requires-clause-absent : goal.add_file-requires-clause-absent
 add_file-requires-clause-absent c =
     let x = c.args in
-    next-absent c.self.inside c.self.invariant x.dir x.name.items x.uid x.gid x.slots x.moment
-    (can-inside c.self.inside x.self.now x.dir x.name.items x.uid x.gid x.slots x.moment c.self.view_is
+    next-absent c.self.inside c.self.invariant x.dir (string_bytes x.name) x.uid x.gid x.slots x.moment
+    (can-inside c.self.inside x.self.now x.dir (string_bytes x.name) x.uid x.gid x.slots x.moment c.self.view_is
     c.requires.can)
 
 pub charge-requires-clause-slot : goal.charge-requires-clause-slot
 charge-requires-clause-slot c =
     let x = c.args in
-    (can-charge-user c.self.inside c.self.invariant x.dir x.name.items x.uid x.gid x.slots x.moment
-    (can-inside c.self.inside x.self.now x.dir x.name.items x.uid x.gid x.slots x.moment c.self.view_is c.requires.can)).below
+    (can-charge-user c.self.inside c.self.invariant x.dir (string_bytes x.name) x.uid x.gid x.slots x.moment
+    (can-inside c.self.inside x.self.now x.dir (string_bytes x.name) x.uid x.gid x.slots x.moment c.self.view_is c.requires.can)).below
 
 pub charge-requires-clause-blocks : goal.charge-requires-clause-blocks
 charge-requires-clause-blocks c =
     let x = c.args in
-    (can-charge-user c.self.inside c.self.invariant x.dir x.name.items x.uid x.gid x.slots x.moment
-    (can-inside c.self.inside x.self.now x.dir x.name.items x.uid x.gid x.slots x.moment c.self.view_is c.requires.can)).blocks_fit
+    (can-charge-user c.self.inside c.self.invariant x.dir (string_bytes x.name) x.uid x.gid x.slots x.moment
+    (can-inside c.self.inside x.self.now x.dir (string_bytes x.name) x.uid x.gid x.slots x.moment c.self.view_is c.requires.can)).blocks_fit
 
 pub charge-requires-clause-inodes : goal.charge-requires-clause-inodes
 charge-requires-clause-inodes c =
     let x = c.args in
-    (can-charge-user c.self.inside c.self.invariant x.dir x.name.items x.uid x.gid x.slots x.moment
-    (can-inside c.self.inside x.self.now x.dir x.name.items x.uid x.gid x.slots x.moment c.self.view_is c.requires.can)).inodes_fit
+    (can-charge-user c.self.inside c.self.invariant x.dir (string_bytes x.name) x.uid x.gid x.slots x.moment
+    (can-inside c.self.inside x.self.now x.dir (string_bytes x.name) x.uid x.gid x.slots x.moment c.self.view_is c.requires.can)).inodes_fit
 
 pub charge-requires-2-clause-slot : goal.charge-requires-2-clause-slot
 charge-requires-2-clause-slot c =
     let x = c.args in
-    (can-charge-group c.self.inside c.self.invariant x.dir x.name.items x.uid x.gid x.slots x.moment
-    (can-inside c.self.inside x.self.now x.dir x.name.items x.uid x.gid x.slots x.moment c.self.view_is c.requires.can)).below
+    (can-charge-group c.self.inside c.self.invariant x.dir (string_bytes x.name) x.uid x.gid x.slots x.moment
+    (can-inside c.self.inside x.self.now x.dir (string_bytes x.name) x.uid x.gid x.slots x.moment c.self.view_is c.requires.can)).below
 
 pub charge-requires-2-clause-blocks : goal.charge-requires-2-clause-blocks
 charge-requires-2-clause-blocks c =
     let x = c.args in
-    (can-charge-group c.self.inside c.self.invariant x.dir x.name.items x.uid x.gid x.slots x.moment
-    (can-inside c.self.inside x.self.now x.dir x.name.items x.uid x.gid x.slots x.moment c.self.view_is c.requires.can)).blocks_fit
+    (can-charge-group c.self.inside c.self.invariant x.dir (string_bytes x.name) x.uid x.gid x.slots x.moment
+    (can-inside c.self.inside x.self.now x.dir (string_bytes x.name) x.uid x.gid x.slots x.moment c.self.view_is c.requires.can)).blocks_fit
 
 pub charge-requires-2-clause-inodes : goal.charge-requires-2-clause-inodes
 charge-requires-2-clause-inodes c =
     let x = c.args in
-    (can-charge-group c.self.inside c.self.invariant x.dir x.name.items x.uid x.gid x.slots x.moment
-    (can-inside c.self.inside x.self.now x.dir x.name.items x.uid x.gid x.slots x.moment c.self.view_is c.requires.can)).inodes_fit
+    (can-charge-group c.self.inside c.self.invariant x.dir (string_bytes x.name) x.uid x.gid x.slots x.moment
+    (can-inside c.self.inside x.self.now x.dir (string_bytes x.name) x.uid x.gid x.slots x.moment c.self.view_is c.requires.can)).inodes_fit
 
 pub invariant_of-self : goal.invariant_of-self
 invariant_of-self c =
     let x = c.args in
     let a = c.self.inside in
-    let can = can-inside a x.self.now x.dir x.name.items x.uid x.gid x.slots x.moment c.self.view_is c.requires.can in
+    let can = can-inside a x.self.now x.dir (string_bytes x.name) x.uid x.gid x.slots x.moment c.self.view_is c.requires.can in
     let sound = subst (λ (v : Stored). IsSound
-    (ends_after (created v.state (new_file x.uid x.gid) x.dir x.name.items) x.moment))
+    (ends_after (created v.state (new_file x.uid x.gid) x.dir (string_bytes x.name)) x.moment))
     (sym c.self.view_is) c.requires.sound in
     let users = c.charge.ensures x.uid (slot-at_id a.users x.slots.user x.uid can.owners.user) in
     let groups = c.charge-2.ensures x.gid (slot-at_id a.groups x.slots.group x.gid can.owners.group) in
-    let state = created-state a c.self.invariant x.dir x.name.items x.uid x.gid x.slots x.moment can
+    let state = created-state a c.self.invariant x.dir (string_bytes x.name) x.uid x.gid x.slots x.moment can
     c.charge.new.self c.charge-2.new.self c.add_file.new.self.inodes c.add_file.new.self.names
     users groups c.add_file.ensures.inodes c.add_file.ensures.names in
-    counted-along (created-counted a c.self.invariant x.dir x.name.items x.uid x.gid x.slots x.moment can
+    counted-along (created-counted a c.self.invariant x.dir (string_bytes x.name) x.uid x.gid x.slots x.moment can
     sound) (sym state) (sym users) (sym groups) (sym c.add_file.ensures.links)
 
 pub returns : goal.returns
 returns c =
     let x = c.args in
     let a = c.self.inside in
-    let can = can-inside a x.self.now x.dir x.name.items x.uid x.gid x.slots x.moment c.self.view_is c.requires.can in
+    let can = can-inside a x.self.now x.dir (string_bytes x.name) x.uid x.gid x.slots x.moment c.self.view_is c.requires.can in
     let users = c.charge.ensures x.uid (slot-at_id a.users x.slots.user x.uid can.owners.user) in
     let groups = c.charge-2.ensures x.gid (slot-at_id a.groups x.slots.group x.gid can.owners.group) in
-    created-state a c.self.invariant x.dir x.name.items x.uid x.gid x.slots x.moment can c.charge.new.self
+    created-state a c.self.invariant x.dir (string_bytes x.name) x.uid x.gid x.slots x.moment can c.charge.new.self
     c.charge-2.new.self c.add_file.new.self.inodes c.add_file.new.self.names
     users groups c.add_file.ensures.inodes c.add_file.ensures.names
-    ∙ ap (λ (v : Stored). ends_after (created v.state (new_file x.uid x.gid) x.dir x.name.items) x.moment) c.self.view_is
+    ∙ ap (λ (v : Stored). ends_after (created v.state (new_file x.uid x.gid) x.dir (string_bytes x.name)) x.moment) c.self.view_is

@@ -1,4 +1,4 @@
-use Rattle.std.proofs.Common.{◌≡◌, ℕ, List, [], rules, refl, sym, ap, ◌∙◌}
+use Rattle.std.proofs.Common.{string_bytes, ◌≡◌, ℕ, List, [], rules, refl, sym, ap, ◌∙◌}
 use Rattle.qplain.specs.declared.reply.Reply.TheVariants.{Done}
 use Rattle.qplain.specs.State.{State, new_file}
 use Rattle.qplain.specs.Decision.{ends_after}
@@ -26,8 +26,8 @@ returns-in-Some-clause-step c =
     ∙ sym (settle-refused S S1 cred x.moment S.next c.in-Some.refusal
     (sym (c.admit.ensures.refusal S1 (new_file cred.uid cred.gid) c.requires.slots more) ∙ c.in-Some.is))
 
-pub returns-in_err-from_slice-clause-refused_first : goal.returns-in_err-from_slice-clause-refused_first
-returns-in_err-from_slice-clause-refused_first c =
+pub returns-in_err-name-clause-refused_first : goal.returns-in_err-name-clause-refused_first
+returns-in_err-name-clause-refused_first c =
     let x = c.args in
     let S = x.self.now.state in
     let cred = x.cred.now in
@@ -55,8 +55,7 @@ returns-clause-step c =
     let S1 = created S (new_file cred.uid cred.gid) x.dir x.name.now in
     let none = sym (c.admit.ensures.refusal S1 (new_file cred.uid cred.gid) c.requires.slots more) ∙ c.in_default.is in
     let next = ap (λ (v : Stored). v.state.next) c.self.view_is in
-    let items : c.in_ok-from_slice.field-0.items ≡ x.name.now = search rules in
-    let name = c.new-name.ensures ∙ items in
+    let name : string_bytes c.in_ok-name.name ≡ x.name.now = search rules in
     (λ i. (
       ends_after (created S (new_file (c.uid.ensures i) (c.gid.ensures i)) x.dir (name i)) x.moment,
       Done (next i) (sym (change_between-rises S S1 (new_file cred.uid cred.gid) 0 1 more) i),

@@ -6,8 +6,11 @@ use Rattle.qstore.proofs.store.Store.parent.Goals as goal
 
 pub loop-behind-init : goal.loop-behind-init
 loop-behind-init c =
-    let S = c.args.self.now.state in
-    (ap (parent S) c.cut.ensures.parts ∙ parent-from S c.cut.result.0.now (parts_in (option_map (λ r. r.now) c.cut.result.1)), ap last_name c.cut.ensures.parts)
+    let S = c.args.self.now.state in (
+      ap (parent S) c.cut.ensures.parts ∙ parent-from S c.cut.result.0.now (parts_in (option_map (λ r. r.now) c.cut.result.1)),
+      ap last_name c.cut.ensures.parts,
+      search rules,
+    )
 
 pub returns-in_err-dir-clause-fault : goal.returns-in_err-dir-clause-fault
 returns-in_err-dir-clause-fault c =

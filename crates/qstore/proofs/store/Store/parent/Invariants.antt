@@ -1,4 +1,6 @@
 use Rattle.std.proofs.Common.{◌≡◌, ◌+◌, ◌∷◌, length, option_map, unwrap_or, Ok}
+use denote.Shadow.{shadow}
+use denote.Text.{Utf8}
 use Rattle.std.specs.List.{slice_split}
 use Rattle.qplain.specs.Walk.{is_slash, last_name}
 use Rattle.qstore.specs.Paths.{parent, parts_in}
@@ -10,6 +12,7 @@ abbrev pub invariant-loop-behind : goal.invariant-loop-behind
 invariant-loop-behind l =
     (parent l.self.state (slice_split is_slash l.names) ≡ parent_from l.self.state (Ok l.dir) l.name (parts_in (option_map (λ rest. rest.now) l.behind)))
     × (last_name (slice_split is_slash l.names) ≡ last_name (l.name ∷ parts_in (option_map (λ rest. rest.now) l.behind)))
+    × shadow (Utf8 l.name)
 
 abbrev pub decreases-loop-behind : goal.decreases-loop-behind
 decreases-loop-behind l = unwrap_or (option_map (λ rest. length rest.now + 1) l.behind) 0

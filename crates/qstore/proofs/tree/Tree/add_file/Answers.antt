@@ -1,4 +1,4 @@
-use Rattle.std.proofs.Common.{◌≡◌, None, ap, nat_eq, subst, sym, ◌∙◌, arith}
+use Rattle.std.proofs.Common.{string_bytes, ◌≡◌, None, ap, nat_eq, subst, sym, ◌∙◌, arith}
 use Rattle.std.specs.Map.{lookup}
 use Rattle.std.specs.Ordering.{nat_cmp}
 use Rattle.std.specs.BTreeMap.{insert_entry}
@@ -19,8 +19,8 @@ put_name-requires-clause-room c =
 
 pub put_name-requires-clause-absent : goal.put_name-requires-clause-absent
 put_name-requires-clause-absent c =
-    ap (name_at c.args.name.items) c.in-Some.ensures.value
-    ∙ sym (name_seen c.self.inside.nodes.entries _ c.args.self.now c.self.view_is c.args.dir c.args.name.items) ∙ c.requires.unnamed
+    ap (name_at (string_bytes c.args.name)) c.in-Some.ensures.value
+    ∙ sym (name_seen c.self.inside.nodes.entries _ c.args.self.now c.self.view_is c.args.dir (string_bytes c.args.name)) ∙ c.requires.unnamed
 
 pub unreachable-requires : goal.unreachable-requires
 unreachable-requires c =
@@ -66,8 +66,8 @@ returns-clause-names c =
     let between = (c.get_mut.follows.lender c.put_name.new.self).entries in
     named-new between c.insert.new.self.entries c.args.number c.new_file.result (free c) (filed c) c.new_file.ensures.names
     ∙ named-put before between c.args.dir c.in-Some.node.now c.put_name.new.self (sym c.in-Some.ensures.value)
-    (named c) c.args.name.items c.args.number c.put_name.ensures.names
-    ∙ ap (λ t. insert_entry name_key_cmp t.names (c.args.dir, c.args.name.items) c.args.number) c.self.view_is
+    (named c) (string_bytes c.args.name) c.args.number c.put_name.ensures.names
+    ∙ ap (λ t. insert_entry name_key_cmp t.names (c.args.dir, (string_bytes c.args.name)) c.args.number) c.self.view_is
 
 pub returns-clause-links : goal.returns-clause-links
 returns-clause-links c =
