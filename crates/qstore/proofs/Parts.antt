@@ -1,16 +1,34 @@
 -- Where a path is cut at its first slash.
-use Rattle.std.proofs.Common.{◌≡◌, ℕ, Bool, true, false, not, ◌&&◌, ◌||◌, cond, List, ◌∷◌, [], length, Some, None, refl, arith}
-use Rattle.std.specs.List.{position_or_len, slice_split}
+use Rattle.std.proofs.Common.{◌≡◌, ℕ, ◌+◌, Bool, true, false, not, ◌&&◌, ◌||◌, cond, nat_lt, List, ◌∷◌, [], length, take, drop, Some, None, refl, ap, ◌∙◌, arith, tests}
+use Rattle.std.specs.List.{position, position_or_len, slice_split}
 use Rattle.std.proofs.lemmas.List.Sums.{fails_before_first}
-use Rattle.std.proofs.lemmas.List.Splits.{slice_split_none}
+use Rattle.std.proofs.lemmas.List.Splits.{slice_split_first, slice_split_none}
 use Rattle.qplain.specs.declared.refusal.Refusal.TheVariants.{EINVAL, ENAMETOOLONG}
 use Rattle.qplain.specs.Walk.{is_too_long, is_well_formed}
 use Rattle.qstore.specs.Paths.{path_fault, paths_fault}
 
+-- what a slot that is found says of the test
+found_at : (b : Bool) (n at : ℕ) → cond b (Some n) None ≡ Some at → (b ≡ true) × (n ≡ at)
+found_at true n at h = (refl, grind (arith, h))
+found_at false n at h = cc
+
+-- what no slot says of the test
+found_none : (b : Bool) (n : ℕ) → cond b (Some n) None ≡ None → b ≡ false
+found_none true n h = cc
+found_none false n h = refl
+
 -- a list that is not cut is its one part
-pub slice_split-nowhere : (p : ℕ → Bool) (xs : List ℕ) → position_or_len p xs ≡ length xs → slice_split p xs ≡ xs ∷ []
-slice_split-nowhere p xs nowhere =
-    slice_split_none p xs (λ k d below. fails_before_first p xs k d (omega (arith, nowhere, below)))
+pub slice_split-no_position : (p : ℕ → Bool) (xs : List ℕ) → position p xs ≡ None → slice_split p xs ≡ xs ∷ []
+slice_split-no_position p xs none =
+    let long : nat_lt (position_or_len p xs) (length xs) ≡ false = found_none (nat_lt (position_or_len p xs) (length xs)) (position_or_len p xs) none in
+    slice_split_none p xs (λ k d below. fails_before_first p xs k d (grind (arith, tests, long, below)))
+
+-- a list that is cut is what stands before, and the parts of what stands behind
+pub slice_split-position : (p : ℕ → Bool) (xs : List ℕ) (at : ℕ) → position p xs ≡ Some at
+    → slice_split p xs ≡ take at xs ∷ slice_split p (drop (at + 1) xs)
+slice_split-position p xs at found =
+    let parts = found_at (nat_lt (position_or_len p xs) (length xs)) (position_or_len p xs) at found in
+    slice_split_first p xs 0 (grind (arith, tests, parts.0)) ∙ ap (λ n. take n xs ∷ slice_split p (drop (n + 1) xs)) parts.1
 
 fault-by_tests : (formed long : Bool) → cond (not formed) (Some EINVAL) (cond long (Some ENAMETOOLONG) None)
     ≡ cond (not (formed && true)) (Some EINVAL) (cond (long || false) (Some ENAMETOOLONG) None)

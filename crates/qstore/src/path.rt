@@ -6,13 +6,20 @@ ghost use Rattle.qstore.specs.Paths.{parts_in, path_fault};
 
 use qplain::{MAX_NAME, MAX_PATH, Refusal};
 
+/// Where the first slash stands.
+fn slash_in(text: &str) -> Option<usize>
+    ensures { result ≡ position is_slash text.now }
+{
+    text.as_bytes().iter().position(|byte| *byte == b'/')
+}
+
 /// The text before the first slash, and that behind it, if there is one.
 pub(crate) fn cut(text: &str) -> (&str, Option<&str>)
     ensures parts { slice_split is_slash text.now ≡ result.0.now ∷ parts_in (option_map (λ rest. rest.now) result.1) }
     ensures less { IfSome result.1 (λ rest. length rest.now < length text.now) }
 {
-    match text.split_once('/') {
-        Some((name, rest)) => (name, Some(rest)),
+    match slash_in(text) {
+        Some(slash) => (&text[..slash], Some(&text[slash + 1..])),
         None => (text, None),
     }
 }

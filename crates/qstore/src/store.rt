@@ -62,6 +62,17 @@ impl Model for Store {
     ghost invariant = { λ a. IsCounted (state_of a) a.users a.groups a.tree.links a.blocks a.inodes };
 }
 
+/// The bytes that a call brings, where it brings any.
+fn brought<'a>(call: &'a Call, none: &'a Data) -> &'a Data
+    requires { none.now ≡ [] }
+    ensures { result.now ≡ bytes_of call.now }
+{
+    match call {
+        Call::Write { bytes, .. } => bytes,
+        _ => none,
+    }
+}
+
 /// The bytes of the call that its plan has to write, which the call goes on to share.
 fn bytes_for(plan: &Plan, call: &Call) -> Result<Data, NoMemory>
     ensures effect { IfOk result (λ bytes. (S : State)
@@ -230,7 +241,9 @@ impl Store {
         ensures limits { OnOk result (is_superuser cred.now ≡ false
             → All (PassesNoLimit self.old.state self.new.state moment) self.old.state.holders) }
     {
-        let ready = self.ready(cred, moment, call)?;
-        Ok(self.commit(ready))
+        let Decided { reply, plan } = self.decide(cred, moment, call)?;
+        let none = Data::fill(0, 0);
+        self.carry_out(plan, brought(call, &none));
+        Ok(reply)
     }
 }
