@@ -16,12 +16,15 @@ returns-in_err-group-clause-fault c =
     rw (fault.1, fault.2) (fails _ _ (ends_at (id_of BadCred) c.loop-left.groups.items _ _ _ _ _ c.in_err-group.ensures rest
     c.loop-left.invariant.reads))
 
-pub returns-then-is_full-clause-fault : goal.returns-then-is_full-clause-fault
-returns-then-is_full-clause-fault c =
+pub returns-then-is_full : goal.returns-then-is_full
+returns-then-is_full c =
     let rest = left_parts (λ t. t.now) 44 _ _ _ c.first_part.result.1 c.in-Some.is c.first_part.ensures.parts in
     let full : length c.loop-left.groups.items ≡ 16 = eqb-true _ _ (sym c.is_full.ensures.value ∙ c.if-is_full.true) in
-    too_many _ _ _ _ c.loop-left.groups.items c.in_ok-group.group full c.in_ok-group.ensures rest
-    c.loop-left.invariant.reads
+    record {
+      groups = tt;
+      fault = too_many _ _ _ _ c.loop-left.groups.items c.in_ok-group.group full c.in_ok-group.ensures rest
+          c.loop-left.invariant.reads;
+    }
 
 pub loop-left-preserved : goal.loop-left-preserved
 loop-left-preserved c =
