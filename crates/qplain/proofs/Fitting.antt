@@ -42,9 +42,11 @@ declared-map f keeps kind id (h ∷ hs) =
 each-apart-map : (f : Holder → Holder) → KeepsHolders f → (g : Holder) (hs : List Holder)
     → AllByRecursion (λ h. holder_cmp g h ≡ Less) hs → AllByRecursion (λ h. holder_cmp (f g) h ≡ Less) (map f hs)
 each-apart-map f keeps g [] above = tt
-each-apart-map f keeps g (h ∷ hs) above =
-    ((λ i. ordering_then (nat_cmp (rank_of (keeps.0 g i)) (rank_of (keeps.0 h i))) (nat_cmp (keeps.1 g i) (keeps.1 h i)))
-        ∙ above.0, each-apart-map f keeps g hs above.1)
+each-apart-map f keeps g (h ∷ hs) above = (
+  (λ i. ordering_then (nat_cmp (rank_of (keeps.0 g i)) (rank_of (keeps.0 h i))) (nat_cmp (keeps.1 g i) (keeps.1 h i)))
+      ∙ above.0,
+  each-apart-map f keeps g hs above.1,
+)
 
 -- holders stay in order
 sorted-map : (f : Holder → Holder) → KeepsHolders f → (hs : List Holder) → IsStrictlySortedBy holder_cmp hs → IsStrictlySortedBy holder_cmp (map f hs)
@@ -196,7 +198,7 @@ module _ (S : State) (inode : Inode) (dir : ℕ) (name : List ℕ) (fits : FitsT
       lead = All-insert_new (λ e. leads (created S inode dir name) e ≡ true) name_key_cmp S.names (dir, name) S.next absent
           (λ k d below. leads-stays (slice_index_or S.names k d) (fits.names.lead k d below))
           (and_both (is_directory (created S inode dir name) dir) (is_some (inode_at (created S inode dir name) S.next))
-              (directory-stays dir stands) new_there);
+          (directory-stays dir stands) new_there);
       counted = All-insert_new (λ e. has_right_names (created S inode dir name) e ≡ true) nat_cmp S.inodes S.next inode
           (absent-fresh S.inodes S.next fits.inodes.fresh)
           (λ k d below. counted-stays (slice_index_or S.inodes k d) (fits.inodes.fresh k d below) (fits.names.counted k d below))
@@ -248,7 +250,7 @@ changed_fits S number inode changed there follows fits = record {
     lead = λ k d below.
         let e : NameKey × ℕ = slice_index_or S.names k d in
         (λ i. directory-same S number inode changed there follows.dir e.0.0 i && some-same S number inode changed there follows.dir e.1 i)
-            ∙ fits.names.lead k d below;
+        ∙ fits.names.lead k d below;
     counted = All-changed (λ e. has_right_names S e ≡ true) (is_at (nat_cmp number)) S.inodes inode changed there
         (λ n counted. ap (λ b. right (n == ROOT) b (names_to S n)) follows.dir ∙ counted) fits.names.counted;
   };

@@ -197,7 +197,7 @@ links_of-with_file S number inode file n false there = refl
 links_of-with_file S number inode file n true there =
     ap (λ m. 2 + m) (count_by-agree (λ e. e.0.0 == n && is_directory (with_file S number inode file) e.1) (λ e. e.0.0 == n && is_directory S e.1) S.names
     (λ k d below. ap (λ b. (slice_index_or S.names k d).0.0 == n && b) (directory-same S number inode (record inode { file = file }) there refl
-        (slice_index_or S.names k d).1)))
+    (slice_index_or S.names k d).1)))
 
 -- new ends leave all links
 pub links_of-ends_after : (S : State) (moment n : ℕ) (b : Bool) → links_of (ends_after S moment) n b ≡ links_of S n b

@@ -5,7 +5,7 @@ pub use board::Board;
 pub use bounds::{FILE_LIMIT, MAX_DATA, MAX_NAME, MAX_NUMBER, MAX_PATH, ROOT};
 pub use call::Call;
 pub use call_fault::CallFault;
-pub use change::Change;
+pub use change::{Change, NO_CHANGE, ONE_INODE};
 pub use cred::{Cred, MAX_MORE_GROUPS};
 pub use data::Data;
 pub use entry::Entry;

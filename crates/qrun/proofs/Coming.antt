@@ -23,14 +23,17 @@ pub one_transcript : (lines : List Line) (journal : List Entry) (answers : List 
     → All (IsFullOf journal) answers → FullIsToldFirst answers
     → AreTranscriptsOf 1 (lines ∷ []) journal (only_transcript lines answers ∷ [])
 unfolding AreTranscriptsOf
-one_transcript lines journal answers each own full first = (record {
-  worker_is = refl;
-  lines_are = refl;
-  each = each;
-  own = own;
-  full = full;
-  first = first;
-}, tt)
+one_transcript lines journal answers each own full first = (
+  record {
+    worker_is = refl;
+    lines_are = refl;
+    each = each;
+    own = own;
+    full = full;
+    first = first;
+  },
+  tt,
+)
 
 -- the entries of one worker belong to its transcript
 pub all_belong : (lines : List Line) (journal : List Entry) (answers : List (Result Receipt CallFault))

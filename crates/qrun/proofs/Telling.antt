@@ -94,9 +94,10 @@ first_push : (answers : List (Result Receipt CallFault)) (answer : Result Receip
 unfolding FullIsToldFirst
 first_push [] answer first behind = (λ full. All-nil (λ a. a ≡ Err JournalFull), tt)
 first_push (a ∷ later) answer first behind =
-    let Then : Result Receipt CallFault → Type 0 = λ a. IsFullBehind a → answer ≡ Err JournalFull in
-    (λ full. All-push (λ a. a ≡ Err JournalFull) later answer (first.0 full) (All-head Then a later behind full),
-    first_push later answer first.1 (All-tail Then a later behind))
+    let Then : Result Receipt CallFault → Type 0 = λ a. IsFullBehind a → answer ≡ Err JournalFull in (
+      λ full. All-push (λ a. a ≡ Err JournalFull) later answer (first.0 full) (All-head Then a later behind full),
+      first_push later answer first.1 (All-tail Then a later behind),
+    )
 
 -- what the transcript says of its answers
 pub full_of : (journal : List Entry) (answers : List (Result Receipt CallFault)) → All (FillsIn journal) answers

@@ -38,12 +38,14 @@ module _ {A : Type 0} where
   has_bytes name x = bytes_tie name (string_bytes x)
 
   key_test : (name : List ℕ) → IsKeyTest (text_eq {A = A}) (has_bytes name)
-  key_test name x y passes = (eq_by_cmp_equiv nat_list_cmp_total).congr name (string_bytes x) (string_bytes y) passes ∙ sym (bytes_ties (string_bytes x) (string_bytes y))
+  key_test name x y passes = (eq_by_cmp_equiv nat_list_cmp_total).congr name (string_bytes x) (string_bytes y) passes ∙ sym
+      (bytes_ties (string_bytes x) (string_bytes y))
 
   apart : (name : List ℕ) (k : String A) → bytes_tie (string_bytes k) name ≡ false → AreApart (text_eq k) (has_bytes name)
   apart name k differs x is =
       (eq_by_cmp_equiv nat_list_cmp_total).symm name (string_bytes x)
-      ∙ sym ((eq_by_cmp_equiv nat_list_cmp_total).congr (string_bytes k) (string_bytes x) name (sym (bytes_ties (string_bytes k) (string_bytes x)) ∙ is)) ∙ differs
+      ∙ sym ((eq_by_cmp_equiv nat_list_cmp_total).congr (string_bytes k) (string_bytes x) name (sym (bytes_ties (string_bytes k) (string_bytes x)) ∙ is))
+      ∙ differs
 
   others_keep : {X : Type 0} (test other : String A → Bool) (es fs : List (String A × X))
       → KeepsOthers text_eq test es fs → IsKeyTest text_eq other → AreApart test other

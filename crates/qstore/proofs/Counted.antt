@@ -54,5 +54,5 @@ rows-of-counted S kind (o ∷ os) all =
     let here : holder_row kind o ≡ record_row_of S (holder_in kind o) =
     λ i. record (holder_row kind o) { blocks = counted.blocks i; inodes = counted.inodes i } in
     let rest : map (holder_row kind) os ≡ map (record_row_of S) (map (holder_in kind) os) = rows-of-counted S kind os
-        (All-tail (IsCountedIn S kind) o os all) in
+    (All-tail (IsCountedIn S kind) o os all) in
     λ i. here i ∷ rest i

@@ -59,7 +59,8 @@ written_at S number off bytes (Some inode) = with_file S number inode (after_wri
 -- the state that a plan leaves, told the bytes that the call brings
 abbrev pub effect : State → Plan → List ℕ → State
 effect S Nothing bytes = S
-effect S (Create dir name uid gid slots moment) bytes = ends_after (created S (new_file uid gid) dir (string_bytes name)) moment
+effect S (Create dir name uid gid slots moment) bytes =
+    ends_after (created S (new_file uid gid) dir (string_bytes name)) moment
 effect S (Write number off spare slots moment) bytes =
     ends_after (written_at S number off bytes (inode_at S number)) moment
 effect S (SetQuota kind id slot limits moment) bytes = ends_after (with_limits_of S kind id limits) moment
@@ -106,7 +107,8 @@ pub record SetGraceIsReady (s : Stored) (graces : Graces) : Type 0 where
 -- the store is as the plan needs it, told the bytes that the call brings
 abbrev pub CanCarryOut : Stored → Plan → List ℕ → Type 0
 CanCarryOut s Nothing bytes = Unit {0}
-CanCarryOut s (Create dir name uid gid slots moment) bytes = CreateIsReady s dir (string_bytes name) uid gid slots moment
+CanCarryOut s (Create dir name uid gid slots moment) bytes =
+    CreateIsReady s dir (string_bytes name) uid gid slots moment
 CanCarryOut s (Write number off spare slots moment) bytes = WriteIsReady s number off spare slots moment bytes
 CanCarryOut s (SetQuota kind id slot limits moment) bytes = SetQuotaIsReady s kind id slot limits moment
 CanCarryOut s (SetGrace graces) bytes = SetGraceIsReady s graces

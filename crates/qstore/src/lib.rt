@@ -4,7 +4,6 @@
 pub use ready::Ready;
 pub use store::Store;
 
-mod changes;
 mod kept_holder;
 mod ledger;
 mod name_hasher;

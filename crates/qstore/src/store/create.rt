@@ -9,12 +9,11 @@ ghost use Rattle.qplain.specs.Walk.{components, last_name};
 ghost use Rattle.qstore.specs.Ready.{CanCarryOut, CreateIsReady, IsRefused, effect};
 ghost use Rattle.qstore.specs.Stored.{HasSlots, IsSound};
 
-use crate::changes::ONE_INODE;
 use crate::path::names_of;
 use crate::ready::{Decided, Plan};
 use crate::slots::Slots;
 use crate::store::Store;
-use qplain::{Cred, NoMemory, Refusal, Reply};
+use qplain::{Cred, NoMemory, ONE_INODE, Refusal, Reply};
 use qrules::MAX_MOMENT;
 
 impl Store {
@@ -105,8 +104,10 @@ impl Store {
         moment: u64,
     )
         requires can { CreateIsReady self.old dir (string_bytes name) uid gid slots moment }
-        requires sound { IsSound (ends_after (created self.old.state (new_file uid gid) dir (string_bytes name)) moment) }
-        ensures { self.new.state ≡ ends_after (created self.old.state (new_file uid gid) dir (string_bytes name)) moment }
+        requires sound { IsSound
+            (ends_after (created self.old.state (new_file uid gid) dir (string_bytes name)) moment) }
+        ensures { self.new.state
+            ≡ ends_after (created self.old.state (new_file uid gid) dir (string_bytes name)) moment }
     {
         self.tree
             .add_file(self.next, dir, name, uid, gid, self.alloc);

@@ -7,10 +7,9 @@ ghost use Rattle.qplain.specs.Step.{settle};
 ghost use Rattle.qstore.specs.Stored.{IsSound};
 ghost use Rattle.qstore.specs.Ready.{CanCarryOut, IsRefused, SetQuotaIsReady, effect};
 
-use crate::changes::NO_CHANGE;
 use crate::ready::{Decided, Plan};
 use crate::store::Store;
-use qplain::{Cred, Refusal, Reply};
+use qplain::{Cred, NO_CHANGE, Refusal, Reply};
 use qrules::{Kind, Limits, MAX_MOMENT};
 
 impl Store {

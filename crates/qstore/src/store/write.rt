@@ -15,13 +15,12 @@ ghost use Rattle.qstore.specs.Ready.{CanCarryOut, IsRefused, WriteIsReady, effec
 ghost use Rattle.qstore.specs.Stored.{HasSlots, IsSound};
 ghost use Rattle.qstore.specs.Writes.{IsTarget};
 
-use crate::changes::NO_CHANGE;
 use crate::node::{Content, Node};
 use crate::ready::{Decided, Plan};
 use crate::slots::Slots;
 use crate::store::Store;
 use qblocks::{BlockFile, Spare};
-use qplain::{Change, Cred, Data, MAX_DATA, NoMemory, Refusal, Reply};
+use qplain::{Change, Cred, Data, MAX_DATA, NO_CHANGE, NoMemory, Refusal, Reply};
 use qrules::MAX_MOMENT;
 
 /// A file that may be written into: its owners, and how many blocks the write allocates.
@@ -153,7 +152,7 @@ impl Store {
         let len = bytes.len();
         let spare = self.tree.ready_write(number, off, len, target.blocks)?;
         Ok(Decided {
-            reply: Reply::Done(number, written(target.blocks)),
+            reply: Reply::Done(number, Change::of_blocks(target.blocks)),
             plan: Plan::Write {
                 number,
                 off,
@@ -186,20 +185,5 @@ impl Store {
         self.groups
             .charge(slots.group, self.graces, moment, blocks, 0);
         self.blocks += blocks;
-    }
-}
-
-/// What a write of so many new blocks does to the totals.
-fn written(blocks: u64) -> Change
-    ensures { result ≡ record {
-      blocks_charged = blocks;
-      blocks_released = 0;
-      inodes_charged = 0;
-      inodes_released = 0;
-    } }
-{
-    Change {
-        blocks_charged: blocks,
-        ..NO_CHANGE
     }
 }

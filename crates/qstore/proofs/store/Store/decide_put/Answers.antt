@@ -69,7 +69,7 @@ returns-clause-step c =
     let none = sym (c.admit.ensures.refusal S1 t.inode slots rises) ∙ c.in_default-admit.is in
     (λ i. (
       ends_after (written_at S x.number x.off x.bytes.now (t.there i)) x.moment,
-      Done x.number ((c.written.ensures ∙ sym (change_between-rises S S1 t.inode x.target.blocks 0 rises))
+      Done x.number ((c.of_blocks.ensures ∙ sym (change_between-rises S S1 t.inode x.target.blocks 0 rises))
           i),
     ))
     ∙ sym (ap (settle S x.cred.now x.moment) t.becomes ∙ settle-granted S S1 x.cred.now x.moment x.number none)

@@ -10,4 +10,4 @@ charge_root-requires-clause-declared c = ap (list_any (λ o. 0 == o.id)) c.in_ok
 pub charge_root-requires-clause-unused : goal.charge_root-requires-clause-unused
 charge_root-requires-clause-unused c =
     subst (λ (os : List KeptHolder). All (λ o. (o.account.blocks ≡ 0) × (o.account.inodes ≡ 0)) os) (sym c.in_ok-ledger.ensures)
-        (unused-new c.args.principals.now)
+    (unused-new c.args.principals.now)
