@@ -44,9 +44,8 @@ pub(crate) fn new_store(rt: &impl Abort, alloc: Global) -> Result<Store, NoMemor
 }
 
 /// The superuser, in group 7 alone.
-pub(crate) fn caller(rt: &(impl Abort + Alloc)) -> Cred {
-    let caller = Cred::new(rt.alloc(), 0, 7, &[]).ok().flatten();
-    caller.expect(rt, "a caller")
+pub(crate) fn caller(rt: &impl Abort, alloc: Global) -> Result<Cred, NoMemory> {
+    Ok(Cred::new(alloc, 0, 7, &[])?.expect(rt, "a caller"))
 }
 
 fn path(rt: &impl Abort, alloc: Global, text: &str) -> Result<Path, NoMemory> {
@@ -155,14 +154,15 @@ pub(crate) type Row<'a> = (Ask<'a>, Told<'a>);
 
 /// Fails where a row is told otherwise.
 pub(crate) fn play(
-    rt: &(impl Abort + Alloc),
+    rt: &impl Abort,
     alloc: Global,
     store: &mut Store,
     rows: &[Row<'_>],
 ) -> Result<(), NoMemory> {
+    let caller = caller(rt, alloc)?;
     for (ask, told) in rows {
         let call = call(rt, alloc, *ask)?;
-        let given = store.apply(&caller(rt), 0, &call)?;
+        let given = store.apply(&caller, 0, &call)?;
         assert!(rt; given == reply(alloc, *told)?, "at {ask:?}");
     }
     Ok(())

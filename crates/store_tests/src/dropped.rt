@@ -17,13 +17,13 @@ const DROPPED: [Ask<'static>; 4] = [
 
 /// Makes a call ready, and drops it.
 fn drop_ready(
-    rt: &(impl Abort + Alloc),
+    rt: &impl Abort,
     alloc: Global,
     store: &mut Store,
     ask: Ask<'_>,
 ) -> Result<(), NoMemory> {
     let call = call(rt, alloc, ask)?;
-    drop(store.ready(&caller(rt), 0, &call)?);
+    drop(store.ready(&caller(rt, alloc)?, 0, &call)?);
     assert_eq!(rt; (store.blocks(), store.inodes()), (0, 2));
     Ok(())
 }

@@ -4,7 +4,7 @@ use crate::asks::Ask::{Create, Read, SetGrace, SetUser, Stat, User, Write};
 use crate::asks::Told::{Bytes, Done, File, Record};
 use crate::asks::{Row, call, caller, new_store, reply};
 use Way::{Apply, Commit};
-use qplain::{Call, NoMemory, Reply};
+use qplain::{Call, Cred, NoMemory, Reply};
 use qrules::Kind;
 use qstore::Store;
 use std::alloc::Global;
@@ -37,16 +37,11 @@ enum Way {
     Commit,
 }
 
-fn answer(
-    rt: &(impl Abort + Alloc),
-    store: &mut Store,
-    way: Way,
-    call: &Call,
-) -> Result<Reply, NoMemory> {
+fn answer(root: &Cred, store: &mut Store, way: Way, call: &Call) -> Result<Reply, NoMemory> {
     match way {
-        Apply => store.apply(&caller(rt), 0, call),
+        Apply => store.apply(root, 0, call),
         Commit => {
-            let ready = store.ready(&caller(rt), 0, call)?;
+            let ready = store.ready(root, 0, call)?;
             Ok(store.commit(ready))
         }
     }
@@ -66,49 +61,50 @@ fn quota(kind: Kind, id: u32) -> Call {
     Call::Quota { kind, id }
 }
 
-fn look(rt: &(impl Abort + Alloc), store: &mut Store, stat: &Call) -> Result<Seen, NoMemory> {
-    let root = caller(rt);
+fn look(root: &Cred, store: &mut Store, stat: &Call) -> Result<Seen, NoMemory> {
     Ok(Seen {
         blocks: store.blocks(),
         inodes: store.inodes(),
-        file: store.apply(&root, 0, stat)?,
-        user: store.apply(&root, 0, &quota(Kind::User, 0))?,
-        group: store.apply(&root, 0, &quota(Kind::Group, 7))?,
+        file: store.apply(root, 0, stat)?,
+        user: store.apply(root, 0, &quota(Kind::User, 0))?,
+        group: store.apply(root, 0, &quota(Kind::Group, 7))?,
     })
 }
 
 /// The reply to a call. Where an allocation is refused, the store is to look as before, and is asked once more.
 fn insist(
-    rt: &(impl Abort + Alloc + Print),
+    rt: &(impl Abort + Print),
+    root: &Cred,
     store: &mut Store,
     stat: &Call,
     way: Way,
     call: &Call,
 ) -> Result<Reply, NoMemory> {
-    let before = look(rt, store, stat)?;
-    match answer(rt, store, way, call) {
+    let before = look(root, store, stat)?;
+    match answer(root, store, way, call) {
         Ok(given) => Ok(given),
         Err(_) => {
             tell_refused(rt);
-            assert!(rt; look(rt, store, stat)? == before);
-            answer(rt, store, way, call)
+            assert!(rt; look(root, store, stat)? == before);
+            answer(root, store, way, call)
         }
     }
 }
 
 /// Fails where the reply to the call is another.
 fn ask(
-    rt: &(impl Abort + Alloc + Print),
+    rt: &(impl Abort + Print),
     alloc: Global,
     store: &mut Store,
     way: Way,
     row: Row<'_>,
 ) -> Result<(), NoMemory> {
     let (asked, told) = row;
+    let root = caller(rt, alloc)?;
     let stat = again(rt, || call(rt, alloc, Stat("/a")))?;
     let call = again(rt, || call(rt, alloc, asked))?;
     let told = again(rt, || reply(alloc, told))?;
-    let given = insist(rt, store, &stat, way, &call)?;
+    let given = insist(rt, &root, store, &stat, way, &call)?;
     assert!(rt; given == told, "at {asked:?}");
     Ok(())
 }
