@@ -3,7 +3,7 @@ ghost use Rattle.std.specs.Prelude.{◌≡◌, ◌+◌, ◌-◌, ◌*◌, ◌<�
 ghost use Rattle.qrules.specs.declared.graces.Graces.{Graces};
 ghost use Rattle.qrules.specs.Sort.{Blocks, Inodes, amount_of};
 ghost use Rattle.qrules.specs.Account.{HasEnds};
-ghost use Rattle.qrules.specs.Charge.{answer_to, charge_fault, charge_fault_in, fault_of};
+ghost use Rattle.qrules.specs.Charge.{answer_to, charge_fault, charge_fault_in, fault_of, first_fault};
 ghost use Rattle.qrules.specs.Grace.{charged, less_used, released, unused, with_ends, with_limits};
 
 use crate::graces::{Graces, MAX_GRACE, MAX_MOMENT, has_ended, kept_end, next_end};
@@ -130,6 +130,45 @@ impl Record {
         Ok(())
     }
 
+    /// Whether uses may become these at this moment, and else the first limit in the way, as `test` looks for it. What
+    /// does not rise is not tested.
+    pub fn test_uses(&self, moment: u64, blocks: u64, inodes: u64) -> Result<(), Over>
+        requires blocks { blocks ≤ MAX_USE }
+        requires inodes { inodes ≤ MAX_USE }
+        ensures { result ≡ answer_to false (first_fault self.now moment blocks inodes) }
+    {
+        if inodes > self.inodes {
+            self.test_inodes(moment, inodes)?;
+        }
+        if blocks > self.blocks {
+            self.test_blocks(moment, blocks)?;
+        }
+        Ok(())
+    }
+
+    /// The record with these uses, and with the grace ends that then stand: none where use is not over the soft limit,
+    /// else the one that stood, else this moment plus the grace.
+    ///
+    /// It tests nothing.
+    pub fn with_uses(&self, blocks: u64, inodes: u64, graces: Graces, moment: u64) -> Record
+        requires blocks { blocks ≤ MAX_USE }
+        requires inodes { inodes ≤ MAX_USE }
+        requires moment { moment ≤ MAX_MOMENT }
+        requires block_grace { graces.block ≤ MAX_GRACE }
+        requires inode_grace { graces.inode ≤ MAX_GRACE }
+        ensures { result ≡ with_ends (record self.now { blocks = blocks; inodes = inodes }) graces moment }
+    {
+        let blocks_over = is_over(kib_of(blocks), self.limits.block_soft);
+        let inodes_over = is_over(inodes, self.limits.inode_soft);
+        Record {
+            blocks,
+            inodes,
+            limits: self.limits,
+            block_end: next_end(blocks_over, self.block_end, moment + graces.block),
+            inode_end: next_end(inodes_over, self.inode_end, moment + graces.inode),
+        }
+    }
+
     fn test_inodes(&self, moment: u64, inodes: u64) -> Result<(), Over>
         requires rises { self.now.inodes < inodes }
         ensures { result ≡ answer_to false (fault_of Inodes self.now moment inodes) }
@@ -171,12 +210,7 @@ impl Record {
         ensures charged { self.new ≡ charged self.old graces moment blocks inodes }
         ensures nothing { blocks ≡ 0 → inodes ≡ 0 → self.new ≡ self.old }
     {
-        self.blocks += blocks;
-        self.inodes += inodes;
-        let blocks_over = is_over(kib_of(self.blocks), self.limits.block_soft);
-        let inodes_over = is_over(self.inodes, self.limits.inode_soft);
-        self.block_end = next_end(blocks_over, self.block_end, moment + graces.block);
-        self.inode_end = next_end(inodes_over, self.inode_end, moment + graces.inode);
+        *self = self.with_uses(self.blocks + blocks, self.inodes + inodes, graces, moment);
     }
 
     /// Takes from the use. A grace end goes where use is no longer over its soft limit, and else stays.
