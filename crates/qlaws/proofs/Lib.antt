@@ -15,6 +15,7 @@ pub mod Kept
 pub mod Settling
 pub mod Rights
 pub mod Rising
+pub mod Replacing
 pub mod Linking
 pub mod Walking
 pub mod Playing
