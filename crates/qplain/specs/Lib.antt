@@ -13,9 +13,6 @@ pub mod Arguments
 pub mod Attempt
 pub mod Step
 pub mod Journal
-pub mod Laws
-pub mod Rises
-pub mod Examples
 pub mod KeptCred
 pub mod KeptData
 pub mod KeptSetup
