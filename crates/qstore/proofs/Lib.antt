@@ -1,15 +1,6 @@
--- What the proofs of more than one file share: of tables, of ledgers, of the holders whose records they keep, of paths,
+-- What the proofs of more than one file share: of ledgers, of the holders whose records they keep, of paths,
 -- then of stores.
-pub mod AllNames
-pub mod Bytes
-pub mod TreeChanges
-pub mod InOrder
-pub mod Numbered
-pub mod Pushed
-pub mod PutAll
-pub mod Read
 pub mod RecordOrder
-mod Rows
 pub mod ById
 pub mod Search
 pub mod Ends

@@ -1,10 +1,9 @@
 -- The rows of the inodes of a store: what is kept for each number is what its inode counts to.
-use Rattle.std.proofs.Common.{◌≡◌, ℕ, suc, ◌+◌, ◌≤◌, List, [], ◌∷◌, length, map, sum_by, All, Some, slice_get, Result, Ok, Err, IfOk, OnOk, refl, sym, ap, subst, ◌∙◌, arith}
+use Rattle.std.proofs.Common.{◌≡◌, ℕ, suc, ◌+◌, ◌≤◌, List, [], ◌∷◌, length, map, sum_by, All, Some, slice_get, Result, Ok, Err, IfOk, OnOk, refl, ap, subst, ◌∙◌, arith}
 use Rattle.std.specs.Map.{keys_of, lookup, values_of}
 use Rattle.std.specs.BTreeMap.{is_at}
 use Rattle.std.specs.Ordering.{nat_cmp}
 use Rattle.std.specs.Cmp.{eq_by_cmp_equiv, nat_cmp_total}
-use Rattle.std.specs.FinMap.{nat_cmp-IsAntisymmetric}
 use Rattle.std.specs.Option.{option_map, unwrap_or}
 use Rattle.std.specs.List.Sorted.{IsStrictlySortedBy}
 use Rattle.std.proofs.lemmas.List.Elements.{All-cons, All-nil}
@@ -15,23 +14,11 @@ use Rattle.qrules.specs.Sort.{Blocks}
 use Rattle.qplain.specs.declared.setup.TheConstants.{MAX_BLOCKS}
 use Rattle.qplain.specs.State.{Inode, State, inode_at}
 use Rattle.qplain.specs.Use.{links_of, weight}
-use Rattle.qstore.specs.InOrder.{in_order, read_by}
 use Rattle.qstore.specs.Kept.{IsCounted}
 use Rattle.qstore.specs.Rows.{inode_row_of}
-use Rattle.qstore.specs.Tree.{kept_row}
+use Rattle.qtree.specs.Tree.{kept_row}
 use Rattle.qstore.specs.declared.kept_holder.KeptHolder.{KeptHolder}
-use Rattle.qstore.proofs.InOrder.{strictly-in_order}
-use Rattle.qstore.proofs.Rows.{HasFewBlocks}
-
--- values that are read stand under the same keys
-keys_of-read_by : {X Y : Type 0} (f : X → Y) (es : List (ℕ × X)) → keys_of (read_by f es) ≡ keys_of es
-keys_of-read_by f [] = refl
-keys_of-read_by f (e ∷ es) = ap (λ ks. e.0 ∷ ks) (keys_of-read_by f es)
-
--- what is seen of a table by number stands in the order of the numbers
-pub seen-by_number : {X Y : Type 0} (f : X → Y) (es : List (ℕ × X)) → IsStrictlySortedBy nat_cmp (keys_of (read_by f (in_order nat_cmp es)))
-seen-by_number f es = subst (IsStrictlySortedBy nat_cmp) (sym (keys_of-read_by f (in_order nat_cmp es)))
-    (strictly-in_order nat_cmp_total nat_cmp-IsAntisymmetric es)
+use Rattle.qtree.proofs.Rows.{HasFewBlocks}
 
 -- blocks that are few in all are few in each inode
 few-of : (es : List (ℕ × Inode)) → sum_by (weight Blocks) (values_of es) ≤ MAX_BLOCKS → All HasFewBlocks es

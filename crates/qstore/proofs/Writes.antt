@@ -23,7 +23,7 @@ use Rattle.qstore.specs.Kept.{IsCounted, state_of, stored_of}
 use Rattle.qstore.specs.KeptHolders.{charged_holder, holders_in}
 use Rattle.qstore.specs.Ready.{WriteIsReady, written_at}
 use Rattle.qstore.specs.Stored.{HasSlots, IsSound, Stored}
-use Rattle.qstore.specs.Tree.{IsSameTree, RoomyTree, file_room}
+use Rattle.qtree.specs.Tree.{IsSameTree, RoomyTree, file_room}
 use Rattle.qstore.proofs.Chargeable.{CanCharge, can-charge}
 use Rattle.qstore.proofs.Counting.{counted-charged-both, holders-after}
 use Rattle.qstore.proofs.Links.{links-with_file}

@@ -24,7 +24,7 @@ use Rattle.qstore.specs.declared.slots.Slots.{Slots}
 use Rattle.qstore.specs.declared.ready.Plan.{Plan}
 use Rattle.qstore.specs.declared.ready.Plan.TheVariants.{Nothing, Create, Write, SetQuota, SetGrace}
 use Rattle.qstore.specs.declared.ready.Ready.{Ready}
-use Rattle.qstore.specs.Room.{file_room, name_room}
+use Rattle.qtree.specs.Room.{file_room, name_room}
 use Rattle.qstore.specs.Stored.{HasSlots, IsSound, Stored, ids_of}
 
 -- the bytes that a call brings

@@ -3,9 +3,9 @@ use Rattle.qrules.specs.declared.record_row.RecordRow.{RecordRow}
 use Rattle.std.specs.Prelude.{◌≡◌, ◌⊎◌, ◌<◌, ℕ, length}
 use Rattle.qrules.specs.declared.kind.Kind.TheVariants.{User, Group}
 use Rattle.qrules.specs.declared.inode_row.InodeRow.{InodeRow}
-use Rattle.qrules.specs.declared.name_row.NameRow.{NameRow}
-use Rattle.qplain.specs.State.{Holder, Inode, NameKey, State}
+use Rattle.qplain.specs.State.{Holder, Inode, State}
 use Rattle.qplain.specs.Use.{account_of, links_of}
+pub use Rattle.qtree.specs.Tree.{name_row_of}
 
 -- the row of a holder, with its recounted use
 abbrev pub record_row_of : State → Holder → RecordRow
@@ -36,7 +36,3 @@ inode_row_of S e = record {
   blocks = length e.1.file.allocated;
   links = links_of S e.0 e.1.dir;
 }
-
--- the row of a name
-abbrev pub name_row_of : NameKey × ℕ → NameRow
-name_row_of e = record { dir = e.0.0; ino = e.1 }

@@ -7,7 +7,7 @@ use Rattle.qrules.specs.declared.kind.Kind.TheVariants.{User, Group}
 use Rattle.qblocks.specs.declared.file.TheConstants.{MAX_SIZE}
 use Rattle.qplain.specs.State.{State}
 use Rattle.qlaws.specs.Laws.{IsLawful}
-use Rattle.qstore.specs.Room.{Room}
+use Rattle.qtree.specs.Room.{Room}
 use Rattle.qstore.specs.declared.slots.Slots.{Slots}
 
 -- a state that a store can be in: a lawful one, whose file limit is within what a file can hold

@@ -6,11 +6,7 @@ pub use store::Store;
 
 mod kept_holder;
 mod ledger;
-mod name_hasher;
-mod names;
-mod node;
 mod path;
 mod ready;
 mod slots;
 mod store;
-mod tree;

@@ -13,9 +13,9 @@ ghost use Rattle.qstore.specs.Ready.{CanCarryOut, IsReady, IsRefused, bytes_of, 
 use crate::ledger::Ledger;
 use crate::ready::{Decided, Plan, Ready};
 use crate::store::begin::{begun, ledger_of};
-use crate::tree::Tree;
 use qplain::{Call, Cred, Data, NoMemory, Reply, Setup};
 use qrules::Graces;
+use qtree::Tree;
 use std::alloc::Global;
 use std::marker::Model;
 

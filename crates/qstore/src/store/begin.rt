@@ -9,9 +9,9 @@ ghost use Rattle.qstore.specs.KeptHolders.{charged_holder, new_holder};
 
 use crate::ledger::Ledger;
 use crate::store::Store;
-use crate::tree::Tree;
 use qplain::{FILE_LIMIT, NoMemory, Principal, ROOT, Setup};
 use qrules::Graces;
+use qtree::Tree;
 use std::alloc::Global;
 
 /// Charges id 0, who is in every setup, with the root directory.

@@ -7,9 +7,9 @@ ghost use Rattle.qplain.specs.Step.{settle};
 ghost use Rattle.qplain.specs.Walk.{components, walk};
 ghost use Rattle.qstore.specs.Ready.{IsRefused};
 
-use crate::node::Content;
 use crate::store::Store;
 use qplain::{NoMemory, Refusal, Reply, Shared};
+use qtree::Content;
 
 impl Store {
     /// The reply to a read.

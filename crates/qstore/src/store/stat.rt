@@ -5,11 +5,11 @@ ghost use Rattle.qplain.specs.Caller.{Caller};
 ghost use Rattle.qplain.specs.Attempt.{stat_reached};
 ghost use Rattle.qplain.specs.Step.{settle};
 ghost use Rattle.qplain.specs.Walk.{components, walk};
-ghost use Rattle.qstore.specs.Nodes.{file_in, inode_of};
+ghost use Rattle.qtree.specs.Nodes.{file_in, inode_of};
 
-use crate::node::{Content, Node};
 use crate::store::Store;
 use qplain::{Refusal, Reply, Stat};
+use qtree::{Content, Node};
 
 /// What is known of an inode.
 fn stat_of(number: u64, node: &Node) -> Stat

@@ -10,18 +10,18 @@ ghost use Rattle.qplain.specs.Decision.{ends_after};
 ghost use Rattle.qplain.specs.State.{inode_at};
 ghost use Rattle.qplain.specs.Step.{settle};
 ghost use Rattle.qplain.specs.Walk.{components, walk};
-ghost use Rattle.qstore.specs.Nodes.{inode_of};
+ghost use Rattle.qtree.specs.Nodes.{inode_of};
 ghost use Rattle.qstore.specs.Ready.{CanCarryOut, IsRefused, WriteIsReady, effect, written_at};
 ghost use Rattle.qstore.specs.Stored.{HasSlots, IsSound};
 ghost use Rattle.qstore.specs.Writes.{IsTarget};
 
-use crate::node::{Content, Node};
 use crate::ready::{Decided, Plan};
 use crate::slots::Slots;
 use crate::store::Store;
 use qblocks::{BlockFile, Spare};
 use qplain::{Change, Cred, Data, MAX_DATA, NO_CHANGE, NoMemory, Refusal, Reply};
 use qrules::MAX_MOMENT;
+use qtree::{Content, Node};
 
 /// A file that may be written into: its owners, and how many blocks the write allocates.
 #[derive(Clone, Copy)]

@@ -12,7 +12,7 @@ use Rattle.qplain.specs.Attempt.{with_file}
 use Rattle.qplain.specs.Step.{settle}
 use Rattle.qlaws.proofs.Rising.{Rises-with_file, change_between-rises, settle-granted, settle-refused}
 use Rattle.qstore.specs.Ready.{IsRefused, effect, written_at}
-use Rattle.qstore.specs.Room.{file_room}
+use Rattle.qtree.specs.Room.{file_room}
 use Rattle.qstore.specs.Stored.{HasSlots, Stored}
 use Rattle.qlaws.proofs.Fitting.{known-owners}
 use Rattle.qstore.proofs.Granted.{granted-unrefused}

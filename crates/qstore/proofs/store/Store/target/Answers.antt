@@ -1,7 +1,7 @@
 use Rattle.std.proofs.Common.{◌≡◌, ◌+◌, true, false, nat_lt, length, Some, rules, refl, sym, ap, ◌∙◌, tests, arith}
 use Rattle.qplain.specs.State.{inode_at}
 use Rattle.qplain.specs.Attempt.{may_write}
-use Rattle.qstore.specs.Nodes.{inode_of}
+use Rattle.qtree.specs.Nodes.{inode_of}
 use Rattle.qstore.specs.Stored.{Stored}
 use Rattle.qstore.proofs.WriteTests.{write-becomes}
 use Rattle.qstore.proofs.store.Store.target.Goals as goal

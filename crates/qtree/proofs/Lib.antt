@@ -1,0 +1,10 @@
+-- What the proofs of more than one file share: entries in key order, tables, the names in all directories, the tree, rows.
+pub mod InOrder
+pub mod Read
+pub mod PutAll
+pub mod Numbered
+pub mod Bytes
+pub mod AllNames
+pub mod TreeChanges
+pub mod Pushed
+pub mod Rows

@@ -1,0 +1,6 @@
+-- In reading order.
+pub mod Room
+pub mod InOrder
+pub mod Names
+pub mod Nodes
+pub mod Tree

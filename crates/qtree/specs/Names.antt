@@ -1,0 +1,19 @@
+-- The names in one directory, as a store keeps them.
+use Rattle.std.specs.Prelude.{ℕ, List, String, string_bytes}
+use Rattle.std.specs.Ordering.{nat_cmp}
+use Rattle.std.specs.Cmp.Lexicographic.{slice_cmp}
+use Rattle.qrules.specs.declared.name_row.NameRow.{NameRow}
+use Rattle.qtree.specs.InOrder.{in_order, keyed_by}
+
+-- the names by their bytes, each with the inode that it leads to, and how many more there is room for
+pub record RoomyNames : Type 0 where
+  pub entries : List (List ℕ × ℕ)
+  pub room : ℕ
+
+-- a table's names by their bytes
+abbrev pub names_of : {A : Type 0} → List (String A × ℕ) → List (List ℕ × ℕ)
+names_of entries = in_order (slice_cmp nat_cmp) (keyed_by string_bytes entries)
+
+-- the row of a name in this directory
+abbrev pub row_in : ℕ → List ℕ × ℕ → NameRow
+row_in dir e = record { dir = dir; ino = e.1 }

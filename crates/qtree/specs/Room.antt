@@ -1,0 +1,21 @@
+-- What is made beforehand in a tree, so that later changes take no memory.
+use Rattle.std.specs.Prelude.{ℕ, List, Option, None}
+use Rattle.std.specs.Option.{unwrap_or}
+use Rattle.std.specs.Ordering.{nat_cmp}
+use Rattle.std.specs.BTreeMap.{is_at}
+use Rattle.std.specs.Map.{lookup}
+use Rattle.qblocks.specs.WriteRoom.{RoomyFile}
+
+-- what is made beforehand: room for so many more inodes, by number for so many more names, and each file's
+pub record Room : Type 0 where
+  pub inodes : ℕ
+  pub names : List (ℕ × ℕ)
+  pub files : List (ℕ × Option RoomyFile)
+
+-- for how many more names there is room in this directory
+abbrev pub name_room : Room → ℕ → ℕ
+name_room room dir = unwrap_or (lookup (is_at (nat_cmp dir)) room.names) 0
+
+-- the file with its room under this number, if one is there
+abbrev pub file_room : Room → ℕ → Option RoomyFile
+file_room room number = unwrap_or (lookup (is_at (nat_cmp number)) room.files) None

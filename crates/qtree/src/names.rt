@@ -1,0 +1,109 @@
+//! The names in one directory.
+ghost use Rattle.std.specs.Prelude.{◌≡◌, ◌<◌, ◌++◌, [], map, string_bytes, None, IfOk, OnOk};
+ghost use Rattle.std.specs.Ordering.{nat_cmp};
+ghost use Rattle.std.specs.Cmp.Lexicographic.{slice_cmp};
+ghost use Rattle.std.specs.BTreeMap.{insert_entry, is_at};
+ghost use Rattle.std.specs.List.Sorted.{IsStrictlySortedBy};
+ghost use Rattle.std.specs.Map.{keys_of, lookup};
+ghost use Rattle.qtree.specs.InOrder.{keyed_by};
+ghost use Rattle.qtree.specs.Names.{names_of, row_in};
+
+use crate::name_hasher::NameHasher;
+use qplain::NoMemory;
+use qrules::NameRow;
+use std::alloc::Global;
+use std::collections::{BTreeMap, HashMap};
+use std::marker::Model;
+
+/// The names in a directory, each with the number of the inode that it leads to.
+///
+/// Contracts see them in the order of their bytes, and beside them how many more there is room for.
+#[derive(Drop)]
+pub struct Names {
+    table: HashMap<String, u64, NameHasher>,
+}
+
+impl Model for Names {
+    ghost use Rattle.qtree.specs.Names.{RoomyNames};
+
+    ghost Value = { RoomyNames };
+
+    ghost use Rattle.std.specs.HashMap.{spare};
+    ghost use Rattle.qtree.specs.Names.{names_of};
+
+    ghost view = { λ n. record { entries = names_of n.table.entries; room = spare n.table } };
+}
+
+impl Names {
+    /// No names. It takes no memory. The hashes of names begin at the seed, on which no answer depends.
+    pub(crate) fn new(alloc: Global, seed: u64) -> Names
+        ensures { result.entries ≡ [] }
+    {
+        Names {
+            table: HashMap::with_hasher(alloc, NameHasher::new(seed)),
+        }
+    }
+
+    /// The inode that a name leads to.
+    pub fn get(&self, name: &str) -> Option<u64>
+        ensures { result ≡ lookup (is_at (slice_cmp nat_cmp name.now)) self.now.entries }
+    {
+        self.table.get(name).copied()
+    }
+
+    /// Makes room for one more name.
+    pub(crate) fn make_room(&mut self) -> Result<(), NoMemory>
+        ensures same { self.new.entries ≡ self.old.entries }
+        ensures room { OnOk result (0 < self.new.room) }
+    {
+        self.table.reserve(1)
+    }
+
+    /// Puts a new name, for which there is room. It takes no memory and always succeeds.
+    pub(crate) fn put(&mut self, name: String, number: u64)
+        requires room { 0 < self.old.room }
+        requires absent { lookup (is_at (slice_cmp nat_cmp (string_bytes name))) self.old.entries ≡ None }
+        ensures { self.new.entries ≡ insert_entry (slice_cmp nat_cmp) self.old.entries (string_bytes name) number }
+    {
+        match self.table.insert(name, number) {
+            Ok(_) => {}
+            Err(_) => unreachable!(),
+        }
+    }
+
+    /// Appends a row for each of these names, which are in this directory, by their bytes.
+    ///
+    /// O(n log n), and for audits alone.
+    pub(crate) fn push_rows(
+        &self,
+        alloc: Global,
+        dir: u64,
+        rows: &mut Vec<NameRow>,
+    ) -> Result<(), NoMemory>
+        ensures rows { OnOk result
+            (rows.new.items ≡ rows.old.items ++ map (row_in dir) self.now.entries) }
+        ensures order { OnOk result
+            (IsStrictlySortedBy (slice_cmp nat_cmp) (keys_of self.now.entries)) }
+    {
+        let numbers = by_bytes(&self.table, alloc)?;
+        for (_, number) in &numbers {
+            rows.push(NameRow { dir, ino: *number })?;
+        }
+        Ok(())
+    }
+}
+
+/// The numbers under their names, in the order of the names' bytes.
+fn by_bytes(
+    table: &HashMap<String, u64, NameHasher>,
+    alloc: Global,
+) -> Result<BTreeMap<&String, u64>, NoMemory>
+    ensures { IfOk result (λ numbers.
+        keyed_by (λ name. string_bytes name.now) numbers.entries ≡ names_of table.now.entries) }
+{
+    let mut numbers = BTreeMap::new(alloc);
+    for (name, number) in table.iter() {
+        numbers.insert(name, *number)?;
+    }
+    Ok(numbers)
+}
