@@ -1,0 +1,62 @@
+use Rattle.std.proofs.Common.{◌≡◌, ℕ, ◌+◌, ◌-◌, Option, option_map, sym, ap, subst, ◌∙◌, arith}
+use Rattle.qrules.specs.declared.kind.Kind.TheVariants.{User, Group}
+use Rattle.qrules.specs.Sort.{Inodes, Blocks}
+use Rattle.qplain.specs.Use.{total_of}
+use Rattle.qledger.specs.declared.claim.Share.{Share}
+use Rattle.qledger.specs.Books.{Books}
+use Rattle.qledger.specs.Claims.{share_in}
+use Rattle.qledger.specs.Kept.{books_of}
+use Rattle.qledger.specs.Replacements.{ArePosted, IsBillOf, IsReplacement}
+use Rattle.qledger.proofs.Booked.{gained-total, groups-replaced, lost-total, total-then, users-replaced}
+use Rattle.qledger.proofs.accounts.Accounts.bill_of.Goals as goal
+
+pub postings-requires-clause-replacement : goal.postings-requires-clause-replacement
+postings-requires-clause-replacement c =
+    let x = c.args in
+    let r = c.requires.replacement in
+    let inside = subst (λ (b : Books). IsReplacement b x.from x.to r.0 r.1 r.2 r.3) (sym c.self.view_is) r.4 in (
+      User,
+      r.0,
+      r.1,
+      r.2,
+      r.3,
+      rw (c.share_of.ensures, c.share_of-2.ensures)
+          (users-replaced (books_of c.self.inside) x.from x.to r.0 r.1 r.2 r.3 c.self.invariant inside),
+    )
+
+pub postings-requires-2-clause-replacement : goal.postings-requires-2-clause-replacement
+postings-requires-2-clause-replacement c =
+    let x = c.args in
+    let r = c.requires.replacement in
+    let inside = subst (λ (b : Books). IsReplacement b x.from x.to r.0 r.1 r.2 r.3) (sym c.self.view_is) r.4 in (
+      Group,
+      r.0,
+      r.1,
+      r.2,
+      r.3,
+      rw (c.share_of-3.ensures, c.share_of-4.ensures)
+          (groups-replaced (books_of c.self.inside) x.from x.to r.0 r.1 r.2 r.3 c.self.invariant inside),
+    )
+
+pub returns-clause-in_range : goal.returns-clause-in_range
+returns-clause-in_range c = rw (← c.self.view_is) c.self.invariant
+
+-- the records of both kinds and the totals are those of the new state
+pub returns-clause-bill : goal.returns-clause-bill
+returns-clause-bill c = rw (← c.self.view_is) (λ S S1 f t r.
+    let x = c.args in
+    let b = books_of c.self.inside in
+    let users = users-replaced b x.from x.to S S1 f t c.self.invariant r in
+    let groups = groups-replaced b x.from x.to S S1 f t c.self.invariant r in
+    let gained = c.weight_of-gained.ensures in
+    let lost = c.weight_of-lost.ensures in
+    record {
+      users = subst (λ (s : Option Share). ArePosted b.users User S1 x.moment (option_map (share_in User) x.from) s c.postings.result) c.share_of-2.ensures
+          (subst (λ (s : Option Share). ArePosted b.users User S1 x.moment s c.share_of-2.result c.postings.result) c.share_of.ensures
+          (c.postings.ensures User S S1 f t (rw (c.share_of.ensures, c.share_of-2.ensures) users) (sym r.books.graces)));
+      groups = subst (λ (s : Option Share). ArePosted b.groups Group S1 x.moment (option_map (share_in Group) x.from) s c.postings-2.result) c.share_of-4.ensures
+          (subst (λ (s : Option Share). ArePosted b.groups Group S1 x.moment s c.share_of-4.result c.postings-2.result) c.share_of-3.ensures
+          (c.postings-2.ensures Group S S1 f t (rw (c.share_of-3.ensures, c.share_of-4.ensures) groups) (sym r.books.graces)));
+      blocks = (λ i. r.books.blocks i + (gained i).blocks - (lost i).blocks) ∙ total-then b x.from x.to S S1 f t r Blocks;
+      inodes = (λ i. r.books.inodes i + (gained i).inodes - (lost i).inodes) ∙ total-then b x.from x.to S S1 f t r Inodes;
+    })

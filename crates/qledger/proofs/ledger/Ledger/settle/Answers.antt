@@ -1,0 +1,8 @@
+use Rattle.std.proofs.Common.{◌≡◌, map, refl, sym, ap, ◌∙◌}
+use Rattle.qledger.specs.Bills.{post}
+use Rattle.qledger.proofs.ById.{placed-after, posted-both}
+use Rattle.qledger.proofs.ledger.Ledger.settle.Goals as goal
+
+pub returns : goal.returns
+returns c =
+    c.post-2.ensures ∙ ap (map (post c.args.postings.to)) c.post.ensures ∙ sym (posted-both c.args.postings c.args.self.now)

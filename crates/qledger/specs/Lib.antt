@@ -1,0 +1,8 @@
+-- In reading order. A module that no public clause cites says so.
+pub mod KeptHolders
+pub mod Claims
+pub mod Books
+pub mod Bills
+pub mod Replacements
+pub mod Rows
+pub mod Kept

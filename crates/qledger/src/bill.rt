@@ -1,0 +1,51 @@
+//! What a granted call makes of the accounts.
+ghost use Rattle.std.specs.Prelude.{◌≡◌, None, Some};
+
+use qrules::Record;
+
+/// A record as it will be, and where it stands.
+#[derive(Clone, Copy)]
+pub struct Posting {
+    pub(crate) slot: usize,
+    pub(crate) id: u32,
+    pub(crate) account: Record,
+}
+
+/// What becomes of the records of one kind: that of the owner who gives an inode up, and that of the one who has it then.
+#[derive(Clone, Copy)]
+pub struct Postings {
+    pub(crate) from: Option<Posting>,
+    pub(crate) to: Option<Posting>,
+}
+
+/// The records and the totals as a granted call will leave them. It is for `settle` of the accounts that granted it,
+/// before any other change of them.
+#[derive(Clone, Copy)]
+pub struct Bill {
+    pub(crate) users: Postings,
+    pub(crate) groups: Postings,
+    pub(crate) blocks: u64,
+    pub(crate) inodes: u64,
+}
+
+impl Postings {
+    /// No record changes.
+    pub(crate) fn none() -> Postings
+        ensures { result ≡ record { from = None; to = None } }
+    {
+        Postings {
+            from: None,
+            to: None,
+        }
+    }
+
+    /// One record changes.
+    pub(crate) fn only(posting: Posting) -> Postings
+        ensures { result ≡ record { from = None; to = Some posting } }
+    {
+        Postings {
+            from: None,
+            to: Some(posting),
+        }
+    }
+}

@@ -1,0 +1,13 @@
+//! The accounts of a store: the quota records of its users and groups and its totals, kept and never recounted.
+#![tactic(auto)]
+
+pub use accounts::Accounts;
+pub use bill::{Bill, Posting, Postings};
+pub use claim::{Claim, Slots, Weight, change_of};
+pub use kept_holder::KeptHolder;
+
+mod accounts;
+mod bill;
+mod claim;
+mod kept_holder;
+mod ledger;
