@@ -16,7 +16,12 @@ use Rattle.qplain.specs.State.{Holder, Inode, State, inode_at, is_directory, nam
 use Rattle.qplain.specs.Walk.{as_directory, components, is_well_formed, is_too_long, last_name, place, walk}
 use Rattle.qplain.specs.Decision.{ends_after, refusal_between}
 use Rattle.qplain.specs.Arguments.{has_bad_number, is_declared, is_holder, is_known, paths_of, refusal_of_arguments}
-use Rattle.qplain.specs.Attempt.{Attempt, Refuse, Answer, Becomes, attempt, attempt_of, ask_quota, created, create_in, create_under, is_own, may_write, no_change, quota_from, read_from, read_reached, set_quota, set_grace, stat_from, stat_reached, unless, with_file, with_limits_of, write_into, write_reached}
+use Rattle.qplain.specs.Attempt.{Attempt, Refuse, Answer, Becomes, create_in, create_under, no_change, read_reached, stat_from, stat_reached, write_reached}
+use Rattle.qplain.specs.Rights.{is_own, may_write}
+use Rattle.qplain.specs.Files.{read_from, with_file, write_into}
+use Rattle.qplain.specs.Names.{created}
+use Rattle.qplain.specs.Quotas.{ask_quota, quota_from, set_quota, set_grace, with_limits_of}
+use Rattle.qplain.specs.Calls.{attempt, attempt_of, unless}
 use Rattle.qplain.specs.Step.{settle, settled, step}
 
 -- the fact holds of the plain result, if there is one

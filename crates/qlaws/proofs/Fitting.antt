@@ -19,7 +19,9 @@ use Rattle.qplain.specs.Caller.{Caller}
 use Rattle.qplain.specs.State.{Holder, Inode, NameKey, State, holder_cmp, inode_at, is_dir, is_directory, name_key_cmp, named, new_file, rank_of}
 use Rattle.qplain.specs.Use.{names_to}
 use Rattle.qplain.specs.Arguments.{is_holder, is_same_kind}
-use Rattle.qplain.specs.Attempt.{created, relimited, with_inode}
+use Rattle.qplain.specs.Files.{with_inode}
+use Rattle.qplain.specs.Names.{created}
+use Rattle.qplain.specs.Quotas.{relimited}
 use Rattle.qlaws.specs.Laws.{FitsTogether, IsSound, has_known_owners, has_right_names, leads}
 use Rattle.qlaws.proofs.Becoming.{HoldsOfResults}
 use Rattle.qlaws.proofs.Sound.{MayFollow, empty-sound, known-caller, written-follows}

@@ -5,7 +5,7 @@ use Rattle.qplain.specs.Caller.{Caller, is_superuser}
 use Rattle.qplain.specs.State.{Holder, State}
 use Rattle.qplain.specs.Decision.{with_ends_of}
 use Rattle.qplain.specs.Arguments.{is_holder}
-use Rattle.qplain.specs.Attempt.{relimited}
+use Rattle.qplain.specs.Quotas.{relimited}
 use Rattle.qlaws.specs.Laws.{EndsAreTheRules, KeepsLimits, KeepsSetup, LimitsStay, NewLimitsAreTheRules, SetupsStay, identity_of}
 use Rattle.qlaws.proofs.Becoming.{HoldsOfResults, step-becomes}
 

@@ -15,7 +15,9 @@ use Rattle.qblocks.specs.File.{File}
 use Rattle.qplain.specs.State.{Inode, NameKey, State, inode_at, is_dir, is_directory, name_key_cmp, named}
 use Rattle.qplain.specs.Use.{links_of}
 use Rattle.qplain.specs.Decision.{ends_after}
-use Rattle.qplain.specs.Attempt.{created, with_file, with_limits_of}
+use Rattle.qplain.specs.Files.{with_file}
+use Rattle.qplain.specs.Names.{created}
+use Rattle.qplain.specs.Quotas.{with_limits_of}
 use Rattle.qlaws.specs.Laws.{FitsTogether, leads}
 use Rattle.qlaws.proofs.Tables.{absent-fresh, at-itself, lookup-insert_new, name_key_total, same-number, sum_by-insert_new}
 use Rattle.qlaws.proofs.Fitting.{apart, directory-same, not_both, some-is_dir}

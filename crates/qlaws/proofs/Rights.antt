@@ -7,7 +7,9 @@ use Rattle.std.specs.Cmp.{eq_by_cmp_equiv}
 use Rattle.qblocks.specs.File.{File, after_write}
 use Rattle.qplain.specs.Caller.{Caller, is_superuser}
 use Rattle.qplain.specs.State.{Inode, State, inode_at, name_key_cmp, named, new_file}
-use Rattle.qplain.specs.Attempt.{created, may_write, with_file}
+use Rattle.qplain.specs.Rights.{may_write}
+use Rattle.qplain.specs.Files.{with_file}
+use Rattle.qplain.specs.Names.{created}
 use Rattle.qlaws.specs.Laws.{FitsTogether, LeavesToOthers, RightsHold, is_of_others}
 use Rattle.qlaws.proofs.Becoming.{HoldsOfResults, step-becomes}
 use Rattle.qlaws.proofs.Linking.{inode_at-created-there, inode_at-with_file, named-created}

@@ -21,7 +21,7 @@ use Rattle.qplain.specs.State.{Holder, Inode, NameKey, State, holder_cmp, inode_
 use Rattle.qplain.specs.Use.{account_of, names_to, total_of, use_of}
 use Rattle.qplain.specs.Arguments.{is_declared, is_same_kind}
 use Rattle.qplain.specs.Decision.{ends_after, with_ends_of}
-use Rattle.qplain.specs.Attempt.{relimited}
+use Rattle.qplain.specs.Quotas.{relimited}
 use Rattle.qplain.specs.Step.{step}
 
 -- the inode belongs to a declared user and to a declared group
