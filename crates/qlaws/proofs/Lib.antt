@@ -19,6 +19,7 @@ pub mod Rights
 pub mod Giving
 pub mod Rising
 pub mod Replacing
+pub mod Removing
 pub mod Linking
 pub mod Walking
 pub mod Playing
