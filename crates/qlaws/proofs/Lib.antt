@@ -17,6 +17,8 @@ pub mod Kept
 pub mod Settling
 pub mod Rights
 pub mod Giving
+pub mod Finding
+pub mod Reaching
 pub mod Rising
 pub mod Replacing
 pub mod Removing
