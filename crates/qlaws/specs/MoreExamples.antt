@@ -18,8 +18,8 @@ abbrev pub less : ℕ → ℕ → ℕ → Reply
 less number blocks inodes =
     Done number (record { blocks_charged = 0; blocks_released = blocks; inodes_charged = 0; inodes_released = inodes })
 
--- three blocks are 12 KiB, over ann's soft limit of 8: a shorter file frees one, and with the use the end goes; one more
--- block begins a grace anew
+-- three blocks are 12 KiB, over ann's soft limit of 8: a shorter file frees one, and with the use the end goes; one
+-- more block begins a grace anew
 abbrev pub Shorter : Type 0
 Shorter = Plays
     ((line 1000 ann create_a, done 2 0 1) ∷ (line 1000 ann (fill_a 0 12288), done 2 3 0)
@@ -41,7 +41,8 @@ abbrev pub GrownAgain : Type 0
 GrownAgain = Plays
     ((line 0 bob create_a, done 2 0 1) ∷ (line 0 bob (Write (codes "/a") 4096 (0xff ∷ [])), done 2 1 0)
     ∷ (line 0 bob (Write (codes "/a") 0 (codes "abc")), done 2 1 0) ∷ (line 0 bob (Truncate (codes "/a") 1), less 2 1 0)
-    ∷ (line 0 bob (Truncate (codes "/a") 3), done 2 0 0) ∷ (line 0 bob (Read (codes "/a") 0 9), Bytes (0x61 ∷ 0 ∷ 0 ∷ []))
+    ∷ (line 0 bob (Truncate (codes "/a") 3), done 2 0 0)
+    ∷ (line 0 bob (Read (codes "/a") 0 9), Bytes (0x61 ∷ 0 ∷ 0 ∷ []))
     ∷ (line 0 bob (Truncate (codes "/a") 4099), done 2 0 0) ∷ (line 0 bob (AskStat (codes "/a")), file_of_bob 4099 1)
     ∷ (line 0 bob (Read (codes "/a") 4096 9), Bytes (0 ∷ 0 ∷ 0 ∷ [])) ∷ [])
 
@@ -104,8 +105,8 @@ InodesGivenBack = Plays
     ∷ (line 120 bob (Create (codes "/c")), Refused (EDQUOT User InodeSoft))
     ∷ (line 119 bob (Create (codes "/c")), done 5 0 1) ∷ [])
 
--- group 100 may have 4 KiB: what rises there is tested, all or nothing, but not for the superuser; the charge moves from
--- record to record, and the totals stay
+-- group 100 may have 4 KiB: what rises there is tested, all or nothing, but not for the superuser; the charge moves
+-- from record to record, and the totals stay
 abbrev pub OtherGroup : Type 0
 OtherGroup = Plays
     ((line 0 root_caller (SetQuota Group 100 (record free { block_hard = 4 })), done 0 0 0)
