@@ -5,7 +5,8 @@ use Rattle.qplain.specs.declared.reply.Reply.TheVariants.{Refused}
 use Rattle.qplain.specs.Caller.{Caller}
 use Rattle.qplain.specs.State.{State}
 use Rattle.qplain.specs.Decision.{refusal_between}
-use Rattle.qplain.specs.Attempt.{Attempt, Refuse, Answer, Becomes, attempt}
+use Rattle.qplain.specs.Attempt.{Attempt, Refuse, Answer, Becomes}
+use Rattle.qplain.specs.Calls.{attempt}
 use Rattle.qplain.specs.Step.{settle, settled}
 use Rattle.qlaws.specs.Laws.{RefusalsChangeNothing}
 

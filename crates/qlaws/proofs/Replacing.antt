@@ -25,7 +25,8 @@ use Rattle.qplain.specs.State.{Holder, Inode, NameKey, State, holder_cmp, inode_
 use Rattle.qplain.specs.Use.{account_of, charge_to, owner, total_of, use_of, weight}
 use Rattle.qplain.specs.Arguments.{is_holder, is_same_kind}
 use Rattle.qplain.specs.Decision.{ends_after, fault_of_holder, first_refusal, is_too_full, with_ends_of}
-use Rattle.qplain.specs.Attempt.{created, with_inode}
+use Rattle.qplain.specs.Files.{with_inode}
+use Rattle.qplain.specs.Names.{created}
 use Rattle.qplain.specs.Step.{change_between}
 use Rattle.qlaws.specs.Replaces.{Replaces, charge_of, is_owned, weight_of}
 use Rattle.qlaws.proofs.Tables.{sum_by-values-insert_new}

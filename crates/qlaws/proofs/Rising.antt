@@ -13,7 +13,8 @@ use Rattle.qplain.specs.declared.bounds.TheConstants.{MAX_NUMBER}
 use Rattle.qplain.specs.State.{Inode, State, inode_at}
 use Rattle.qplain.specs.Use.{charge_to, owner, total_of, use_of, weight}
 use Rattle.qplain.specs.Decision.{is_too_full}
-use Rattle.qplain.specs.Attempt.{created, with_file}
+use Rattle.qplain.specs.Files.{with_file}
+use Rattle.qplain.specs.Names.{created}
 use Rattle.qplain.specs.Step.{change_between}
 use Rattle.qlaws.specs.Rises.{Rises, added}
 use Rattle.qlaws.proofs.Tables.{sum_by-values-insert_new}

@@ -18,11 +18,13 @@ use Rattle.qplain.specs.State.{Holder, State, inode_at}
 use Rattle.qplain.specs.Use.{account_of, total_of}
 use Rattle.qplain.specs.Decision.{ends_after, fault_of_holder, first_refusal, refusal_between, refusal_of_charge}
 use Rattle.qplain.specs.Arguments.{refusal_of_arguments}
-use Rattle.qplain.specs.Attempt.{Becomes, attempt_of, no_change, unless, with_limits_of}
+use Rattle.qplain.specs.Attempt.{Becomes, no_change}
+use Rattle.qplain.specs.Quotas.{with_limits_of}
+use Rattle.qplain.specs.Calls.{attempt_of, unless}
 use Rattle.qplain.specs.Step.{change_between, settle, settled, step}
 use Rattle.qlaws.specs.Laws.{IsLawful, KeepsSetup}
 use Rattle.qlaws.proofs.Tables.{absent-fresh}
-use Rattle.qlaws.proofs.Fitting.{fits-graced}
+use Rattle.qlaws.proofs.Results.{fits-graced}
 use Rattle.qlaws.proofs.Lawful.{steps_stay_lawful}
 use Rattle.qlaws.proofs.Ends.{ends_stay}
 use Rattle.qlaws.proofs.Kept.{setups_stay}

@@ -13,7 +13,8 @@ use Rattle.qplain.specs.Caller.{Caller, is_superuser}
 use Rattle.qplain.specs.State.{Holder, State}
 use Rattle.qplain.specs.Use.{account_of, use_of}
 use Rattle.qplain.specs.Decision.{fault_of_holder, first_refusal, is_too_full, refusal_between, ends_after}
-use Rattle.qplain.specs.Attempt.{Attempt, Refuse, Answer, Becomes, attempt}
+use Rattle.qplain.specs.Attempt.{Attempt, Refuse, Answer, Becomes}
+use Rattle.qplain.specs.Calls.{attempt}
 use Rattle.qplain.specs.Step.{settle, settled}
 use Rattle.qlaws.specs.Laws.{LimitsHold, PassesNoLimit, is_within}
 

@@ -11,6 +11,12 @@ pub mod Walk
 pub mod Decision
 pub mod Arguments
 pub mod Attempt
+pub mod Rights
+pub mod Files
+pub mod Names
+pub mod Owners
+pub mod Quotas
+pub mod Calls
 pub mod Step
 pub mod Journal
 pub mod KeptCred
