@@ -9,7 +9,7 @@ use Rattle.std.specs.FinMap.{IsAntisymmetric}
 use Rattle.std.specs.FinMap.Entries.{below_all, is_sorted}
 use Rattle.std.specs.BTreeMap.{insert_entry, is_at}
 use Rattle.std.specs.List.Sorted.{IsStrictlySortedBy}
-use Rattle.std.specs.Map.{keys_of, lookup}
+use Rattle.std.specs.Map.{keys_of, lookup, remove_entry}
 use Rattle.std.specs.Option.{IfSome, option_copied}
 use Rattle.std.proofs.lemmas.Map.Lookups.{exact_pairs, exact_unsigned, exact_bytes}
 use Rattle.qplain.specs.State.{NameKey, name_key_cmp}
@@ -18,7 +18,7 @@ use Rattle.qtree.specs.InOrder.{in_order}
 use Rattle.qtree.specs.Nodes.{names_in}
 use Rattle.qtree.specs.Tree.{all_names, keyed}
 use Rattle.qtree.proofs.Bytes.{bytes_tie}
-use Rattle.qtree.proofs.InOrder.{both_of, first_of, less_from, lookup-in_order, same_sorted, second_of, sorted-in_order, sorted-insert, strictly}
+use Rattle.qtree.proofs.InOrder.{both_of, first_of, less_from, lookup-in_order, same_sorted, second_of, sorted-in_order, sorted-insert, sorted-taken, strictly}
 use Rattle.qtree.proofs.Numbered.{numbered-get, numbered-sorted}
 use Rattle.qtree.proofs.Read.{first_or_none, first_some, lookup-append, lookup-keyed_by}
 
@@ -157,4 +157,17 @@ named-insert es fs dir name v is =
     (sorted-all_names (in_order nat_cmp fs) (numbered-sorted fs))
     (λ q. named-get fs q.0 q.1 ∙ is q.0 q.1 ∙ ap (cond (nat_eq dir q.0 && bytes_tie name q.1) (Some v)) (sym (named-get es q.0 q.1))
     ∙ ap (λ b. cond b (Some v) (lookup (is_at (name_key_cmp q)) (named es)))
+    (both_tied _ _ (nat_cmp dir q.0) (slice_cmp nat_cmp name q.1) (unsigned_ties dir q.0) refl))
+
+-- a table with one name less
+pub named-taken : (es fs : List (ℕ × Node)) (dir : ℕ) (name : List ℕ)
+    → ((d : ℕ) (n : List ℕ) → name_at n (lookup (nat_eq d) fs)
+    ≡ cond (nat_eq dir d && bytes_tie name n) None (name_at n (lookup (nat_eq d) es)))
+    → named fs ≡ remove_entry (is_at (name_key_cmp (dir, name))) (named es)
+named-taken es fs dir name is =
+    sorted-taken name_key_total key_exact (named es) (named fs) (dir, name)
+    (sorted-all_names (in_order nat_cmp es) (numbered-sorted es))
+    (sorted-all_names (in_order nat_cmp fs) (numbered-sorted fs))
+    (λ q. named-get fs q.0 q.1 ∙ is q.0 q.1 ∙ ap (cond (nat_eq dir q.0 && bytes_tie name q.1) None) (sym (named-get es q.0 q.1))
+    ∙ ap (λ b. cond b None (lookup (is_at (name_key_cmp q)) (named es)))
     (both_tied _ _ (nat_cmp dir q.0) (slice_cmp nat_cmp name q.1) (unsigned_ties dir q.0) refl))

@@ -1,5 +1,5 @@
 -- A directory's names: a table's keys are texts, which contracts see as their bytes.
-use Rattle.std.proofs.Common.{◌≡◌, ℕ, Bool, true, false, cond, List, [], ◌∷◌, Some, refl, sym, ap, ◌∙◌, nat_eq, String, string_bytes}
+use Rattle.std.proofs.Common.{◌≡◌, ℕ, Bool, true, false, cond, List, [], ◌∷◌, Option, Some, refl, sym, ap, ◌∙◌, nat_eq, String, string_bytes}
 use Rattle.std.specs.Ordering.{nat_cmp, eq_by_cmp}
 use Rattle.std.specs.Cmp.{eq_by_cmp_equiv, unsigned_ties}
 use Rattle.std.specs.Cmp.Lexicographic.{pointwise, slice_cmp, lists_ties, nat_list_cmp_total}
@@ -37,14 +37,18 @@ module _ {A : Type 0} where
   abbrev pub has_bytes : List ℕ → String A → Bool
   has_bytes name x = bytes_tie name (string_bytes x)
 
+  -- the same as a table asks it
+  abbrev pub has_text : List ℕ → String A → Bool
+  has_text name x = pointwise nat_eq name (string_bytes x)
+
   key_test : (name : List ℕ) → IsKeyTest (text_eq {A = A}) (has_bytes name)
   key_test name x y passes = (eq_by_cmp_equiv nat_list_cmp_total).congr name (string_bytes x) (string_bytes y) passes ∙ sym
       (bytes_ties (string_bytes x) (string_bytes y))
 
-  apart : (name : List ℕ) (k : String A) → bytes_tie (string_bytes k) name ≡ false → AreApart (text_eq k) (has_bytes name)
-  apart name k differs x is =
+  apart : (name bytes : List ℕ) → bytes_tie bytes name ≡ false → AreApart (has_text bytes) (has_bytes name)
+  apart name bytes differs x is =
       (eq_by_cmp_equiv nat_list_cmp_total).symm name (string_bytes x)
-      ∙ sym ((eq_by_cmp_equiv nat_list_cmp_total).congr (string_bytes k) (string_bytes x) name (sym (bytes_ties (string_bytes k) (string_bytes x)) ∙ is))
+      ∙ sym ((eq_by_cmp_equiv nat_list_cmp_total).congr bytes (string_bytes x) name (sym (bytes_ties bytes (string_bytes x)) ∙ is))
       ∙ differs
 
   others_keep : {X : Type 0} (test other : String A → Bool) (es fs : List (String A × X))
@@ -68,13 +72,26 @@ module _ {A : Type 0} where
       ∙ tests_agree text_eq (has_bytes name) (key_test name) m.entries n.entries is
       ∙ sym (lookup-keyed_by string_bytes (bytes_tie name) m.entries))
 
-  -- a query for a name after a put, by whether it is the name that was put
-  queried : {S : Type 0} (m n : HashMap (String A) ℕ S) (k : String A) (v : ℕ) (name : List ℕ)
-      → hash.Updates text_eq m n k (Some v) → (b : Bool) → bytes_tie (string_bytes k) name ≡ b
-      → lookup (has_bytes name) n.entries ≡ cond b (Some v) (lookup (has_bytes name) m.entries)
-  queried m n k v name u true is =
-      lookup-agree (has_bytes name) (text_eq k) (λ y. key_test name k y ((eq_by_cmp_equiv nat_list_cmp_total).symm name (string_bytes k) ∙ is)) n.entries ∙ u.1
-  queried m n k v name u false is = others_keep (text_eq k) (has_bytes name) m.entries n.entries u.3 (key_test name) (apart name k is)
+  -- a query for a name after a change at some bytes, by whether they are the name's
+  queried : {S : Type 0} (m n : HashMap (String A) ℕ S) (bytes : List ℕ) (w : Option ℕ) (name : List ℕ)
+      → hash.UpdatesBy text_eq (has_text bytes) m n w → (b : Bool) → bytes_tie bytes name ≡ b
+      → lookup (has_bytes name) n.entries ≡ cond b w (lookup (has_bytes name) m.entries)
+  queried m n bytes w name u true is =
+      lookup-agree (has_bytes name) (has_text bytes) (λ y. sym ((eq_by_cmp_equiv nat_list_cmp_total).congr bytes name (string_bytes y) is)
+      ∙ sym (bytes_ties bytes (string_bytes y))) n.entries ∙ u.1
+  queried m n bytes w name u false is = others_keep (has_text bytes) (has_bytes name) m.entries n.entries u.3 (key_test name) (apart name bytes is)
+
+  -- what a name leads to after a change at some bytes
+  pub names_of-changed : {S : Type 0} (m n : HashMap (String A) ℕ S) (bytes : List ℕ) (w : Option ℕ)
+      → hash.UpdatesBy text_eq (has_text bytes) m n w → (name : List ℕ)
+      → lookup (is_at (slice_cmp nat_cmp name)) (names_of n.entries)
+      ≡ cond (bytes_tie bytes name) w (lookup (is_at (slice_cmp nat_cmp name)) (names_of m.entries))
+  names_of-changed m n bytes w u name =
+      lookup-in_order nat_list_cmp_total exact_bytes (keyed_by string_bytes n.entries) name
+      ∙ lookup-keyed_by string_bytes (bytes_tie name) n.entries
+      ∙ queried m n bytes w name u (bytes_tie bytes name) refl
+      ∙ ap (cond (bytes_tie bytes name) w) (sym (lookup-in_order nat_list_cmp_total exact_bytes (keyed_by string_bytes m.entries) name
+      ∙ lookup-keyed_by string_bytes (bytes_tie name) m.entries))
 
   -- a put in the table puts the name in its slot
   pub names_of-insert : {S : Type 0} (m n : HashMap (String A) ℕ S) (k : String A) (v : ℕ)
@@ -82,7 +99,7 @@ module _ {A : Type 0} where
       → names_of n.entries ≡ insert_entry (slice_cmp nat_cmp) (names_of m.entries) (string_bytes k) v
   names_of-insert m n k v u = in_order-insert nat_list_cmp_total exact_bytes _ _ (string_bytes k) v (λ name.
       lookup-keyed_by string_bytes (bytes_tie name) n.entries
-      ∙ queried m n k v name u (bytes_tie (string_bytes k) name) refl
+      ∙ queried m n (string_bytes k) (Some v) name u (bytes_tie (string_bytes k) name) refl
       ∙ ap (cond (bytes_tie (string_bytes k) name) (Some v)) (sym (lookup-keyed_by string_bytes (bytes_tie name) m.entries)))
 
 distinct_past : {K L X : Type 0} (f : K → L) (eq : L → L → Bool) (k : K) (es : List (K × X))

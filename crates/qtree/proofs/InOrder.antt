@@ -1,16 +1,17 @@
 -- Entries in key order: what they answer, and what a change of the entries does to them.
-use Rattle.std.proofs.Common.{◌≡◌, Bool, true, false, cond, List, [], ◌∷◌, Some, ◌&&◌, T, refl, sym, ap, ◌∙◌, subst}
+use Rattle.std.proofs.Common.{◌≡◌, Bool, true, false, cond, List, [], ◌∷◌, Some, None, ◌&&◌, T, refl, sym, ap, ◌∙◌, subst}
 use Rattle.std.specs.declared.cmp.Ordering.{Ordering}
 use Rattle.std.specs.declared.cmp.Ordering.TheVariants.{Less, Equal, Greater}
 use Rattle.std.specs.Ordering.{is_eq, is_lt, match_ordering, eq_by_cmp}
 use Rattle.std.specs.Cmp.{IsTotalOrder, eq_by_cmp_equiv}
 use Rattle.std.specs.BTreeMap.{is_at, insert_entry}
-use Rattle.std.specs.Map.{lookup, set_value, keys_of}
+use Rattle.std.specs.Map.{lookup, remove_entry, set_value, keys_of}
 use Rattle.std.specs.Option.{IsSome}
 use Rattle.std.specs.List.{AllByRecursion}
 use Rattle.std.specs.List.Sorted.{IsStrictlySortedBy}
-use Rattle.std.proofs.lemmas.Map.{lookup-none}
+use Rattle.std.proofs.lemmas.Map.{lookup-none, lookup-remove_entry}
 use Rattle.std.proofs.lemmas.Map.Entries.{none_below_head}
+use Rattle.std.proofs.lemmas.Map.Keys.{IsDistinct-from_sorted}
 use Rattle.std.specs.FinMap as map
 use Rattle.std.specs.FinMap.{IsAntisymmetric, put, find}
 use Rattle.std.specs.FinMap.Entries.{by_order, below_all, is_sorted, same_entries}
@@ -86,6 +87,24 @@ set_insert {R = R} o (e ∷ es) k v h some =
       | Greater ↦ λ p there. ap (λ t. e ∷ t) (set_insert o es k v (second_of _ _ h) there)
     ] refl some
 
+-- what is in order is without any of its entries
+below-remove : {K X : Type 0} (R : K → K → Ordering) (x : K) (test : K → Bool) (es : List (K × X))
+    → T (below_all R x es) → T (below_all R x (remove_entry test es))
+below-remove R x test [] h = tt
+below-remove R x test (e ∷ es) h =
+    elim (test e.0) as (λ b. T (below_all R x (cond b es (e ∷ remove_entry test es)))) [
+      | true ↦ second_of _ _ h
+      | false ↦ both_of _ _ (first_of _ _ h) (below-remove R x test es (second_of _ _ h))
+    ]
+
+sorted-remove : {K X : Type 0} (R : K → K → Ordering) (test : K → Bool) (es : List (K × X)) → T (is_sorted R es) → T (is_sorted R (remove_entry test es))
+sorted-remove R test [] h = tt
+sorted-remove R test (e ∷ es) h =
+    elim (test e.0) as (λ b. T (is_sorted R (cond b es (e ∷ remove_entry test es)))) [
+      | true ↦ second_of _ _ h
+      | false ↦ both_of _ _ (below-remove R e.0 test es (first_of _ _ h)) (sorted-remove R test es (second_of _ _ h))
+    ]
+
 module _ {K X : Type 0} {R : K → K → Ordering} (o : IsTotalOrder R) (same : IsAntisymmetric R) where
   -- lists in order that answer alike are one list
   pub same_sorted : (es fs : List (K × X)) → T (is_sorted R es) → T (is_sorted R fs)
@@ -142,3 +161,25 @@ module _ {K X : Type 0} {R : K → K → Ordering} (o : IsTotalOrder R) (same : 
   in_order-set es fs k v there is = in_order-insert es fs k v is
       ∙ set_insert o (in_order R es) k v (sorted-in_order es)
       (subst IsSome (sym (lookup-in_order es k)) there)
+
+  -- a look-up in a list in order, without the entry at k
+  pub lookup-taken : (es : List (K × X)) (k q : K) → T (is_sorted R es)
+      → lookup (eq_by_cmp R q) (remove_entry (is_at (R k)) es) ≡ cond (eq_by_cmp R k q) None (lookup (eq_by_cmp R q) es)
+  lookup-taken es k q h =
+      lookup-remove_entry (eq_by_cmp_equiv o) (is_at (R k)) (λ x y at. (eq_by_cmp_equiv o).congr k x y at) q es
+      (IsDistinct-from_sorted R (keys_of es) (strictly R es h))
+
+  -- a list in order that has nothing at k and else answers as es does is es without the entry at k
+  pub sorted-taken : (es fs : List (K × X)) (k : K) → T (is_sorted R es) → T (is_sorted R fs)
+      → ((q : K) → lookup (eq_by_cmp R q) fs ≡ cond (eq_by_cmp R k q) None (lookup (eq_by_cmp R q) es))
+      → fs ≡ remove_entry (is_at (R k)) es
+  sorted-taken es fs k a b is = same_sorted fs (remove_entry (is_at (R k)) es) b (sorted-remove R (is_at (R k)) es a)
+      (λ q. is q ∙ sym (lookup-taken es k q a))
+
+  -- what has nothing at k and else answers as es does is in order es without the entry at k
+  pub in_order-taken : (es fs : List (K × X)) (k : K)
+      → ((q : K) → lookup (eq_by_cmp R q) fs ≡ cond (eq_by_cmp R k q) None (lookup (eq_by_cmp R q) es))
+      → in_order R fs ≡ remove_entry (is_at (R k)) (in_order R es)
+  in_order-taken es fs k is =
+      sorted-taken (in_order R es) (in_order R fs) k (sorted-in_order es) (sorted-in_order fs)
+      (λ q. lookup-in_order fs q ∙ is q ∙ ap (cond (eq_by_cmp R k q) None) (sym (lookup-in_order es q)))

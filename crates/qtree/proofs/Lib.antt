@@ -6,5 +6,6 @@ pub mod Numbered
 pub mod Bytes
 pub mod AllNames
 pub mod TreeChanges
+pub mod Changed
 pub mod Pushed
 pub mod Rows

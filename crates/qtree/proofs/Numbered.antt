@@ -1,5 +1,5 @@
 -- Tables by number, with their values read by a function: what contracts see of them, before and after a change.
-use Rattle.std.proofs.Common.{◌≡◌, ℕ, Bool, true, false, cond, List, [], ◌∷◌, Some, T, refl, sym, ap, ◌∙◌, subst, nat_eq}
+use Rattle.std.proofs.Common.{◌≡◌, ℕ, Bool, true, false, cond, List, [], ◌∷◌, Some, None, T, refl, sym, ap, ◌∙◌, subst, nat_eq}
 use Rattle.std.specs.Ordering.{nat_cmp, eq_by_cmp}
 use Rattle.std.specs.Cmp.{nat_cmp_total, unsigned_ties}
 use Rattle.std.specs.FinMap.{nat_cmp-IsAntisymmetric}
@@ -7,17 +7,21 @@ use Rattle.std.specs.FinMap.Entries.{below_all, is_sorted}
 use Rattle.std.specs.BTreeMap.{insert_entry, is_at}
 use Rattle.std.specs.List.{IsDistinct}
 use Rattle.std.specs.List.Sorted.{IsStrictlySortedBy}
-use Rattle.std.specs.Map.{keys_of, lookup, set_value}
+use Rattle.std.specs.Map.{keys_of, lookup, remove_entry, set_value}
 use Rattle.std.specs.Option.{IsSome, option_map}
 use Rattle.std.proofs.lemmas.Bool.{eqb-true}
 use Rattle.qtree.specs.InOrder.{in_order, read_by}
-use Rattle.qtree.proofs.InOrder.{both_of, first_of, in_order-insert, in_order-set, lookup-in_order, same_sorted, second_of, sorted-in_order, strictly-in_order}
+use Rattle.qtree.proofs.InOrder.{both_of, first_of, in_order-insert, in_order-set, in_order-taken, lookup-in_order, same_sorted, second_of, sorted-in_order, strictly-in_order}
 use Rattle.qtree.proofs.PutAll.{put_all, put_all-distinct}
-use Rattle.qtree.proofs.Read.{lookup-agree, lookup-read_by, read_by-insert, read_by-set}
+use Rattle.qtree.proofs.Read.{lookup-agree, lookup-read_by, read_by-insert, read_by-remove, read_by-set}
 
 -- the second list answers v at k, and else as the first
 pub record IsPut {X : Type 0} (es fs : List (ℕ × X)) (k : ℕ) (v : X) : Type 0 where
   pub at : (q : ℕ) → lookup (nat_eq q) fs ≡ cond (nat_eq k q) (Some v) (lookup (nat_eq q) es)
+
+-- the second list answers nothing at k, and else as the first
+pub record IsTaken {X : Type 0} (es fs : List (ℕ × X)) (k : ℕ) : Type 0 where
+  pub at : (q : ℕ) → lookup (nat_eq q) fs ≡ cond (nat_eq k q) None (lookup (nat_eq q) es)
 
 -- look-ups by equality and by order
 ties : {X : Type 0} (es : List (ℕ × X)) (q : ℕ) → lookup (eq_by_cmp nat_cmp q) es ≡ lookup (nat_eq q) es
@@ -42,6 +46,12 @@ module _ {X : Type 0} where
   put_at es fs k v put q =
       ties fs q ∙ put.at q ∙ ap (λ b. cond b (Some v) (lookup (nat_eq q) es)) (unsigned_ties k q)
       ∙ ap (cond (eq_by_cmp nat_cmp k q) (Some v)) (sym (ties es q))
+
+  taken_at : (es fs : List (ℕ × X)) (k : ℕ) → IsTaken es fs k → (q : ℕ)
+      → lookup (eq_by_cmp nat_cmp q) fs ≡ cond (eq_by_cmp nat_cmp k q) None (lookup (eq_by_cmp nat_cmp q) es)
+  taken_at es fs k taken q =
+      ties fs q ∙ taken.at q ∙ ap (λ b. cond b None (lookup (nat_eq q) es)) (unsigned_ties k q)
+      ∙ ap (cond (eq_by_cmp nat_cmp k q) None) (sym (ties es q))
 
 below-read_by : {X Y : Type 0} (f : X → Y) (k : ℕ) (es : List (ℕ × X)) → T (below_all nat_cmp k es) → T (below_all nat_cmp k (read_by f es))
 below-read_by f k [] h = tt
@@ -91,6 +101,13 @@ module _ {X Y : Type 0} (f : X → Y) where
       ap (read_by f) (in_order-set nat_cmp_total nat_cmp-IsAntisymmetric es fs k v
       (subst IsSome (sym (ties es k ∙ was)) refl) (put_at es fs k v put))
       ∙ read_by-set f (is_at (nat_cmp k)) (in_order nat_cmp es) v
+
+  -- an entry that is taken out
+  pub seen-taken : (es fs : List (ℕ × X)) (k : ℕ) → IsTaken es fs k
+      → read_by f (in_order nat_cmp fs) ≡ remove_entry (is_at (nat_cmp k)) (read_by f (in_order nat_cmp es))
+  seen-taken es fs k taken =
+      ap (read_by f) (in_order-taken nat_cmp_total nat_cmp-IsAntisymmetric es fs k (taken_at es fs k taken))
+      ∙ read_by-remove f (is_at (nat_cmp k)) (in_order nat_cmp es)
 
   -- by whether the number is the one put
   kept_at : (es fs : List (ℕ × X)) (k : ℕ) (u v : X) → lookup (nat_eq k) es ≡ Some u → f v ≡ f u

@@ -5,7 +5,7 @@ use Rattle.std.specs.declared.cmp.Ordering.TheVariants.{Less, Equal, Greater}
 use Rattle.std.specs.Ordering.{match_ordering}
 use Rattle.std.specs.Option.{option_map}
 use Rattle.std.specs.BTreeMap.{insert_entry}
-use Rattle.std.specs.Map.{IsKeyTest, lookup, set_value}
+use Rattle.std.specs.Map.{IsKeyTest, lookup, remove_entry, set_value}
 use Rattle.qtree.specs.InOrder.{keyed_by, read_by}
 
 -- two tests that agree look up alike
@@ -33,6 +33,24 @@ keyed_by-insert f R (e ∷ es) k v =
       | Greater ↦ ap (λ t. (f e.0, e.1) ∷ t) (keyed_by-insert f R es k v)
     ]
 
+-- what is not there cannot be set
+pub set_none : {K X : Type 0} (test : K → Bool) (es : List (K × X)) (v : X) → lookup test es ≡ None → set_value test es v ≡ es
+set_none test [] v none = refl
+set_none test (e ∷ es) v none =
+    elim (test e.0) as (λ b. cond b (Some e.1) (lookup test es) ≡ None → cond b ((e.0, v) ∷ es) (e ∷ set_value test es v) ≡ e ∷ es) [
+      | true ↦ λ h. cc
+      | false ↦ λ h. ap (λ t. e ∷ t) (set_none test es v h)
+    ] none
+
+-- what is not there cannot be taken out
+pub remove_none : {K X : Type 0} (test : K → Bool) (es : List (K × X)) → lookup test es ≡ None → remove_entry test es ≡ es
+remove_none test [] none = refl
+remove_none test (e ∷ es) none =
+    elim (test e.0) as (λ b. cond b (Some e.1) (lookup test es) ≡ None → cond b es (e ∷ remove_entry test es) ≡ e ∷ es) [
+      | true ↦ λ h. cc
+      | false ↦ λ h. ap (λ t. e ∷ t) (remove_none test es h)
+    ] none
+
 module _ {K X Y : Type 0} (f : X → Y) where
   -- to put an entry in its slot and to read the values are the same in either order
   pub read_by-insert : (R : K → K → Ordering) (es : List (K × X)) (k : K) (v : X) → read_by f (insert_entry R es k v) ≡ insert_entry R (read_by f es) k (f v)
@@ -55,6 +73,16 @@ module _ {K X Y : Type 0} (f : X → Y) where
       ≡ cond b ((e.0, f v) ∷ read_by f es) ((e.0, f e.1) ∷ set_value test (read_by f es) (f v))) [
         | true ↦ refl
         | false ↦ ap (λ t. (e.0, f e.1) ∷ t) (read_by-set test es v)
+      ]
+
+  -- the same for an entry that is taken out
+  pub read_by-remove : (test : K → Bool) (es : List (K × X)) → read_by f (remove_entry test es) ≡ remove_entry test (read_by f es)
+  read_by-remove test [] = refl
+  read_by-remove test (e ∷ es) =
+      elim (test e.0) as (λ b. read_by f (cond b es (e ∷ remove_entry test es))
+      ≡ cond b (read_by f es) ((e.0, f e.1) ∷ remove_entry test (read_by f es))) [
+        | true ↦ refl
+        | false ↦ ap (λ t. (e.0, f e.1) ∷ t) (read_by-remove test es)
       ]
 
   -- a look-up finds the value that is read

@@ -7,22 +7,23 @@ use Rattle.std.specs.FinMap.{nat_cmp-IsAntisymmetric}
 use Rattle.std.specs.BTreeMap.{insert_entry, is_at}
 use Rattle.std.specs.HashMap as hash
 use Rattle.std.specs.HashMap.{HashMap}
-use Rattle.std.specs.Map.{lookup}
+use Rattle.std.specs.Map.{lookup, remove_entry}
 use Rattle.std.specs.Option.{IfSome, IsSome, is_some, option_map, unwrap_or}
 use Rattle.std.proofs.lemmas.Map.Lookups.{exact_bytes}
 use Rattle.std.proofs.lemmas.Bool.{eqb-true}
 use Rattle.qblocks.specs.File.{Adds}
-use Rattle.qplain.specs.State.{name_key_cmp}
+use Rattle.qplain.specs.State.{Inode, is_dir, name_key_cmp}
 use Rattle.qtree.specs.declared.node.Content.{Content}
 use Rattle.qtree.specs.declared.node.Content.TheVariants.{File as AFile, Directory}
 use Rattle.qtree.specs.declared.node.Node.{Node}
 use Rattle.qtree.specs.InOrder.{in_order}
+use Rattle.qtree.specs.Names.{LosesName}
 use Rattle.qtree.specs.Nodes.{IsSameNode, file_in, inode_of, is_dir_content, name_room_in, names_in, roomy_file_in}
 use Rattle.qtree.specs.Tree.{IsSameTree, RoomyTree, file_room, name_room, tree_of}
-use Rattle.qtree.proofs.AllNames.{name_at, named, named-get, named-insert, named-same}
+use Rattle.qtree.proofs.AllNames.{name_at, named, named-get, named-insert, named-same, named-taken}
 use Rattle.qtree.proofs.Bytes.{bytes_tie}
 use Rattle.qtree.proofs.InOrder.{in_order-sorted}
-use Rattle.qtree.proofs.Numbered.{IsPut, seen-get, seen-kept}
+use Rattle.qtree.proofs.Numbered.{IsPut, IsTaken, seen-get, seen-kept}
 use Rattle.qtree.proofs.PutAll.{lookup-insert}
 
 -- ---- from a hash map's clauses
@@ -49,6 +50,13 @@ module _ (nodes : List (ℕ × Node)) (spare : ℕ) (tree : RoomyTree) (seen : t
   -- the inode
   pub inode_seen : (k : ℕ) → lookup (is_at (nat_cmp k)) tree.inodes ≡ option_map inode_of (lookup (nat_eq k) nodes)
   inode_seen k = ap (λ t. lookup (is_at (nat_cmp k)) t.inodes) (sym seen) ∙ seen-get inode_of nodes k
+
+  -- it is the one that was found
+  pub inode_is : (k : ℕ) (node : Node) (inode : Inode) → Some node ≡ lookup (nat_eq k) nodes
+      → lookup (is_at (nat_cmp k)) tree.inodes ≡ Some inode → inode_of node ≡ inode
+  inode_is k node inode found is =
+      let both : Some (inode_of node) ≡ Some inode = ap (option_map inode_of) found ∙ sym (inode_seen k) ∙ is in
+      cc
 
   -- what a name in it leads to
   pub name_seen : (d : ℕ) (name : List ℕ) → lookup (is_at (name_key_cmp (d, name))) tree.names ≡ name_at name (lookup (nat_eq d) nodes)
@@ -116,6 +124,19 @@ module _ (es fs : List (ℕ × Node)) (k : ℕ) (u v : Node) (found : lookup (na
       → named fs ≡ insert_entry name_key_cmp (named es) (k, name) number
   named-put name number names = named-insert es fs k name number (λ d n. name_put name number names d n (nat_eq k d) refl)
 
+  name_taken : (name : List ℕ) → LosesName name (names_in u.content) (names_in v.content)
+      → (d : ℕ) (n : List ℕ) (b : Bool) → nat_eq k d ≡ b
+      → name_at n (lookup (nat_eq d) fs) ≡ cond (b && bytes_tie name n) None (name_at n (lookup (nat_eq d) es))
+  name_taken name loses d n true is =
+      ap (name_at n) (put.at d ∙ ap (λ b. cond b (Some v) (lookup (nat_eq d) es)) is) ∙ loses n
+      ∙ ap (λ o. cond (bytes_tie name n) None (name_at n o)) (sym found ∙ ap (λ x. lookup (nat_eq x) es) (eqb-true k d is))
+  name_taken name loses d n false is = ap (name_at n) (put.at d ∙ ap (λ b. cond b (Some v) (lookup (nat_eq d) es)) is)
+
+  -- a change that takes a name out of its directory
+  pub named-lost : (name : List ℕ) → LosesName name (names_in u.content) (names_in v.content)
+      → named fs ≡ remove_entry (is_at (name_key_cmp (k, name))) (named es)
+  named-lost name loses = named-taken es fs k name (λ d n. name_taken name loses d n (nat_eq k d) refl)
+
   elsewhere : (q : ℕ) (b : Bool) → nat_eq k q ≡ b → lookup (nat_eq q) es ≡ None → lookup (nat_eq q) fs ≡ None
   elsewhere q true is none = let other : Some u ≡ None = sym found ∙ ap (λ x. lookup (nat_eq x) es) (eqb-true k q is) ∙ none in cc
   elsewhere q false is none = put.at q ∙ ap (λ b. cond b (Some v) (lookup (nat_eq q) es)) is ∙ none
@@ -140,3 +161,31 @@ module _ (es fs : List (ℕ × Node)) (k : ℕ) (v : Node) (absent : lookup (nat
 -- no node at all
 pub in_order-none : {X : Type 0} {es : List (ℕ × X)} → es ≡ [] → in_order nat_cmp es ≡ []
 in_order-none none = ap (in_order nat_cmp) none ∙ in_order-sorted nat_cmp_total nat_cmp-IsAntisymmetric [] tt
+
+-- ---- one node less
+-- a file has no names
+no_names : (content : Content) → is_dir_content content ≡ false → names_in content ≡ []
+no_names (AFile f) is = refl
+no_names (Directory names) is = cc
+
+-- a file has no name in it, and a directory none if this says so
+pub no_name_in : (o : Option Node) → (is_dir (option_map inode_of o) ≡ true → (name : List ℕ) → name_at name o ≡ None) → (name : List ℕ) → name_at name o ≡ None
+no_name_in None none name = refl
+no_name_in (Some node) none name = no_name_at node (is_dir_content node.content) refl none name
+  where
+    no_name_at : (node : Node) (b : Bool) → is_dir_content node.content ≡ b
+        → (is_dir_content node.content ≡ true → (name : List ℕ) → name_at name (Some node) ≡ None)
+        → (name : List ℕ) → name_at name (Some node) ≡ None
+    no_name_at node true is none name = none is name
+    no_name_at node false is none name = ap (lookup (is_at (slice_cmp nat_cmp name))) (no_names node.content is)
+
+module _ (es fs : List (ℕ × Node)) (k : ℕ) (taken : IsTaken es fs k) (empty : (name : List ℕ) → name_at name (lookup (nat_eq k) es) ≡ None) where
+  name_left : (d : ℕ) (name : List ℕ) (b : Bool) → nat_eq k d ≡ b → name_at name (lookup (nat_eq d) fs) ≡ name_at name (lookup (nat_eq d) es)
+  name_left d name true is =
+      ap (name_at name) (taken.at d ∙ ap (λ b. cond b None (lookup (nat_eq d) es)) is)
+      ∙ sym (empty name) ∙ ap (λ x. name_at name (lookup (nat_eq x) es)) (eqb-true k d is)
+  name_left d name false is = ap (name_at name) (taken.at d ∙ ap (λ b. cond b None (lookup (nat_eq d) es)) is)
+
+  -- one with no name in it takes no name along
+  pub named-left : named fs ≡ named es
+  named-left = named-same es fs (λ d name. name_left d name (nat_eq k d) refl)

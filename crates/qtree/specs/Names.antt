@@ -1,7 +1,9 @@
 -- The names in one directory, as a store keeps them.
-use Rattle.std.specs.Prelude.{ℕ, List, String, string_bytes}
+use Rattle.std.specs.Prelude.{◌≡◌, ℕ, List, String, string_bytes, if◌then◌else◌, None}
 use Rattle.std.specs.Ordering.{nat_cmp}
 use Rattle.std.specs.Cmp.Lexicographic.{slice_cmp}
+use Rattle.std.specs.BTreeMap.{is_at}
+use Rattle.std.specs.Map.{lookup}
 use Rattle.qrules.specs.declared.name_row.NameRow.{NameRow}
 use Rattle.qtree.specs.InOrder.{in_order, keyed_by}
 
@@ -13,6 +15,12 @@ pub record RoomyNames : Type 0 where
 -- a table's names by their bytes
 abbrev pub names_of : {A : Type 0} → List (String A × ℕ) → List (List ℕ × ℕ)
 names_of entries = in_order (slice_cmp nat_cmp) (keyed_by string_bytes entries)
+
+-- the new names are the old ones but for this one, which leads nowhere
+abbrev pub LosesName : List ℕ → List (List ℕ × ℕ) → List (List ℕ × ℕ) → Type 0
+LosesName name old new =
+    (n : List ℕ) → lookup (is_at (slice_cmp nat_cmp n)) new
+    ≡ (if is_at (slice_cmp nat_cmp name) n then None else lookup (is_at (slice_cmp nat_cmp n)) old)
 
 -- the row of a name in this directory
 abbrev pub row_in : ℕ → List ℕ × ℕ → NameRow

@@ -1,5 +1,5 @@
 -- All inodes and names, as a store keeps them, and what calls see of them.
-use Rattle.std.specs.Prelude.{◌≡◌, ℕ, ◌<◌, List, [], ◌∷◌, ◌++◌, length}
+use Rattle.std.specs.Prelude.{◌≡◌, ℕ, ◌<◌, true, List, [], ◌∷◌, ◌++◌, length, None}
 use Rattle.std.specs.Option.{unwrap_or}
 use Rattle.std.specs.Ordering.{nat_cmp}
 use Rattle.std.specs.Cmp.Lexicographic.{slice_cmp}
@@ -7,7 +7,7 @@ use Rattle.std.specs.BTreeMap.{is_at}
 use Rattle.std.specs.Map.{lookup}
 use Rattle.qrules.specs.declared.inode_row.InodeRow.{InodeRow}
 use Rattle.qrules.specs.declared.name_row.NameRow.{NameRow}
-use Rattle.qplain.specs.State.{Inode, NameKey}
+use Rattle.qplain.specs.State.{Inode, NameKey, is_dir, name_key_cmp}
 use Rattle.qtree.specs.declared.node.Node.{Node}
 pub use Rattle.qtree.specs.Room.{Room, file_room, name_room}
 use Rattle.qtree.specs.InOrder.{in_order, keyed_by, read_by}
@@ -52,6 +52,12 @@ pub record IsSameTree (old new : RoomyTree) : Type 0 where
 pub record HasRoomFor (tree : RoomyTree) (dir : ℕ) : Type 0 where
   pub inode : 0 < tree.room.inodes
   pub name : 0 < name_room tree.room dir
+
+-- no name stands in the inode of this number, if it is a directory
+abbrev pub HasNoNames : RoomyTree → ℕ → Type 0
+HasNoNames tree number =
+    is_dir (lookup (is_at (nat_cmp number)) tree.inodes) ≡ true
+    → (name : List ℕ) → lookup (is_at (name_key_cmp (number, name))) tree.names ≡ None
 
 -- the row of an inode under a number, with the link count that is kept for it
 abbrev pub kept_row : List (ℕ × ℕ) → ℕ × Inode → InodeRow

@@ -6,7 +6,7 @@ ghost use Rattle.std.specs.BTreeMap.{insert_entry, is_at};
 ghost use Rattle.std.specs.List.Sorted.{IsStrictlySortedBy};
 ghost use Rattle.std.specs.Map.{keys_of, lookup};
 ghost use Rattle.qtree.specs.InOrder.{keyed_by};
-ghost use Rattle.qtree.specs.Names.{names_of, row_in};
+ghost use Rattle.qtree.specs.Names.{LosesName, names_of, row_in};
 
 use crate::name_hasher::NameHasher;
 use qplain::NoMemory;
@@ -69,6 +69,13 @@ impl Names {
             Ok(_) => {}
             Err(_) => unreachable!(),
         }
+    }
+
+    /// Takes this name out, if it is there.
+    pub(crate) fn take(&mut self, name: &str)
+        ensures { LosesName name.now self.old.entries self.new.entries }
+    {
+        self.table.remove(name);
     }
 
     /// Appends a row for each of these names, which are in this directory, by their bytes.

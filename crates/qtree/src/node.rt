@@ -1,14 +1,14 @@
 //! One inode, as a store keeps it.
-ghost use Rattle.std.specs.Prelude.{◌≡◌, ◌+◌, ◌<◌, ◌≤◌, ◌^◌, ◌++◌, [], length, map, string_bytes, None, true, is_some, IfOk, IfSome, OnOk};
+ghost use Rattle.std.specs.Prelude.{◌≡◌, ◌+◌, ◌<◌, ◌≤◌, ◌^◌, ◌++◌, [], length, map, string_bytes, None, false, true, is_some, IfOk, IfSome, OnOk};
 ghost use Rattle.std.specs.Ordering.{nat_cmp};
 ghost use Rattle.std.specs.Cmp.Lexicographic.{slice_cmp};
 ghost use Rattle.std.specs.BTreeMap.{insert_entry, is_at};
 ghost use Rattle.std.specs.Map.{lookup};
-ghost use Rattle.qblocks.specs.File.{Adds, MoreBlocks, after_write};
+ghost use Rattle.qblocks.specs.File.{Adds, MoreBlocks, after_truncate, after_write};
 ghost use Rattle.qblocks.specs.WriteRoom.{IsReadyToPut};
 ghost use Rattle.qplain.specs.State.{new_file, root};
 ghost use Rattle.qtree.specs.InOrder.{in_order};
-ghost use Rattle.qtree.specs.Names.{row_in};
+ghost use Rattle.qtree.specs.Names.{LosesName, row_in};
 ghost use Rattle.qtree.specs.Nodes.{IsSameNode, inode_of, is_dir_content, name_room_in, names_in, node_row, roomy_file_in};
 
 use crate::names::Names;
@@ -49,7 +49,7 @@ impl Node {
     }
 
     /// An empty file of these owners, under one name. It takes no memory.
-    pub(crate) fn new_file(alloc: Global, uid: u32, gid: u32) -> Node
+    pub fn new_file(alloc: Global, uid: u32, gid: u32) -> Node
         ensures inode { inode_of result ≡ new_file uid gid }
         ensures links { result.links ≡ 1 }
         ensures names { names_in result.content ≡ [] }
@@ -87,6 +87,45 @@ impl Node {
         match &mut self.content {
             Content::Directory(names) => names.put(name, number),
             Content::File(_) => unreachable!(),
+        }
+    }
+
+    /// Takes this name out, if it is in this directory.
+    pub(crate) fn take_name(&mut self, name: &str)
+        ensures inode { inode_of self.new ≡ inode_of self.old }
+        ensures links { self.new.links ≡ self.old.links }
+        ensures names { LosesName name.now (names_in self.old.content) (names_in self.new.content) }
+    {
+        match &mut self.content {
+            Content::Directory(names) => names.take(name),
+            Content::File(_) => {}
+        }
+    }
+
+    /// Gives it to this user and this group.
+    pub(crate) fn set_owners(&mut self, uid: u32, gid: u32)
+        ensures inode { inode_of self.new ≡ record (inode_of self.old) { uid = uid; gid = gid } }
+        ensures links { self.new.links ≡ self.old.links }
+        ensures names { names_in self.new.content ≡ names_in self.old.content }
+    {
+        self.uid = uid;
+        self.gid = gid;
+    }
+
+    /// Sets the size of this file, and gives the number of blocks freed. It takes no memory and always
+    /// succeeds.
+    pub(crate) fn truncate(&mut self, size: u64) -> u64
+        requires file { is_dir_content self.old.content ≡ false }
+        requires bound { size ≤ MAX_SIZE }
+        ensures inode { inode_of self.new
+            ≡ record (inode_of self.old) { file = after_truncate (inode_of self.old).file size } }
+        ensures count { MoreBlocks (inode_of self.new).file (inode_of self.old).file result }
+        ensures links { self.new.links ≡ self.old.links }
+        ensures names { names_in self.new.content ≡ names_in self.old.content }
+    {
+        match &mut self.content {
+            Content::File(file) => file.truncate(size),
+            Content::Directory(_) => unreachable!(),
         }
     }
 

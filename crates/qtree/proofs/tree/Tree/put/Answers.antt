@@ -1,5 +1,5 @@
-use Rattle.std.proofs.Common.{◌≡◌, length, Some, None, Option, ap, subst, sym, ◌∙◌}
-use Rattle.std.specs.Map.{lookup, set_value}
+use Rattle.std.proofs.Common.{◌≡◌, length, None, Option, ap, subst, sym, ◌∙◌}
+use Rattle.std.specs.Map.{set_value}
 use Rattle.std.specs.Ordering.{nat_cmp}
 use Rattle.std.specs.BTreeMap.{is_at}
 use Rattle.std.specs.Option.{option_map, unwrap_or}
@@ -9,8 +9,8 @@ use Rattle.qblocks.specs.WriteRoom.{IsReadyToPut, RoomyFile}
 use Rattle.qplain.specs.State.{Inode}
 use Rattle.qtree.specs.Nodes.{inode_of, roomy_file_in}
 use Rattle.qtree.specs.Tree.{file_room}
-use Rattle.qtree.proofs.TreeChanges.{file_seen, inode_seen, named-kept, put-writes}
-use Rattle.qtree.proofs.Numbered.{IsPut, seen-kept, seen-set}
+use Rattle.qtree.proofs.Changed.{IsChanged, inode-changed, inodes-set, links-kept, names-kept}
+use Rattle.qtree.proofs.TreeChanges.{file_seen}
 use Rattle.qtree.proofs.tree.Tree.put.Goals as goal
 
 -- the file before the call
@@ -34,42 +34,27 @@ unreachable-requires c =
     cc
 
 -- the table after the call
-put_is : (c : goal.After-self-in-Some-1) → IsPut c.self.inside.nodes.entries (c.get_mut.follows.lender c.put.new.self).entries c.args.number c.put.new.self
-put_is c = put-writes c.self.inside.nodes (c.get_mut.follows.lender c.put.new.self) c.args.number
-    c.put.new.self c.in-Some.node.now c.in-Some.ensures.value (c.get_mut.follows.holds c.put.new.self)
-
--- the inode that a caller names is the one that was found
-same_inode : (c : goal.After-self-in-Some-1) (inode : Inode)
-    → lookup (is_at (nat_cmp c.args.number)) c.args.self.now.inodes ≡ Some inode
-    → inode_of c.in-Some.node.now ≡ inode
-same_inode c inode is =
-    let seen = inode_seen c.self.inside.nodes.entries _ c.args.self.now c.self.view_is c.args.number in
-    let both : Some (inode_of c.in-Some.node.now) ≡ Some inode = ap (option_map inode_of) c.in-Some.ensures.value ∙ sym seen ∙ is in
-    cc
+changed : (c : goal.After-self-in-Some-1)
+    → IsChanged c.args.self.now c.self.inside.nodes (c.get_mut.follows.lender c.put.new.self) c.args.number c.in-Some.node.now c.put.new.self
+changed c = record { seen = c.self.view_is; found = c.in-Some.ensures.value; writes = c.get_mut.follows.holds c.put.new.self }
 
 pub returns-clause-inodes : goal.returns-clause-inodes
 returns-clause-inodes c = λ inode is.
-    let after = c.get_mut.follows.lender c.put.new.self in
-    let w : Inode → Inode = λ i. record i { file = after_write i.file c.args.off c.args.bytes.now } in
-    seen-set inode_of c.self.inside.nodes.entries after.entries c.args.number c.in-Some.node.now c.put.new.self (sym c.in-Some.ensures.value) (put_is c)
-    ∙ ap (λ t. set_value (is_at (nat_cmp c.args.number)) t.inodes (inode_of c.put.new.self)) c.self.view_is
-    ∙ ap (set_value (is_at (nat_cmp c.args.number)) c.args.self.now.inodes) (c.put.ensures.inode ∙ ap w (same_inode c inode is))
+    let written : Inode → Inode = λ i. record i { file = after_write i.file c.args.off c.args.bytes.now } in
+    inodes-set (changed c) ∙ ap (set_value (is_at (nat_cmp c.args.number)) c.args.self.now.inodes) (c.put.ensures.inode ∙ ap written
+    (inode-changed (changed c) inode is))
 
 pub returns-clause-count : goal.returns-clause-count
 returns-clause-count c = λ inode is.
     let MoreFor : Inode → Type 0 = λ i. MoreBlocks i.file (after_write i.file c.args.off c.args.bytes.now) c.put.result in
     let More : Inode → Type 0 = λ i. MoreBlocks (inode_of c.in-Some.node.now).file i.file c.put.result in
-    subst MoreFor (same_inode c inode is) (subst More c.put.ensures.inode c.put.ensures.count)
+    subst MoreFor
+    (inode-changed (changed c) inode is) (subst More c.put.ensures.inode c.put.ensures.count)
 
 pub returns-clause-names : goal.returns-clause-names
 returns-clause-names c =
-    named-kept c.self.inside.nodes.entries (c.get_mut.follows.lender c.put.new.self).entries c.args.number
-    c.in-Some.node.now c.put.new.self (sym c.in-Some.ensures.value) (put_is c) c.put.ensures.names
-    ∙ ap (λ t. t.names) c.self.view_is
+    names-kept (changed c) c.put.ensures.names
 
 pub returns-clause-links : goal.returns-clause-links
 returns-clause-links c =
-    seen-kept (λ n. n.links) c.self.inside.nodes.entries (c.get_mut.follows.lender c.put.new.self).entries
-    c.args.number c.in-Some.node.now c.put.new.self (sym c.in-Some.ensures.value) c.put.ensures.links
-    (put_is c)
-    ∙ ap (λ t. t.links) c.self.view_is
+    links-kept (changed c) c.put.ensures.links

@@ -4,7 +4,7 @@ use Rattle.qtree.specs.InOrder.{read_by}
 use Rattle.qtree.proofs.Numbered.{numbered-put_all}
 use Rattle.qtree.proofs.PutAll.{put_all, put_step}
 use Rattle.qtree.proofs.Read.{read_by-insert}
-use Rattle.qtree.proofs.tree.by_number.Goals as goal
+use Rattle.qtree.proofs.tree.rows.by_number.Goals as goal
 
 pub loop-number-preserved : goal.loop-number-preserved
 loop-number-preserved c =

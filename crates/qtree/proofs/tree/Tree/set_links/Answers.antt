@@ -1,0 +1,29 @@
+use Rattle.std.proofs.Common.{◌≡◌, ap, refl, ◌∙◌}
+use Rattle.std.specs.HashMap.{spare}
+use Rattle.qtree.specs.declared.node.Node.{Node}
+use Rattle.qtree.specs.Tree.{tree_of}
+use Rattle.qtree.proofs.Changed.{HasNone, IsChanged, inodes-kept, links-absent, links-set, names-kept, seen_of}
+use Rattle.qtree.proofs.tree.Tree.set_links.Goals as goal
+use Rattle.qtree.proofs.tree.Tree.set_links.Goals.{in-Some, in-None}
+
+pub returns : goal.returns
+returns c = elim c.match-get_mut.branch [
+  | in-Some w ↦
+      let new : Node = record w.in-Some.node.now { links = c.args.links } in
+      let change : IsChanged c.args.self.now c.self.inside.nodes (c.get_mut.follows.lender new) c.args.number w.in-Some.node.now new =
+      record { seen = c.self.view_is; found = w.in-Some.ensures.value; writes = c.get_mut.follows.holds new } in
+      record {
+        inodes = ap (λ a. (seen_of a).inodes) w.self-inside-is ∙ inodes-kept change refl;
+        names = ap (λ a. (seen_of a).names) w.self-inside-is ∙ names-kept change refl;
+        links = ap (λ a. (seen_of a).links) w.self-inside-is ∙ links-set change;
+      }
+  | in-None w ↦
+      let same : seen_of c.match-get_mut.self-inside ≡ c.args.self.now =
+      ap seen_of w.self-inside-is ∙ ap (λ m. tree_of m.entries (spare m)) c.get_mut.follows.holds-at-none ∙ c.self.view_is in
+      let none : HasNone c.args.self.now c.self.inside.nodes c.args.number = record { seen = c.self.view_is; none = w.in-None.ensures.value } in
+      record {
+        inodes = ap (λ t. t.inodes) same;
+        names = ap (λ t. t.names) same;
+        links = ap (λ t. t.links) same ∙ links-absent none c.args.links;
+      }
+]
