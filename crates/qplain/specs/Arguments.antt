@@ -6,7 +6,7 @@ use Rattle.qrules.specs.declared.kind.Kind.TheVariants.{User, Group}
 use Rattle.qrules.specs.declared.graces.TheConstants.{MAX_MOMENT}
 use Rattle.qrules.specs.Range.{are_graces_in_range, are_limits_in_range}
 use Rattle.qplain.specs.declared.call.Call.{Call}
-use Rattle.qplain.specs.declared.call.Call.TheVariants.{Create, Write, Read, Stat, SetQuota, SetGrace, Quota}
+use Rattle.qplain.specs.declared.call.Call.TheVariants.{Create, Write, Truncate, Read, Stat, Unlink, Chown, SetQuota, SetGrace, Quota}
 use Rattle.qplain.specs.declared.refusal.Refusal.{Refusal}
 use Rattle.qplain.specs.declared.refusal.Refusal.TheVariants.{EINVAL, ENAMETOOLONG}
 use Rattle.qplain.specs.declared.bounds.TheConstants.{MAX_DATA}
@@ -37,21 +37,28 @@ is_known S cred = is_declared S User cred.uid && list_all (is_declared S Group) 
 abbrev pub paths_of : Call → List (List ℕ)
 paths_of (Create path) = path ∷ []
 paths_of (Write path off bytes) = path ∷ []
+paths_of (Truncate path size) = path ∷ []
 paths_of (Read path off len) = path ∷ []
 paths_of (Stat path) = path ∷ []
+paths_of (Unlink path) = path ∷ []
+paths_of (Chown path uid gid) = path ∷ []
 paths_of (SetQuota kind id limits) = []
 paths_of (SetGrace graces) = []
 paths_of (Quota kind id) = []
 
--- a number of the call is outside its range
+-- an id is named, and it is not declared
+abbrev pub is_undeclared : State → Kind → Option ℕ → Bool
+is_undeclared S kind None = false
+is_undeclared S kind (Some id) = not (is_declared S kind id)
+
+-- a number of the call is outside its range, or an owner that it names is not declared
 abbrev pub has_bad_number : State → Call → Bool
-has_bad_number S (Create path) = false
 has_bad_number S (Write path off bytes) = nat_lt MAX_DATA (length bytes)
 has_bad_number S (Read path off len) = nat_lt MAX_DATA len
-has_bad_number S (Stat path) = false
+has_bad_number S (Chown path uid gid) = is_undeclared S User uid || is_undeclared S Group gid
 has_bad_number S (SetQuota kind id limits) = not (are_limits_in_range limits)
 has_bad_number S (SetGrace graces) = not (are_graces_in_range graces)
-has_bad_number S (Quota kind id) = false
+has_bad_number S call = false
 
 -- the moment, the caller, a path or a number is none that a call may have
 abbrev pub is_invalid : State → Caller → ℕ → Call → Bool

@@ -11,11 +11,14 @@ pub mod Walk
 pub mod Decision
 pub mod Arguments
 pub mod Attempt
+pub mod Rights
+pub mod Files
+pub mod Names
+pub mod Owners
+pub mod Quotas
+pub mod Calls
 pub mod Step
 pub mod Journal
-pub mod Laws
-pub mod Rises
-pub mod Examples
 pub mod KeptCred
 pub mod KeptData
 pub mod KeptSetup

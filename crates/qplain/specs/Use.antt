@@ -1,10 +1,11 @@
 -- What is counted, each time afresh over all inodes and names (quotacheck(8)).
-use Rattle.std.specs.Prelude.{ℕ, ◌+◌, Bool, true, false, ◌&&◌, ◌==◌, if◌then◌else◌, length, sum_by, count_by}
+use Rattle.std.specs.Prelude.{ℕ, ◌+◌, Bool, true, false, ◌&&◌, ◌||◌, ◌==◌, nat_lt, if◌then◌else◌, length, sum_by, count_by}
 use Rattle.std.specs.Map.{values_of}
 use Rattle.qrules.specs.declared.kind.Kind.{Kind}
 use Rattle.qrules.specs.declared.kind.Kind.TheVariants.{User, Group}
 use Rattle.qrules.specs.Sort.{Sort, Inodes, Blocks}
 use Rattle.qrules.specs.Account.{Account}
+use Rattle.qplain.specs.declared.bounds.TheConstants.{ROOT}
 use Rattle.qplain.specs.State.{Holder, Inode, State, is_directory}
 
 -- what an inode takes of each sort: one inode, and its allocated blocks
@@ -32,6 +33,10 @@ total_of S sort = sum_by (weight sort) (values_of S.inodes)
 -- how many names lead to the inode of this number
 abbrev pub names_to : State → ℕ → ℕ
 names_to S number = count_by (λ e. e.1 == number) S.names
+
+-- the inode of this number is the root, or some name leads to it
+abbrev pub has_name : State → ℕ → Bool
+has_name S number = number == ROOT || nat_lt 0 (names_to S number)
 
 -- the links of an inode, told whether it is a directory: of a file its names, of a directory 2 and the names in it that
 -- lead to directories (profile)

@@ -8,19 +8,59 @@ use qrules::{Graces, Kind, Limits};
 #[derive(Debug, PartialEq, Eq, Drop)]
 pub enum Call {
     /// Makes an empty file.
-    Create { path: Path },
+    Create {
+        path: Path,
+    },
     /// Writes the bytes at the offset, all of them or none.
-    Write { path: Path, off: u64, bytes: Data },
+    Write {
+        path: Path,
+        off: u64,
+        bytes: Data,
+    },
+    /// Sets a file's size, in bytes, at most the file limit. Below the old size the blocks at and past the new one are
+    /// freed; above it the file grows by a hole, which takes none. EISDIR comes before EACCES, and that before EFBIG
+    /// (truncate(2)).
+    Truncate {
+        path: Path,
+        size: u64,
+    },
     /// Reads up to `len` bytes from the offset on.
-    Read { path: Path, off: u64, len: u64 },
+    Read {
+        path: Path,
+        off: u64,
+        len: u64,
+    },
     /// Asks for an inode's numbers.
-    Stat { path: Path },
+    Stat {
+        path: Path,
+    },
+    /// Takes a file's name away, and with its last name the file and all that it takes. ENOENT comes before EISDIR, which
+    /// the root is too, and that before EPERM (unlink(2)).
+    Unlink {
+        path: Path,
+    },
+    /// Gives an inode another user or group, or both; what is None stays. An id that is not declared is EINVAL, before
+    /// the path is looked up, and EPERM comes before EDQUOT (chown(2)).
+    Chown {
+        path: Path,
+        uid: Option<u32>,
+        gid: Option<u32>,
+    },
     /// Sets the limits of a user or group, and computes its grace ends anew.
-    SetQuota { kind: Kind, id: u32, limits: Limits },
+    SetQuota {
+        kind: Kind,
+        id: u32,
+        limits: Limits,
+    },
     /// Sets the graces, in seconds. No end that stands moves.
-    SetGrace { graces: Graces },
+    SetGrace {
+        graces: Graces,
+    },
     /// Asks for a quota record.
-    Quota { kind: Kind, id: u32 },
+    Quota {
+        kind: Kind,
+        id: u32,
+    },
 }
 
 impl Call {
@@ -35,12 +75,22 @@ impl Call {
                 off: *off,
                 bytes: bytes.copy()?,
             }),
+            Call::Truncate { path, size } => Ok(Call::Truncate {
+                path: path.copy()?,
+                size: *size,
+            }),
             Call::Read { path, off, len } => Ok(Call::Read {
                 path: path.copy()?,
                 off: *off,
                 len: *len,
             }),
             Call::Stat { path } => Ok(Call::Stat { path: path.copy()? }),
+            Call::Unlink { path } => Ok(Call::Unlink { path: path.copy()? }),
+            Call::Chown { path, uid, gid } => Ok(Call::Chown {
+                path: path.copy()?,
+                uid: *uid,
+                gid: *gid,
+            }),
             Call::SetQuota { kind, id, limits } => Ok(Call::SetQuota {
                 kind: *kind,
                 id: *id,

@@ -9,11 +9,6 @@ pub use change::{Change, NO_CHANGE, ONE_INODE};
 pub use cred::{Cred, MAX_MORE_GROUPS};
 pub use data::Data;
 pub use entry::Entry;
-pub use examples::worked_examples;
-pub use laws::{
-    ends_stay, holders_keep_the_rules, limits_hold, numbers_go_on, refusals_change_nothing,
-    rights_hold, setups_stay, stores_stay_lawful, uses_add_up,
-};
 pub use line::Line;
 pub use path::Path;
 pub use principal::{MAX_PRINCIPALS, Principal, is_principal_name};
@@ -36,8 +31,6 @@ mod change;
 mod cred;
 mod data;
 mod entry;
-mod examples;
-mod laws;
 mod line;
 mod path;
 mod principal;

@@ -7,7 +7,7 @@ use Rattle.qplain.specs.declared.reply.Reply.{Reply}
 use Rattle.qplain.specs.State.{State, start}
 use Rattle.qplain.specs.Journal.{IsLegal, play, played}
 use Rattle.qplain.specs.Step.{step}
-use Rattle.qplain.proofs.Playing.{legal-one_more, play-one_more}
+use Rattle.qlaws.proofs.Playing.{legal-one_more, play-one_more}
 use Rattle.qstore.specs.declared.ready.Ready.{Ready}
 use Rattle.qstore.specs.Ready.{committed}
 use Rattle.qrun.specs.declared.journaled_store.TheConstants.{MAX_ENTRIES}

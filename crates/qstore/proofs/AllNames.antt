@@ -13,7 +13,7 @@ use Rattle.std.specs.Map.{keys_of, lookup}
 use Rattle.std.specs.Option.{IfSome, option_copied}
 use Rattle.std.proofs.lemmas.Map.Lookups.{exact_pairs, exact_unsigned, exact_bytes}
 use Rattle.qplain.specs.State.{NameKey, name_key_cmp}
-use Rattle.qplain.proofs.Tables.{name_key_total}
+use Rattle.qlaws.proofs.Tables.{name_key_total}
 use Rattle.qstore.specs.declared.node.Node.{Node}
 use Rattle.qstore.specs.InOrder.{in_order}
 use Rattle.qstore.specs.Nodes.{names_in}

@@ -17,7 +17,7 @@ use Rattle.qplain.specs.Principals.{has_duplicate, has_zero}
 use Rattle.qplain.specs.Setups.{IsLawfulSetup, Setting, is_in_range}
 use Rattle.qplain.specs.State.{Inode, NameKey, State, root, start}
 use Rattle.qplain.specs.Use.{links_of}
-use Rattle.qplain.proofs.Start.{start_is_lawful}
+use Rattle.qlaws.proofs.Start.{start_is_lawful}
 use Rattle.qstore.specs.declared.kept_holder.KeptHolder.{KeptHolder}
 use Rattle.qstore.specs.Kept.{IsCounted}
 use Rattle.qstore.specs.KeptHolders.{charged_holder, holders_in, new_holder}

@@ -4,7 +4,7 @@ use Rattle.qrules.specs.declared.kind.Kind.{Kind}
 use Rattle.qrules.specs.Sort.{Inodes, Blocks}
 use Rattle.qplain.specs.State.{Inode, State}
 use Rattle.qplain.specs.Use.{owner, total_of}
-use Rattle.qplain.specs.Rises.{Rises}
+use Rattle.qlaws.specs.Rises.{Rises}
 use Rattle.qstore.specs.declared.kept_holder.KeptHolder.{KeptHolder}
 use Rattle.qstore.specs.declared.ledger.TheConstants.{MAX_COUNT}
 use Rattle.qstore.specs.KeptHolders.{IsCountedIn, IsSlotOf}

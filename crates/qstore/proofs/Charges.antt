@@ -9,7 +9,7 @@ use Rattle.qrules.specs.Grace.{charged, end_after}
 use Rattle.qplain.specs.State.{Holder, Inode, State}
 use Rattle.qplain.specs.Use.{account_of, owner, use_of}
 use Rattle.qplain.specs.Decision.{ends_after, with_ends_of}
-use Rattle.qplain.specs.Rises.{Rises}
+use Rattle.qlaws.specs.Rises.{Rises}
 use Rattle.qstore.specs.declared.kept_holder.KeptHolder.{KeptHolder}
 use Rattle.qstore.specs.KeptHolders.{IsCountedIn, charged_holder, holder_in}
 use Rattle.qstore.proofs.Counted.{counted-same}

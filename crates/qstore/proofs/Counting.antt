@@ -7,8 +7,8 @@ use Rattle.qrules.specs.Sort.{Inodes, Blocks}
 use Rattle.qrules.specs.Range.{are_graces_in_range}
 use Rattle.qplain.specs.State.{Inode, State, inode_at}
 use Rattle.qplain.specs.Decision.{ends_after, with_ends_of}
-use Rattle.qplain.specs.Rises.{Rises}
-use Rattle.qplain.proofs.Linking.{links_of-ends_after}
+use Rattle.qlaws.specs.Rises.{Rises}
+use Rattle.qlaws.proofs.Linking.{links_of-ends_after}
 use Rattle.qstore.specs.declared.kept_holder.KeptHolder.{KeptHolder}
 use Rattle.qstore.specs.Kept.{AreLinks, IsCounted}
 use Rattle.qstore.specs.KeptHolders.{charged_holder, holders_in}

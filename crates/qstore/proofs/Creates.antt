@@ -8,8 +8,8 @@ use Rattle.qplain.specs.State.{Inode, NameKey, State, inode_at, name_key_cmp, ne
 use Rattle.qplain.specs.Use.{total_of}
 use Rattle.qplain.specs.Decision.{ends_after}
 use Rattle.qplain.specs.Attempt.{created}
-use Rattle.qplain.specs.Rises.{Rises}
-use Rattle.qplain.proofs.Rising.{Rises-created, absent-next}
+use Rattle.qlaws.specs.Rises.{Rises}
+use Rattle.qlaws.proofs.Rising.{Rises-created, absent-next}
 use Rattle.qstore.specs.declared.kept_holder.KeptHolder.{KeptHolder}
 use Rattle.qstore.specs.declared.slots.Slots.{Slots}
 use Rattle.qstore.specs.declared.store.Store.TheInside.{Inside}

@@ -6,7 +6,7 @@ use Rattle.qrules.specs.declared.limits.Limits.{Limits}
 use Rattle.qrules.specs.Sort.{Inodes, Blocks, grace_of}
 use Rattle.qrules.specs.Account.{Account, HasEnds, is_over_soft}
 use Rattle.qrules.specs.Grace.{end_after, with_ends}
-use Rattle.qplain.proofs.Ends.{next_end-same, next_end-stands}
+use Rattle.qlaws.proofs.Ends.{next_end-same, next_end-stands}
 use Rattle.qstore.specs.declared.kept_holder.KeptHolder.{KeptHolder}
 use Rattle.qstore.specs.KeptHolders.{charged_holder, relimited_kept}
 

@@ -9,7 +9,7 @@ use Rattle.qplain.specs.State.{State}
 use Rattle.qplain.specs.Decision.{refusal_between}
 use Rattle.qplain.specs.Attempt.{Becomes}
 use Rattle.qplain.specs.Step.{change_between, settle}
-use Rattle.qplain.proofs.Rising.{settle-granted}
+use Rattle.qlaws.proofs.Rising.{settle-granted}
 use Rattle.qstore.specs.Ready.{IsRefused}
 
 -- what is done is no refusal

@@ -9,10 +9,10 @@ use Rattle.qblocks.specs.File.{File}
 use Rattle.qplain.specs.State.{Inode, State, inode_at, named, new_file}
 use Rattle.qplain.specs.Use.{links_of}
 use Rattle.qplain.specs.Attempt.{created, with_file}
-use Rattle.qplain.specs.Laws.{IsLawful}
-use Rattle.qplain.proofs.Tables.{lookup-insert_new, same-number}
-use Rattle.qplain.proofs.Rising.{absent-next}
-use Rattle.qplain.proofs.Linking.{inode_at-created, inode_at-with_file, links_of-created-others, links_of-new_file, links_of-with_file}
+use Rattle.qlaws.specs.Laws.{IsLawful}
+use Rattle.qlaws.proofs.Tables.{lookup-insert_new, same-number}
+use Rattle.qlaws.proofs.Rising.{absent-next}
+use Rattle.qlaws.proofs.Linking.{inode_at-created, inode_at-with_file, links_of-created-others, links_of-new_file, links_of-with_file}
 use Rattle.qstore.specs.Kept.{AreLinks}
 
 -- where an inode is not there, no links are kept

@@ -12,7 +12,7 @@ use Rattle.qrules.specs.Charge.{charge_fault, fault_of, first_fault}
 use Rattle.qplain.specs.State.{Holder, Inode, State}
 use Rattle.qplain.specs.Use.{owner}
 use Rattle.qplain.specs.Decision.{fault_of_holder, first_refusal}
-use Rattle.qplain.specs.Rises.{Rises}
+use Rattle.qlaws.specs.Rises.{Rises}
 use Rattle.qplain.specs.declared.refusal.Refusal.{Refusal}
 use Rattle.qplain.specs.declared.refusal.Refusal.TheVariants.{EDQUOT}
 use Rattle.qstore.specs.declared.kept_holder.KeptHolder.{KeptHolder}

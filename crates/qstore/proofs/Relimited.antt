@@ -7,7 +7,7 @@ use Rattle.qrules.specs.declared.limits.Limits.{Limits}
 use Rattle.qplain.specs.State.{State, inode_at}
 use Rattle.qplain.specs.Attempt.{with_limits_of}
 use Rattle.qplain.specs.Decision.{ends_after, with_ends_of}
-use Rattle.qplain.proofs.Linking.{links_of-with_limits_of}
+use Rattle.qlaws.proofs.Linking.{links_of-with_limits_of}
 use Rattle.qstore.specs.declared.kept_holder.KeptHolder.{KeptHolder}
 use Rattle.qstore.specs.declared.store.Store.TheInside.{Inside}
 use Rattle.qstore.specs.Kept.{IsCounted, ids_in, state_of, stored_of}

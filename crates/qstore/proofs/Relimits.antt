@@ -12,8 +12,8 @@ use Rattle.qplain.specs.Use.{account_of}
 use Rattle.qplain.specs.Arguments.{is_holder, is_same_kind}
 use Rattle.qplain.specs.Decision.{ends_after, with_ends_of}
 use Rattle.qplain.specs.Attempt.{relimited, with_limits_of}
-use Rattle.qplain.proofs.Ends.{holders-same, with_ends_of-same}
-use Rattle.qplain.proofs.Start.{same_kind-refl}
+use Rattle.qlaws.proofs.Ends.{holders-same, with_ends_of-same}
+use Rattle.qlaws.proofs.Start.{same_kind-refl}
 use Rattle.qstore.specs.declared.kept_holder.KeptHolder.{KeptHolder}
 use Rattle.qstore.specs.KeptHolders.{IsCountedIn, holder_in, relimited_kept}
 use Rattle.qstore.proofs.Counted.{account_of-counted, counted-same, ends-in-counted}

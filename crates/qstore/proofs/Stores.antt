@@ -9,15 +9,15 @@ use Rattle.qrules.specs.declared.kind.Kind.TheVariants.{User, Group}
 use Rattle.qrules.specs.Charge.{charge_fault}
 use Rattle.qplain.specs.declared.refusal.Refusal.TheVariants.{EDQUOT}
 use Rattle.qplain.specs.Decision.{fault_of_holder, first_refusal}
-use Rattle.qplain.specs.Rises.{Rises}
+use Rattle.qlaws.specs.Rises.{Rises}
 use Rattle.qrules.specs.Sort.{Inodes, Blocks}
 use Rattle.qplain.specs.declared.refusal.Refusal.{Refusal}
-use Rattle.qplain.specs.Laws.{IsLawful}
+use Rattle.qlaws.specs.Laws.{IsLawful}
 use Rattle.qstore.specs.declared.kept_holder.KeptHolder.{KeptHolder}
 use Rattle.qplain.specs.State.{Inode, State}
 use Rattle.qplain.specs.Arguments.{is_holder}
 use Rattle.qstore.specs.KeptHolders.{AreById, IsCountedIn, IsHolderAt, IsSlotOf, holder_in, holders_in, kept_of}
-use Rattle.qplain.proofs.Rising.{use-le-total}
+use Rattle.qlaws.proofs.Rising.{use-le-total}
 use Rattle.qstore.proofs.ById.{slot-below}
 use Rattle.qstore.proofs.Holders.{find-no-kept, find-kept}
 use Rattle.qstore.proofs.Refusals.{first_refusal-append, first_refusal-charged}

@@ -16,9 +16,9 @@ use Rattle.qplain.specs.State.{Holder, Inode, State, start}
 use Rattle.qplain.specs.Use.{account_of, owner, total_of}
 use Rattle.qplain.specs.Decision.{fault_of_holder, first_refusal, with_ends_of}
 use Rattle.qplain.specs.Attempt.{with_limits_of}
-use Rattle.qplain.specs.Rises.{Rises}
+use Rattle.qlaws.specs.Rises.{Rises}
 use Rattle.qplain.specs.declared.refusal.Refusal.TheVariants.{EDQUOT}
-use Rattle.qplain.proofs.Rising.{use-le-total}
+use Rattle.qlaws.proofs.Rising.{use-le-total}
 use Rattle.qstore.specs.declared.kept_holder.KeptHolder.{KeptHolder}
 use Rattle.qstore.specs.Rows.{record_row_of}
 use Rattle.qstore.specs.KeptHolders.{AreById, IsCountedIn, IsSlotOf, charged_holder, holder_in, holders_in, new_holder, holder_row, relimited_kept}

@@ -13,8 +13,8 @@ use Rattle.qplain.specs.State.{Inode, NameKey, State, inode_at}
 use Rattle.qplain.specs.Use.{total_of, weight}
 use Rattle.qplain.specs.Decision.{ends_after}
 use Rattle.qplain.specs.Attempt.{with_file}
-use Rattle.qplain.specs.Rises.{Rises}
-use Rattle.qplain.proofs.Rising.{Rises-with_file}
+use Rattle.qlaws.specs.Rises.{Rises}
+use Rattle.qlaws.proofs.Rising.{Rises-with_file}
 use Rattle.qstore.specs.declared.kept_holder.KeptHolder.{KeptHolder}
 use Rattle.qstore.specs.declared.slots.Slots.{Slots}
 use Rattle.qstore.specs.declared.store.Store.TheInside.{Inside}

@@ -6,7 +6,7 @@ use Rattle.qrules.specs.declared.kind.Kind.{Kind}
 use Rattle.qrules.specs.declared.kind.Kind.TheVariants.{User, Group}
 use Rattle.qblocks.specs.declared.file.TheConstants.{MAX_SIZE}
 use Rattle.qplain.specs.State.{State}
-use Rattle.qplain.specs.Laws.{IsLawful}
+use Rattle.qlaws.specs.Laws.{IsLawful}
 use Rattle.qstore.specs.Room.{Room}
 use Rattle.qstore.specs.declared.slots.Slots.{Slots}
 

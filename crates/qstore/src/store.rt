@@ -5,7 +5,7 @@ ghost use Rattle.qrules.specs.Sort.{Blocks, Inodes};
 ghost use Rattle.qplain.specs.State.{State, start};
 ghost use Rattle.qplain.specs.Use.{total_of};
 ghost use Rattle.qplain.specs.Caller.{is_superuser};
-ghost use Rattle.qplain.specs.Laws.{IsLawful, PassesNoLimit};
+ghost use Rattle.qlaws.specs.Laws.{IsLawful, PassesNoLimit};
 ghost use Rattle.qplain.specs.Step.{step};
 ghost use Rattle.qstore.specs.Stored.{IsSound, Stored};
 ghost use Rattle.qstore.specs.Ready.{CanCarryOut, IsReady, IsRefused, bytes_of, effect, committed, wants_no_memory};

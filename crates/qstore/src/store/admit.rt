@@ -4,7 +4,7 @@ ghost use Rattle.qrules.specs.Sort.{Blocks, Inodes};
 ghost use Rattle.qplain.specs.State.{State, Inode};
 ghost use Rattle.qplain.specs.Use.{total_of};
 ghost use Rattle.qplain.specs.Decision.{fault_of_holder, first_refusal, refusal_between};
-ghost use Rattle.qplain.specs.Rises.{Rises};
+ghost use Rattle.qlaws.specs.Rises.{Rises};
 ghost use Rattle.qstore.specs.Stored.{HasSlots, IsSound};
 
 use crate::slots::Slots;

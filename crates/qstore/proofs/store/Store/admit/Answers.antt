@@ -1,7 +1,7 @@
 use Rattle.std.proofs.Common.{◌≡◌, ◌==◌, false, cond, Some, None, sym, ◌∙◌, tests, arith}
 use Rattle.qplain.specs.declared.refusal.Refusal.TheVariants.{ENOSPC}
 use Rattle.qplain.specs.Decision.{fault_of_holder, first_refusal, is_too_full}
-use Rattle.qplain.proofs.Rising.{is_too_full-rises}
+use Rattle.qlaws.proofs.Rising.{is_too_full-rises}
 use Rattle.qstore.proofs.store.Store.admit.Goals as goal
 
 pub returns-clause-refusal : goal.returns-clause-refusal

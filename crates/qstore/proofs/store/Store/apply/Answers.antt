@@ -1,8 +1,8 @@
 use Rattle.std.proofs.Common.{All, sym, subst, ap, ◌∙◌}
 use Rattle.qplain.specs.declared.reply.Reply.{Reply}
 use Rattle.qplain.specs.State.{State}
-use Rattle.qplain.specs.Laws.{PassesNoLimit}
-use Rattle.qplain.proofs.Within.{limits_hold}
+use Rattle.qlaws.specs.Laws.{PassesNoLimit}
+use Rattle.qlaws.proofs.Within.{limits_hold}
 use Rattle.qstore.specs.Ready.{bytes_of, effect}
 use Rattle.qstore.specs.Stored.{IsSound}
 use Rattle.qstore.proofs.Steps.{IsSound-from_step}

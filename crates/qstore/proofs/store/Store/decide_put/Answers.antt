@@ -10,11 +10,11 @@ use Rattle.qplain.specs.Use.{total_of}
 use Rattle.qplain.specs.Decision.{ends_after}
 use Rattle.qplain.specs.Attempt.{with_file}
 use Rattle.qplain.specs.Step.{settle}
-use Rattle.qplain.proofs.Rising.{Rises-with_file, change_between-rises, settle-granted, settle-refused}
+use Rattle.qlaws.proofs.Rising.{Rises-with_file, change_between-rises, settle-granted, settle-refused}
 use Rattle.qstore.specs.Ready.{IsRefused, effect, written_at}
 use Rattle.qstore.specs.Room.{file_room}
 use Rattle.qstore.specs.Stored.{HasSlots, Stored}
-use Rattle.qplain.proofs.Fitting.{known-owners}
+use Rattle.qlaws.proofs.Fitting.{known-owners}
 use Rattle.qstore.proofs.Granted.{granted-unrefused}
 use Rattle.qstore.proofs.WriteTests.{more-of-adds}
 use Rattle.qstore.proofs.Writes.{slots-along, write-ready}

@@ -3,7 +3,7 @@ use Rattle.qplain.specs.declared.refusal.Refusal.TheVariants.{EPERM, ESRCH}
 use Rattle.qplain.specs.Arguments.{is_declared}
 use Rattle.qplain.specs.Attempt.{Becomes, Refuse, with_limits_of}
 use Rattle.qplain.specs.Step.{settle}
-use Rattle.qplain.proofs.Rising.{settle-with_limits_of}
+use Rattle.qlaws.proofs.Rising.{settle-with_limits_of}
 use Rattle.qstore.proofs.store.Store.decide_set_quota.Goals as goal
 
 pub returns-in-Some-clause-step : goal.returns-in-Some-clause-step

@@ -2,7 +2,7 @@ use Rattle.std.proofs.Common.{◌≡◌, Some, option_map, sym, ap, subst, ◌�
 use Rattle.qrules.specs.declared.kind.Kind.TheVariants.{User, Group}
 use Rattle.qrules.specs.Charge.{charge_fault}
 use Rattle.qplain.specs.Decision.{fault_of_holder, first_refusal}
-use Rattle.qplain.specs.Rises.{Rises}
+use Rattle.qlaws.specs.Rises.{Rises}
 use Rattle.qplain.specs.declared.refusal.Refusal.TheVariants.{EDQUOT}
 use Rattle.qstore.specs.Kept.{state_of}
 use Rattle.qstore.specs.Stored.{Stored}

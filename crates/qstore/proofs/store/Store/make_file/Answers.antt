@@ -3,9 +3,9 @@ use Rattle.qplain.specs.declared.reply.Reply.TheVariants.{Done}
 use Rattle.qplain.specs.State.{State, new_file}
 use Rattle.qplain.specs.Decision.{ends_after}
 use Rattle.qplain.specs.Attempt.{created}
-use Rattle.qplain.specs.Laws.{IsLawful}
-use Rattle.qplain.specs.Rises.{Rises}
-use Rattle.qplain.proofs.Rising.{Rises-created, absent-next, change_between-rises, settle-granted, settle-refused}
+use Rattle.qlaws.specs.Laws.{IsLawful}
+use Rattle.qlaws.specs.Rises.{Rises}
+use Rattle.qlaws.proofs.Rising.{Rises-created, absent-next, change_between-rises, settle-granted, settle-refused}
 use Rattle.qstore.specs.Ready.{effect}
 use Rattle.qstore.specs.Stored.{Stored}
 use Rattle.qstore.proofs.Granted.{granted-unrefused}

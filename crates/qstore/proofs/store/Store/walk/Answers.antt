@@ -1,5 +1,5 @@
 use Rattle.std.proofs.Common.{rules, option_map}
-use Rattle.qplain.proofs.Walking.{walk-fault}
+use Rattle.qlaws.proofs.Walking.{walk-fault}
 use Rattle.qstore.specs.Paths.{parts_in}
 use Rattle.qstore.proofs.store.Store.walk.Goals as goal
 

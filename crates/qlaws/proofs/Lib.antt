@@ -1,0 +1,21 @@
+-- What the proofs of more than one file share: of the laws, then what stores and journals cite of the plain machine.
+pub mod Numbering
+pub mod Refused
+pub mod Within
+pub mod Balance
+pub mod Becoming
+pub mod Tables
+pub mod Orders
+pub mod Sound
+pub mod Fitting
+pub mod Lawful
+pub mod Start
+pub mod Ends
+pub mod Kept
+pub mod Settling
+pub mod Rights
+pub mod Rising
+pub mod Replacing
+pub mod Linking
+pub mod Walking
+pub mod Playing

@@ -1,0 +1,58 @@
+-- Numbers go on: none is given again.
+use Rattle.std.proofs.Common.{◌≡◌, ℕ, ◌==◌, Bool, true, false, cond, ◌||◌, List, [], ◌∷◌, All, is_some, Option, Some, refl, arith, tests}
+use Rattle.std.specs.Ordering.{nat_cmp}
+use Rattle.std.specs.BTreeMap.{is_at}
+use Rattle.std.specs.Map.{lookup}
+use Rattle.std.proofs.lemmas.List.Elements.{All-cons, All-nil}
+use Rattle.qblocks.specs.File.{after_write}
+use Rattle.qplain.specs.Caller.{Caller}
+use Rattle.qplain.specs.State.{Inode, State, inode_at, new_file}
+use Rattle.qlaws.specs.Laws.{FitsTogether, GoesOn, NumbersGoOn}
+use Rattle.qlaws.proofs.Becoming.{HoldsOfResults, step-becomes}
+use Rattle.qlaws.proofs.Fitting.{or_right}
+use Rattle.qlaws.proofs.Tables.{All-insert_new, All-keys-set_value, absent-fresh, at-itself}
+
+-- the number stood in the old state, or was next
+abbrev stood : State → ℕ → Bool
+stood S n = is_some (inode_at S n) || n == S.next
+
+-- what stands behind one entry is found, or that entry is
+found-behind : (b : Bool) (inode : Inode) (rest : Option Inode) → is_some rest ≡ true → is_some (cond b (Some inode) rest) ≡ true
+found-behind true inode rest found = refl
+found-behind false inode rest found = found
+
+-- each entry's number is found
+found-each : (es : List (ℕ × Inode)) → All (λ e. is_some (lookup (is_at (nat_cmp e.0)) es) ≡ true) es
+found-each [] = All-nil (λ (e : ℕ × Inode). is_some {T = Inode} (lookup (is_at (nat_cmp e.0)) []) ≡ true)
+found-each (e ∷ es) =
+    All-cons (λ (x : ℕ × Inode). is_some (lookup (is_at (nat_cmp x.0)) (e ∷ es)) ≡ true) e es (rw (at-itself e.0) refl)
+    (λ k d below. found-behind _ e.1 _ (found-each es k d below))
+
+all-stood : (S : State) → All (λ e. stood S e.0 ≡ true) S.inodes
+all-stood S = λ k d below. rw (found-each S.inodes k d below) refl
+
+-- what is left of the inodes, and the same next number, go on
+kept : (S : State) → GoesOn S S
+kept S = record { next = omega arith; numbers = all-stood S }
+
+results_go_on : (S : State) (cred : Caller) → FitsTogether S → HoldsOfResults (GoesOn S) S cred
+results_go_on S cred fits = record {
+  created = λ dir name known stands absent. record {
+    next = omega arith;
+    numbers = All-insert_new (λ e. stood S e.0 ≡ true) nat_cmp S.inodes S.next (new_file cred.uid cred.gid)
+        (absent-fresh S.inodes S.next fits.inodes.fresh) (all-stood S)
+        (or_right (is_some (inode_at S S.next)) (S.next == S.next) (grind (arith, tests)));
+  };
+  written = λ number inode off bytes there is_file may. record {
+    next = omega arith;
+    numbers = All-keys-set_value (λ n. stood S n ≡ true) (is_at (nat_cmp number)) S.inodes (record inode { file = after_write inode.file off bytes })
+        (all-stood S);
+  };
+  limited = λ kind id limits may. record { next = omega arith; numbers = all-stood S };
+  graced = λ graces may. record { next = omega arith; numbers = all-stood S };
+}
+
+pub numbers_go_on : NumbersGoOn
+numbers_go_on S cred moment call lawful =
+    step-becomes (GoesOn S) S cred (results_go_on S cred lawful.parts) (GoesOn S) moment call (kept S)
+    (λ new goes granted. record { next = goes.next; numbers = goes.numbers })

@@ -1,0 +1,186 @@
+-- What holds of new stores, of lawful states and of every step, whatever is called: the laws above the definitions.
+use Rattle.std.specs.Prelude.{◌≡◌, ℕ, ◌+◌, ◌≤◌, Bool, true, false, not, ◌&&◌, ◌||◌, ◌==◌, nat_le, nat_lt, if◌then◌else◌, is_some, List, filter, map, sum_by, All, Option, Some, None}
+use Rattle.std.specs.Map.{keys_of, values_of}
+use Rattle.std.specs.Ordering.{nat_cmp}
+use Rattle.std.specs.List.Sorted.{IsStrictlySortedBy}
+use Rattle.qrules.specs.declared.kind.Kind.{Kind}
+use Rattle.qrules.specs.declared.kind.Kind.TheVariants.{User, Group}
+use Rattle.qrules.specs.Sort.{Sort, Inodes, Blocks, amount_of, hard_limit, soft_limit, is_over}
+use Rattle.qrules.specs.Account.{Account, HasEnds, count_in, end_in}
+use Rattle.qrules.specs.Charge.{has_ended}
+use Rattle.qrules.specs.Grace.{with_ends, with_limits}
+use Rattle.qrules.specs.declared.limits.Limits.{Limits}
+use Rattle.qblocks.specs.File.{empty_file}
+use Rattle.qplain.specs.declared.call.Call.{Call}
+use Rattle.qplain.specs.declared.refusal.Refusal.{Refusal}
+use Rattle.qplain.specs.declared.reply.Reply.TheVariants.{Refused}
+use Rattle.qplain.specs.declared.bounds.TheConstants.{MAX_NUMBER, ROOT}
+use Rattle.qplain.specs.Caller.{Caller, is_superuser}
+use Rattle.qplain.specs.Setups.{IsLawfulSetup, Setting}
+use Rattle.qplain.specs.State.{Holder, Inode, NameKey, State, holder_cmp, inode_at, is_directory, name_key_cmp, named, start}
+use Rattle.qplain.specs.Use.{account_of, names_to, total_of, use_of}
+use Rattle.qplain.specs.Arguments.{is_declared, is_same_kind}
+use Rattle.qplain.specs.Decision.{ends_after, with_ends_of}
+use Rattle.qplain.specs.Quotas.{relimited}
+use Rattle.qplain.specs.Step.{step}
+
+-- the inode belongs to a declared user and to a declared group
+abbrev pub has_known_owners : State → Inode → Bool
+has_known_owners S inode = is_declared S User inode.uid && is_declared S Group inode.gid
+
+-- the name stands in a directory and leads to an inode
+abbrev pub leads : State → NameKey × ℕ → Bool
+leads S e = is_directory S e.0.0 && is_some (inode_at S e.1)
+
+-- the inode has as many names as it may: the root none, any other directory one, a file one or more
+abbrev pub has_right_names : State → ℕ × Inode → Bool
+has_right_names S e =
+    if e.0 == ROOT then names_to S e.0 == 0
+    else if e.1.dir then names_to S e.0 == 1
+    else nat_lt 0 (names_to S e.0)
+
+-- what an inode is by itself: a directory holds no bytes and no block, and a file's allocated indexes stand once and in
+-- order
+pub record IsSound (inode : Inode) : Type 0 where
+  pub holds_nothing : inode.dir ≡ true → inode.file ≡ empty_file
+  pub in_order : IsStrictlySortedBy nat_cmp inode.file.allocated
+
+-- inodes stand once and in order, below the next number; each is sound and belongs to a declared user and group; the
+-- root is a directory
+pub record InodesFit (S : State) : Type 0 where
+  pub in_order : IsStrictlySortedBy nat_cmp (keys_of S.inodes)
+  pub fresh : All (λ e. nat_lt e.0 S.next ≡ true) S.inodes
+  pub owners_known : All (λ inode. has_known_owners S inode ≡ true) (values_of S.inodes)
+  pub sound : All IsSound (values_of S.inodes)
+  pub root_stands : is_directory S ROOT ≡ true
+
+-- names stand once and in order, each in a directory; each leads to an inode, and each inode has as many as it may
+pub record NamesFit (S : State) : Type 0 where
+  pub in_order : IsStrictlySortedBy name_key_cmp (keys_of S.names)
+  pub lead : All (λ e. leads S e ≡ true) S.names
+  pub counted : All (λ e. has_right_names S e ≡ true) S.inodes
+
+-- the parts of a state fit together; holders stand once and in order, users before groups
+pub record FitsTogether (S : State) : Type 0 where
+  pub holders : IsStrictlySortedBy holder_cmp S.holders
+  pub inodes : InodesFit S
+  pub names : NamesFit S
+
+-- what holds of every state that a store can be in: totals and the next number within the bounds, each grace end where
+-- it belongs, and parts that fit together
+pub record IsLawful (S : State) : Type 0 where
+  pub blocks_fit : total_of S Blocks ≤ S.size
+  pub inodes_fit : total_of S Inodes ≤ S.most_inodes
+  pub next_fits : S.next ≤ MAX_NUMBER + 1
+  pub ends_stand : All (λ h. HasEnds (account_of S h)) S.holders
+  pub parts : FitsTogether S
+
+-- the uses of all principals of a kind, added up
+abbrev pub uses_of : State → Kind → Sort → ℕ
+uses_of S kind sort = sum_by (λ h. use_of S kind h.id sort) (filter (λ h. is_same_kind kind h.kind) S.holders)
+
+-- a use that does not rise, or that is not over the hard limit, nor over the soft one once its grace has ended
+abbrev pub is_within : Sort → Account → ℕ → ℕ → Bool
+is_within sort account moment count =
+    nat_le count (count_in sort account)
+    || (not (is_over (amount_of sort count) (hard_limit sort account.limits))
+    && not (is_over (amount_of sort count) (soft_limit sort account.limits) && has_ended (end_in sort account) moment))
+
+-- no use of the holder has passed a limit on the way from the old state to the new one
+pub record PassesNoLimit (old new : State) (moment : ℕ) (h : Holder) : Type 0 where
+  pub inodes : is_within Inodes (account_of old h) moment (use_of new h.kind h.id Inodes) ≡ true
+  pub blocks : is_within Blocks (account_of old h) moment (use_of new h.kind h.id Blocks) ≡ true
+
+-- a new store of a lawful setup is lawful
+abbrev pub StartIsLawful : Type 0
+StartIsLawful = (s : Setting) → IsLawfulSetup s → IsLawful (start s)
+
+-- every step of a lawful state leaves a lawful state
+abbrev pub StepsStayLawful : Type 0
+StepsStayLawful = (S : State) (cred : Caller) (moment : ℕ) (call : Call) → IsLawful S
+    → IsLawful (step S cred moment call).0
+
+-- a refused call leaves the state as it was
+abbrev pub RefusalsChangeNothing : Type 0
+RefusalsChangeNothing =
+    (S : State) (cred : Caller) (moment : ℕ) (call : Call) (r : Refusal)
+    → (step S cred moment call).1 ≡ Refused r → (step S cred moment call).0 ≡ S
+
+-- no call of anybody but the superuser raises a use past a limit
+abbrev pub LimitsHold : Type 0
+LimitsHold =
+    (S : State) (cred : Caller) (moment : ℕ) (call : Call) → is_superuser cred ≡ false
+    → All (PassesNoLimit S (step S cred moment call).0 moment) S.holders
+
+-- in a lawful state the users' uses add up to the totals, and so do the groups'
+abbrev pub UsesAddUp : Type 0
+UsesAddUp = (S : State) (kind : Kind) (sort : Sort) → IsLawful S → uses_of S kind sort ≡ total_of S sort
+
+-- in a lawful state the rule of grace ends moves none, so what only looks, or writes nothing, may leave the state
+-- as it is
+abbrev pub EndsStay : Type 0
+EndsStay = (S : State) (moment : ℕ) → IsLawful S → ends_after S moment ≡ S
+
+-- who a holder is, whatever its limits and ends
+abbrev pub identity_of : Holder → Kind × ℕ × List ℕ
+identity_of h = (h.kind, h.id, h.name)
+
+-- what no call changes: the bounds, the file limit, and who the holders are, in their order
+pub record KeepsSetup (old new : State) : Type 0 where
+  pub size : new.size ≡ old.size
+  pub most_inodes : new.most_inodes ≡ old.most_inodes
+  pub file_limit : new.file_limit ≡ old.file_limit
+  pub holders : map identity_of new.holders ≡ map identity_of old.holders
+
+-- every step keeps the setup
+abbrev pub SetupsStay : Type 0
+SetupsStay = (S : State) (cred : Caller) (moment : ℕ) (call : Call) → KeepsSetup S (step S cred moment call).0
+
+-- limits and graces are the superuser's to set
+pub record KeepsLimits (old new : State) : Type 0 where
+  pub graces : new.graces ≡ old.graces
+  pub limits : map (λ h. h.limits) new.holders ≡ map (λ h. h.limits) old.holders
+
+-- no call of anybody else changes them
+abbrev pub LimitsStay : Type 0
+LimitsStay = (S : State) (cred : Caller) (moment : ℕ) (call : Call) → is_superuser cred ≡ false
+    → KeepsLimits S (step S cred moment call).0
+
+-- numbers go on: the next one never falls, and each inode of the new state stood before or has the number that was next
+pub record GoesOn (old new : State) : Type 0 where
+  pub next : old.next ≤ new.next
+  pub numbers : All (λ e. (is_some (inode_at old e.0) || e.0 == old.next) ≡ true) new.inodes
+
+-- no number is given again
+abbrev pub NumbersGoOn : Type 0
+NumbersGoOn = (S : State) (cred : Caller) (moment : ℕ) (call : Call) → IsLawful S
+    → GoesOn S (step S cred moment call).0
+
+-- what is there is not the caller's
+abbrev pub is_of_others : Caller → Option Inode → Bool
+is_of_others cred None = true
+is_of_others cred (Some inode) = not (cred.uid == inode.uid)
+
+-- what a caller leaves to others: their inodes, with what these hold and whose they are, and each name in a directory
+-- of others that leads to an inode of others
+pub record LeavesToOthers (cred : Caller) (old new : State) : Type 0 where
+  pub inodes : (number : ℕ) (inode : Inode) → inode_at old number ≡ Some inode
+      → is_of_others cred (Some inode) ≡ true → inode_at new number ≡ Some inode
+  pub names : (dir number : ℕ) (name : List ℕ) → named old dir name ≡ Some number
+      → is_of_others cred (inode_at old dir) ≡ true → is_of_others cred (inode_at old number) ≡ true
+      → named new dir name ≡ Some number
+
+-- no caller but the superuser changes what is not its own
+abbrev pub RightsHold : Type 0
+RightsHold = (S : State) (cred : Caller) (moment : ℕ) (call : Call) → IsLawful S → is_superuser cred ≡ false
+    → LeavesToOthers cred S (step S cred moment call).0
+
+-- the ends of a holder are those of its record by the rules
+abbrev pub EndsAreTheRules : Type 0
+EndsAreTheRules = (S : State) (moment : ℕ) (h : Holder)
+    → account_of S (with_ends_of S moment h) ≡ with_ends (account_of S h) S.graces moment
+
+-- new limits do to a holder what the rules do to its record
+abbrev pub NewLimitsAreTheRules : Type 0
+NewLimitsAreTheRules = (S : State) (moment : ℕ) (limits : Limits) (h : Holder)
+    → account_of S (with_ends_of S moment (relimited limits h)) ≡ with_limits (account_of S h) limits S.graces moment

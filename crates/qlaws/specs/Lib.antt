@@ -1,0 +1,5 @@
+-- The laws, and worked examples. A module that no public clause cites says so.
+pub mod Laws
+pub mod Examples
+pub mod Rises
+pub mod Replaces

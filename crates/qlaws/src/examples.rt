@@ -1,0 +1,27 @@
+//! Worked examples of the plain machine: each clause is one, and holds by computation.
+ghost use Rattle.qlaws.specs.Examples.{BoardOfJournal, CreateWriteStat, EmptyWrite, EntriesOfWorker, ExampleIsGranted, GraceHasEnded, GraceRuns, GracesMoveNone, HardLimit, JournalIsLegal, LimitsAnew, Paths, ReadOverAHole, Rights, SixInodes, SpaceBeforeQuota, SuperuserPasses, TallyOfJournal, UnknownCallers, WhoseLimitFirst, WriteOverAnEdge};
+
+/// What the definitions answer on small scripts, counted by hand from the rules. It does nothing when it runs.
+pub fn worked_examples()
+    ensures example_is_granted { ExampleIsGranted }
+    ensures create_write_stat { CreateWriteStat }
+    ensures write_over_an_edge { WriteOverAnEdge }
+    ensures hard_limit { HardLimit }
+    ensures space_before_quota { SpaceBeforeQuota }
+    ensures grace_runs { GraceRuns }
+    ensures grace_has_ended { GraceHasEnded }
+    ensures superuser_passes { SuperuserPasses }
+    ensures limits_anew { LimitsAnew }
+    ensures graces_move_none { GracesMoveNone }
+    ensures empty_write { EmptyWrite }
+    ensures read_over_a_hole { ReadOverAHole }
+    ensures unknown_callers { UnknownCallers }
+    ensures paths { Paths }
+    ensures rights { Rights }
+    ensures six_inodes { SixInodes }
+    ensures whose_limit_first { WhoseLimitFirst }
+    ensures journal_is_legal { JournalIsLegal }
+    ensures tally_of_journal { TallyOfJournal }
+    ensures entries_of_worker { EntriesOfWorker }
+    ensures board_of_journal { BoardOfJournal }
+{}

@@ -1,0 +1,55 @@
+//! The laws of the plain machine, each the contract of a function that does nothing when it runs.
+ghost use Rattle.qlaws.specs.Laws.{EndsAreTheRules, EndsStay, LimitsHold, LimitsStay, NewLimitsAreTheRules, NumbersGoOn, RefusalsChangeNothing, RightsHold, SetupsStay, StartIsLawful, StepsStayLawful, UsesAddUp};
+
+/// Totals and inode numbers stay within the bounds, and a grace end stands exactly where use is over its soft limit.
+/// Principals, inodes and names stand once and in order. Every inode has declared owners and as many names as it may, a
+/// directory holds no bytes and no block, and each name stands in a directory and leads to an inode. So it is in a new
+/// store of a lawful setup, and after every step of a lawful state.
+pub fn stores_stay_lawful()
+    ensures start { StartIsLawful }
+    ensures steps { StepsStayLawful }
+{}
+
+/// A refused call leaves the state as it was.
+pub fn refusals_change_nothing()
+    ensures { RefusalsChangeNothing }
+{}
+
+/// No call of anybody but the superuser raises a use past a hard limit, or past a soft limit whose grace has ended.
+pub fn limits_hold()
+    ensures { LimitsHold }
+{}
+
+/// In a lawful state the uses of all users add up to the totals of the store, and so do those of all groups.
+pub fn uses_add_up()
+    ensures { UsesAddUp }
+{}
+
+/// At any moment the rule of grace ends leaves a lawful state as it is.
+pub fn ends_stay()
+    ensures { EndsStay }
+{}
+
+/// No call changes the bounds, the file limit or who the holders are, and only the superuser's change limits and graces.
+pub fn setups_stay()
+    ensures setup { SetupsStay }
+    ensures limits { LimitsStay }
+{}
+
+/// From a lawful state the next number never falls, and an inode that a call makes has the number that was next: none is
+/// given again.
+pub fn numbers_go_on()
+    ensures { NumbersGoOn }
+{}
+
+/// From a lawful state no call of anybody but the superuser changes an inode of others, what it holds or whose it is, or
+/// takes away a name that leads to an inode of others from a directory of others.
+pub fn rights_hold()
+    ensures { RightsHold }
+{}
+
+/// The grace ends and the new limits of the plain machine are those of a quota record.
+pub fn holders_keep_the_rules()
+    ensures ends { EndsAreTheRules }
+    ensures limits { NewLimitsAreTheRules }
+{}

@@ -1,0 +1,44 @@
+-- Names that come and go, and inodes with them: create and unlink (open(2), unlink(2)).
+use Rattle.std.specs.Prelude.{ℕ, ◌+◌, not, if◌then◌else◌, List, filter, is_some}
+use Rattle.std.specs.Ordering.{nat_cmp}
+use Rattle.std.specs.BTreeMap.{is_at, insert_entry}
+use Rattle.std.specs.Map.{remove_entry}
+use Rattle.qplain.specs.declared.refusal.Refusal.TheVariants.{EEXIST, EISDIR, EPERM}
+use Rattle.qplain.specs.Caller.{Caller}
+use Rattle.qplain.specs.State.{Inode, State, named, new_file, name_key_cmp}
+use Rattle.qplain.specs.Use.{has_name}
+use Rattle.qplain.specs.Attempt.{Attempt, Refuse, Becomes, at_name}
+use Rattle.qplain.specs.Rights.{may_remove}
+
+-- the state with this inode under the next number and this name
+abbrev pub created : State → Inode → ℕ → List ℕ → State
+created S inode dir name = record S {
+  inodes = insert_entry nat_cmp S.inodes S.next inode;
+  names = insert_entry name_key_cmp S.names (dir, name) S.next;
+  next = S.next + 1;
+}
+
+-- create a file of the caller's under this name
+abbrev pub create_as : State → Caller → ℕ → List ℕ → Attempt
+create_as S cred dir name =
+    if is_some (named S dir name) then Refuse EEXIST
+    else Becomes (created S (new_file cred.uid cred.gid) dir name) S.next
+
+-- the state without this name
+abbrev pub without_name : State → ℕ → List ℕ → State
+without_name S dir name = record S { names = remove_entry (is_at (name_key_cmp (dir, name))) S.names }
+
+-- the state without the inodes that no name leads to; the root stays
+abbrev pub swept : State → State
+swept S = record S { inodes = filter (λ e. has_name S e.0) S.inodes }
+
+-- unlink an inode, which has this name
+abbrev pub unlink_at : State → Caller → ℕ → List ℕ → ℕ → Inode → Attempt
+unlink_at S cred dir name number inode =
+    if inode.dir then Refuse EISDIR
+    else if not (may_remove S cred dir number) then Refuse EPERM
+    else Becomes (swept (without_name S dir name)) number
+
+-- unlink what has this name
+abbrev pub unlink_as : State → Caller → ℕ → List ℕ → Attempt
+unlink_as S cred dir name = at_name S (unlink_at S cred dir name) dir name
