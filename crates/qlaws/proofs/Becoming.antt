@@ -1,28 +1,33 @@
 -- What a step may become, call by call: the cases that a fact about every plain result has to be shown for.
-use Rattle.std.proofs.Common.{◌≡◌, ℕ, ◌+◌, ◌==◌, Bool, true, false, not, ◌||◌, nat_lt, cond, ◌-◌, List, length, take, subst, Option, Some, None, is_some, Result, Ok, Err, refl}
+use Rattle.std.proofs.Common.{◌≡◌, ℕ, ◌+◌, ◌==◌, Bool, true, false, not, ◌&&◌, ◌||◌, nat_lt, cond, ◌-◌, List, length, take, subst, Option, Some, None, is_some, Result, Ok, Err, refl, tests, arith}
 use Rattle.std.specs.List.{find, list_all, list_any}
+use Rattle.std.specs.Option.{unwrap_or}
 use Rattle.qrules.specs.declared.kind.Kind.{Kind}
+use Rattle.qrules.specs.declared.kind.Kind.TheVariants.{User, Group}
 use Rattle.qrules.specs.declared.limits.Limits.{Limits}
 use Rattle.qrules.specs.declared.graces.Graces.{Graces}
 use Rattle.qrules.specs.declared.graces.TheConstants.{MAX_MOMENT}
-use Rattle.qblocks.specs.File.{File, after_write, read_at}
+use Rattle.qblocks.specs.File.{File, after_truncate, after_write, read_at}
 use Rattle.qplain.specs.declared.call.Call.{Call}
-use Rattle.qplain.specs.declared.call.Call.TheVariants.{Create, Write, Read, Stat as AskStat, SetQuota, SetGrace, Quota as AskQuota}
+use Rattle.qplain.specs.declared.call.Call.TheVariants.{Create, Write, Truncate, Read, Stat as AskStat, Unlink, Chown, SetQuota, SetGrace, Quota as AskQuota}
 use Rattle.qplain.specs.declared.refusal.Refusal.{Refusal}
 use Rattle.qplain.specs.declared.refusal.Refusal.TheVariants.{EINVAL, ENAMETOOLONG, ENOTDIR, EEXIST, EISDIR, EACCES, EFBIG, EPERM, ESRCH}
 use Rattle.qplain.specs.declared.reply.Reply.TheVariants.{Bytes, Done}
 use Rattle.qplain.specs.Caller.{Caller, is_superuser}
 use Rattle.qplain.specs.State.{Holder, Inode, State, inode_at, is_directory, named, new_file}
-use Rattle.qplain.specs.Walk.{as_directory, components, is_well_formed, is_too_long, last_name, place, walk}
+use Rattle.qplain.specs.Walk.{as_directory, components, is_well_formed, is_too_long, last_name, led_to, place, walk}
 use Rattle.qplain.specs.Decision.{ends_after, refusal_between}
-use Rattle.qplain.specs.Arguments.{has_bad_number, is_declared, is_holder, is_known, paths_of, refusal_of_arguments}
-use Rattle.qplain.specs.Attempt.{Attempt, Refuse, Answer, Becomes, create_in, create_under, no_change, read_reached, stat_from, stat_reached, write_reached}
-use Rattle.qplain.specs.Rights.{is_own, may_write}
-use Rattle.qplain.specs.Files.{read_from, with_file, write_into}
-use Rattle.qplain.specs.Names.{created}
+use Rattle.qplain.specs.Arguments.{has_bad_number, is_declared, is_holder, is_known, is_undeclared, paths_of, refusal_of_arguments}
+use Rattle.qplain.specs.Attempt.{Attempt, Refuse, Answer, Becomes, at_inode, at_name, at_path, at_reached, in_place, in_reached, no_change, under}
+use Rattle.qplain.specs.Rights.{is_member, is_own, is_owner, may_give, may_remove, may_write}
+use Rattle.qplain.specs.Files.{read_from, stat_at, truncate_at, with_file, with_inode, write_into}
+use Rattle.qplain.specs.Names.{create_as, created, swept, unlink_as, unlink_at, without_name}
+use Rattle.qplain.specs.Owners.{chown_at, with_owners}
 use Rattle.qplain.specs.Quotas.{ask_quota, quota_from, set_quota, set_grace, with_limits_of}
 use Rattle.qplain.specs.Calls.{attempt, attempt_of, unless}
+use Rattle.qlaws.specs.Laws.{IsSound, has_known_owners}
 use Rattle.qplain.specs.Step.{settle, settled, step}
+use Rattle.qlaws.proofs.Sound.{MayFollow, empty-sound, known-caller, owned-follows, truncated-follows, written-follows}
 
 -- the fact holds of the plain result, if there is one
 abbrev pub OnBecomes : (State → Type 0) → Attempt → Type 0
@@ -30,12 +35,19 @@ OnBecomes P (Refuse r) = Unit {0}
 OnBecomes P (Answer reply) = Unit {0}
 OnBecomes P (Becomes S number) = P S
 
+-- the inode is the caller's, and its group the caller's first
+pub record IsOwn (cred : Caller) (inode : Inode) : Type 0 where
+  pub user : inode.uid ≡ cred.uid
+  pub group : inode.gid ≡ cred.gid
+
 -- the plain results that the calls of a caller may have
 pub record HoldsOfResults (P : State → Type 0) (S : State) (cred : Caller) : Type 0 where
-  pub created : (dir : ℕ) (name : List ℕ) → is_known S cred ≡ true → is_directory S dir ≡ true → named S dir name ≡ None
-      → P (created S (new_file cred.uid cred.gid) dir name)
-  pub written : (number : ℕ) (inode : Inode) (off : ℕ) (bytes : List ℕ) → inode_at S number ≡ Some inode → inode.dir ≡ false
-      → may_write cred inode ≡ true → P (with_file S number inode (after_write inode.file off bytes))
+  pub created : (inode : Inode) (dir : ℕ) (name : List ℕ) → IsOwn cred inode → has_known_owners S inode ≡ true → IsSound inode
+      → is_directory S dir ≡ true → named S dir name ≡ None → P (created S inode dir name)
+  pub changed : (number : ℕ) (inode after : Inode) → inode_at S number ≡ Some inode → MayFollow S inode after
+      → may_give cred inode after.uid after.gid ≡ true → P (with_inode S number after)
+  pub removed : (dir : ℕ) (name : List ℕ) (number : ℕ) (inode : Inode) → named S dir name ≡ Some number → inode_at S number ≡ Some inode
+      → inode.dir ≡ false → may_remove S cred dir number ≡ true → P (swept (without_name S dir name))
   pub limited : (kind : Kind) (id : ℕ) (limits : Limits) → is_superuser cred ≡ true → P (with_limits_of S kind id limits)
   pub graced : (graces : Graces) → is_superuser cred ≡ true → P (record S { graces = graces })
 
@@ -64,34 +76,93 @@ true-from_not : (b : Bool) → not b ≡ false → b ≡ true
 true-from_not true h = refl
 true-from_not false h = cc
 
--- a caller whose arguments are not refused is known
+-- who may write into an inode may leave it to its owners
+owners-kept : (cred : Caller) (inode : Inode) → may_write cred inode ≡ true → may_give cred inode inode.uid inode.gid ≡ true
+owners-kept cred inode may =
+    by (is_superuser cred) (is_owner cred inode) (inode.uid == inode.uid) (inode.gid == inode.gid) (is_member cred inode.gid) may (itself inode.uid) (itself inode.gid)
+  where
+    itself : (n : ℕ) → (n == n) ≡ true
+    itself n = grind (arith, tests)
+
+    by : (a b c d e : Bool) → (a || b) ≡ true → c ≡ true → d ≡ true → (a || b && c && (d || e)) ≡ true
+    by true b c d e may user group = refl
+    by false true true true e may user group = refl
+    by false true true false e may user group = cc
+    by false true false d e may user group = cc
+    by false false c d e may user group = cc
+
+-- a caller whose arguments are not refused is known, and names what it may
 known-lawful : (late known formed numbers long : Bool)
-    → cond (late || not known || not formed || numbers) (Some EINVAL) (cond long (Some ENAMETOOLONG) None) ≡ None → known ≡ true
-known-lawful late true formed numbers long h = refl
-known-lawful true false formed numbers long h = cc
+    → cond (late || not known || not formed || numbers) (Some EINVAL) (cond long (Some ENAMETOOLONG) None) ≡ None → (known ≡ true) × (numbers ≡ false)
+known-lawful false true true false long h = (refl, refl)
+known-lawful true known formed numbers long h = cc
 known-lawful false false formed numbers long h = cc
+known-lawful false true false numbers long h = cc
+known-lawful false true true true long h = cc
+
+-- what a name leads to
+led_to-ok : (o : Option ℕ) (number : ℕ) → led_to o ≡ Ok number → o ≡ Some number
+led_to-ok None number h = cc
+led_to-ok (Some n) number h = cc
+
+neither : (a b : Bool) → (a || b) ≡ false → (a ≡ false) × (b ≡ false)
+neither true b h = cc
+neither false b h = (refl, h)
 
 unless-becomes : (P : State → Type 0) (o : Option Refusal) (a : Attempt) → (o ≡ None → OnBecomes P a) → OnBecomes P (unless o a)
 unless-becomes P None a holds = holds refl
 unless-becomes P (Some r) a holds = tt
 
 module _ (P : State → Type 0) (S : State) (cred : Caller) (holds : HoldsOfResults P S cred) where
-  create_in-becomes : (name : List ℕ) (r : Result ℕ Refusal) → is_known S cred ≡ true
-      → ((dir : ℕ) → r ≡ Ok dir → is_directory S dir ≡ true) → OnBecomes P (create_in S cred name r)
-  create_in-becomes name (Err e) known reached = tt
-  create_in-becomes name (Ok dir) known reached =
+  at_inode-becomes : (try : ℕ → Inode → Attempt) (number : ℕ) (o : Option Inode)
+      → ((inode : Inode) → o ≡ Some inode → OnBecomes P (try number inode)) → OnBecomes P (at_inode try number o)
+  at_inode-becomes try number None each = tt
+  at_inode-becomes try number (Some inode) each = each inode refl
+
+  at_reached-becomes : (try : ℕ → Inode → Attempt) (r : Result ℕ Refusal)
+      → ((number : ℕ) (inode : Inode) → r ≡ Ok number → inode_at S number ≡ Some inode → OnBecomes P (try number inode)) → OnBecomes P (at_reached S try r)
+  at_reached-becomes try (Err e) each = tt
+  at_reached-becomes try (Ok number) each = at_inode-becomes try number (inode_at S number) (λ inode there. each number inode refl there)
+
+  -- what holds of the attempt at each inode that is there holds of that at a path's
+  at_path-becomes : (try : ℕ → Inode → Attempt) (path : List ℕ)
+      → ((number : ℕ) (inode : Inode) → inode_at S number ≡ Some inode → OnBecomes P (try number inode)) → OnBecomes P (at_path S try path)
+  at_path-becomes try path each = at_reached-becomes try (walk S (components path)) (λ number inode reached there. each number inode there)
+
+  -- and of that at a name's
+  at_name-becomes : (try : ℕ → Inode → Attempt) (dir : ℕ) (name : List ℕ)
+      → ((number : ℕ) (inode : Inode) → named S dir name ≡ Some number → inode_at S number ≡ Some inode → OnBecomes P (try number inode))
+      → OnBecomes P (at_name S try dir name)
+  at_name-becomes try dir name each =
+      at_reached-becomes try (led_to (named S dir name)) (λ number inode led there. each number inode (led_to-ok (named S dir name) number led) there)
+
+  in_reached-becomes : (try : ℕ → List ℕ → Attempt) (name : List ℕ) (r : Result ℕ Refusal)
+      → ((dir : ℕ) → r ≡ Ok dir → OnBecomes P (try dir name)) → OnBecomes P (in_reached try name r)
+  in_reached-becomes try name (Err e) each = tt
+  in_reached-becomes try name (Ok dir) each = each dir refl
+
+  under-becomes : (of_root : Refusal) (try : ℕ → List ℕ → Attempt) (names : List (List ℕ)) (o : Option (List ℕ))
+      → ((dir : ℕ) (name : List ℕ) → place S names ≡ Ok dir → is_directory S dir ≡ true → OnBecomes P (try dir name))
+      → OnBecomes P (under S of_root try names o)
+  under-becomes of_root try names None each = tt
+  under-becomes of_root try names (Some name) each =
+      in_reached-becomes try name (place S names) (λ dir h. each dir name h (as_directory-ok S (walk S (take (length names - 1) names)) dir h))
+
+  -- what holds of the attempt at each name in a directory holds of that in a path's place
+  in_place-becomes : (of_root : Refusal) (try : ℕ → List ℕ → Attempt) (path : List ℕ)
+      → ((dir : ℕ) (name : List ℕ) → place S (components path) ≡ Ok dir → is_directory S dir ≡ true → OnBecomes P (try dir name))
+      → OnBecomes P (in_place S of_root try path)
+  in_place-becomes of_root try path each = under-becomes of_root try (components path) (last_name (components path)) each
+
+  create_as-becomes : (dir : ℕ) (name : List ℕ) → is_known S cred ≡ true → is_directory S dir ≡ true → OnBecomes P (create_as S cred dir name)
+  create_as-becomes dir name known stands =
       choice P (is_some (named S dir name)) (Refuse EEXIST) (Becomes (created S (new_file cred.uid cred.gid) dir name) S.next) tt
-      (λ absent. holds.created dir name known (reached dir refl) (none-from_not_some (named S dir name) absent))
+      (λ absent. holds.created (new_file cred.uid cred.gid) dir name (record { user = refl; group = refl }) (known-caller S cred known)
+      (empty-sound (new_file cred.uid cred.gid) refl) stands (none-from_not_some (named S dir name) absent))
 
-  create-becomes : (names : List (List ℕ)) (o : Option (List ℕ)) → is_known S cred ≡ true → OnBecomes P (create_under S cred names o)
-  create-becomes names None known = tt
-  create-becomes names (Some name) known =
-      create_in-becomes name (place S names) known (λ dir h. as_directory-ok S (walk S (take (length names - 1) names)) dir h)
-
-  write_into-becomes : (off : ℕ) (bytes : List ℕ) (number : ℕ) (o : Option Inode) → inode_at S number ≡ o
-      → OnBecomes P (write_into S cred off bytes number o)
-  write_into-becomes off bytes number None there = tt
-  write_into-becomes off bytes number (Some inode) there =
+  write_into-becomes : (off : ℕ) (bytes : List ℕ) (number : ℕ) (inode : Inode) → inode_at S number ≡ Some inode
+      → OnBecomes P (write_into S cred off bytes number inode)
+  write_into-becomes off bytes number inode there =
       let file : File = after_write inode.file off bytes in
       let becomes : Attempt = Becomes (with_file S number inode file) number in
       let fits : Attempt = cond (nat_lt S.file_limit (off + length bytes)) (Refuse EFBIG) becomes in
@@ -101,27 +172,40 @@ module _ (P : State → Type 0) (S : State) (cred : Caller) (holds : HoldsOfResu
       choice P (not (may_write cred inode)) (Refuse EACCES) some tt (λ may.
       choice P (length bytes == 0) (Answer (Done number no_change)) fits tt (λ more.
       choice P (nat_lt S.file_limit (off + length bytes)) (Refuse EFBIG) becomes tt (λ below.
-      holds.written number inode off bytes there file_too (true-from_not (may_write cred inode) may)))))
+      holds.changed number inode (record inode { file = file }) there (written-follows S inode off bytes file_too)
+      (owners-kept cred inode (true-from_not (may_write cred inode) may))))))
 
-  write-becomes : (off : ℕ) (bytes : List ℕ) (r : Result ℕ Refusal) → OnBecomes P (write_reached S cred off bytes r)
-  write-becomes off bytes (Err e) = tt
-  write-becomes off bytes (Ok number) = write_into-becomes off bytes number (inode_at S number) refl
+  truncate_at-becomes : (size number : ℕ) (inode : Inode) → inode_at S number ≡ Some inode → OnBecomes P (truncate_at S cred size number inode)
+  truncate_at-becomes size number inode there =
+      let file : File = after_truncate inode.file size in
+      let becomes : Attempt = Becomes (with_file S number inode file) number in
+      let fits : Attempt = cond (nat_lt S.file_limit size) (Refuse EFBIG) becomes in
+      let allowed : Attempt = cond (not (may_write cred inode)) (Refuse EACCES) fits in
+      choice P inode.dir (Refuse EISDIR) allowed tt (λ file_too.
+      choice P (not (may_write cred inode)) (Refuse EACCES) fits tt (λ may.
+      choice P (nat_lt S.file_limit size) (Refuse EFBIG) becomes tt (λ below.
+      holds.changed number inode (record inode { file = file }) there (truncated-follows S inode size file_too)
+      (owners-kept cred inode (true-from_not (may_write cred inode) may)))))
 
-  read_from-becomes : (off len : ℕ) (o : Option Inode) → OnBecomes P (read_from off len o)
-  read_from-becomes off len None = tt
-  read_from-becomes off len (Some inode) = choice P inode.dir (Refuse EISDIR) (Answer (Bytes (read_at inode.file off len))) tt (λ file. tt)
+  read_from-becomes : (off len number : ℕ) (inode : Inode) → OnBecomes P (read_from off len number inode)
+  read_from-becomes off len number inode = choice P inode.dir (Refuse EISDIR) (Answer (Bytes (read_at inode.file off len))) tt (λ file. tt)
 
-  read-becomes : (off len : ℕ) (r : Result ℕ Refusal) → OnBecomes P (read_reached S off len r)
-  read-becomes off len (Err e) = tt
-  read-becomes off len (Ok number) = read_from-becomes off len (inode_at S number)
+  unlink_at-becomes : (dir : ℕ) (name : List ℕ) (number : ℕ) (inode : Inode) → named S dir name ≡ Some number → inode_at S number ≡ Some inode
+      → OnBecomes P (unlink_at S cred dir name number inode)
+  unlink_at-becomes dir name number inode led there =
+      let becomes : Attempt = Becomes (swept (without_name S dir name)) number in
+      choice P inode.dir (Refuse EISDIR) (cond (not (may_remove S cred dir number)) (Refuse EPERM) becomes) tt (λ file.
+      choice P (not (may_remove S cred dir number)) (Refuse EPERM) becomes tt
+      (λ may. holds.removed dir name number inode led there file (true-from_not (may_remove S cred dir number) may)))
 
-  stat_from-becomes : (number : ℕ) (o : Option Inode) → OnBecomes P (stat_from S number o)
-  stat_from-becomes number None = tt
-  stat_from-becomes number (Some inode) = tt
-
-  stat-becomes : (r : Result ℕ Refusal) → OnBecomes P (stat_reached S r)
-  stat-becomes (Err e) = tt
-  stat-becomes (Ok number) = stat_from-becomes number (inode_at S number)
+  chown_at-becomes : (uid gid : Option ℕ) (number : ℕ) (inode : Inode) → (is_undeclared S User uid || is_undeclared S Group gid) ≡ false
+      → inode_at S number ≡ Some inode → OnBecomes P (chown_at S cred uid gid number inode)
+  chown_at-becomes uid gid number inode declared there =
+      let after : Inode = with_owners inode (unwrap_or uid inode.uid) (unwrap_or gid inode.gid) in
+      let ids = neither (is_undeclared S User uid) (is_undeclared S Group gid) declared in
+      choice P (not (may_give cred inode (unwrap_or uid inode.uid) (unwrap_or gid inode.gid))) (Refuse EPERM) (Becomes (with_inode S number after) number) tt
+      (λ may. holds.changed number inode after there (owned-follows S inode uid gid ids.0 ids.1)
+      (true-from_not (may_give cred inode (unwrap_or uid inode.uid) (unwrap_or gid inode.gid)) may))
 
   quota_from-becomes : (o : Option Holder) → OnBecomes P (quota_from S o)
   quota_from-becomes None = tt
@@ -143,22 +227,32 @@ module _ (P : State → Type 0) (S : State) (cred : Caller) (holds : HoldsOfResu
       choice P (not (is_superuser cred || is_own cred kind id)) (Refuse EPERM) (quota_from S (find (is_holder kind id) S.holders)) tt
       (λ may. quota_from-becomes (find (is_holder kind id) S.holders))
 
-  attempt_of-becomes : (call : Call) → is_known S cred ≡ true → OnBecomes P (attempt_of S cred call)
-  attempt_of-becomes (Create path) known = create-becomes (components path) (last_name (components path)) known
-  attempt_of-becomes (Write path off bytes) known = write-becomes off bytes (walk S (components path))
-  attempt_of-becomes (Read path off len) known = read-becomes off len (walk S (components path))
-  attempt_of-becomes (AskStat path) known = stat-becomes (walk S (components path))
-  attempt_of-becomes (SetQuota kind id limits) known = set_quota-becomes kind id limits
-  attempt_of-becomes (SetGrace graces) known = set_grace-becomes graces
-  attempt_of-becomes (AskQuota kind id) known = ask_quota-becomes kind id
+  attempt_of-becomes : (call : Call) → is_known S cred ≡ true → has_bad_number S call ≡ false → OnBecomes P (attempt_of S cred call)
+  attempt_of-becomes (Create path) known good =
+      in_place-becomes EEXIST (create_as S cred) path (λ dir name placed stands. create_as-becomes dir name known stands)
+  attempt_of-becomes (Write path off bytes) known good =
+      at_path-becomes (write_into S cred off bytes) path (λ number inode there. write_into-becomes off bytes number inode there)
+  attempt_of-becomes (Truncate path size) known good =
+      at_path-becomes (truncate_at S cred size) path (λ number inode there. truncate_at-becomes size number inode there)
+  attempt_of-becomes (Read path off len) known good = at_path-becomes (read_from off len) path (λ number inode there. read_from-becomes off len number inode)
+  attempt_of-becomes (AskStat path) known good = at_path-becomes (stat_at S) path (λ number inode there. tt)
+  attempt_of-becomes (Unlink path) known good =
+      in_place-becomes EISDIR (unlink_as S cred) path (λ dir name placed stands.
+      at_name-becomes (unlink_at S cred dir name) dir name (λ number inode led there. unlink_at-becomes dir name number inode led there))
+  attempt_of-becomes (Chown path uid gid) known good =
+      at_path-becomes (chown_at S cred uid gid) path (λ number inode there. chown_at-becomes uid gid number inode good there)
+  attempt_of-becomes (SetQuota kind id limits) known good = set_quota-becomes kind id limits
+  attempt_of-becomes (SetGrace graces) known good = set_grace-becomes graces
+  attempt_of-becomes (AskQuota kind id) known good = ask_quota-becomes kind id
 
   -- what holds of the plain result of every call, holds of the attempt
   attempt-becomes : (moment : ℕ) (call : Call) → OnBecomes P (attempt S cred moment call)
   attempt-becomes moment call =
       unless-becomes P (refusal_of_arguments S cred moment call) (attempt_of S cred call)
-      (λ lawful. attempt_of-becomes call
-      (known-lawful (nat_lt MAX_MOMENT moment) (is_known S cred) (list_all is_well_formed (paths_of call)) (has_bad_number S call)
-      (list_any is_too_long (paths_of call)) lawful))
+      (λ lawful.
+      let parts = known-lawful (nat_lt MAX_MOMENT moment) (is_known S cred) (list_all is_well_formed (paths_of call)) (has_bad_number S call)
+      (list_any is_too_long (paths_of call)) lawful in
+      attempt_of-becomes call parts.0 parts.1)
 
   settled-becomes : (Q : State → Type 0) (new : State) (number moment : ℕ) (o : Option Refusal) → Q S → (o ≡ None → Q (ends_after new moment))
       → Q (settled S new number moment o).0

@@ -11,22 +11,16 @@ use Rattle.std.proofs.lemmas.Map.{keys-set_value}
 use Rattle.std.proofs.lemmas.Map.Views.{All-values-insert_entry, All-values-set_value, IfSome-lookup_from_All}
 use Rattle.qrules.specs.declared.kind.Kind.{Kind}
 use Rattle.qrules.specs.declared.kind.Kind.TheVariants.{User, Group}
-use Rattle.qrules.specs.declared.graces.Graces.{Graces}
 use Rattle.qplain.specs.declared.bounds.TheConstants.{ROOT}
-use Rattle.qrules.specs.declared.limits.Limits.{Limits}
-use Rattle.qblocks.specs.File.{after_write}
-use Rattle.qplain.specs.Caller.{Caller}
-use Rattle.qplain.specs.State.{Holder, Inode, NameKey, State, holder_cmp, inode_at, is_dir, is_directory, name_key_cmp, named, new_file, rank_of}
-use Rattle.qplain.specs.Use.{names_to}
+use Rattle.qplain.specs.State.{Holder, Inode, NameKey, State, holder_cmp, inode_at, is_dir, is_directory, name_key_cmp, named, rank_of}
+use Rattle.qplain.specs.Use.{links_of, names_to}
 use Rattle.qplain.specs.Arguments.{is_holder, is_same_kind}
 use Rattle.qplain.specs.Files.{with_inode}
 use Rattle.qplain.specs.Names.{created}
-use Rattle.qplain.specs.Quotas.{relimited}
 use Rattle.qlaws.specs.Laws.{FitsTogether, IsSound, has_known_owners, has_right_names, leads}
-use Rattle.qlaws.proofs.Becoming.{HoldsOfResults}
-use Rattle.qlaws.proofs.Sound.{MayFollow, empty-sound, known-caller, written-follows}
+use Rattle.qlaws.proofs.Sound.{MayFollow}
 use Rattle.qlaws.proofs.Orders.{All-changed, sorted-insert}
-use Rattle.qlaws.proofs.Tables.{All-insert_new, All-keys-set_value, lookup-insert_new, absent-fresh, at-itself, count_by-none, name_key_total, same-number, seen-set_value, sum_by-insert_new}
+use Rattle.qlaws.proofs.Tables.{All-insert_new, All-keys-set_value, lookup-insert_new, absent-fresh, at-itself, count_by-agree, count_by-none, name_key_total, same-number, seen-set_value, sum_by-insert_new}
 
 -- ---- holders that keep their kind and id
 
@@ -234,6 +228,14 @@ module _ (S : State) (number : ℕ) (inode changed : Inode) (there : inode_at S 
   some-same : (q : ℕ) → is_some (inode_at (with_inode S number changed) q) ≡ is_some (inode_at S q)
   some-same q = seen-set_value (λ o. is_some o) (is_at (nat_cmp number)) S.inodes inode changed q there refl
 
+  -- nor does it change a link
+  pub links_of-changed : (n : ℕ) (b : Bool) → links_of (with_inode S number changed) n b ≡ links_of S n b
+  links_of-changed n false = refl
+  links_of-changed n true =
+      ap (λ m. 2 + m) (count_by-agree (λ e. e.0.0 == n && is_directory (with_inode S number changed) e.1)
+      (λ e. e.0.0 == n && is_directory S e.1) S.names
+      (λ k d below. ap (λ b. (slice_index_or S.names k d).0.0 == n && b) (directory-same (slice_index_or S.names k d).1)))
+
 -- an inode that may follow leaves parts that fit together
 pub changed_fits : (S : State) (number : ℕ) (inode changed : Inode) → inode_at S number ≡ Some inode → MayFollow S inode changed
     → FitsTogether S → FitsTogether (with_inode S number changed)
@@ -256,37 +258,4 @@ changed_fits S number inode changed there follows fits = record {
     counted = All-changed (λ e. has_right_names S e ≡ true) (is_at (nat_cmp number)) S.inodes inode changed there
         (λ n counted. ap (λ b. right (n == ROOT) b (names_to S n)) follows.dir ∙ counted) fits.names.counted;
   };
-}
-
--- new graces touch no part
-pub fits-graced : (S : State) (graces : Graces) → FitsTogether S → FitsTogether (record S { graces = graces })
-fits-graced S graces fits = record {
-  holders = fits.holders;
-  inodes = record {
-    in_order = fits.inodes.in_order;
-    fresh = fits.inodes.fresh;
-    owners_known = fits.inodes.owners_known;
-    sound = fits.inodes.sound;
-    root_stands = fits.inodes.root_stands;
-  };
-  names = record { in_order = fits.names.in_order; lead = fits.names.lead; counted = fits.names.counted };
-}
-
--- new limits are those of a holder who stays who it is
-relimited_keeps : (b : Bool) (limits : Limits) (h : Holder) → ((cond b (relimited limits h) h).kind ≡ h.kind) × ((cond b (relimited limits h) h).id ≡ h.id)
-relimited_keeps true limits h = (refl, refl)
-relimited_keeps false limits h = (refl, refl)
-
-pub results_fit : (S : State) (cred : Caller) → FitsTogether S → HoldsOfResults FitsTogether S cred
-results_fit S cred fits = record {
-  created = λ dir name known stands absent.
-      created_fits S (new_file cred.uid cred.gid) dir name fits stands absent (known-caller S cred known)
-      (empty-sound (new_file cred.uid cred.gid) refl);
-  written = λ number inode off bytes there is_file may.
-      changed_fits S number inode (record inode { file = after_write inode.file off bytes }) there
-      (written-follows S inode off bytes is_file) fits;
-  limited = λ kind id limits may.
-      fits-map S (λ h. cond (is_holder kind id h) (relimited limits h) h)
-      (λ h. (relimited_keeps (is_holder kind id h) limits h).0, λ h. (relimited_keeps (is_holder kind id h) limits h).1) fits;
-  graced = λ graces may. fits-graced S graces fits;
 }

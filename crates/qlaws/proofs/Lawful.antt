@@ -12,7 +12,8 @@ use Rattle.qplain.specs.Decision.{ends_after, is_too_full, refusal_of_charge, wi
 use Rattle.qlaws.specs.Laws.{FitsTogether, IsLawful, StepsStayLawful}
 use Rattle.qlaws.proofs.Becoming.{step-becomes}
 use Rattle.qlaws.proofs.Ends.{next_end-stands}
-use Rattle.qlaws.proofs.Fitting.{results_fit, fits-map}
+use Rattle.qlaws.proofs.Fitting.{fits-map}
+use Rattle.qlaws.proofs.Results.{results_fit}
 
 -- after every change each end stands where it belongs
 ends_stand-after : (S : State) (moment : ℕ) → All (λ h. HasEnds (account_of (ends_after S moment) h)) (ends_after S moment).holders

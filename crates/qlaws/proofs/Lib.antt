@@ -8,12 +8,15 @@ pub mod Tables
 pub mod Orders
 pub mod Sound
 pub mod Fitting
+pub mod Sweeping
+pub mod Results
 pub mod Lawful
 pub mod Start
 pub mod Ends
 pub mod Kept
 pub mod Settling
 pub mod Rights
+pub mod Giving
 pub mod Rising
 pub mod Replacing
 pub mod Linking

@@ -1,12 +1,10 @@
 -- Look-ups and link counts after a new inode, a changed file and changed holders, for the proofs of stores that keep link counts.
-use Rattle.std.proofs.Common.{◌≡◌, ℕ, ◌+◌, ◌==◌, Bool, true, false, ◌&&◌, cond, List, [], ◌∷◌, All, Option, Some, None, is_some, slice_index_or, count_by, refl, sym, ap, ◌∙◌, tests, arith, rules}
+use Rattle.std.proofs.Common.{◌≡◌, ℕ, ◌+◌, ◌==◌, Bool, true, false, ◌&&◌, cond, List, Option, Some, None, is_some, slice_index_or, count_by, refl, sym, ap, ◌∙◌, tests, arith, rules}
 use Rattle.std.specs.Option.{IsSome}
 use Rattle.std.specs.Ordering.{nat_cmp}
 use Rattle.std.specs.BTreeMap.{is_at}
 use Rattle.std.specs.Cmp.{nat_cmp_total, eq_by_cmp_equiv}
 use Rattle.std.proofs.lemmas.Bool.{and_parts, cond-false, cond-true}
-use Rattle.std.proofs.lemmas.List.Elements.{All-head, All-tail}
-use Rattle.std.proofs.lemmas.List.Sums.{sum_by-cons}
 use Rattle.std.proofs.lemmas.Map.{lookup-set_value}
 use Rattle.qrules.specs.declared.kind.Kind.{Kind}
 use Rattle.qrules.specs.declared.limits.Limits.{Limits}
@@ -15,12 +13,12 @@ use Rattle.qblocks.specs.File.{File}
 use Rattle.qplain.specs.State.{Inode, NameKey, State, inode_at, is_dir, is_directory, name_key_cmp, named}
 use Rattle.qplain.specs.Use.{links_of}
 use Rattle.qplain.specs.Decision.{ends_after}
-use Rattle.qplain.specs.Files.{with_file}
+use Rattle.qplain.specs.Files.{with_file, with_inode}
 use Rattle.qplain.specs.Names.{created}
 use Rattle.qplain.specs.Quotas.{with_limits_of}
 use Rattle.qlaws.specs.Laws.{FitsTogether, leads}
-use Rattle.qlaws.proofs.Tables.{absent-fresh, at-itself, lookup-insert_new, name_key_total, same-number, sum_by-insert_new}
-use Rattle.qlaws.proofs.Fitting.{apart, directory-same, not_both, some-is_dir}
+use Rattle.qlaws.proofs.Tables.{absent-fresh, at-itself, count_by-agree, count_by-none, lookup-insert_new, name_key_total, same-number, sum_by-insert_new}
+use Rattle.qlaws.proofs.Fitting.{apart, directory-same, links_of-changed, not_both, some-is_dir}
 
 -- ---- look-ups
 
@@ -38,12 +36,17 @@ there-some : (o : Option Inode) (inode : Inode) → o ≡ Some inode → IsSome 
 there-some None inode there = cc
 there-some (Some i) inode there = search rules
 
--- what is at a number after a changed file
+-- what is at a number after a changed inode
+pub inode_at-with_inode : (S : State) (number : ℕ) (inode after : Inode) (q : ℕ) → inode_at S number ≡ Some inode
+    → inode_at (with_inode S number after) q ≡ cond (is_at (nat_cmp number) q) (Some after) (inode_at S q)
+inode_at-with_inode S number inode after q there =
+    lookup-set_value (eq_by_cmp_equiv nat_cmp_total) (is_at (nat_cmp number)) (λ x y e. (eq_by_cmp_equiv nat_cmp_total).congr number x y e)
+    q after S.inodes (there-some (inode_at S number) inode there)
+
+-- and after a changed file
 pub inode_at-with_file : (S : State) (number : ℕ) (inode : Inode) (file : File) (q : ℕ) → inode_at S number ≡ Some inode
     → inode_at (with_file S number inode file) q ≡ cond (is_at (nat_cmp number) q) (Some (record inode { file = file })) (inode_at S q)
-inode_at-with_file S number inode file q there =
-    lookup-set_value (eq_by_cmp_equiv nat_cmp_total) (is_at (nat_cmp number)) (λ x y e. (eq_by_cmp_equiv nat_cmp_total).congr number x y e)
-    q (record inode { file = file }) S.inodes (there-some (inode_at S number) inode there)
+inode_at-with_file S number inode file q there = inode_at-with_inode S number inode (record inode { file = file }) q there
 
 -- the new inode is at the next number
 pub inode_at-created-next : (S : State) (inode : Inode) (dir : ℕ) (name : List ℕ) → inode_at S S.next ≡ None
@@ -80,22 +83,6 @@ is_directory-created S inode dir name q none file =
     new_or_old false gone = refl
 
 -- ---- link counts
-
--- two tests that agree on all elements count alike
-count_by-agree : {X : Type 0} (p q : X → Bool) (xs : List X) → All (λ x. p x ≡ q x) xs → count_by p xs ≡ count_by q xs
-count_by-agree p q [] agree = refl
-count_by-agree p q (x ∷ xs) agree =
-    let here : p x ≡ q x = All-head (λ y. p y ≡ q y) x xs agree in
-    let rest : count_by p xs ≡ count_by q xs = count_by-agree p q xs (All-tail (λ y. p y ≡ q y) x xs agree) in
-    sum_by-cons (λ y. cond (p y) 1 0) x xs ∙ (λ i. cond (here i) 1 0 + rest i) ∙ sym (sum_by-cons (λ y. cond (q y) 1 0) x xs)
-
--- a test that no element passes counts none
-count_by-none : {X : Type 0} (p : X → Bool) (xs : List X) → All (λ x. p x ≡ false) xs → count_by p xs ≡ 0
-count_by-none p [] none = refl
-count_by-none p (x ∷ xs) none =
-    let here : p x ≡ false = All-head (λ y. p y ≡ false) x xs none in
-    let rest : count_by p xs ≡ 0 = count_by-none p xs (All-tail (λ y. p y ≡ false) x xs none) in
-    sum_by-cons (λ y. cond (p y) 1 0) x xs ∙ (λ i. cond (here i) 1 0 + rest i)
 
 -- a file has one link more under the new name, if that is its own
 pub links_of-created-file : (S : State) (inode : Inode) (dir : ℕ) (name : List ℕ) (n : ℕ) → named S dir name ≡ None
@@ -195,11 +182,7 @@ module _ (S : State) (inode : Inode) (dir : ℕ) (name : List ℕ) (fits : FitsT
 -- with another file in an inode that is there each inode has as many links as before
 pub links_of-with_file : (S : State) (number : ℕ) (inode : Inode) (file : File) (n : ℕ) (b : Bool) → inode_at S number ≡ Some inode
     → links_of (with_file S number inode file) n b ≡ links_of S n b
-links_of-with_file S number inode file n false there = refl
-links_of-with_file S number inode file n true there =
-    ap (λ m. 2 + m) (count_by-agree (λ e. e.0.0 == n && is_directory (with_file S number inode file) e.1) (λ e. e.0.0 == n && is_directory S e.1) S.names
-    (λ k d below. ap (λ b. (slice_index_or S.names k d).0.0 == n && b) (directory-same S number inode (record inode { file = file }) there refl
-    (slice_index_or S.names k d).1)))
+links_of-with_file S number inode file n b there = links_of-changed S number inode (record inode { file = file }) there refl n b
 
 -- new ends leave all links
 pub links_of-ends_after : (S : State) (moment n : ℕ) (b : Bool) → links_of (ends_after S moment) n b ≡ links_of S n b

@@ -3,10 +3,11 @@ use Rattle.std.proofs.Common.{◌≡◌, ℕ, ◌==◌, Bool, true, false, cond,
 use Rattle.std.specs.Ordering.{nat_cmp}
 use Rattle.std.specs.BTreeMap.{is_at}
 use Rattle.std.specs.Map.{lookup}
-use Rattle.std.proofs.lemmas.List.Elements.{All-cons, All-nil}
-use Rattle.qblocks.specs.File.{after_write}
+use Rattle.std.proofs.lemmas.List.Elements.{All-cons, All-filter, All-nil}
 use Rattle.qplain.specs.Caller.{Caller}
-use Rattle.qplain.specs.State.{Inode, State, inode_at, new_file}
+use Rattle.qplain.specs.State.{Inode, State, inode_at}
+use Rattle.qplain.specs.Use.{has_name}
+use Rattle.qplain.specs.Names.{without_name}
 use Rattle.qlaws.specs.Laws.{FitsTogether, GoesOn, NumbersGoOn}
 use Rattle.qlaws.proofs.Becoming.{HoldsOfResults, step-becomes}
 use Rattle.qlaws.proofs.Fitting.{or_right}
@@ -37,16 +38,18 @@ kept S = record { next = omega arith; numbers = all-stood S }
 
 results_go_on : (S : State) (cred : Caller) → FitsTogether S → HoldsOfResults (GoesOn S) S cred
 results_go_on S cred fits = record {
-  created = λ dir name known stands absent. record {
+  created = λ inode dir name own known sound stands absent. record {
     next = omega arith;
-    numbers = All-insert_new (λ e. stood S e.0 ≡ true) nat_cmp S.inodes S.next (new_file cred.uid cred.gid)
-        (absent-fresh S.inodes S.next fits.inodes.fresh) (all-stood S)
+    numbers = All-insert_new (λ e. stood S e.0 ≡ true) nat_cmp S.inodes S.next inode (absent-fresh S.inodes S.next fits.inodes.fresh) (all-stood S)
         (or_right (is_some (inode_at S S.next)) (S.next == S.next) (grind (arith, tests)));
   };
-  written = λ number inode off bytes there is_file may. record {
+  changed = λ number inode after there follows may. record {
     next = omega arith;
-    numbers = All-keys-set_value (λ n. stood S n ≡ true) (is_at (nat_cmp number)) S.inodes (record inode { file = after_write inode.file off bytes })
-        (all-stood S);
+    numbers = All-keys-set_value (λ n. stood S n ≡ true) (is_at (nat_cmp number)) S.inodes after (all-stood S);
+  };
+  removed = λ dir name number inode led there file may. record {
+    next = omega arith;
+    numbers = All-filter (λ (e : ℕ × Inode). has_name (without_name S dir name) e.0) (λ e. stood S e.0 ≡ true) S.inodes (all-stood S);
   };
   limited = λ kind id limits may. record { next = omega arith; numbers = all-stood S };
   graced = λ graces may. record { next = omega arith; numbers = all-stood S };

@@ -1,13 +1,14 @@
--- Tables in order: what a new entry and a changed one leave in order, and numbers in order.
-use Rattle.std.proofs.Common.{◌≡◌, ℕ, suc, ◌<◌, ◌≤◌, ◌==◌, Bool, true, false, nat_lt, cond, List, [], ◌∷◌, All, Some, refl, ap, subst, ◌∙◌, tests, arith}
+-- Tables in order: what an edit of the entries leaves in order, and what a sum and a look-up become.
+use Rattle.std.proofs.Common.{◌≡◌, ℕ, ◌+◌, suc, ◌<◌, ◌≤◌, ◌==◌, Bool, true, false, nat_lt, cond, List, [], ◌∷◌, All, sum_by, Some, refl, ap, subst, ◌∙◌, tests, arith}
 use Rattle.std.specs.List.{AllByRecursion}
 use Rattle.std.specs.List.Sorted.{IsStrictlySortedBy}
-use Rattle.std.specs.Map.{keys_of, lookup, set_value}
+use Rattle.std.specs.Map.{keys_of, lookup, remove_entry, set_value}
 use Rattle.std.specs.declared.cmp.Ordering.{Ordering}
 use Rattle.std.specs.declared.cmp.Ordering.TheVariants.{Less, Equal, Greater}
 use Rattle.std.specs.Ordering.{match_ordering, nat_cmp, ordering_reverse}
 use Rattle.std.specs.BTreeMap.{insert_entry}
 use Rattle.std.specs.Cmp.{IsTotalOrder}
+use Rattle.std.proofs.lemmas.List.Sums.{sum_by-cons}
 use Rattle.std.proofs.lemmas.List.Elements.{All-cons, All-head, All-tail}
 use Rattle.qblocks.proofs.Indexes.{Rises}
 
@@ -40,6 +41,57 @@ module _ {K X : Type 0} where
         | Equal ↦ λ p. sorted
         | Greater ↦ λ p. (each-insert (λ y. R e.0 y ≡ Less) R es k v sorted.0 (o.antisymm e.0 k ∙ ap ordering_reverse p), sorted-insert o es k v sorted.1)
       ] refl
+
+  -- ---- an entry less
+
+  each-remove : (P : K → Type 0) (test : K → Bool) (es : List (K × X)) → AllByRecursion P (keys_of es) → AllByRecursion P (keys_of (remove_entry test es))
+  each-remove P test [] all = tt
+  each-remove P test (e ∷ es) all =
+      elim (test e.0) as (λ b. AllByRecursion P (keys_of (cond b es (e ∷ remove_entry test es)))) [
+        | true ↦ all.1
+        | false ↦ (all.0, each-remove P test es all.1)
+      ]
+
+  -- the other entries stay in order
+  pub sorted-remove : (R : K → K → Ordering) (test : K → Bool) (es : List (K × X)) → IsStrictlySortedBy R (keys_of es)
+      → IsStrictlySortedBy R (keys_of (remove_entry test es))
+  unfolding IsStrictlySortedBy
+  sorted-remove R test [] sorted = tt
+  sorted-remove R test (e ∷ es) sorted =
+      elim (test e.0) as (λ b. IsStrictlySortedBy R (keys_of (cond b es (e ∷ remove_entry test es)))) [
+        | true ↦ sorted.1
+        | false ↦ (each-remove (λ y. R e.0 y ≡ Less) test es sorted.0, sorted-remove R test es sorted.1)
+      ]
+
+  -- what holds of all entries holds of the others
+  pub All-remove : (P : K × X → Type 0) (test : K → Bool) (es : List (K × X)) → All P es → All P (remove_entry test es)
+  All-remove P test [] all = all
+  All-remove P test (e ∷ es) all =
+      elim (test e.0) as (λ b. All P (cond b es (e ∷ remove_entry test es))) [
+        | true ↦ All-tail P e es all
+        | false ↦ All-cons P e (remove_entry test es) (All-head P e es all) (All-remove P test es (All-tail P e es all))
+      ]
+
+  -- a sum over the entries loses the term of the one that goes
+  pub sum-remove : (f : X → ℕ) (test : K → Bool) (es : List (K × X)) (v : X) → lookup test es ≡ Some v
+      → sum_by (λ e. f e.1) (remove_entry test es) + f v ≡ sum_by (λ e. f e.1) es
+  sum-remove f test [] v there = cc
+  sum-remove f test (e ∷ es) v there =
+      elim (test e.0) as (λ b. cond b (Some e.1) (lookup test es) ≡ Some v
+      → sum_by (λ x. f x.1) (cond b es (e ∷ remove_entry test es)) + f v ≡ sum_by (λ x. f x.1) (e ∷ es)) [
+        | true ↦ λ h. let same : e.1 ≡ v = cc in omega (arith, sum_by-cons (λ (x : K × X). f x.1) e es, ap f same)
+        | false ↦ λ h. omega (arith, sum_by-cons (λ (x : K × X). f x.1) e es, sum_by-cons (λ (x : K × X). f x.1) e
+        (remove_entry test es), sum-remove f test es v h)
+      ] there
+
+  -- and rises by no term
+  pub sum-remove-le : (f : K × X → ℕ) (test : K → Bool) (es : List (K × X)) → sum_by f (remove_entry test es) ≤ sum_by f es
+  sum-remove-le f test [] = omega arith
+  sum-remove-le f test (e ∷ es) =
+      elim (test e.0) as (λ b. sum_by f (cond b es (e ∷ remove_entry test es)) ≤ sum_by f (e ∷ es)) [
+        | true ↦ omega (arith, sum_by-cons f e es)
+        | false ↦ omega (arith, sum_by-cons f e es, sum_by-cons f e (remove_entry test es), sum-remove-le f test es)
+      ]
 
   -- ---- a changed value
 

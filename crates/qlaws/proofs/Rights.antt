@@ -1,23 +1,63 @@
 -- No caller but the superuser changes what is not its own.
-use Rattle.std.proofs.Common.{◌≡◌, ℕ, Bool, true, false, not, cond, ◌||◌, ◌==◌, List, None, Some, is_some, refl, sym, ap, ◌∙◌}
+use Rattle.std.proofs.Common.{◌≡◌, ℕ, Bool, true, false, not, cond, ◌||◌, ◌&&◌, ◌==◌, List, Option, None, Some, is_some, refl, sym, ap, ◌∙◌}
 use Rattle.std.specs.Ordering.{nat_cmp}
 use Rattle.std.specs.BTreeMap.{is_at}
 use Rattle.std.specs.Map.{lookup}
 use Rattle.std.specs.Cmp.{eq_by_cmp_equiv}
-use Rattle.qblocks.specs.File.{File, after_write}
 use Rattle.qplain.specs.Caller.{Caller, is_superuser}
-use Rattle.qplain.specs.State.{Inode, State, inode_at, name_key_cmp, named, new_file}
-use Rattle.qplain.specs.Rights.{may_write}
-use Rattle.qplain.specs.Files.{with_file}
-use Rattle.qplain.specs.Names.{created}
+use Rattle.qplain.specs.State.{Inode, State, inode_at, name_key_cmp, named}
+use Rattle.qplain.specs.Use.{has_name}
+use Rattle.qplain.specs.Rights.{is_member, is_owner, may_give, may_remove, owns}
+use Rattle.qplain.specs.Files.{with_inode}
+use Rattle.qplain.specs.Names.{created, swept, without_name}
 use Rattle.qlaws.specs.Laws.{FitsTogether, LeavesToOthers, RightsHold, is_of_others}
 use Rattle.qlaws.proofs.Becoming.{HoldsOfResults, step-becomes}
-use Rattle.qlaws.proofs.Linking.{inode_at-created-there, inode_at-with_file, named-created}
+use Rattle.qlaws.proofs.Fitting.{created_fits}
+use Rattle.qlaws.proofs.Sweeping.{has_name-there, inode_at-swept, key-dir, named-without}
+use Rattle.qlaws.proofs.Linking.{inode_at-created-there, inode_at-with_inode, named-created}
 use Rattle.qlaws.proofs.Tables.{absent-fresh, name_key_total, same-number}
 
+-- ---- inodes
+
+-- an inode that has a name stands as long as it has one
+while-named : (S : State) (number : ℕ) (inode : Inode) → inode_at S number ≡ Some inode → has_name S number ≡ true
+    → inode_at S number ≡ cond (has_name S number) (Some inode) None
+while-named S number inode there has = there ∙ sym (ap (λ b. cond b (Some inode) None) has)
+
 -- where nothing changes, all is left to others
-kept : (S : State) (cred : Caller) → LeavesToOthers cred S S
-kept S cred = record { inodes = λ number inode there others. there; names = λ dir number name leads directory others. leads }
+kept : (S : State) (cred : Caller) → FitsTogether S → LeavesToOthers cred S S
+kept S cred fits = record {
+  inodes = λ number inode there others. while-named S number inode there (has_name-there S fits number (ap is_some there));
+  names = λ dir number name leads directory others. leads;
+}
+
+-- who may give an inode away, and is not the superuser, owns it, keeps its user, and keeps its group or has the new one
+pub may_give-parts : (cred : Caller) (inode : Inode) (uid gid : ℕ) → is_superuser cred ≡ false → may_give cred inode uid gid ≡ true
+    → (is_owner cred inode ≡ true) × ((uid == inode.uid) ≡ true) × ((gid == inode.gid || is_member cred gid) ≡ true)
+may_give-parts cred inode uid gid other may =
+    by (is_superuser cred) (is_owner cred inode) (uid == inode.uid) (gid == inode.gid || is_member cred gid) other may
+  where
+    by : (a b c d : Bool) → a ≡ false → (a || b && c && d) ≡ true → (b ≡ true) × (c ≡ true) × (d ≡ true)
+    by true b c d e h = cc
+    by false true true true e h = (refl, refl, refl)
+    by false true true false e h = cc
+    by false true false d e h = cc
+    by false false c d e h = cc
+
+-- an inode of others is not the one that the caller changed
+inode-kept : (S : State) (cred : Caller) (number : ℕ) (inode after : Inode) → inode_at S number ≡ Some inode
+    → is_of_others cred (Some inode) ≡ false → (q : ℕ) (there : Inode) → inode_at S q ≡ Some there
+    → is_of_others cred (Some there) ≡ true → inode_at (with_inode S number after) q ≡ Some there
+inode-kept S cred number inode after at own q there stands others =
+    inode_at-with_inode S number inode after q at ∙ elsewhere (is_at (nat_cmp number) q) refl
+  where
+    elsewhere : (b : Bool) → is_at (nat_cmp number) q ≡ b → cond b (Some after) (inode_at S q) ≡ Some there
+    elsewhere true here =
+        let equal : Some there ≡ Some inode = sym stands ∙ sym (ap (inode_at S) (same-number number q here)) ∙ at in
+        let clash : true ≡ false = sym others ∙ ap (is_of_others cred) equal ∙ own in cc
+    elsewhere false here = stands
+
+-- ---- names
 
 -- two names that are at each other lead to the same
 named-same : (S : State) (dir parent : ℕ) (name other : List ℕ) → is_at (name_key_cmp (parent, other)) (dir, name) ≡ true
@@ -36,39 +76,64 @@ named-kept S inode dir name parent number other absent leads =
         let gone : Some number ≡ None = sym leads ∙ named-same S dir parent name other here ∙ absent in cc
     elsewhere false here = leads
 
--- a caller who may write into an inode, and is not the superuser, owns it
-owns : (cred : Caller) (inode : Inode) → is_superuser cred ≡ false → may_write cred inode ≡ true → is_of_others cred (Some inode) ≡ false
-owns cred inode other may = by (is_superuser cred) (cred.uid == inode.uid) other may
-  where
-    by : (b c : Bool) → b ≡ false → (b || c) ≡ true → not c ≡ false
-    by true c h k = cc
-    by false true h k = refl
-    by false false h k = cc
+-- what is the caller's is not of others
+own-not_others : (cred : Caller) (o : Option Inode) → owns cred o ≡ true → is_of_others cred o ≡ true → true ≡ false
+own-not_others cred None own others = cc
+own-not_others cred (Some inode) own others = sym others ∙ ap not own
 
--- an inode of others is not the one that the caller wrote into
-inode-kept : (S : State) (cred : Caller) (number : ℕ) (inode : Inode) (file : File) → inode_at S number ≡ Some inode
-    → is_of_others cred (Some inode) ≡ false → (q : ℕ) (there : Inode) → inode_at S q ≡ Some there
-    → is_of_others cred (Some there) ≡ true → inode_at (with_file S number inode file) q ≡ Some there
-inode-kept S cred number inode file at own q there stands others =
-    inode_at-with_file S number inode file q at ∙ elsewhere (is_at (nat_cmp number) q) refl
+-- who may take a name away, and is not the superuser, owns what it leads to or its directory
+removes-own : (S : State) (cred : Caller) (dir number : ℕ) → is_superuser cred ≡ false → may_remove S cred dir number ≡ true
+    → is_of_others cred (inode_at S dir) ≡ true → is_of_others cred (inode_at S number) ≡ true → true ≡ false
+removes-own S cred dir number other may of_dir of_inode =
+    by (is_superuser cred) (owns cred (inode_at S number)) (owns cred (inode_at S dir)) refl refl other may
   where
-    elsewhere : (b : Bool) → is_at (nat_cmp number) q ≡ b → cond b (Some (record inode { file = file })) (inode_at S q) ≡ Some there
+    by : (a b c : Bool) → owns cred (inode_at S number) ≡ b → owns cred (inode_at S dir) ≡ c → a ≡ false → (a || b || c) ≡ true → true ≡ false
+    by true b c i d e h = cc
+    by false true c i d e h = own-not_others cred (inode_at S number) i of_inode
+    by false false true i d e h = own-not_others cred (inode_at S dir) d of_dir
+    by false false false i d e h = cc
+
+-- a name of others in a directory of others is not the one that the caller took away
+name-left : (S : State) (cred : Caller) (dir : ℕ) (name : List ℕ) (number : ℕ) → FitsTogether S → is_superuser cred ≡ false
+    → named S dir name ≡ Some number → may_remove S cred dir number ≡ true → (parent q : ℕ) (other : List ℕ) → named S parent other ≡ Some q
+    → is_of_others cred (inode_at S parent) ≡ true → is_of_others cred (inode_at S q) ≡ true → named (swept (without_name S dir name)) parent other ≡ Some q
+name-left S cred dir name number fits not_root led may parent q other leads of_dir of_inode =
+    named-without S dir name number led parent other fits.names.in_order
+    ∙ elsewhere (is_at (name_key_cmp (dir, name)) (parent, other)) refl
+  where
+    elsewhere : (b : Bool) → is_at (name_key_cmp (dir, name)) (parent, other) ≡ b → cond b None (named S parent other) ≡ Some q
     elsewhere true here =
-        let equal : Some there ≡ Some inode = sym stands ∙ sym (ap (inode_at S) (same-number number q here)) ∙ at in
-        let clash : true ≡ false = sym others ∙ ap (is_of_others cred) equal ∙ own in cc
-    elsewhere false here = stands
+        let same : dir ≡ parent = key-dir dir name (parent, other) here in
+        let to : Some number ≡ Some q = sym led ∙ named-same S parent dir other name here ∙ leads in
+        let equal : number ≡ q = cc in
+        let clash : true ≡ false = removes-own S cred dir number not_root may
+        (ap (λ n. is_of_others cred (inode_at S n)) same ∙ of_dir) (ap (λ n. is_of_others cred (inode_at S n)) equal ∙ of_inode) in
+        cc
+    elsewhere false here = leads
+
+-- ---- the law
 
 results_leave : (S : State) (cred : Caller) → FitsTogether S → is_superuser cred ≡ false → HoldsOfResults (LeavesToOthers cred S) S cred
 results_leave S cred fits other = record {
-  created = λ dir name known stands absent. record {
-    inodes = λ number inode there others.
-        inode_at-created-there S (new_file cred.uid cred.gid) dir name number (absent-fresh S.inodes S.next fits.inodes.fresh) (ap is_some there) ∙ there;
-    names = λ parent number name_too leads directory others.
-        named-kept S (new_file cred.uid cred.gid) dir name parent number name_too absent leads;
+  created = λ inode dir name own known sound stands absent. record {
+    inodes = λ q there at others.
+        let still : inode_at (created S inode dir name) q ≡ Some there =
+        inode_at-created-there S inode dir name q (absent-fresh S.inodes S.next fits.inodes.fresh) (ap is_some at) ∙ at in
+        while-named (created S inode dir name) q there still
+        (has_name-there (created S inode dir name) (created_fits S inode dir name fits stands absent known sound) q (ap is_some still));
+    names = λ parent number name_too leads directory others. named-kept S inode dir name parent number name_too absent leads;
   };
-  written = λ number inode off bytes there is_file may. record {
-    inodes = inode-kept S cred number inode (after_write inode.file off bytes) there (owns cred inode other may);
+  changed = λ number inode after there follows may. record {
+    inodes = λ q one at others.
+        while-named (with_inode S number after) q one
+        (inode-kept S cred number inode after there (ap not (may_give-parts cred inode after.uid after.gid other may).0) q one at others)
+        (has_name-there S fits q (ap is_some at));
     names = λ dir n name leads directory others. leads;
+  };
+  removed = λ dir name number inode led there file may. record {
+    inodes = λ q one at others.
+        inode_at-swept S (without_name S dir name).names q ∙ ap (λ o. cond (has_name (without_name S dir name) q) o None) at;
+    names = λ parent q name_too leads directory others. name-left S cred dir name number fits other led may parent q name_too leads directory others;
   };
   limited = λ kind id limits may. cc;
   graced = λ graces may. cc;
@@ -77,4 +142,4 @@ results_leave S cred fits other = record {
 pub rights_hold : RightsHold
 rights_hold S cred moment call lawful other =
     step-becomes (LeavesToOthers cred S) S cred (results_leave S cred lawful.parts other) (LeavesToOthers cred S) moment call
-    (kept S cred) (λ new leaves granted. record { inodes = leaves.inodes; names = leaves.names })
+    (kept S cred lawful.parts) (λ new leaves granted. record { inodes = leaves.inodes; names = leaves.names })

@@ -24,7 +24,7 @@ use Rattle.qplain.specs.Calls.{attempt_of, unless}
 use Rattle.qplain.specs.Step.{change_between, settle, settled, step}
 use Rattle.qlaws.specs.Laws.{IsLawful, KeepsSetup}
 use Rattle.qlaws.proofs.Tables.{absent-fresh}
-use Rattle.qlaws.proofs.Fitting.{fits-graced}
+use Rattle.qlaws.proofs.Results.{fits-graced}
 use Rattle.qlaws.proofs.Lawful.{steps_stay_lawful}
 use Rattle.qlaws.proofs.Ends.{ends_stay}
 use Rattle.qlaws.proofs.Kept.{setups_stay}

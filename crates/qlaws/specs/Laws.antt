@@ -1,7 +1,8 @@
 -- What holds of new stores, of lawful states and of every step, whatever is called: the laws above the definitions.
-use Rattle.std.specs.Prelude.{◌≡◌, ℕ, ◌+◌, ◌≤◌, Bool, true, false, not, ◌&&◌, ◌||◌, ◌==◌, nat_le, nat_lt, if◌then◌else◌, is_some, List, filter, map, sum_by, All, Option, Some, None}
+use Rattle.std.specs.Prelude.{◌≡◌, ℕ, ◌+◌, ◌≤◌, Bool, true, false, not, ◌&&◌, ◌||◌, ◌==◌, nat_le, nat_lt, if◌then◌else◌, is_some, List, ◌∷◌, filter, map, sum_by, All, Option, Some, None}
 use Rattle.std.specs.Map.{keys_of, values_of}
 use Rattle.std.specs.Ordering.{nat_cmp}
+use Rattle.std.specs.List.{list_any}
 use Rattle.std.specs.List.Sorted.{IsStrictlySortedBy}
 use Rattle.qrules.specs.declared.kind.Kind.{Kind}
 use Rattle.qrules.specs.declared.kind.Kind.TheVariants.{User, Group}
@@ -18,7 +19,7 @@ use Rattle.qplain.specs.declared.bounds.TheConstants.{MAX_NUMBER, ROOT}
 use Rattle.qplain.specs.Caller.{Caller, is_superuser}
 use Rattle.qplain.specs.Setups.{IsLawfulSetup, Setting}
 use Rattle.qplain.specs.State.{Holder, Inode, NameKey, State, holder_cmp, inode_at, is_directory, name_key_cmp, named, start}
-use Rattle.qplain.specs.Use.{account_of, names_to, total_of, use_of}
+use Rattle.qplain.specs.Use.{account_of, has_name, names_to, total_of, use_of}
 use Rattle.qplain.specs.Arguments.{is_declared, is_same_kind}
 use Rattle.qplain.specs.Decision.{ends_after, with_ends_of}
 use Rattle.qplain.specs.Quotas.{relimited}
@@ -161,11 +162,12 @@ abbrev pub is_of_others : Caller → Option Inode → Bool
 is_of_others cred None = true
 is_of_others cred (Some inode) = not (cred.uid == inode.uid)
 
--- what a caller leaves to others: their inodes, with what these hold and whose they are, and each name in a directory
--- of others that leads to an inode of others
+-- what a caller leaves to others: each of their inodes, with what it holds and whose it is, unless its last name has
+-- gone; and each name in a directory of others that leads to an inode of others
 pub record LeavesToOthers (cred : Caller) (old new : State) : Type 0 where
   pub inodes : (number : ℕ) (inode : Inode) → inode_at old number ≡ Some inode
-      → is_of_others cred (Some inode) ≡ true → inode_at new number ≡ Some inode
+      → is_of_others cred (Some inode) ≡ true
+      → inode_at new number ≡ (if has_name new number then Some inode else None)
   pub names : (dir number : ℕ) (name : List ℕ) → named old dir name ≡ Some number
       → is_of_others cred (inode_at old dir) ≡ true → is_of_others cred (inode_at old number) ≡ true
       → named new dir name ≡ Some number
@@ -174,6 +176,21 @@ pub record LeavesToOthers (cred : Caller) (old new : State) : Type 0 where
 abbrev pub RightsHold : Type 0
 RightsHold = (S : State) (cred : Caller) (moment : ℕ) (call : Call) → IsLawful S → is_superuser cred ≡ false
     → LeavesToOthers cred S (step S cred moment call).0
+
+-- whose inodes are after a caller's call: a new one is the caller's and its first group's; any other is its user's
+-- still, and its group's or that of one of the caller's groups
+pub record KeepsOwners (cred : Caller) (old new : State) : Type 0 where
+  pub made : (number : ℕ) (after : Inode) → inode_at old number ≡ None → inode_at new number ≡ Some after
+      → (after.uid ≡ cred.uid) × (after.gid ≡ cred.gid)
+  pub user : (number : ℕ) (inode after : Inode) → inode_at old number ≡ Some inode → inode_at new number ≡ Some after
+      → after.uid ≡ inode.uid
+  pub group : (number : ℕ) (inode after : Inode) → inode_at old number ≡ Some inode → inode_at new number ≡ Some after
+      → (after.gid == inode.gid || list_any (λ group. group == after.gid) (cred.gid ∷ cred.more)) ≡ true
+
+-- no caller but the superuser makes another user own an inode, or a group that is not one of the caller's
+abbrev pub OwnersHold : Type 0
+OwnersHold = (S : State) (cred : Caller) (moment : ℕ) (call : Call) → IsLawful S → is_superuser cred ≡ false
+    → KeepsOwners cred S (step S cred moment call).0
 
 -- the ends of a holder are those of its record by the rules
 abbrev pub EndsAreTheRules : Type 0

@@ -1,5 +1,5 @@
 //! The laws of the plain machine, each the contract of a function that does nothing when it runs.
-ghost use Rattle.qlaws.specs.Laws.{EndsAreTheRules, EndsStay, LimitsHold, LimitsStay, NewLimitsAreTheRules, NumbersGoOn, RefusalsChangeNothing, RightsHold, SetupsStay, StartIsLawful, StepsStayLawful, UsesAddUp};
+ghost use Rattle.qlaws.specs.Laws.{EndsAreTheRules, EndsStay, LimitsHold, LimitsStay, NewLimitsAreTheRules, NumbersGoOn, OwnersHold, RefusalsChangeNothing, RightsHold, SetupsStay, StartIsLawful, StepsStayLawful, UsesAddUp};
 
 /// Totals and inode numbers stay within the bounds, and a grace end stands exactly where use is over its soft limit.
 /// Principals, inodes and names stand once and in order. Every inode has declared owners and as many names as it may, a
@@ -42,10 +42,12 @@ pub fn numbers_go_on()
     ensures { NumbersGoOn }
 {}
 
-/// From a lawful state no call of anybody but the superuser changes an inode of others, what it holds or whose it is, or
-/// takes away a name that leads to an inode of others from a directory of others.
+/// From a lawful state no call of anybody but the superuser changes an inode of others, what it holds or whose it is, but
+/// for an inode whose last name goes; or takes away a name that leads to an inode of others from a directory of others.
+/// Nor does one make an inode another user's, or that of a group that is not the caller's.
 pub fn rights_hold()
-    ensures { RightsHold }
+    ensures others { RightsHold }
+    ensures owners { OwnersHold }
 {}
 
 /// The grace ends and the new limits of the plain machine are those of a quota record.
