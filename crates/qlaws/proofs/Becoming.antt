@@ -79,7 +79,8 @@ true-from_not false h = cc
 -- who may write into an inode may leave it to its owners
 owners-kept : (cred : Caller) (inode : Inode) → may_write cred inode ≡ true → may_give cred inode inode.uid inode.gid ≡ true
 owners-kept cred inode may =
-    by (is_superuser cred) (is_owner cred inode) (inode.uid == inode.uid) (inode.gid == inode.gid) (is_member cred inode.gid) may (itself inode.uid) (itself inode.gid)
+    by (is_superuser cred) (is_owner cred inode) (inode.uid == inode.uid) (inode.gid == inode.gid) (is_member cred inode.gid) may (itself inode.uid)
+    (itself inode.gid)
   where
     itself : (n : ℕ) → (n == n) ≡ true
     itself n = grind (arith, tests)

@@ -17,8 +17,11 @@ pub mod Kept
 pub mod Settling
 pub mod Rights
 pub mod Giving
+pub mod Finding
+pub mod Reaching
 pub mod Rising
 pub mod Replacing
+pub mod Removing
 pub mod Linking
 pub mod Walking
 pub mod Playing

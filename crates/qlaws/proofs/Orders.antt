@@ -80,8 +80,13 @@ module _ {K X : Type 0} where
       elim (test e.0) as (λ b. cond b (Some e.1) (lookup test es) ≡ Some v
       → sum_by (λ x. f x.1) (cond b es (e ∷ remove_entry test es)) + f v ≡ sum_by (λ x. f x.1) (e ∷ es)) [
         | true ↦ λ h. let same : e.1 ≡ v = cc in omega (arith, sum_by-cons (λ (x : K × X). f x.1) e es, ap f same)
-        | false ↦ λ h. omega (arith, sum_by-cons (λ (x : K × X). f x.1) e es, sum_by-cons (λ (x : K × X). f x.1) e
-        (remove_entry test es), sum-remove f test es v h)
+        | false ↦ λ h. omega (
+          arith,
+          sum_by-cons (λ (x : K × X). f x.1) e es,
+          sum_by-cons (λ (x : K × X). f x.1) e
+              (remove_entry test es),
+          sum-remove f test es v h,
+        )
       ] there
 
   -- and rises by no term

@@ -10,6 +10,7 @@ use Rattle.std.specs.Cmp.Lexicographic.{slice_cmp}
 use Rattle.std.specs.BTreeMap.{is_at}
 use Rattle.std.specs.Cmp.{eq_by_cmp_equiv}
 use Rattle.std.proofs.lemmas.Map.{lookup-remove_entry}
+use Rattle.std.proofs.lemmas.Map.Entries.{lookup-filter-keys}
 use Rattle.std.proofs.lemmas.Map.Keys.{IsDistinct-from_sorted}
 use Rattle.std.proofs.lemmas.Bool.{and_parts}
 use Rattle.std.proofs.lemmas.List.Elements.{All-cons, All-filter, All-head, All-tail, filter_passes}
@@ -54,29 +55,6 @@ module _ {K X : Type 0} (test : K × X → Bool) where
       ]
 
 module _ {X : Type 0} where
-  -- a look-up among the numbers that pass a test
-  pub lookup-filter : (p : ℕ → Bool) (es : List (ℕ × X)) (q : ℕ)
-      → lookup (is_at (nat_cmp q)) (filter (λ e. p e.0) es) ≡ cond (p q) (lookup (is_at (nat_cmp q)) es) None
-  lookup-filter p [] q = none (p q)
-    where
-      none : (b : Bool) → ◌≡◌ {A = Option X} None (cond b None None)
-      none true = refl
-      none false = refl
-  lookup-filter p (e ∷ es) q = by (p e.0) (is_at (nat_cmp q) e.0) refl refl (lookup-filter p es q)
-    where
-      by : (b c : Bool) → p e.0 ≡ b → is_at (nat_cmp q) e.0 ≡ c
-          → lookup (is_at (nat_cmp q)) (filter (λ x. p x.0) es) ≡ cond (p q) (lookup (is_at (nat_cmp q)) es) None
-          → lookup (is_at (nat_cmp q)) (cond b (e ∷ filter (λ x. p x.0) es) (filter (λ x. p x.0) es))
-          ≡ cond (p q) (cond c (Some e.1) (lookup (is_at (nat_cmp q)) es)) None
-      by true true r s later =
-          let same : p q ≡ true = ap p (same-number q e.0 s) ∙ r in
-          rw (s, same) refl
-      by true false r s later = rw s later
-      by false true r s later =
-          let same : p q ≡ false = ap p (same-number q e.0 s) ∙ r in
-          later ∙ rw same refl
-      by false false r s later = later
-
   -- what holds of all entries holds of what a look-up finds
   pub All-lookup : (P : ℕ × X → Type 0) (es : List (ℕ × X)) (q : ℕ) (v : X) → All P es → lookup (is_at (nat_cmp q)) es ≡ Some v → P (q, v)
   All-lookup P [] q v all there = cc
@@ -119,7 +97,8 @@ module _ (S : State) (names : List (NameKey × ℕ)) where
 
   -- what is at a number after the sweep
   pub inode_at-swept : (q : ℕ) → inode_at (swept T) q ≡ cond (has_name T q) (inode_at S q) None
-  inode_at-swept q = lookup-filter (λ n. has_name T n) S.inodes q
+  inode_at-swept q =
+      lookup-filter-keys (is_at (nat_cmp q)) (λ n. has_name T n) (has_name T q) (λ n same. ap (has_name T) (sym (same-number q n same))) S.inodes
 
   -- what has a name stays
   pub stays-swept : (q : ℕ) → has_name T q ≡ true → inode_at (swept T) q ≡ inode_at S q

@@ -1,5 +1,5 @@
 -- What holds of new stores, of lawful states and of every step, whatever is called: the laws above the definitions.
-use Rattle.std.specs.Prelude.{◌≡◌, ℕ, ◌+◌, ◌≤◌, Bool, true, false, not, ◌&&◌, ◌||◌, ◌==◌, nat_le, nat_lt, if◌then◌else◌, is_some, List, ◌∷◌, filter, map, sum_by, All, Option, Some, None}
+use Rattle.std.specs.Prelude.{◌≡◌, ℕ, ◌+◌, ◌≤◌, Bool, true, false, not, ◌&&◌, ◌||◌, ◌==◌, nat_le, nat_lt, if◌then◌else◌, is_some, Ok, List, ◌∷◌, filter, map, sum_by, All, Option, Some, None}
 use Rattle.std.specs.Map.{keys_of, values_of}
 use Rattle.std.specs.Ordering.{nat_cmp}
 use Rattle.std.specs.List.{list_any}
@@ -20,6 +20,7 @@ use Rattle.qplain.specs.Caller.{Caller, is_superuser}
 use Rattle.qplain.specs.Setups.{IsLawfulSetup, Setting}
 use Rattle.qplain.specs.State.{Holder, Inode, NameKey, State, holder_cmp, inode_at, is_directory, name_key_cmp, named, start}
 use Rattle.qplain.specs.Use.{account_of, has_name, names_to, total_of, use_of}
+use Rattle.qplain.specs.Walk.{walk}
 use Rattle.qplain.specs.Arguments.{is_declared, is_same_kind}
 use Rattle.qplain.specs.Decision.{ends_after, with_ends_of}
 use Rattle.qplain.specs.Quotas.{relimited}
@@ -156,6 +157,23 @@ pub record GoesOn (old new : State) : Type 0 where
 abbrev pub NumbersGoOn : Type 0
 NumbersGoOn = (S : State) (cred : Caller) (moment : ℕ) (call : Call) → IsLawful S
     → GoesOn S (step S cred moment call).0
+
+-- some walk from the root leads to the number
+abbrev pub IsReached : State → ℕ → Type 0
+IsReached S number = (names : List (List ℕ)) × (walk S names ≡ Ok number)
+
+-- every inode is reached
+abbrev pub AllReached : State → Type 0
+AllReached S = All (λ e. IsReached S e.0) S.inodes
+
+-- in a new store every inode is reached
+abbrev pub StartIsReached : Type 0
+StartIsReached = (s : Setting) → AllReached (start s)
+
+-- no step of a lawful state cuts an inode off from the root
+abbrev pub AllStayReached : Type 0
+AllStayReached = (S : State) (cred : Caller) (moment : ℕ) (call : Call) → IsLawful S → AllReached S
+    → AllReached (step S cred moment call).0
 
 -- what is there is not the caller's
 abbrev pub is_of_others : Caller → Option Inode → Bool

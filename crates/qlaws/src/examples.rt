@@ -1,5 +1,6 @@
 //! Worked examples of the plain machine: each clause is one, and holds by computation.
 ghost use Rattle.qlaws.specs.Examples.{BoardOfJournal, CreateWriteStat, EmptyWrite, EntriesOfWorker, ExampleIsGranted, GraceHasEnded, GraceRuns, GracesMoveNone, HardLimit, JournalIsLegal, LimitsAnew, Paths, ReadOverAHole, Rights, SixInodes, SpaceBeforeQuota, SuperuserPasses, TallyOfJournal, UnknownCallers, WhoseLimitFirst, WriteOverAnEdge};
+ghost use Rattle.qlaws.specs.MoreExamples.{EndsMove, GrownAgain, InodesGivenBack, LastName, MayGive, MayTruncate, MayUnlink, NoNumberAgain, OnlyWhatRises, OtherGroup, Shorter, ShorterByBytes};
 
 /// What the definitions answer on small scripts, counted by hand from the rules. It does nothing when it runs.
 pub fn worked_examples()
@@ -24,4 +25,20 @@ pub fn worked_examples()
     ensures tally_of_journal { TallyOfJournal }
     ensures entries_of_worker { EntriesOfWorker }
     ensures board_of_journal { BoardOfJournal }
+{}
+
+/// What they answer to truncate, unlink and chown.
+pub fn more_worked_examples()
+    ensures shorter { Shorter }
+    ensures shorter_by_bytes { ShorterByBytes }
+    ensures grown_again { GrownAgain }
+    ensures may_truncate { MayTruncate }
+    ensures last_name { LastName }
+    ensures no_number_again { NoNumberAgain }
+    ensures may_unlink { MayUnlink }
+    ensures inodes_given_back { InodesGivenBack }
+    ensures other_group { OtherGroup }
+    ensures only_what_rises { OnlyWhatRises }
+    ensures may_give { MayGive }
+    ensures ends_move { EndsMove }
 {}

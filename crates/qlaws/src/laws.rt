@@ -1,5 +1,5 @@
 //! The laws of the plain machine, each the contract of a function that does nothing when it runs.
-ghost use Rattle.qlaws.specs.Laws.{EndsAreTheRules, EndsStay, LimitsHold, LimitsStay, NewLimitsAreTheRules, NumbersGoOn, OwnersHold, RefusalsChangeNothing, RightsHold, SetupsStay, StartIsLawful, StepsStayLawful, UsesAddUp};
+ghost use Rattle.qlaws.specs.Laws.{AllStayReached, EndsAreTheRules, EndsStay, LimitsHold, LimitsStay, NewLimitsAreTheRules, NumbersGoOn, OwnersHold, RefusalsChangeNothing, RightsHold, SetupsStay, StartIsLawful, StartIsReached, StepsStayLawful, UsesAddUp};
 
 /// Totals and inode numbers stay within the bounds, and a grace end stands exactly where use is over its soft limit.
 /// Principals, inodes and names stand once and in order. Every inode has declared owners and as many names as it may, a
@@ -40,6 +40,13 @@ pub fn setups_stay()
 /// given again.
 pub fn numbers_go_on()
     ensures { NumbersGoOn }
+{}
+
+/// Every inode can be walked to from the root: in a new store, and after each step of a lawful state in which every one can
+/// be.
+pub fn inodes_stay_reached()
+    ensures start { StartIsReached }
+    ensures steps { AllStayReached }
 {}
 
 /// From a lawful state no call of anybody but the superuser changes an inode of others, what it holds or whose it is, but

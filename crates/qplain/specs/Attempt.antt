@@ -1,5 +1,5 @@
--- What the tests of a call come to, and of what they are made: of the inode that a path leads to, or of the last name of
--- a path in its place (path_resolution(7), narrowed).
+-- What the tests of a call come to, and of what they are made: of the inode that a path leads to, or of the last name
+-- of a path in its place (path_resolution(7), narrowed).
 use Rattle.std.specs.Prelude.{ℕ, List, Option, Some, None, Result, Ok, Err}
 use Rattle.qplain.specs.declared.change.Change.{Change}
 use Rattle.qplain.specs.declared.refusal.Refusal.{Refusal}
