@@ -19,6 +19,8 @@ CHECKING = ROOT / "checking"
 BUILT = ROOT / "crates/quotafs/out/quotafs"
 EXAMPLE = CHECKING / "a/config.toml"
 EMPTY = CHECKING / "a/empty.txt"
+# The folders of the worked examples of the formats, and of examples/.
+WORKED = "a", "a0", "a0_group_blocks", "a0_group_inodes", "examples"
 FAILED = b"- failed OutOfMemory\n"
 MEMORY = (3, b"", b"quotafs: memory\n")
 
@@ -104,10 +106,10 @@ class Row(Case):
 
 
 def outcomes(work):
-    """The scripts that are run to their end. The allocations of the worked examples of the formats are refused."""
+    """The scripts that are run to their end. The allocations of the worked examples are refused."""
     for out in sorted(CHECKING.glob("*/*.out")):
         folder, script = out.parent, out.name.split(".")[0] + ".txt"
-        refuses = folder.name in ("a", "a0", "examples") or script == "one_call_of_each_kind.txt"
+        refuses = folder.name in WORKED or script == "one_call_of_each_kind.txt"
         if folder.name == "examples":
             yield Row(out, ROOT / "examples/farm.toml", ROOT / "examples" / script, refuses, work)
         else:

@@ -1,7 +1,8 @@
--- Paths and kinds that are spelled out are read again; and words are of bytes that print.
-use Rattle.std.proofs.Common.{◌≡◌, ℕ, ◌<◌, ◌^◌, true, not, eqb, List, [], ◌∷◌, Ok, refl, arith, decimal}
+-- Paths, kinds and owners that are spelled out are read again; and words are of bytes that print.
+use Rattle.std.proofs.Common.{◌≡◌, ℕ, ◌-◌, ◌<◌, ◌^◌, true, false, not, eqb, List, [], ◌∷◌, Option, Some, None, Ok, refl, arith, codes, decimal}
 use Rattle.std.specs.List.{list_all}
 use Rattle.std.specs.Char.{is_ascii_digit}
+use Rattle.std.specs.Str.{bytes_eq}
 use Rattle.std.proofs.lemmas.Bool.Decides.{nat_tests}
 use Rattle.std.proofs.lemmas.List.Sums.{list_all-from_AllPass}
 use Rattle.hex.specs.Hex.{encode_lower, is_hex_digit, IsBytes}
@@ -9,12 +10,14 @@ use Rattle.hex.proofs.HexLemmas.{decode_of-ok}
 use Rattle.qrules.specs.declared.kind.Kind.{Kind}
 use Rattle.qrules.specs.declared.kind.Kind.TheVariants.{User, Group}
 use Rattle.qplain.specs.Paths.{ArePathBytes, is_path_byte}
-use Rattle.qtext.specs.Words.{is_text_byte}
+use Rattle.qtext.specs.declared.text_fault.TextKind.TheVariants.{BadNumber}
+use Rattle.qtext.specs.Words.{is_text_byte, id_of}
 use Rattle.qtext.specs.Pieces.{data_text}
 use Rattle.qtext.specs.RuleWords.{kind_text}
 use Rattle.qtext.proofs.Joining.{passes_weaker}
-use Rattle.qtext.proofs.WordsAgain.{are_digits, decoded}
-use Rattle.qline.specs.Arguments.{path_of, kind_of}
+use Rattle.qtext.proofs.WordsAgain.{are_digits, decoded, number_again}
+use Rattle.qline.specs.Arguments.{path_of, kind_of, owner_of}
+use Rattle.qline.specs.Spelling.{owner_text, IsOwner}
 
 digit_is_word : (b : ℕ) → is_ascii_digit b ≡ true → is_path_byte b ≡ true
 digit_is_word b e = grind (arith, nat_tests)
@@ -49,3 +52,25 @@ pub kind_again : (k : Kind) → kind_of (kind_text k) ≡ Ok k
 unfolding kind_of
 kind_again User = refl
 kind_again Group = refl
+
+pub any_id : (n : ℕ) → n < 2 ^ 32 → id_of BadNumber (decimal n) ≡ Ok n
+any_id n lt = number_again BadNumber (2 ^ 32 - 1) n (omega arith) (omega arith)
+
+pub id_word : (n : ℕ) → n < 2 ^ 32 → list_all is_path_byte (decimal n) ≡ true
+id_word n lt = decimal_word n (omega arith)
+
+pub owner_word : (owner : Option ℕ) → IsOwner owner → list_all is_path_byte (owner_text owner) ≡ true
+owner_word None is = refl
+owner_word (Some id) is = id_word id is
+
+-- digits are no dash
+digits_lack_dash : (w : List ℕ) → list_all is_ascii_digit w ≡ true → bytes_eq w (codes "-") ≡ false
+digits_lack_dash [] all = refl
+digits_lack_dash (b ∷ w) all = grind (arith, nat_tests)
+
+pub owner_again : (owner : Option ℕ) → IsOwner owner → owner_of (owner_text owner) ≡ Ok owner
+unfolding owner_of
+owner_again None is = refl
+owner_again (Some id) is =
+    let lt : id < 2 ^ 32 = is in
+    rw (digits_lack_dash (decimal id) (are_digits id (omega arith)), any_id id lt) refl

@@ -1,12 +1,14 @@
--- Paths and kinds as words.
-use Rattle.std.specs.Prelude.{ℕ, ◌==◌, ◌&&◌, not, List, length, codes, Result, Ok, Err, if◌then◌else◌}
+-- Paths, kinds and owners as words.
+use Rattle.std.specs.Prelude.{ℕ, ◌==◌, ◌&&◌, not, List, length, codes, Option, Some, None, Result, Ok, Err, if◌then◌else◌}
 use Rattle.std.specs.List.{list_all}
 use Rattle.std.specs.Str.{bytes_eq}
 use Rattle.qrules.specs.declared.kind.Kind.{Kind}
 use Rattle.qrules.specs.declared.kind.Kind.TheVariants.{User, Group}
 use Rattle.qplain.specs.Paths.{is_path_byte}
 use Rattle.qtext.specs.declared.text_fault.TextKind.{TextKind}
-use Rattle.qtext.specs.declared.text_fault.TextKind.TheVariants.{BadWord}
+use Rattle.qtext.specs.declared.text_fault.TextKind.TheVariants.{BadNumber, BadWord}
+use Rattle.qtext.specs.Reading.{◌>>=◌}
+use Rattle.qtext.specs.Words.{id_of}
 
 -- a path is any word that is not empty
 unfoldable pub path_of : List ℕ → Result (List ℕ) TextKind
@@ -18,3 +20,9 @@ kind_of word =
     if bytes_eq word (codes "user") then Ok User
     else if bytes_eq word (codes "group") then Ok Group
     else Err BadWord
+
+-- the owner that a word names: a dash for the present one, else an id
+unfoldable pub owner_of : List ℕ → Result (Option ℕ) TextKind
+owner_of word = if bytes_eq word (codes "-") then Ok None else (do
+  id ← id_of BadNumber word
+  Ok (Some id))

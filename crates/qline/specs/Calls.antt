@@ -2,7 +2,7 @@
 use Rattle.std.specs.Prelude.{ℕ, List, [], ◌∷◌, Result, Ok, Err, replicate}
 use Rattle.qrules.specs.declared.limits.Limits.{Limits}
 use Rattle.qplain.specs.declared.call.Call.{Call}
-use Rattle.qplain.specs.declared.call.Call.TheVariants.{Create, Write, Read, Stat, SetQuota, SetGrace, Quota}
+use Rattle.qplain.specs.declared.call.Call.TheVariants.{Create, Write, Truncate, Read, Stat, Unlink, Chown, SetQuota, SetGrace, Quota}
 use Rattle.qtext.specs.declared.text_fault.TextKind.{TextKind}
 use Rattle.qtext.specs.declared.text_fault.TextKind.TheVariants.{BadNumber, BadVerb, WordCount}
 use Rattle.qline.specs.declared.call.TheConstants.{MAX_FILL}
@@ -10,7 +10,7 @@ use Rattle.qline.specs.declared.verb.Verb.{Verb}
 use Rattle.qline.specs.declared.verb.Verb.TheVariants as verb
 use Rattle.qtext.specs.Reading.{◌>>=◌}
 use Rattle.qtext.specs.Words.{number, number_of, id_of}
-use Rattle.qline.specs.Arguments.{path_of, kind_of}
+use Rattle.qline.specs.Arguments.{path_of, kind_of, owner_of}
 use Rattle.qline.specs.Verbs.{verb_of}
 use Rattle.qtext.specs.Data.{data_of, byte_of}
 
@@ -37,6 +37,13 @@ fill_of p o c b = do
   byte ← byte_of b
   Ok (Write path off (replicate count byte))
 
+-- truncate PATH SIZE
+unfoldable pub truncate_of : List ℕ → List ℕ → Result Call TextKind
+truncate_of p s = do
+  path ← path_of p
+  size ← number s
+  Ok (Truncate path size)
+
 -- read PATH OFF LEN
 unfoldable pub read_of : List ℕ → List ℕ → List ℕ → Result Call TextKind
 read_of p o l = do
@@ -50,6 +57,20 @@ unfoldable pub stat_of : List ℕ → Result Call TextKind
 stat_of p = do
   path ← path_of p
   Ok (Stat path)
+
+-- unlink PATH
+unfoldable pub unlink_of : List ℕ → Result Call TextKind
+unlink_of p = do
+  path ← path_of p
+  Ok (Unlink path)
+
+-- chown PATH UID GID
+unfoldable pub chown_of : List ℕ → List ℕ → List ℕ → Result Call TextKind
+chown_of p u g = do
+  path ← path_of p
+  uid ← owner_of u
+  gid ← owner_of g
+  Ok (Chown path uid gid)
 
 -- BSOFT BHARD ISOFT IHARD
 unfoldable pub limits_of : List ℕ → List ℕ → List ℕ → List ℕ → Result Limits TextKind
@@ -87,8 +108,11 @@ unfoldable pub call_of : Verb → List (List ℕ) → Result Call TextKind
 call_of verb.Create (p ∷ []) = create_of p
 call_of verb.Write (p ∷ o ∷ d ∷ []) = write_of p o d
 call_of verb.Fill (p ∷ o ∷ c ∷ b ∷ []) = fill_of p o c b
+call_of verb.Truncate (p ∷ s ∷ []) = truncate_of p s
 call_of verb.Read (p ∷ o ∷ l ∷ []) = read_of p o l
 call_of verb.Stat (p ∷ []) = stat_of p
+call_of verb.Unlink (p ∷ []) = unlink_of p
+call_of verb.Chown (p ∷ u ∷ g ∷ []) = chown_of p u g
 call_of verb.SetQuota (k ∷ i ∷ bs ∷ bh ∷ is ∷ ih ∷ []) = setquota_of k i bs bh is ih
 call_of verb.SetGrace (b ∷ i ∷ []) = setgrace_of b i
 call_of verb.Quota (k ∷ i ∷ []) = quota_of k i

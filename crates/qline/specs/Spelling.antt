@@ -1,5 +1,5 @@
 -- How calls and their callers are spelled out: each number, caller, kind and call in its one spelling.
-use Rattle.std.specs.Prelude.{ℕ, ◌<◌, ◌≤◌, ◌^◌, List, [], ◌∷◌, length, map, codes, decimal}
+use Rattle.std.specs.Prelude.{ℕ, ◌<◌, ◌≤◌, ◌^◌, List, [], ◌∷◌, length, map, codes, decimal, Option, Some, None}
 use Rattle.std.specs.List.{join_with_byte, AllByRecursion}
 use Rattle.hex.specs.Hex.{IsBytes}
 use Rattle.qrules.specs.declared.limits.Limits.{Limits}
@@ -7,7 +7,7 @@ use Rattle.qplain.specs.Caller.{Caller}
 use Rattle.qplain.specs.Paths.{ArePathBytes}
 use Rattle.qplain.specs.declared.cred.TheConstants.{MAX_MORE_GROUPS}
 use Rattle.qplain.specs.declared.call.Call.{Call}
-use Rattle.qplain.specs.declared.call.Call.TheVariants.{Create, Write, Read, Stat, SetQuota, SetGrace, Quota}
+use Rattle.qplain.specs.declared.call.Call.TheVariants.{Create, Write, Truncate, Read, Stat, Unlink, Chown, SetQuota, SetGrace, Quota}
 use Rattle.qtext.specs.Pieces.{data_text}
 use Rattle.qtext.specs.RuleWords.{kind_text}
 
@@ -19,6 +19,11 @@ own_ids_text cred = join_with_byte 58 (decimal cred.uid ∷ decimal cred.gid ∷
 abbrev pub caller_text : Caller → List ℕ
 caller_text cred = join_with_byte 44 (own_ids_text cred ∷ map decimal cred.more)
 
+-- an owner's id, or a dash for the present one
+abbrev pub owner_text : Option ℕ → List ℕ
+owner_text None = codes "-"
+owner_text (Some id) = decimal id
+
 -- BSOFT BHARD ISOFT IHARD
 abbrev pub limits_words : Limits → List (List ℕ)
 limits_words l = decimal l.block_soft ∷ decimal l.block_hard ∷ decimal l.inode_soft ∷ decimal l.inode_hard ∷ []
@@ -27,8 +32,11 @@ limits_words l = decimal l.block_soft ∷ decimal l.block_hard ∷ decimal l.ino
 abbrev pub call_words : Call → List (List ℕ)
 call_words (Create path) = codes "create" ∷ path ∷ []
 call_words (Write path off bytes) = codes "write" ∷ path ∷ decimal off ∷ data_text bytes ∷ []
+call_words (Truncate path size) = codes "truncate" ∷ path ∷ decimal size ∷ []
 call_words (Read path off len) = codes "read" ∷ path ∷ decimal off ∷ decimal len ∷ []
 call_words (Stat path) = codes "stat" ∷ path ∷ []
+call_words (Unlink path) = codes "unlink" ∷ path ∷ []
+call_words (Chown path uid gid) = codes "chown" ∷ path ∷ owner_text uid ∷ owner_text gid ∷ []
 call_words (SetQuota kind id limits) = codes "setquota" ∷ kind_text kind ∷ decimal id ∷ limits_words limits
 call_words (SetGrace graces) = codes "setgrace" ∷ decimal graces.block ∷ decimal graces.inode ∷ []
 call_words (Quota kind id) = codes "quota" ∷ kind_text kind ∷ decimal id ∷ []
@@ -39,6 +47,11 @@ pub record IsCaller (cred : Caller) : Type 0 where
   pub gid : cred.gid < 2 ^ 32
   pub few : length cred.more ≤ MAX_MORE_GROUPS
   pub more : AllByRecursion (λ g. g < 2 ^ 32) cred.more
+
+-- an owner that is named has an id of 32 bits
+abbrev pub IsOwner : Option ℕ → Type 0
+IsOwner None = Unit {0}
+IsOwner (Some id) = id < 2 ^ 32
 
 -- each limit is a number of 64 bits
 pub record AreLimits (l : Limits) : Type 0 where
@@ -51,8 +64,11 @@ pub record AreLimits (l : Limits) : Type 0 where
 abbrev pub IsCall : Call → Type 0
 IsCall (Create path) = ArePathBytes path
 IsCall (Write path off bytes) = ArePathBytes path × (off < 2 ^ 64) × IsBytes bytes
+IsCall (Truncate path size) = ArePathBytes path × (size < 2 ^ 64)
 IsCall (Read path off len) = ArePathBytes path × (off < 2 ^ 64) × (len < 2 ^ 64)
 IsCall (Stat path) = ArePathBytes path
+IsCall (Unlink path) = ArePathBytes path
+IsCall (Chown path uid gid) = ArePathBytes path × IsOwner uid × IsOwner gid
 IsCall (SetQuota kind id limits) = (id < 2 ^ 32) × AreLimits limits
 IsCall (SetGrace graces) = (graces.block < 2 ^ 64) × (graces.inode < 2 ^ 64)
 IsCall (Quota kind id) = id < 2 ^ 32

@@ -1,11 +1,11 @@
 //! The arguments that more than one call takes.
 ghost use Rattle.qtext.specs.Gives.{Gives};
 ghost use Rattle.qtext.specs.Data.{data_of};
-ghost use Rattle.qline.specs.Arguments.{path_of, kind_of};
+ghost use Rattle.qline.specs.Arguments.{path_of, kind_of, owner_of};
 
 use qplain::{Data, Path, Shared};
 use qrules::Kind;
-use qtext::{ReadFault, TextKind, data_of as bytes_of};
+use qtext::{ReadFault, TextKind, data_of as bytes_of, id_of};
 use std::alloc::Global;
 
 /// A path: whether it leads anywhere is for the store to say.
@@ -38,4 +38,16 @@ pub(crate) fn kind_of(word: &[u8]) -> Result<Kind, ReadFault>
         return Ok(Kind::Group);
     }
     Err(ReadFault::Fault(TextKind::BadWord))
+}
+
+/// The id of an owner, or a dash for the present one.
+#[tactic(auto, unfolding(crate::specs::Arguments::owner_of))]
+pub(crate) fn owner_of(word: &[u8]) -> Result<Option<u32>, ReadFault>
+    ensures { Gives result (owner_of word.now) }
+{
+    if word == b"-".as_slice() {
+        return Ok(None);
+    }
+    let id = id_of(TextKind::BadNumber, word)?;
+    Ok(Some(id))
 }

@@ -1,9 +1,9 @@
 //! Calls as words.
 ghost use Rattle.std.specs.Prelude.{map};
 ghost use Rattle.qtext.specs.Gives.{Gives};
-ghost use Rattle.qline.specs.Calls.{create_of, write_of, fill_of, read_of, stat_of, limits_of, setquota_of, setgrace_of, quota_of, call_of, call_in};
+ghost use Rattle.qline.specs.Calls.{create_of, write_of, fill_of, truncate_of, read_of, stat_of, unlink_of, chown_of, limits_of, setquota_of, setgrace_of, quota_of, call_of, call_in};
 
-use crate::argument::{data_of, kind_of};
+use crate::argument::{data_of, kind_of, owner_of};
 use crate::paths::Paths;
 use crate::verb::{Verb, verb_of};
 use qplain::{Call, Data};
@@ -60,6 +60,20 @@ fn fill_of<'a>(
     })
 }
 
+#[tactic(auto, unfolding(crate::specs::Calls::truncate_of))]
+fn truncate_of<'a>(
+    alloc: Global,
+    paths: &mut Paths<'a>,
+    path: &'a [u8],
+    size: &[u8],
+) -> Result<Call, ReadFault>
+    ensures { Gives result (truncate_of path.now size.now) }
+{
+    let path = paths.read(alloc, path)?;
+    let size = number(size)?;
+    Ok(Call::Truncate { path, size })
+}
+
 #[tactic(auto, unfolding(crate::specs::Calls::read_of))]
 fn read_of<'a>(
     alloc: Global,
@@ -82,6 +96,30 @@ fn stat_of<'a>(alloc: Global, paths: &mut Paths<'a>, path: &'a [u8]) -> Result<C
 {
     let path = paths.read(alloc, path)?;
     Ok(Call::Stat { path })
+}
+
+#[tactic(auto, unfolding(crate::specs::Calls::unlink_of))]
+fn unlink_of<'a>(alloc: Global, paths: &mut Paths<'a>, path: &'a [u8]) -> Result<Call, ReadFault>
+    ensures { Gives result (unlink_of path.now) }
+{
+    let path = paths.read(alloc, path)?;
+    Ok(Call::Unlink { path })
+}
+
+#[tactic(auto, unfolding(crate::specs::Calls::chown_of))]
+fn chown_of<'a>(
+    alloc: Global,
+    paths: &mut Paths<'a>,
+    path: &'a [u8],
+    uid: &[u8],
+    gid: &[u8],
+) -> Result<Call, ReadFault>
+    ensures { Gives result (chown_of path.now uid.now gid.now) }
+{
+    let path = paths.read(alloc, path)?;
+    let uid = owner_of(uid)?;
+    let gid = owner_of(gid)?;
+    Ok(Call::Chown { path, uid, gid })
 }
 
 #[tactic(auto, unfolding(crate::specs::Calls::limits_of))]
@@ -156,8 +194,11 @@ fn call_of<'a>(
         (Verb::Create, [path]) => create_of(alloc, paths, path),
         (Verb::Write, [path, off, data]) => write_of(alloc, paths, path, off, data),
         (Verb::Fill, [path, off, count, byte]) => fill_of(alloc, paths, path, off, count, byte),
+        (Verb::Truncate, [path, size]) => truncate_of(alloc, paths, path, size),
         (Verb::Read, [path, off, len]) => read_of(alloc, paths, path, off, len),
         (Verb::Stat, [path]) => stat_of(alloc, paths, path),
+        (Verb::Unlink, [path]) => unlink_of(alloc, paths, path),
+        (Verb::Chown, [path, uid, gid]) => chown_of(alloc, paths, path, uid, gid),
         (Verb::SetQuota, [kind, id, block_soft, block_hard, inode_soft, inode_hard]) => {
             setquota_of(kind, id, block_soft, block_hard, inode_soft, inode_hard)
         }

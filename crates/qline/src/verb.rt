@@ -9,8 +9,11 @@ pub(crate) enum Verb {
     Create,
     Write,
     Fill,
+    Truncate,
     Read,
     Stat,
+    Unlink,
+    Chown,
     SetQuota,
     SetGrace,
     Quota,
@@ -30,11 +33,20 @@ pub(crate) fn verb_of(word: &[u8]) -> Result<Verb, ReadFault>
     if word == b"fill".as_slice() {
         return Ok(Verb::Fill);
     }
+    if word == b"truncate".as_slice() {
+        return Ok(Verb::Truncate);
+    }
     if word == b"read".as_slice() {
         return Ok(Verb::Read);
     }
     if word == b"stat".as_slice() {
         return Ok(Verb::Stat);
+    }
+    if word == b"unlink".as_slice() {
+        return Ok(Verb::Unlink);
+    }
+    if word == b"chown".as_slice() {
+        return Ok(Verb::Chown);
     }
     if word == b"setquota".as_slice() {
         return Ok(Verb::SetQuota);

@@ -1,5 +1,5 @@
 //! A store, the caller, and the calls of each kind.
-use crate::setting::{caller, setting};
+use crate::setting::{caller, setting, superuser};
 use qplain::{Call, Cred, NoMemory, Reply};
 use qstore::Store;
 use std::alloc::Global;
@@ -18,7 +18,7 @@ pub(crate) struct Tally {
     pub(crate) kind: &'static str,
     /// How many were not refused.
     pub(crate) granted: u64,
-    /// How many blocks they were charged for.
+    /// How many blocks they were charged for, or released.
     pub(crate) blocks: u64,
 }
 
@@ -26,7 +26,7 @@ impl Tally {
     fn add(&mut self, reply: &Reply) {
         let blocks = match reply {
             Reply::Refused(_) => return,
-            Reply::Done(_, change) => change.blocks_charged,
+            Reply::Done(_, change) => change.blocks_charged.wrapping_add(change.blocks_released),
             _ => 0,
         };
         self.granted = self.granted.wrapping_add(1);
@@ -34,11 +34,31 @@ impl Tally {
     }
 }
 
+/// So many calls of one caller.
+#[inline(never)]
+fn apply_each(
+    store: &mut Store,
+    cred: &Cred,
+    kind: &'static str,
+    calls: &[Call],
+) -> Result<Tally, NoMemory> {
+    let mut tally = Tally {
+        kind,
+        granted: 0,
+        blocks: 0,
+    };
+    for call in calls {
+        tally.add(&store.apply(cred, MOMENT, call)?);
+    }
+    Ok(tally)
+}
+
 /// A store and who calls.
 #[derive(Drop)]
 pub(crate) struct Bench {
     store: Store,
     cred: Cred,
+    root: Cred,
 }
 
 impl Bench {
@@ -46,6 +66,7 @@ impl Bench {
         Ok(Bench {
             store: Store::new(alloc, setting(alloc)?, SEED)?,
             cred: caller(alloc)?,
+            root: superuser(alloc)?,
         })
     }
 
@@ -57,20 +78,20 @@ impl Bench {
         self.store.blocks()
     }
 
-    #[inline(never)]
-    fn apply_all(&mut self, kind: &'static str, calls: &[Call]) -> Result<Tally, NoMemory> {
-        let mut tally = Tally {
-            kind,
-            granted: 0,
-            blocks: 0,
-        };
-        for call in calls {
-            tally.add(&self.store.apply(&self.cred, MOMENT, call)?);
-        }
-        Ok(tally)
+    /// Calls of the user.
+    pub(crate) fn apply_all(
+        &mut self,
+        kind: &'static str,
+        calls: &[Call],
+    ) -> Result<Tally, NoMemory> {
+        apply_each(&mut self.store, &self.cred, kind, calls)
     }
 
-    // The kinds also keep the compiler from making one function of the six below, which are counted apart.
+    fn apply_as_root(&mut self, kind: &'static str, calls: &[Call]) -> Result<Tally, NoMemory> {
+        apply_each(&mut self.store, &self.root, kind, calls)
+    }
+
+    // The kinds also keep the compiler from making one function of those below, which are counted apart.
 
     #[inline(never)]
     pub(crate) fn create_first(&mut self, calls: &[Call]) -> Result<Tally, NoMemory> {
@@ -100,5 +121,65 @@ impl Bench {
     #[inline(never)]
     pub(crate) fn write_byte(&mut self, calls: &[Call]) -> Result<Tally, NoMemory> {
         self.apply_all("writes of a byte", calls)
+    }
+
+    #[inline(never)]
+    pub(crate) fn truncate_block(&mut self, calls: &[Call]) -> Result<Tally, NoMemory> {
+        self.apply_all("truncates of a block", calls)
+    }
+
+    #[inline(never)]
+    pub(crate) fn truncate_16(&mut self, calls: &[Call]) -> Result<Tally, NoMemory> {
+        self.apply_all("truncates of 16 blocks", calls)
+    }
+
+    #[inline(never)]
+    pub(crate) fn truncate_1000(&mut self, calls: &[Call]) -> Result<Tally, NoMemory> {
+        self.apply_all("truncates of 1000 blocks", calls)
+    }
+
+    #[inline(never)]
+    pub(crate) fn truncate_last(&mut self, calls: &[Call]) -> Result<Tally, NoMemory> {
+        self.apply_all("truncates of a long file by a block", calls)
+    }
+
+    #[inline(never)]
+    pub(crate) fn truncate_up(&mut self, calls: &[Call]) -> Result<Tally, NoMemory> {
+        self.apply_all("truncates up", calls)
+    }
+
+    #[inline(never)]
+    pub(crate) fn truncate_far(&mut self, calls: &[Call]) -> Result<Tally, NoMemory> {
+        self.apply_all("truncates of a block at the file limit", calls)
+    }
+
+    #[inline(never)]
+    pub(crate) fn chown_empty(&mut self, calls: &[Call]) -> Result<Tally, NoMemory> {
+        self.apply_as_root("chowns of empty files", calls)
+    }
+
+    #[inline(never)]
+    pub(crate) fn chown_1000(&mut self, calls: &[Call]) -> Result<Tally, NoMemory> {
+        self.apply_as_root("chowns of 1000 blocks", calls)
+    }
+
+    #[inline(never)]
+    pub(crate) fn regroup_empty(&mut self, calls: &[Call]) -> Result<Tally, NoMemory> {
+        self.apply_all("chowns of empty files by their owner", calls)
+    }
+
+    #[inline(never)]
+    pub(crate) fn regroup_1000(&mut self, calls: &[Call]) -> Result<Tally, NoMemory> {
+        self.apply_all("chowns of 1000 blocks by their owner", calls)
+    }
+
+    #[inline(never)]
+    pub(crate) fn unlink_empty(&mut self, calls: &[Call]) -> Result<Tally, NoMemory> {
+        self.apply_all("unlinks of empty files", calls)
+    }
+
+    #[inline(never)]
+    pub(crate) fn unlink_1000(&mut self, calls: &[Call]) -> Result<Tally, NoMemory> {
+        self.apply_all("unlinks of 1000 blocks", calls)
     }
 }

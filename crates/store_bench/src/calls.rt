@@ -68,3 +68,97 @@ pub(crate) fn writes(
     }
     Ok(calls)
 }
+
+/// So many of the scattered files, from one of them on.
+#[derive(Clone, Copy)]
+pub(crate) struct Chosen {
+    pub(crate) first: u64,
+    pub(crate) count: u64,
+    /// How many files there are in all.
+    pub(crate) files: u64,
+}
+
+impl Chosen {
+    fn path(&self, alloc: Global, k: u64) -> io::Result<Path>
+        requires { 1 ≤ self.now.files }
+    {
+        path_of(alloc, scattered(self.first.wrapping_add(k), self.files))
+    }
+}
+
+/// Fills of the chosen files at an offset, 16 blocks or fewer.
+pub(crate) fn fills(alloc: Global, chosen: Chosen, off: u64, len: u64) -> io::Result<Vec<Call>>
+    requires { 1 ≤ chosen.files }
+{
+    let mut calls = Vec::new(alloc);
+    for k in 0..chosen.count {
+        calls.push(Call::Write {
+            path: chosen.path(alloc, k)?,
+            off,
+            bytes: Data::fill(len, 7),
+        })?;
+    }
+    Ok(calls)
+}
+
+/// How many blocks `long_fills` gives a file.
+pub(crate) const LONG: u64 = 1000;
+
+/// Fills that give each of the chosen files 1,000 blocks, 8 at a time.
+pub(crate) fn long_fills(alloc: Global, chosen: Chosen) -> io::Result<Vec<Call>>
+    requires { 1 ≤ chosen.files }
+{
+    let mut calls = Vec::new(alloc);
+    for part in 0..125u64 {
+        for call in fills(alloc, chosen, part.wrapping_mul(32_768), 32_768)? {
+            calls.push(call)?;
+        }
+    }
+    Ok(calls)
+}
+
+/// Truncates of the chosen files to each size, one size after the other.
+pub(crate) fn truncates(alloc: Global, chosen: Chosen, sizes: &[u64]) -> io::Result<Vec<Call>>
+    requires { 1 ≤ chosen.files }
+{
+    let mut calls = Vec::new(alloc);
+    for size in sizes {
+        for k in 0..chosen.count {
+            let path = chosen.path(alloc, k)?;
+            calls.push(Call::Truncate { path, size: *size })?;
+        }
+    }
+    Ok(calls)
+}
+
+/// Who is to own a file: what is None stays.
+pub(crate) type Owners = (Option<u32>, Option<u32>);
+
+/// Chowns of the chosen files to each pair of owners, one pair after the other.
+pub(crate) fn chowns(alloc: Global, chosen: Chosen, owners: &[Owners]) -> io::Result<Vec<Call>>
+    requires { 1 ≤ chosen.files }
+{
+    let mut calls = Vec::new(alloc);
+    for (uid, gid) in owners {
+        for k in 0..chosen.count {
+            calls.push(Call::Chown {
+                path: chosen.path(alloc, k)?,
+                uid: *uid,
+                gid: *gid,
+            })?;
+        }
+    }
+    Ok(calls)
+}
+
+/// Unlinks of the chosen files.
+pub(crate) fn unlinks(alloc: Global, chosen: Chosen) -> io::Result<Vec<Call>>
+    requires { 1 ≤ chosen.files }
+{
+    let mut calls = Vec::new(alloc);
+    for k in 0..chosen.count {
+        let path = chosen.path(alloc, k)?;
+        calls.push(Call::Unlink { path })?;
+    }
+    Ok(calls)
+}

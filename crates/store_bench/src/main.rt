@@ -5,12 +5,14 @@
 ghost use Rattle.std.specs.Prelude.{◌≤◌, IfOk};
 
 use crate::bench::{Bench, Tally};
-use crate::calls::{creates, stats, writes};
+use crate::calls::{Chosen, creates, stats, writes};
+use crate::changes::{change_long, change_short, cut_blocks};
 use std::alloc::Global;
 use std::io;
 
 mod bench;
 mod calls;
+mod changes;
 mod setting;
 
 /// How many files the store has, where no argument says it.
@@ -24,6 +26,11 @@ const LAST: u64 = 100;
 
 /// How many calls of each other kind are made, if there are so many files.
 const CALLS: u64 = 1000;
+
+/// How many files are filled, given away and taken away, and how many are made long.
+const SHORT_FILES: u64 = 100;
+
+const LONG_FILES: u64 = 10;
 
 /// The number of files that the first argument says.
 fn files_asked(words: &[String]) -> io::Result<u64>
@@ -72,6 +79,19 @@ fn use_files(rt: &impl Print, alloc: Global, bench: &mut Bench, files: u64) -> i
     say(rt, bench.write_byte(&writes_of_byte)?)
 }
 
+fn change_files(rt: &impl Print, alloc: Global, bench: &mut Bench, files: u64) -> io::Result<()>
+    requires { (1 ≤ files) × (files ≤ MOST_FILES) }
+{
+    let chosen = |first: u64, count: u64| Chosen {
+        first,
+        count: files.min(count),
+        files,
+    };
+    cut_blocks(rt, alloc, bench, chosen(0, CALLS))?;
+    change_long(rt, alloc, bench, chosen(SHORT_FILES, LONG_FILES))?;
+    change_short(rt, alloc, bench, chosen(0, SHORT_FILES))
+}
+
 fn main(rt: HostRuntime) -> io::Result<()> {
     let alloc = rt.alloc();
     let words: Vec<String> = std::env::args(&rt)?.collect(alloc)?;
@@ -79,5 +99,6 @@ fn main(rt: HostRuntime) -> io::Result<()> {
     let mut bench = Bench::new(alloc)?;
     make_files(&rt, alloc, &mut bench, files)?;
     use_files(&rt, alloc, &mut bench, files)?;
+    change_files(&rt, alloc, &mut bench, files)?;
     println!(&rt; "{} inodes, {} blocks", bench.inodes(), bench.blocks())
 }

@@ -43,10 +43,19 @@ pub(crate) fn setting(alloc: Global) -> io::Result<Setup> {
     }
 }
 
-/// The user with limits to pass, who is in both groups.
-pub(crate) fn caller(alloc: Global) -> io::Result<Cred> {
-    match Cred::new(alloc, 1000, 100, &[0])? {
+fn cred(alloc: Global, uid: u32, gid: u32, more: &[u32]) -> io::Result<Cred> {
+    match Cred::new(alloc, uid, gid, more)? {
         Some(cred) => Ok(cred),
         None => Err(io::Error::from(io::ErrorKind::InvalidInput)),
     }
+}
+
+/// The user with limits to pass, who is in both groups.
+pub(crate) fn caller(alloc: Global) -> io::Result<Cred> {
+    cred(alloc, 1000, 100, &[0])
+}
+
+/// Who passes every limit.
+pub(crate) fn superuser(alloc: Global) -> io::Result<Cred> {
+    cred(alloc, 0, 0, &[])
 }

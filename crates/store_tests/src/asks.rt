@@ -1,7 +1,7 @@
 //! A small store, and calls and replies as the rows of a test write them.
 
-use Ask::{Create, Read, SetGrace, SetUser, Stat, User, Write};
-use Told::{Bytes, Done, File, Record};
+use Ask::{Chown, Create, Read, SetGrace, SetUser, Stat, Truncate, Unlink, User, Write};
+use Told::{Bytes, Done, File, Freed, Record};
 use qplain::{Call, Change, Cred, Data, NoMemory, Path, Principal, Quota, Reply, Setup, Shared};
 use qrules::{Graces, Kind, Limits, PrincipalName};
 use qstore::Store;
@@ -15,6 +15,10 @@ pub(crate) enum Ask<'a> {
     Write(&'a str, u64, &'a [u8]),
     Read(&'a str, u64, u64),
     Stat(&'a str),
+    Truncate(&'a str, u64),
+    Unlink(&'a str),
+    /// To another group.
+    Chown(&'a str, u32),
     /// To set the soft limit of user 0 for blocks, in KiB.
     SetUser(u64),
     /// To set the grace for blocks and that for inodes.
@@ -81,6 +85,18 @@ pub(crate) fn call(rt: &impl Abort, alloc: Global, ask: Ask<'_>) -> Result<Call,
         Stat(text) => Call::Stat {
             path: path(rt, alloc, text)?,
         },
+        Truncate(text, size) => Call::Truncate {
+            path: path(rt, alloc, text)?,
+            size,
+        },
+        Unlink(text) => Call::Unlink {
+            path: path(rt, alloc, text)?,
+        },
+        Chown(text, gid) => Call::Chown {
+            path: path(rt, alloc, text)?,
+            uid: None,
+            gid: Some(gid),
+        },
         SetUser(block_soft) => Call::SetQuota {
             kind: Kind::User,
             id: 0,
@@ -101,6 +117,8 @@ pub(crate) fn call(rt: &impl Abort, alloc: Global, ask: Ask<'_>) -> Result<Call,
 pub(crate) enum Told<'a> {
     /// The inode's number, and how many blocks and how many inodes were charged.
     Done(u64, u64, u64),
+    /// The inode's number, and how many blocks and how many inodes were released.
+    Freed(u64, u64, u64),
     Bytes(&'a [u8]),
     /// A file of the superuser's with one name: its number, size and blocks.
     File(u64, u64, u64),
@@ -108,12 +126,27 @@ pub(crate) enum Told<'a> {
     Record(u64, u64, u64, u64),
 }
 
+const NO_CHANGE: Change = Change {
+    blocks_charged: 0,
+    blocks_released: 0,
+    inodes_charged: 0,
+    inodes_released: 0,
+};
+
 fn done(number: u64, blocks: u64, inodes: u64) -> Reply {
     let change = Change {
         blocks_charged: blocks,
-        blocks_released: 0,
         inodes_charged: inodes,
-        inodes_released: 0,
+        ..NO_CHANGE
+    };
+    Reply::Done(number, change)
+}
+
+fn freed(number: u64, blocks: u64, inodes: u64) -> Reply {
+    let change = Change {
+        blocks_released: blocks,
+        inodes_released: inodes,
+        ..NO_CHANGE
     };
     Reply::Done(number, change)
 }
@@ -143,6 +176,7 @@ fn record(blocks: u64, inodes: u64, block_soft: u64, end: u64) -> Reply {
 pub(crate) fn reply(alloc: Global, told: Told<'_>) -> Result<Reply, NoMemory> {
     Ok(match told {
         Done(number, blocks, inodes) => done(number, blocks, inodes),
+        Freed(number, blocks, inodes) => freed(number, blocks, inodes),
         Bytes(bytes) => Reply::Bytes(shared(alloc, bytes)?),
         File(ino, size, blocks) => file(ino, size, blocks),
         Record(blocks, inodes, block_soft, end) => record(blocks, inodes, block_soft, end),

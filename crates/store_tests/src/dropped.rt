@@ -1,6 +1,8 @@
 //! What was made ready and then dropped.
 
-use crate::asks::Ask::{Create, Read, SetGrace, SetUser, Stat, User, Write};
+use crate::asks::Ask::{
+    Chown, Create, Read, SetGrace, SetUser, Stat, Truncate, Unlink, User, Write,
+};
 use crate::asks::Told::{Bytes, Done, File, Record};
 use crate::asks::{Ask, Row, call, caller, new_store, play};
 use qplain::NoMemory;
@@ -8,9 +10,12 @@ use qstore::Store;
 use std::alloc::Global;
 use std::process::Abort;
 
-const DROPPED: [Ask<'static>; 4] = [
+const DROPPED: [Ask<'static>; 7] = [
     Create("/b"),
     Write("/a", 4095, b"xyz"),
+    Truncate("/a", 1),
+    Chown("/a", 0),
+    Unlink("/a"),
     SetUser(1),
     SetGrace(1, 1),
 ];

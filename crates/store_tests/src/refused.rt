@@ -1,7 +1,9 @@
 //! Each allocation refused in turn: the store is as before, and the same call then gets its reply.
 
-use crate::asks::Ask::{Create, Read, SetGrace, SetUser, Stat, User, Write};
-use crate::asks::Told::{Bytes, Done, File, Record};
+use crate::asks::Ask::{
+    Chown, Create, Read, SetGrace, SetUser, Stat, Truncate, Unlink, User, Write,
+};
+use crate::asks::Told::{Bytes, Done, File, Freed, Record};
 use crate::asks::{Row, call, caller, new_store, reply};
 use Way::{Apply, Commit};
 use qplain::{Call, Cred, NoMemory, Reply};
@@ -117,7 +119,7 @@ fn count_rows(rt: &impl Print, store: &Store) -> Result<(usize, usize, usize), N
     Ok((records.len(), inodes.len(), names.len()))
 }
 
-const ROWS: [(Way, Row<'static>); 10] = [
+const ROWS: [(Way, Row<'static>); 18] = [
     (Apply, (Create("/a"), Done(2, 0, 1))),
     (Commit, (Create("/b"), Done(3, 0, 1))),
     (Commit, (Write("/a", 4095, b"xy"), Done(2, 2, 0))),
@@ -128,6 +130,14 @@ const ROWS: [(Way, Row<'static>); 10] = [
     (Commit, (SetUser(4), Done(0, 0, 0))),
     (Apply, (User, Record(3, 3, 4, 7))),
     (Commit, (Stat("/a"), File(2, 4097, 2))),
+    (Apply, (Truncate("/a", 4096), Freed(2, 1, 0))),
+    (Commit, (Truncate("/b", 0), Freed(3, 1, 0))),
+    (Apply, (Chown("/a", 0), Done(2, 0, 0))),
+    (Commit, (Chown("/a", 7), Done(2, 0, 0))),
+    (Apply, (Create("/c"), Done(4, 0, 1))),
+    (Commit, (Create("/d"), Done(5, 0, 1))),
+    (Apply, (Unlink("/c"), Freed(4, 0, 1))),
+    (Commit, (Unlink("/a"), Freed(2, 1, 1))),
 ];
 
 #[test]
@@ -138,6 +148,6 @@ fn a_refused_call_changes_nothing(rt: HostRuntime) -> Result<(), NoMemory> {
         ask(&rt, alloc, &mut store, way, row)?;
     }
     assert_eq!(rt; count_rows(&rt, &store)?, (3, 3, 2));
-    assert_eq!(rt; (store.blocks(), store.inodes()), (3, 3));
+    assert_eq!(rt; (store.blocks(), store.inodes()), (0, 3));
     Ok(())
 }

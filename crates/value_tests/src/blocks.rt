@@ -1,22 +1,8 @@
-//! What no script does with a file: cuts, sizes past the store's limit, and each allocation refused in turn.
+//! What no script does with a file: sizes past the store's limit, and each allocation refused in turn.
 
 use qblocks::{BlockFile, Input, MAX_SIZE, NoMemory};
 use std::io::Print;
 use std::process::Abort;
-
-#[test]
-fn a_cut_forgets_what_stood_behind_it(rt: HostRuntime) -> Result<(), NoMemory> {
-    let mut file = BlockFile::new(rt.alloc());
-    assert_eq!(rt; file.write(0, Input::Bytes(b"abc"))?, 1);
-    assert_eq!(rt; file.write(8191, Input::Bytes(b"xyz"))?, 2);
-    assert_eq!(rt; file.truncate(1), 2);
-    assert_eq!(rt; file.truncate(3), 0);
-    assert!(rt; file.read(0, 9)?.as_slice() == b"a\0\0".as_slice());
-    assert_eq!(rt; file.truncate(0), 1);
-    assert_eq!(rt; file.truncate(1_073_741_824), 0);
-    assert_eq!(rt; file.allocated(), 0);
-    Ok(())
-}
 
 #[test]
 fn the_last_byte_below_the_limit_is_kept(rt: HostRuntime) -> Result<(), NoMemory> {

@@ -5,14 +5,17 @@ A line of a script is MOMENT UID:GID[,GROUP..] CALL. The calls:
   create PATH
   write PATH OFFSET DATA
   fill PATH OFFSET COUNT BYTE
+  truncate PATH SIZE
   read PATH OFFSET LENGTH
   stat PATH
+  unlink PATH
+  chown PATH UID GID
   setquota KIND ID BSOFT BHARD ISOFT IHARD
   setgrace BLOCK INODE
   quota KIND ID
 Moments and graces are seconds. DATA is hexadecimal digits, two a byte, or - for
 no byte, and BYTE two of them. KIND is user or group. Limits of blocks are KiB,
-those of inodes numbers, and 0 is none.
+those of inodes numbers, and 0 is none. An owner that chown has as - stays.
 
 Example, a script of two lines:
   0 1001:100 create /notes
