@@ -130,7 +130,8 @@ RefusesForNoLimit S cred moment call =
 -- whoever is over a limit may give back: no truncation and no unlink is refused for a limit
 abbrev pub GivingBackIsGranted : Type 0
 GivingBackIsGranted = (S : State) (cred : Caller) (moment : ℕ) (path : List ℕ) → IsLawful S
-    → ((size : ℕ) → RefusesForNoLimit S cred moment (Truncate path size)) × RefusesForNoLimit S cred moment (Unlink path)
+    → ((size : ℕ) → RefusesForNoLimit S cred moment (Truncate path size))
+    × RefusesForNoLimit S cred moment (Unlink path)
 
 -- in a lawful state the users' uses add up to the totals, and so do the groups'
 abbrev pub UsesAddUp : Type 0
