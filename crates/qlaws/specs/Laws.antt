@@ -122,7 +122,7 @@ is_for_limits ENOSPC = true
 is_for_limits (EDQUOT kind over) = true
 is_for_limits r = false
 
--- a step at which the call, if it is refused, is not refused for want of space or of quota
+-- where this call is refused, that is not for want of space or of quota
 abbrev pub RefusesForNoLimit : State → Caller → ℕ → Call → Type 0
 RefusesForNoLimit S cred moment call =
     (r : Refusal) → (step S cred moment call).1 ≡ Refused r → is_for_limits r ≡ false
