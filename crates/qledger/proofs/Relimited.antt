@@ -8,7 +8,7 @@ use Rattle.qrules.specs.declared.limits.Limits.{Limits}
 use Rattle.qrules.specs.Account.{HasEnds}
 use Rattle.qrules.specs.Grace.{with_limits}
 use Rattle.qplain.specs.State.{Holder, State}
-use Rattle.qplain.specs.Attempt.{with_limits_of}
+use Rattle.qplain.specs.Quotas.{with_limits_of}
 use Rattle.qplain.specs.Decision.{ends_after, with_ends_of}
 use Rattle.qlaws.specs.Laws.{IsLawful}
 use Rattle.qledger.specs.declared.bill.Bill.{Bill}

@@ -6,7 +6,7 @@ ghost use Rattle.qrules.specs.declared.kind.Kind.TheVariants.{User, Group};
 ghost use Rattle.qrules.specs.Range.{are_graces_in_range};
 ghost use Rattle.qplain.specs.State.{Inode, State, start};
 ghost use Rattle.qplain.specs.Arguments.{is_declared, is_holder};
-ghost use Rattle.qplain.specs.Attempt.{with_limits_of};
+ghost use Rattle.qplain.specs.Quotas.{with_limits_of};
 ghost use Rattle.qplain.specs.Decision.{ends_after, refusal_between};
 ghost use Rattle.qlaws.specs.Laws.{IsLawful};
 ghost use Rattle.qledger.specs.KeptHolders.{IsCountedIn, IsSlotOf, holder_in};
