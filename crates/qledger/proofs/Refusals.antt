@@ -1,19 +1,17 @@
 -- The refusal of a bill is that of the plain machine.
-use Rattle.std.proofs.Common.{◌≡◌, ℕ, ◌+◌, ◌||◌, nat_lt, cond, List, map, ◌++◌, Option, None, Some, IfSome, option_map, slice_get, find, sym, ap, subst, ◌∙◌, refl}
+use Rattle.std.proofs.Common.{◌≡◌, ℕ, ◌+◌, ◌||◌, nat_lt, cond, Option, None, Some, IfSome, option_map, slice_get, find, sym, ap, subst, ◌∙◌, refl}
 use Rattle.std.specs.Option.{option_and_then, option_or}
 use Rattle.std.proofs.lemmas.Option.{same_Some}
 use Rattle.qrules.specs.declared.kind.Kind.{Kind}
 use Rattle.qrules.specs.declared.kind.Kind.TheVariants.{User, Group}
-use Rattle.qrules.specs.Sort.{Inodes, Blocks}
 use Rattle.qrules.specs.Charge.{first_fault}
 use Rattle.qplain.specs.declared.bounds.TheConstants.{MAX_NUMBER}
 use Rattle.qplain.specs.declared.refusal.Refusal.TheVariants.{EDQUOT, ENOSPC}
-use Rattle.qplain.specs.declared.refusal.Refusal.{Refusal}
 use Rattle.qplain.specs.Caller.{Caller, is_superuser}
 use Rattle.qplain.specs.State.{Inode, State}
 use Rattle.qplain.specs.Use.{owner}
 use Rattle.qplain.specs.Arguments.{is_holder}
-use Rattle.qplain.specs.Decision.{fault_of_holder, first_refusal, is_too_full, refusal_between}
+use Rattle.qplain.specs.Decision.{fault_of_holder, first_refusal, refusal_between}
 use Rattle.qlaws.proofs.Replacing.{first_refusal-after, first_refusal-none, refusal_at}
 use Rattle.qledger.specs.declared.bill.Bill.{Bill}
 use Rattle.qledger.specs.declared.bill.Posting.{Posting}

@@ -1,13 +1,12 @@
-use Rattle.std.proofs.Common.{◌≡◌, ℕ, ◌+◌, ◌-◌, Option, option_map, sym, ap, subst, ◌∙◌, arith}
+use Rattle.std.proofs.Common.{◌+◌, ◌-◌, Option, option_map, sym, subst, ◌∙◌}
 use Rattle.qrules.specs.declared.kind.Kind.TheVariants.{User, Group}
 use Rattle.qrules.specs.Sort.{Inodes, Blocks}
-use Rattle.qplain.specs.Use.{total_of}
 use Rattle.qledger.specs.declared.claim.Share.{Share}
 use Rattle.qledger.specs.Books.{Books}
 use Rattle.qledger.specs.Claims.{share_in}
 use Rattle.qledger.specs.Kept.{books_of}
-use Rattle.qledger.specs.Replacements.{ArePosted, IsBillOf, IsReplacement}
-use Rattle.qledger.proofs.Booked.{gained-total, groups-replaced, lost-total, total-then, users-replaced}
+use Rattle.qledger.specs.Replacements.{ArePosted, IsReplacement}
+use Rattle.qledger.proofs.Booked.{groups-replaced, total-then, users-replaced}
 use Rattle.qledger.proofs.accounts.Accounts.bill_of.Goals as goal
 
 pub postings-requires-clause-replacement : goal.postings-requires-clause-replacement

@@ -1,4 +1,4 @@
-use Rattle.std.proofs.Common.{◌≡◌, ℕ, ◌==◌, List, find, sym, ap, subst, ◌∙◌}
+use Rattle.std.proofs.Common.{ℕ, ◌==◌, List, find, sym, ap, subst, ◌∙◌}
 use Rattle.std.specs.Option.{IfSome}
 use Rattle.std.specs.List.{list_any}
 use Rattle.qplain.specs.Arguments.{is_holder}
