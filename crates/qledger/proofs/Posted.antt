@@ -20,7 +20,7 @@ use Rattle.qledger.specs.declared.kept_holder.KeptHolder.{KeptHolder}
 use Rattle.qledger.specs.Bills.{post, posted}
 use Rattle.qledger.specs.Claims.{IsShareOf}
 use Rattle.qledger.specs.KeptHolders.{AreById, IsCountedIn, IsSlotOf, holder_in}
-use Rattle.qledger.specs.Replacements.{ArePosted, IsFinal, IsLedgerReplacement, record_after}
+use Rattle.qledger.specs.Ledgers.{ArePosted, IsFinal, IsLedgerReplacement, record_after}
 use Rattle.qledger.proofs.Counted.{account_of-counted}
 use Rattle.qledger.proofs.Ends.{block_end-same, inode_end-same}
 use Rattle.qledger.proofs.Shares.{counted-there, slot-once}

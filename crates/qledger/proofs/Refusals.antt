@@ -21,7 +21,9 @@ use Rattle.qledger.specs.declared.kept_holder.KeptHolder.{KeptHolder}
 use Rattle.qledger.specs.Books.{AreBooksOf, AreInRange, Books, ledger_in}
 use Rattle.qledger.specs.Claims.{IsShareOf, share_in}
 use Rattle.qledger.specs.KeptHolders.{AreById, IsSlotOf, holder_in}
-use Rattle.qledger.specs.Replacements.{IsBillOf, IsFinal, IsReplacement, bill_refusal, refusal_of}
+use Rattle.qledger.specs.Replacements.{IsReplacement}
+use Rattle.qledger.specs.Ledgers.{IsFinal, refusal_of}
+use Rattle.qledger.specs.Decisions.{bill_refusal, IsBillOf}
 use Rattle.qledger.proofs.Booked.{ledger-counted}
 use Rattle.qledger.proofs.Counted.{account_of-counted}
 use Rattle.qledger.proofs.Holders.{find-kept}

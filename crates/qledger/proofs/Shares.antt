@@ -14,7 +14,7 @@ use Rattle.qledger.specs.declared.claim.Weight.{Weight}
 use Rattle.qledger.specs.declared.kept_holder.KeptHolder.{KeptHolder}
 use Rattle.qledger.specs.Claims.{IsShareOf, nothing, weight_at}
 use Rattle.qledger.specs.KeptHolders.{AreById, IsCountedIn, IsSlotOf}
-use Rattle.qledger.specs.Replacements.{IsLedgerReplacement}
+use Rattle.qledger.specs.Ledgers.{IsLedgerReplacement}
 use Rattle.qledger.proofs.ById.{above-first, above-slot, by_id-rest, slot-below}
 
 -- an id stands at one slot alone

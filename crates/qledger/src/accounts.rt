@@ -13,7 +13,9 @@ ghost use Rattle.qledger.specs.KeptHolders.{IsCountedIn, IsSlotOf, holder_in};
 ghost use Rattle.qledger.specs.Claims.{share_in};
 ghost use Rattle.qledger.specs.Books.{AreBooksOf, AreInRange, ledger_in};
 ghost use Rattle.qledger.specs.Bills.{IsBillFor, settled};
-ghost use Rattle.qledger.specs.Replacements.{IsBillOf, IsReplacement, bill_refusal, refusal_of};
+ghost use Rattle.qledger.specs.Replacements.{IsReplacement};
+ghost use Rattle.qledger.specs.Ledgers.{refusal_of};
+ghost use Rattle.qledger.specs.Decisions.{bill_refusal, IsBillOf};
 ghost use Rattle.qledger.specs.Rows.{StandsBefore, record_row_of};
 
 use crate::bill::{Bill, Postings};
@@ -246,7 +248,8 @@ impl Accounts {
 
     /// A bill that leaves the totals.
     fn bill_with(&self, users: Postings, groups: Postings) -> Bill
-        ensures { result ≡ record { users = users; groups = groups; blocks = self.now.blocks; inodes = self.now.inodes } }
+        ensures { result
+            ≡ record { users = users; groups = groups; blocks = self.now.blocks; inodes = self.now.inodes } }
     {
         Bill {
             users,
