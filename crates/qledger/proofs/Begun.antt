@@ -11,7 +11,8 @@ use Rattle.qplain.specs.declared.principal.Principal.{Principal}
 use Rattle.qplain.specs.Setups.{Setting}
 use Rattle.qplain.specs.State.{holder_of, root, start}
 use Rattle.qplain.specs.Use.{use_of, weight}
-use Rattle.qledger.specs.KeptHolders.{IsCountedIn, holder_in, new_holder}
+use Rattle.qledger.specs.KeptHolders.{IsCountedIn, holder_in}
+use Rattle.qledger.specs.Ledgers.{new_holder}
 use Rattle.qledger.specs.Books.{AreBooksOf}
 use Rattle.qrules.specs.declared.limits.Limits.{Limits}
 

@@ -1,5 +1,5 @@
 -- The books after a bill are those of the new state, with the ends that then stand.
-use Rattle.std.proofs.Common.{◌≡◌, ℕ, ◌+◌, ◌-◌, ◌≤◌, List, [], ◌∷◌, ◌++◌, map, All, Option, None, Some, IfSome, option_map, sym, ap, subst, ◌∙◌, refl, tests, arith}
+use Rattle.std.proofs.Common.{◌≡◌, ℕ, ◌+◌, ◌-◌, ◌≤◌, List, [], ◌∷◌, ◌++◌, map, All, Option, None, Some, IfSome, option_map, sym, ap, subst, ◌∙◌, refl, arith}
 use Rattle.std.proofs.lemmas.List.{map-append}
 use Rattle.std.proofs.lemmas.List.Elements.{All-cons, All-head, All-nil, All-tail}
 use Rattle.qrules.specs.declared.kind.Kind.{Kind}
@@ -22,7 +22,9 @@ use Rattle.qledger.specs.Bills.{ArePlaced, IsBillFor, IsPlaced, posted, settled}
 use Rattle.qledger.specs.Books.{AreBooksOf, AreInRange, Books, ledger_in}
 use Rattle.qledger.specs.Claims.{IsShareOf, share_in, weight_in}
 use Rattle.qledger.specs.KeptHolders.{IsCountedIn, holder_in, holders_in}
-use Rattle.qledger.specs.Replacements.{ArePosted, IsBillOf, IsFinal, IsLedgerReplacement, IsReplacement}
+use Rattle.qledger.specs.Replacements.{IsReplacement}
+use Rattle.qledger.specs.Ledgers.{ArePosted, IsFinal, IsLedgerReplacement}
+use Rattle.qledger.specs.Decisions.{IsBillOf}
 use Rattle.qledger.proofs.Counted.{ends-of-counted}
 use Rattle.qledger.proofs.Shares.{part}
 use Rattle.qledger.proofs.Posted.{counted-after, holder_after, holders-after, posted-all}

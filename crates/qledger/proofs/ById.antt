@@ -8,7 +8,8 @@ use Rattle.std.proofs.lemmas.List.Kept.{AllPairs-from_increasing}
 use Rattle.qrules.specs.declared.graces.Graces.{Graces}
 use Rattle.qplain.specs.declared.principal.Principal.{Principal}
 use Rattle.qledger.specs.declared.kept_holder.KeptHolder.{KeptHolder}
-use Rattle.qledger.specs.KeptHolders.{AreById, IsSlotOf, new_holder}
+use Rattle.qledger.specs.KeptHolders.{AreById, IsSlotOf}
+use Rattle.qledger.specs.Ledgers.{new_holder}
 use Rattle.qledger.specs.declared.bill.Posting.{Posting}
 use Rattle.qledger.specs.declared.bill.Postings.{Postings}
 use Rattle.qledger.specs.Bills.{post, posted}

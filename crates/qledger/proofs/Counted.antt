@@ -9,7 +9,8 @@ use Rattle.qplain.specs.State.{Holder, State}
 use Rattle.qplain.specs.Use.{account_of, charge_to, use_of}
 use Rattle.qledger.specs.declared.kept_holder.KeptHolder.{KeptHolder}
 use Rattle.qledger.specs.Rows.{record_row_of}
-use Rattle.qledger.specs.KeptHolders.{IsCountedIn, holder_in, holder_row, holders_in}
+use Rattle.qledger.specs.KeptHolders.{IsCountedIn, holder_in, holders_in}
+use Rattle.qledger.specs.Ledgers.{holder_row}
 use Rattle.qrules.specs.declared.kind.Kind.TheVariants.{User, Group}
 use Rattle.std.proofs.lemmas.List.{map-append}
 

@@ -1,5 +1,5 @@
 -- The kept holders that a setup declares: their order, the one of id 0, and that they use nothing.
-use Rattle.std.proofs.Common.{◌≡◌, ℕ, zero, suc, ◌+◌, ◌<◌, ◌≤◌, Bool, true, false, ◌||◌, ◌&&◌, not, cond, ◌==◌, Some, None, nat_eq, eqb, List, [], ◌∷◌, map, length, get_or, IfSome, slice_get, refl, tests, arith}
+use Rattle.std.proofs.Common.{◌≡◌, ℕ, ◌<◌, ◌≤◌, Bool, true, false, ◌||◌, ◌&&◌, not, cond, ◌==◌, Some, None, nat_eq, eqb, List, [], ◌∷◌, map, length, get_or, refl, arith}
 use Rattle.std.specs.List.{AllByRecursion, IsDistinct, list_any}
 use Rattle.std.specs.List.Sorted.{IsNonDecreasing, IsNonDecreasingBy, IsStrictlyIncreasing}
 use Rattle.std.specs.Cmp.Lexicographic.{pointwise}

@@ -1,8 +1,6 @@
 -- Grace ends that are where they should be, and changes that move none.
-use Rattle.std.proofs.Common.{◌≡◌, ℕ, ◌+◌, Bool, true, false, cond, ◌==◌, List, [], ◌∷◌, map, All, None}
-use Rattle.std.proofs.lemmas.List.Elements.{All-cons, All-head, All-nil, All-tail}
+use Rattle.std.proofs.Common.{◌≡◌, ℕ, ◌+◌}
 use Rattle.qrules.specs.declared.graces.Graces.{Graces}
-use Rattle.qrules.specs.declared.limits.Limits.{Limits}
 use Rattle.qrules.specs.Sort.{Inodes, Blocks, grace_of}
 use Rattle.qrules.specs.Account.{Account, HasEnds, is_over_soft}
 use Rattle.qrules.specs.Grace.{end_after, with_ends}

@@ -10,7 +10,8 @@ use Rattle.qrules.specs.declared.kind.Kind.TheVariants.{User, Group}
 use Rattle.qplain.specs.State.{Holder, State}
 use Rattle.qplain.specs.Arguments.{is_holder, is_same_kind}
 use Rattle.qledger.specs.declared.kept_holder.KeptHolder.{KeptHolder}
-use Rattle.qledger.specs.KeptHolders.{AreById, IsCountedIn, IsHolderAt, holder_in, holders_in, kept_of}
+use Rattle.qledger.specs.KeptHolders.{AreById, IsCountedIn, holder_in, holders_in, kept_of}
+use Rattle.qledger.specs.Ledgers.{IsHolderAt}
 use Rattle.qledger.proofs.ById.{by_id-rest, slot-first, slot-later, slot-of}
 use Rattle.qledger.proofs.Declared.{or-first, or-second}
 

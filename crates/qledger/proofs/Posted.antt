@@ -1,5 +1,5 @@
 -- Final postings make of the kept holders of a kind what the new state makes of its holders.
-use Rattle.std.proofs.Common.{◌≡◌, ℕ, zero, suc, ◌==◌, Bool, true, false, cond, List, [], ◌∷◌, map, All, Option, Some, None, IfSome, option_map, slice_get, refl, sym, ap, subst, ◌∙◌, tests, arith}
+use Rattle.std.proofs.Common.{◌≡◌, ℕ, suc, ◌==◌, Bool, true, false, cond, List, [], ◌∷◌, map, All, Option, Some, None, IfSome, option_map, slice_get, refl, sym, ap, subst, ◌∙◌, tests, arith}
 use Rattle.std.proofs.lemmas.Bool.{cond-false, cond-true}
 use Rattle.std.proofs.lemmas.Option.{get_or_from_slice_get, slice_get_within, same_Some}
 use Rattle.std.proofs.lemmas.List.Elements.{All-cons, All-get_or, All-nil}
@@ -20,10 +20,10 @@ use Rattle.qledger.specs.declared.kept_holder.KeptHolder.{KeptHolder}
 use Rattle.qledger.specs.Bills.{post, posted}
 use Rattle.qledger.specs.Claims.{IsShareOf}
 use Rattle.qledger.specs.KeptHolders.{AreById, IsCountedIn, IsSlotOf, holder_in}
-use Rattle.qledger.specs.Replacements.{ArePosted, IsFinal, IsLedgerReplacement, record_after}
+use Rattle.qledger.specs.Ledgers.{ArePosted, IsFinal, IsLedgerReplacement, record_after}
 use Rattle.qledger.proofs.Counted.{account_of-counted}
 use Rattle.qledger.proofs.Ends.{block_end-same, inode_end-same}
-use Rattle.qledger.proofs.Shares.{counted-there, id-there, slot-once}
+use Rattle.qledger.proofs.Shares.{counted-there, slot-once}
 
 -- two functions that agree on each element of a list make the same of it
 pub map-at : {X Y : Type 0} (f g : X → Y) (xs : List X) → ((k : ℕ) (x : X) → slice_get xs k ≡ Some x → f x ≡ g x) → map f xs ≡ map g xs

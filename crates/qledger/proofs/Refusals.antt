@@ -1,19 +1,17 @@
 -- The refusal of a bill is that of the plain machine.
-use Rattle.std.proofs.Common.{◌≡◌, ℕ, ◌+◌, ◌||◌, nat_lt, cond, List, map, ◌++◌, Option, None, Some, IfSome, option_map, slice_get, find, sym, ap, subst, ◌∙◌, refl}
+use Rattle.std.proofs.Common.{◌≡◌, ℕ, ◌+◌, ◌||◌, nat_lt, cond, Option, None, Some, IfSome, option_map, slice_get, find, sym, ap, subst, ◌∙◌, refl}
 use Rattle.std.specs.Option.{option_and_then, option_or}
 use Rattle.std.proofs.lemmas.Option.{same_Some}
 use Rattle.qrules.specs.declared.kind.Kind.{Kind}
 use Rattle.qrules.specs.declared.kind.Kind.TheVariants.{User, Group}
-use Rattle.qrules.specs.Sort.{Inodes, Blocks}
 use Rattle.qrules.specs.Charge.{first_fault}
 use Rattle.qplain.specs.declared.bounds.TheConstants.{MAX_NUMBER}
 use Rattle.qplain.specs.declared.refusal.Refusal.TheVariants.{EDQUOT, ENOSPC}
-use Rattle.qplain.specs.declared.refusal.Refusal.{Refusal}
 use Rattle.qplain.specs.Caller.{Caller, is_superuser}
 use Rattle.qplain.specs.State.{Inode, State}
 use Rattle.qplain.specs.Use.{owner}
 use Rattle.qplain.specs.Arguments.{is_holder}
-use Rattle.qplain.specs.Decision.{fault_of_holder, first_refusal, is_too_full, refusal_between}
+use Rattle.qplain.specs.Decision.{fault_of_holder, first_refusal, refusal_between}
 use Rattle.qlaws.proofs.Replacing.{first_refusal-after, first_refusal-none, refusal_at}
 use Rattle.qledger.specs.declared.bill.Bill.{Bill}
 use Rattle.qledger.specs.declared.bill.Posting.{Posting}
@@ -23,7 +21,9 @@ use Rattle.qledger.specs.declared.kept_holder.KeptHolder.{KeptHolder}
 use Rattle.qledger.specs.Books.{AreBooksOf, AreInRange, Books, ledger_in}
 use Rattle.qledger.specs.Claims.{IsShareOf, share_in}
 use Rattle.qledger.specs.KeptHolders.{AreById, IsSlotOf, holder_in}
-use Rattle.qledger.specs.Replacements.{IsBillOf, IsFinal, IsReplacement, bill_refusal, refusal_of}
+use Rattle.qledger.specs.Replacements.{IsReplacement}
+use Rattle.qledger.specs.Ledgers.{IsFinal, refusal_of}
+use Rattle.qledger.specs.Decisions.{bill_refusal, IsBillOf}
 use Rattle.qledger.proofs.Booked.{ledger-counted}
 use Rattle.qledger.proofs.Counted.{account_of-counted}
 use Rattle.qledger.proofs.Holders.{find-kept}

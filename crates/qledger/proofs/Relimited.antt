@@ -8,15 +8,13 @@ use Rattle.qrules.specs.declared.limits.Limits.{Limits}
 use Rattle.qrules.specs.Account.{HasEnds}
 use Rattle.qrules.specs.Grace.{with_limits}
 use Rattle.qplain.specs.State.{Holder, State}
-use Rattle.qplain.specs.Attempt.{with_limits_of}
+use Rattle.qplain.specs.Quotas.{with_limits_of}
 use Rattle.qplain.specs.Decision.{ends_after, with_ends_of}
 use Rattle.qlaws.specs.Laws.{IsLawful}
-use Rattle.qledger.specs.declared.bill.Bill.{Bill}
 use Rattle.qledger.specs.declared.bill.Posting.{Posting}
-use Rattle.qledger.specs.declared.bill.Postings.{Postings}
 use Rattle.qledger.specs.declared.kept_holder.KeptHolder.{KeptHolder}
-use Rattle.qledger.specs.Bills.{post, posted, settled}
-use Rattle.qledger.specs.Books.{AreBooksOf, AreInRange, Books, ledger_in}
+use Rattle.qledger.specs.Bills.{posted, settled}
+use Rattle.qledger.specs.Books.{AreBooksOf, AreInRange, Books}
 use Rattle.qledger.specs.KeptHolders.{AreById, IsCountedIn, IsSlotOf, holder_in, holders_in}
 use Rattle.qledger.proofs.Booked.{ledger-ends}
 use Rattle.qledger.proofs.ById.{post-none}

@@ -11,7 +11,7 @@ use Rattle.qplain.specs.State.{Holder, State}
 use Rattle.qplain.specs.Use.{account_of}
 use Rattle.qplain.specs.Arguments.{is_holder, is_same_kind}
 use Rattle.qplain.specs.Decision.{ends_after, with_ends_of}
-use Rattle.qplain.specs.Attempt.{relimited, with_limits_of}
+use Rattle.qplain.specs.Quotas.{relimited, with_limits_of}
 use Rattle.qlaws.proofs.Ends.{holders-same, with_ends_of-same}
 use Rattle.qlaws.proofs.Start.{same_kind-refl}
 use Rattle.qledger.specs.declared.kept_holder.KeptHolder.{KeptHolder}

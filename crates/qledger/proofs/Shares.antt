@@ -6,15 +6,15 @@ use Rattle.qrules.specs.declared.kind.Kind.{Kind}
 use Rattle.qrules.specs.declared.record.TheConstants.{MAX_USE}
 use Rattle.qrules.specs.Sort.{Sort, Inodes, Blocks}
 use Rattle.qplain.specs.State.{Inode, State}
-use Rattle.qplain.specs.Use.{owner, total_of, use_of, weight}
+use Rattle.qplain.specs.Use.{owner, use_of, weight}
 use Rattle.qlaws.specs.Replaces.{charge_of, weight_of}
 use Rattle.qlaws.proofs.Replacing.{use-le-total}
 use Rattle.qledger.specs.declared.claim.Share.{Share}
 use Rattle.qledger.specs.declared.claim.Weight.{Weight}
 use Rattle.qledger.specs.declared.kept_holder.KeptHolder.{KeptHolder}
-use Rattle.qledger.specs.Claims.{IsShare, IsShareOf, nothing, weight_at}
+use Rattle.qledger.specs.Claims.{IsShareOf, nothing, weight_at}
 use Rattle.qledger.specs.KeptHolders.{AreById, IsCountedIn, IsSlotOf}
-use Rattle.qledger.specs.Replacements.{IsLedgerReplacement}
+use Rattle.qledger.specs.Ledgers.{IsLedgerReplacement}
 use Rattle.qledger.proofs.ById.{above-first, above-slot, by_id-rest, slot-below}
 
 -- an id stands at one slot alone

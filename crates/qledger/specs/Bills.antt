@@ -1,7 +1,5 @@
 -- What a bill makes of the books.
-use Rattle.std.specs.Prelude.{◌≡◌, ℕ, ◌==◌, if◌then◌else◌, List, map, Option, Some, None, IfSome}
-use Rattle.qrules.specs.declared.kind.Kind.{Kind}
-use Rattle.qrules.specs.declared.kind.Kind.TheVariants.{User, Group}
+use Rattle.std.specs.Prelude.{◌==◌, if◌then◌else◌, List, map, Option, Some, None, IfSome}
 use Rattle.qledger.specs.declared.bill.Bill.{Bill}
 use Rattle.qledger.specs.declared.bill.Posting.{Posting}
 use Rattle.qledger.specs.declared.bill.Postings.{Postings}

@@ -1,15 +1,11 @@
--- The quota records of one kind of principal, as a store keeps them. No public clause cites this module.
-use Rattle.std.specs.Prelude.{◌≡◌, ℕ, ◌==◌, if◌then◌else◌, List, ◌++◌, map, Some}
+-- The quota records of one kind of principal, as a store keeps them.
+use Rattle.std.specs.Prelude.{◌≡◌, ℕ, List, ◌++◌, map, Some}
 use Rattle.std.specs.Option.{option_map}
 use Rattle.std.specs.List.{slice_get}
 use Rattle.std.specs.List.Sorted.{IsStrictlyIncreasing}
 use Rattle.qrules.specs.declared.kind.Kind.{Kind}
 use Rattle.qrules.specs.declared.kind.Kind.TheVariants.{User, Group}
-use Rattle.qrules.specs.declared.graces.Graces.{Graces}
-use Rattle.qrules.specs.declared.record_row.RecordRow.{RecordRow}
 use Rattle.qrules.specs.Sort.{Inodes, Blocks}
-use Rattle.qrules.specs.Grace.{unused, with_ends}
-use Rattle.qplain.specs.declared.principal.Principal.{Principal}
 use Rattle.qplain.specs.State.{Holder, State}
 use Rattle.qplain.specs.Use.{use_of}
 use Rattle.qledger.specs.declared.kept_holder.KeptHolder.{KeptHolder}
@@ -42,35 +38,7 @@ AreById holders = IsStrictlyIncreasing (map (λ o. o.id) holders)
 abbrev pub IsSlotOf : List KeptHolder → ℕ → ℕ → Type 0
 IsSlotOf holders slot id = option_map (λ o. o.id) (slice_get holders slot) ≡ Some id
 
--- this is the kept holder of this id, and stands at this slot
-pub record IsHolderAt (holders : List KeptHolder) (slot id : ℕ) (o : KeptHolder) : Type 0 where
-  pub there : slice_get holders slot ≡ Some o
-  pub same : o.id ≡ id
-
--- a declared principal in a new store: id 0 has the root directory, and any other uses nothing
-abbrev pub new_holder : Graces → Principal → KeptHolder
-new_holder graces p = record {
-  id = p.id;
-  name = p.name;
-  account =
-      if 0 == p.id then with_ends (record (unused p.limits) { inodes = 1 }) graces 0
-      else unused p.limits;
-}
-
 -- the kept use is the recounted one
 pub record IsCountedIn (S : State) (kind : Kind) (o : KeptHolder) : Type 0 where
   pub blocks : o.account.blocks ≡ use_of S kind o.id Blocks
   pub inodes : o.account.inodes ≡ use_of S kind o.id Inodes
-
--- the row of a kept holder's record
-abbrev pub holder_row : Kind → KeptHolder → RecordRow
-holder_row kind o = record {
-  kind = kind;
-  id = o.id;
-  name = o.name;
-  blocks = o.account.blocks;
-  inodes = o.account.inodes;
-  limits = o.account.limits;
-  block_end = o.account.block_end;
-  inode_end = o.account.inode_end;
-}

@@ -5,4 +5,6 @@ pub mod Books
 pub mod Bills
 pub mod Replacements
 pub mod Rows
+pub mod Ledgers
+pub mod Decisions
 pub mod Kept

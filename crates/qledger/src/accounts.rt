@@ -6,14 +6,16 @@ ghost use Rattle.qrules.specs.declared.kind.Kind.TheVariants.{User, Group};
 ghost use Rattle.qrules.specs.Range.{are_graces_in_range};
 ghost use Rattle.qplain.specs.State.{Inode, State, start};
 ghost use Rattle.qplain.specs.Arguments.{is_declared, is_holder};
-ghost use Rattle.qplain.specs.Attempt.{with_limits_of};
+ghost use Rattle.qplain.specs.Quotas.{with_limits_of};
 ghost use Rattle.qplain.specs.Decision.{ends_after, refusal_between};
 ghost use Rattle.qlaws.specs.Laws.{IsLawful};
 ghost use Rattle.qledger.specs.KeptHolders.{IsCountedIn, IsSlotOf, holder_in};
 ghost use Rattle.qledger.specs.Claims.{share_in};
 ghost use Rattle.qledger.specs.Books.{AreBooksOf, AreInRange, ledger_in};
 ghost use Rattle.qledger.specs.Bills.{IsBillFor, settled};
-ghost use Rattle.qledger.specs.Replacements.{IsBillOf, IsReplacement, bill_refusal, refusal_of};
+ghost use Rattle.qledger.specs.Replacements.{IsReplacement};
+ghost use Rattle.qledger.specs.Ledgers.{refusal_of};
+ghost use Rattle.qledger.specs.Decisions.{bill_refusal, IsBillOf};
 ghost use Rattle.qledger.specs.Rows.{StandsBefore, record_row_of};
 
 use crate::bill::{Bill, Postings};
@@ -246,7 +248,8 @@ impl Accounts {
 
     /// A bill that leaves the totals.
     fn bill_with(&self, users: Postings, groups: Postings) -> Bill
-        ensures { result ≡ record { users = users; groups = groups; blocks = self.now.blocks; inodes = self.now.inodes } }
+        ensures { result
+            ≡ record { users = users; groups = groups; blocks = self.now.blocks; inodes = self.now.inodes } }
     {
         Bill {
             users,

@@ -3,7 +3,7 @@ ghost use Rattle.std.specs.Prelude.{◌≡◌, ◌==◌, ◌≤◌, if◌then◌
 ghost use Rattle.qrules.specs.Grace.{unused, with_ends};
 ghost use Rattle.std.specs.Option.{option_map};
 ghost use Rattle.qrules.specs.Charge.{first_fault};
-ghost use Rattle.qledger.specs.KeptHolders.{new_holder, holder_row};
+ghost use Rattle.qledger.specs.Ledgers.{holder_row, new_holder};
 
 use qplain::{NoMemory, Principal, Refusal};
 use qrules::{Graces, Kind, Limits, MAX_GRACE, PrincipalName, Record, RecordRow};

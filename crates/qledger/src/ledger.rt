@@ -6,9 +6,9 @@ ghost use Rattle.std.specs.List.Sorted.{IsStrictlyIncreasing};
 ghost use Rattle.qrules.specs.Grace.{with_limits};
 ghost use Rattle.qrules.specs.declared.kind.Kind.{Kind};
 ghost use Rattle.qplain.specs.State.{Inode, State};
-ghost use Rattle.qledger.specs.KeptHolders.{AreById, IsHolderAt, IsSlotOf, new_holder, holder_row};
+ghost use Rattle.qledger.specs.KeptHolders.{AreById, IsSlotOf};
 ghost use Rattle.qledger.specs.Bills.{ArePlaced, post, posted};
-ghost use Rattle.qledger.specs.Replacements.{ArePosted, IsFinal, IsLedgerReplacement, refusal_of};
+ghost use Rattle.qledger.specs.Ledgers.{ArePosted, holder_row, IsFinal, IsHolderAt, IsLedgerReplacement, new_holder, refusal_of};
 
 use crate::bill::{Posting, Postings};
 use crate::claim::{Share, weight_at};

@@ -1,4 +1,4 @@
-use Rattle.std.proofs.Common.{◌≡◌, Some, None, sym, ◌∙◌}
+use Rattle.std.proofs.Common.{sym, ◌∙◌}
 use Rattle.qledger.proofs.Booked.{bill-placed, books-settled}
 use Rattle.qledger.proofs.Refusals.{bill-refused}
 use Rattle.qledger.proofs.accounts.Accounts.bill.Goals as goal

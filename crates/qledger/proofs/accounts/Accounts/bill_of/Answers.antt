@@ -1,13 +1,17 @@
-use Rattle.std.proofs.Common.{◌≡◌, ℕ, ◌+◌, ◌-◌, Option, option_map, sym, ap, subst, ◌∙◌, arith}
+use Rattle.std.proofs.Common.{◌≡◌, ℕ, ◌+◌, ◌-◌, List, Option, option_map, sym, subst, ◌∙◌}
+use Rattle.qrules.specs.declared.kind.Kind.{Kind}
 use Rattle.qrules.specs.declared.kind.Kind.TheVariants.{User, Group}
 use Rattle.qrules.specs.Sort.{Inodes, Blocks}
-use Rattle.qplain.specs.Use.{total_of}
+use Rattle.qplain.specs.State.{State}
+use Rattle.qledger.specs.declared.bill.Postings.{Postings}
 use Rattle.qledger.specs.declared.claim.Share.{Share}
+use Rattle.qledger.specs.declared.kept_holder.KeptHolder.{KeptHolder}
 use Rattle.qledger.specs.Books.{Books}
 use Rattle.qledger.specs.Claims.{share_in}
 use Rattle.qledger.specs.Kept.{books_of}
-use Rattle.qledger.specs.Replacements.{ArePosted, IsBillOf, IsReplacement}
-use Rattle.qledger.proofs.Booked.{gained-total, groups-replaced, lost-total, total-then, users-replaced}
+use Rattle.qledger.specs.Replacements.{IsReplacement}
+use Rattle.qledger.specs.Ledgers.{ArePosted}
+use Rattle.qledger.proofs.Booked.{groups-replaced, total-then, users-replaced}
 use Rattle.qledger.proofs.accounts.Accounts.bill_of.Goals as goal
 
 pub postings-requires-clause-replacement : goal.postings-requires-clause-replacement
@@ -41,6 +45,12 @@ postings-requires-2-clause-replacement c =
 pub returns-clause-in_range : goal.returns-clause-in_range
 returns-clause-in_range c = rw (← c.self.view_is) c.self.invariant
 
+-- postings for the shares are postings for what equals them
+posted-shares : (os : List KeptHolder) (kind : Kind) (S1 : State) (moment : ℕ) (p : Postings) {f f1 t t1 : Option Share}
+    → f ≡ f1 → t ≡ t1 → ArePosted os kind S1 moment f t p → ArePosted os kind S1 moment f1 t1 p
+posted-shares os kind S1 moment p {f} {f1} {t} {t1} from to done = subst (λ s. ArePosted os kind S1 moment s t1 p) from
+    (subst (λ s. ArePosted os kind S1 moment f s p) to done)
+
 -- the records of both kinds and the totals are those of the new state
 pub returns-clause-bill : goal.returns-clause-bill
 returns-clause-bill c = rw (← c.self.view_is) (λ S S1 f t r.
@@ -51,12 +61,10 @@ returns-clause-bill c = rw (← c.self.view_is) (λ S S1 f t r.
     let gained = c.weight_of-gained.ensures in
     let lost = c.weight_of-lost.ensures in
     record {
-      users = subst (λ (s : Option Share). ArePosted b.users User S1 x.moment (option_map (share_in User) x.from) s c.postings.result) c.share_of-2.ensures
-          (subst (λ (s : Option Share). ArePosted b.users User S1 x.moment s c.share_of-2.result c.postings.result) c.share_of.ensures
-          (c.postings.ensures User S S1 f t (rw (c.share_of.ensures, c.share_of-2.ensures) users) (sym r.books.graces)));
-      groups = subst (λ (s : Option Share). ArePosted b.groups Group S1 x.moment (option_map (share_in Group) x.from) s c.postings-2.result) c.share_of-4.ensures
-          (subst (λ (s : Option Share). ArePosted b.groups Group S1 x.moment s c.share_of-4.result c.postings-2.result) c.share_of-3.ensures
-          (c.postings-2.ensures Group S S1 f t (rw (c.share_of-3.ensures, c.share_of-4.ensures) groups) (sym r.books.graces)));
+      users = posted-shares b.users User S1 x.moment c.postings.result c.share_of.ensures c.share_of-2.ensures
+          (c.postings.ensures User S S1 f t (rw (c.share_of.ensures, c.share_of-2.ensures) users) (sym r.books.graces));
+      groups = posted-shares b.groups Group S1 x.moment c.postings-2.result c.share_of-3.ensures c.share_of-4.ensures
+          (c.postings-2.ensures Group S S1 f t (rw (c.share_of-3.ensures, c.share_of-4.ensures) groups) (sym r.books.graces));
       blocks = (λ i. r.books.blocks i + (gained i).blocks - (lost i).blocks) ∙ total-then b x.from x.to S S1 f t r Blocks;
       inodes = (λ i. r.books.inodes i + (gained i).inodes - (lost i).inodes) ∙ total-then b x.from x.to S S1 f t r Inodes;
     })

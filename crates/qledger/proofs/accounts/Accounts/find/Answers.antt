@@ -1,9 +1,10 @@
-use Rattle.std.proofs.Common.{◌≡◌, ℕ, ◌==◌, List, find, sym, ap, subst, ◌∙◌}
+use Rattle.std.proofs.Common.{ℕ, ◌==◌, List, find, sym, ap, subst, ◌∙◌}
 use Rattle.std.specs.Option.{IfSome}
 use Rattle.std.specs.List.{list_any}
 use Rattle.qplain.specs.Arguments.{is_holder}
 use Rattle.qledger.specs.declared.kept_holder.KeptHolder.{KeptHolder}
-use Rattle.qledger.specs.KeptHolders.{AreById, IsHolderAt}
+use Rattle.qledger.specs.KeptHolders.{AreById}
+use Rattle.qledger.specs.Ledgers.{IsHolderAt}
 use Rattle.qledger.proofs.Booked.{ledger-counted}
 use Rattle.qledger.proofs.Holders.{found-counted, found-kept}
 use Rattle.qledger.proofs.accounts.Accounts.find.Goals as goal

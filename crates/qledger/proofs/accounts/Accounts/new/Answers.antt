@@ -1,9 +1,9 @@
-use Rattle.std.proofs.Common.{◌≡◌, List, map, sym, ap, subst, ◌∙◌, refl}
+use Rattle.std.proofs.Common.{List, map, sym, subst, ◌∙◌}
 use Rattle.std.specs.List.Sorted.{IsStrictlyIncreasing}
 use Rattle.qplain.specs.declared.principal.Principal.{Principal}
 use Rattle.qplain.specs.State.{start}
 use Rattle.qledger.specs.Books.{AreBooksOf, Books}
-use Rattle.qledger.specs.KeptHolders.{new_holder}
+use Rattle.qledger.specs.Ledgers.{new_holder}
 use Rattle.qledger.proofs.Begun.{books-begun}
 use Rattle.qledger.proofs.Declared.{group-ids-rise, user-ids-rise}
 use Rattle.qledger.proofs.accounts.Accounts.new.Goals as goal

@@ -1,8 +1,7 @@
-use Rattle.std.proofs.Common.{◌≡◌, ◌++◌, map, sym, ap, subst, ◌∙◌}
+use Rattle.std.proofs.Common.{◌++◌, map, sym, ap, subst, ◌∙◌}
 use Rattle.std.specs.List.{AllPairs}
 use Rattle.qrules.specs.declared.kind.Kind.TheVariants.{User, Group}
-use Rattle.qledger.specs.Kept.{books_of}
-use Rattle.qledger.specs.KeptHolders.{holder_row}
+use Rattle.qledger.specs.Ledgers.{holder_row}
 use Rattle.qledger.specs.Rows.{StandsBefore, record_row_of}
 use Rattle.qledger.proofs.Counted.{all-rows}
 use Rattle.qledger.proofs.RecordOrder.{in_order-holders}

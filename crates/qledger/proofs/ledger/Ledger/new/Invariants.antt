@@ -1,5 +1,5 @@
 use Rattle.std.proofs.Common.{◌≡◌, map, take}
-use Rattle.qledger.specs.KeptHolders.{new_holder}
+use Rattle.qledger.specs.Ledgers.{new_holder}
 use Rattle.qledger.proofs.ledger.Ledger.new.Given as goal
 
 -- the kept holders so far are those of the principals so far

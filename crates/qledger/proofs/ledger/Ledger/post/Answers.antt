@@ -1,4 +1,4 @@
-use Rattle.std.proofs.Common.{◌≡◌, List, map, Option, Some, refl, sym, subst}
+use Rattle.std.proofs.Common.{List, Option, Some, refl, sym, subst}
 use Rattle.std.specs.Option.{IfSome}
 use Rattle.qledger.specs.declared.bill.Posting.{Posting}
 use Rattle.qledger.specs.declared.kept_holder.KeptHolder.{KeptHolder}

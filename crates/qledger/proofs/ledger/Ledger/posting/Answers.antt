@@ -1,9 +1,9 @@
-use Rattle.std.proofs.Common.{◌≡◌, ℕ, ◌+◌, ◌-◌, Option, sym, ap, ◌∙◌, subst, option_map, arith}
+use Rattle.std.proofs.Common.{◌≡◌, ◌+◌, ◌-◌, sym, ap, ◌∙◌, option_map, arith}
 use Rattle.std.proofs.lemmas.Option.{same_Some}
 use Rattle.qrules.specs.Sort.{Inodes, Blocks}
 use Rattle.qplain.specs.Use.{use_of}
 use Rattle.qledger.specs.Claims.{weight_at}
-use Rattle.qledger.specs.Replacements.{record_after}
+use Rattle.qledger.specs.Ledgers.{record_after}
 use Rattle.qledger.proofs.Posted.{record-after-by}
 use Rattle.qledger.proofs.Shares.{gained-le, lost-le, use-then}
 use Rattle.qledger.proofs.ledger.Ledger.posting.Goals as goal

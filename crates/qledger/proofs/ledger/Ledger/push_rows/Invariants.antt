@@ -1,5 +1,5 @@
 use Rattle.std.proofs.Common.{◌≡◌, ◌++◌, map, take}
-use Rattle.qledger.specs.KeptHolders.{holder_row}
+use Rattle.qledger.specs.Ledgers.{holder_row}
 use Rattle.qledger.proofs.ledger.Ledger.push_rows.Given as goal
 
 -- the rows of the kept holders so far stand behind those of before

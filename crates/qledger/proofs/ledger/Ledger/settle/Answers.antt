@@ -1,6 +1,6 @@
-use Rattle.std.proofs.Common.{◌≡◌, map, refl, sym, ap, ◌∙◌}
+use Rattle.std.proofs.Common.{map, sym, ap, ◌∙◌}
 use Rattle.qledger.specs.Bills.{post}
-use Rattle.qledger.proofs.ById.{placed-after, posted-both}
+use Rattle.qledger.proofs.ById.{posted-both}
 use Rattle.qledger.proofs.ledger.Ledger.settle.Goals as goal
 
 pub returns : goal.returns
