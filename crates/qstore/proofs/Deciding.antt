@@ -1,22 +1,28 @@
 -- What a decision comes to: once for all calls.
-use Rattle.std.proofs.Common.{◌≡◌, ℕ, ◌+◌, ◌-◌, ◌≤◌, List, [], Option, None, Some, refl, sym, ap, subst, ◌∙◌, arith}
+use Rattle.std.proofs.Common.{◌≡◌, ℕ, ◌+◌, ◌-◌, ◌^◌, ◌≤◌, ◌==◌, true, not, cond, List, [], Option, None, Some, refl, sym, ap, subst, ◌∙◌, arith}
 use Rattle.std.specs.Result.{IsOk}
 use Rattle.qrules.specs.declared.kind.Kind.TheVariants.{User, Group}
 use Rattle.qrules.specs.Sort.{Inodes, Blocks}
+use Rattle.qrules.specs.declared.kind.Kind.{Kind}
+use Rattle.qrules.specs.declared.limits.Limits.{Limits}
+use Rattle.qblocks.specs.File.{empty_file}
+use Rattle.qplain.specs.declared.refusal.Refusal.TheVariants.{EPERM, ESRCH}
+use Rattle.qplain.specs.Arguments.{is_declared}
+use Rattle.qplain.specs.Quotas.{set_quota, with_limits_of}
 use Rattle.qplain.specs.declared.change.Change.{Change as TotalChange}
 use Rattle.qplain.specs.declared.refusal.Refusal.{Refusal}
 use Rattle.qplain.specs.declared.reply.Reply.{Reply}
-use Rattle.qplain.specs.declared.reply.Reply.TheVariants.{Done, Refused}
-use Rattle.qplain.specs.Attempt.{Answer, Attempt, Becomes, Refuse}
+use Rattle.qplain.specs.declared.reply.Reply.TheVariants.{Bytes, Done, Refused}
+use Rattle.qplain.specs.Attempt.{Answer, Attempt, Becomes, Refuse, no_change}
 use Rattle.qplain.specs.Caller.{Caller}
 use Rattle.qplain.specs.Decision.{ends_after, refusal_between}
-use Rattle.qplain.specs.State.{Inode, State}
+use Rattle.qplain.specs.State.{Inode, State, inode_at}
 use Rattle.qplain.specs.Step.{change_between, settle}
 use Rattle.qplain.specs.Use.{weight}
 use Rattle.qlaws.specs.Laws.{IsLawful}
 use Rattle.qlaws.specs.Replaces.{Replaces, weight_of}
-use Rattle.qlaws.proofs.Replacing.{change-after}
-use Rattle.qlaws.proofs.Settling.{settle-granted, settle-refused}
+use Rattle.qlaws.proofs.Replacing.{Replaces-changed, change-after}
+use Rattle.qlaws.proofs.Settling.{settle-granted, settle-refused, settle-with_limits_of}
 use Rattle.qledger.specs.declared.bill.Bill.{Bill}
 use Rattle.qledger.specs.declared.claim.Claim.{Claim}
 use Rattle.qledger.specs.declared.claim.Slots.{Slots}
@@ -28,7 +34,7 @@ use Rattle.qledger.specs.Replacements.{IsReplacement}
 use Rattle.qledger.proofs.Booked.{claim-weight}
 use Rattle.qstore.specs.declared.ready.Decided.{Decided}
 use Rattle.qstore.specs.declared.ready.Plan.{Plan}
-use Rattle.qstore.specs.declared.ready.Plan.TheVariants.{Nothing, Change}
+use Rattle.qstore.specs.declared.ready.Plan.TheVariants.{Nothing, Change, Limits as SetLimits}
 use Rattle.qstore.specs.declared.ready.TreeChange.{TreeChange}
 use Rattle.qstore.specs.Decided.{IsClaimed, IsDecided}
 use Rattle.qstore.specs.Ready.{CanCarryOut, CanChange, CanSettle, IsRefused, billed, changed, effect}
@@ -96,7 +102,7 @@ told-change b from to S S1 f t r =
 -- ---- decisions
 
 -- what is done is no refusal
-done-unrefused : {A : Type 0} (number : ℕ) (change : TotalChange) (reply : Reply) → reply ≡ Done number change → IsRefused reply → A
+pub done-unrefused : {A : Type 0} (number : ℕ) (change : TotalChange) (reply : Reply) → reply ≡ Done number change → IsRefused reply → A
 done-unrefused number change reply is refused = let same = sym is ∙ refused.1 in cc
 
 -- a refusal decides an attempt that is refused so
@@ -165,3 +171,37 @@ same-store s = record { state = refl; books = refl }
 pub decided-along : (old new : Stored) (cred : Caller) (moment : ℕ) (attempt other : Attempt) (bytes : List ℕ) (d : Decided) → attempt ≡ other
     → IsDecided old new cred moment attempt bytes d → IsDecided old new cred moment other bytes d
 decided-along old new cred moment attempt other bytes d same is = subst (λ a. IsDecided old new cred moment a bytes d) same is
+
+-- what an inode that is there weighs is within the size
+pub weight-fits : (S : State) (number : ℕ) (inode : Inode) → inode_at S number ≡ Some inode → IsLawful S → weight Blocks inode ≤ S.size
+weight-fits S number inode there lawful =
+    let sum = (Replaces-changed S number inode (record inode { file = empty_file }) there).totals Blocks in
+    let fits = lawful.blocks_fit in
+    omega (arith, sum, fits)
+
+-- an attempt that is answered with bytes is no refusal
+pub bytes-unrefused : {A : Type 0} (S : State) (cred : Caller) (moment : ℕ) (attempt : Attempt) (bytes : List ℕ) → attempt ≡ Answer (Bytes bytes)
+    → IsRefused (settle S cred moment attempt).1 → A
+bytes-unrefused S cred moment attempt bytes is refused =
+    let told = ap (λ (t : State × Reply). t.1) (ap (settle S cred moment) is) in
+    let same : Bytes bytes ≡ Refused refused.0 = sym told ∙ refused.1 in
+    cc
+
+-- new limits that the superuser sets of a declared principal
+pub decided-limits : (s : Stored) (cred : Caller) (moment : ℕ) (kind : Kind) (id : ℕ) (limits : Limits) (bill : Bill) → IsLawful s.state
+    → (cred.uid == 0) ≡ true → is_declared s.state kind id ≡ true
+    → AreBooksOf (ends_after (with_limits_of s.state kind id limits) moment) (settled bill s.books) → IsBillFor s.books bill
+    → IsDecided s s cred moment (set_quota s.state cred kind id limits) [] (record { reply = Done 0 no_change; plan = SetLimits bill })
+decided-limits s cred moment kind id limits bill lawful super declared books placed = record {
+  step =
+      (λ i. (left i, Done 0 no_change))
+      ∙ sym ((λ i. settle s.state cred moment
+      (cond (not (super i)) (Refuse EPERM)
+      (cond (not (declared i)) (Refuse ESRCH) (Becomes (with_limits_of s.state kind id limits) 0))))
+      ∙ settle-with_limits_of s.state kind id limits cred moment lawful.blocks_fit lawful.inodes_fit lawful.next_fits);
+  can = record { placed = placed; books = subst (λ (S : State). AreBooksOf S (settled bill s.books)) (sym left) books };
+  nothing = λ refused. done-unrefused 0 no_change (Done 0 no_change) refl refused;
+}
+  where
+    left : billed s.state bill s.books ≡ ends_after (with_limits_of s.state kind id limits) moment
+    left = λ i. record s.state { holders = sym books.holders i }

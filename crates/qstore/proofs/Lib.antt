@@ -7,3 +7,4 @@ pub mod Links
 pub mod Steps
 pub mod Listed
 pub mod Deciding
+pub mod Calls

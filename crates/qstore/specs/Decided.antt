@@ -7,12 +7,17 @@ use Rattle.qplain.specs.Caller.{Caller}
 use Rattle.qplain.specs.State.{Inode}
 use Rattle.qplain.specs.Step.{settle}
 use Rattle.qledger.specs.declared.claim.Claim.{Claim}
-use Rattle.qledger.specs.Books.{Books}
+use Rattle.qledger.specs.Books.{AreBooksOf, Books}
 use Rattle.qledger.specs.Claims.{IsShareOf, share_in}
 use Rattle.qstore.specs.declared.ready.Decided.{Decided}
 use Rattle.qstore.specs.declared.ready.Plan.TheVariants.{Nothing}
 use Rattle.qstore.specs.Ready.{CanCarryOut, IsRefused, effect}
-use Rattle.qstore.specs.Stored.{Stored}
+use Rattle.qstore.specs.Stored.{IsSound, Stored}
+
+-- the state is sound, and the books are its own
+pub record IsWhole (s : Stored) : Type 0 where
+  pub sound : IsSound s.state
+  pub books : AreBooksOf s.state s.books
 
 -- the decision is what the plain machine makes of the attempt, and the store, with the room that was made, can carry it
 -- out

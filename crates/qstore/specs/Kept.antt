@@ -8,7 +8,7 @@ use Rattle.std.specs.Map.{lookup}
 use Rattle.qplain.specs.State.{State, inode_at}
 use Rattle.qplain.specs.Use.{links_of}
 use Rattle.qtree.specs.Tree.{RoomyTree}
-use Rattle.qledger.specs.Books.{AreBooksOf, Books}
+use Rattle.qledger.specs.Books.{AreBooksOf, AreInRange, Books}
 use Rattle.qledger.specs.KeptHolders.{holders_in}
 use Rattle.qstore.specs.declared.store.Store.TheInside.{Inside}
 use Rattle.qstore.specs.Stored.{IsSound, Stored}
@@ -43,7 +43,8 @@ pub record IsTreeOf (S : State) (tree : RoomyTree) : Type 0 where
   pub links : AreLinks S tree.links
 
 -- the state is sound, and what is kept beside it is what it counts to: the books, and each inode's links
-pub record IsCounted (S : State) (b : Books) (links : List (ℕ × ℕ)) : Type 0 where
+pub record IsCounted (S : State) (b : Books) (kept : List (ℕ × ℕ)) : Type 0 where
   pub sound : IsSound S
   pub books : AreBooksOf S b
-  pub links : AreLinks S links
+  pub in_range : AreInRange b
+  pub links : AreLinks S kept

@@ -1,5 +1,5 @@
 -- What a call that is ready will do, and when it may.
-use Rattle.std.specs.Prelude.{◌≡◌, ℕ, ◌+◌, ◌<◌, ◌≤◌, Bool, true, false, List, [], length, string_bytes, is_some, Option, Some, None, Unit, IfSome}
+use Rattle.std.specs.Prelude.{◌≡◌, ℕ, ◌+◌, ◌<◌, ◌≤◌, Bool, true, false, List, [], length, string_bytes, is_some, Option, Some, None, IfSome}
 use Rattle.std.specs.Option.{unwrap_or}
 use Rattle.qrules.specs.declared.graces.Graces.{Graces}
 use Rattle.qrules.specs.Range.{are_graces_in_range}

@@ -11,7 +11,7 @@ ghost use Rattle.qplain.specs.Step.{settle, step};
 ghost use Rattle.qlaws.specs.Laws.{IsLawful, PassesNoLimit};
 ghost use Rattle.qledger.specs.Books.{HasSlots};
 ghost use Rattle.qstore.specs.Stored.{IsSameStore, IsSound, Stored};
-ghost use Rattle.qstore.specs.Decided.{IsDecided};
+ghost use Rattle.qstore.specs.Decided.{IsDecided, IsWhole};
 ghost use Rattle.qstore.specs.Ready.{CanCarryOut, IsReady, IsRefused, bytes_of, committed, effect, wants_no_memory};
 
 use crate::ready::{Decided, Plan, Ready};
@@ -150,7 +150,7 @@ impl Store {
         call: &Call,
     ) -> Result<Decided, NoMemory>
         requires callers { HasSlots self.old.books callers cred.now.uid cred.now.gid }
-        requires sound { IsSound self.old.state }
+        requires whole { IsWhole self.old }
         requires moment { moment ≤ MAX_MOMENT }
         requires numbers { has_bad_number self.old.state call.now ≡ false }
         ensures same { IsSameStore self.old self.new }

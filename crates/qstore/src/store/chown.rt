@@ -5,8 +5,7 @@ ghost use Rattle.qplain.specs.Arguments.{is_undeclared};
 ghost use Rattle.qplain.specs.Attempt.{at_path};
 ghost use Rattle.qplain.specs.Owners.{chown_at};
 ghost use Rattle.qledger.specs.Books.{HasSlots};
-ghost use Rattle.qstore.specs.Decided.{IsDecided};
-ghost use Rattle.qstore.specs.Stored.{IsSound};
+ghost use Rattle.qstore.specs.Decided.{IsDecided, IsWhole};
 
 use crate::ready::{Decided, TreeChange};
 use crate::store::Store;
@@ -28,7 +27,7 @@ impl Store {
         gid: Option<u32>,
     ) -> Decided
         requires callers { HasSlots self.now.books callers cred.now.uid cred.now.gid }
-        requires sound { IsSound self.now.state }
+        requires whole { IsWhole self.now }
         requires moment { moment ≤ MAX_MOMENT }
         requires declared { (is_undeclared self.now.state User uid || is_undeclared self.now.state Group gid) ≡ false }
         ensures { IsDecided self.now self.now cred.now moment

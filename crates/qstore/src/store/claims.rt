@@ -1,5 +1,5 @@
 //! What an inode takes of its owners' records, and the bill of a change.
-ghost use Rattle.std.specs.Prelude.{◌≡◌, ℕ, ◌≤◌, ◌&&◌, [], true, length, Option, Some, is_some, IfSome};
+ghost use Rattle.std.specs.Prelude.{◌≡◌, ℕ, ◌+◌, ◌≤◌, ◌&&◌, [], true, Option, None, Some, is_some, IfOk, IfErr, IfSome};
 ghost use Rattle.std.specs.Option.{IsSome};
 ghost use Rattle.qrules.specs.declared.kind.Kind.TheVariants.{User, Group};
 ghost use Rattle.qrules.specs.Sort.{Blocks};
@@ -8,16 +8,17 @@ ghost use Rattle.qplain.specs.Use.{weight};
 ghost use Rattle.qplain.specs.Arguments.{is_declared};
 ghost use Rattle.qplain.specs.Attempt.{Becomes};
 ghost use Rattle.qtree.specs.Nodes.{inode_of};
-ghost use Rattle.qledger.specs.Books.{HasSlots};
+ghost use Rattle.qplain.specs.Decision.{ends_after, refusal_between};
+ghost use Rattle.qledger.specs.Bills.{IsBillFor, settled};
+ghost use Rattle.qledger.specs.Books.{AreBooksOf, HasSlots};
 ghost use Rattle.qledger.specs.Replacements.{IsReplacement};
-ghost use Rattle.qstore.specs.Decided.{IsClaimed, IsDecided};
+ghost use Rattle.qstore.specs.Decided.{IsClaimed, IsDecided, IsWhole};
 ghost use Rattle.qstore.specs.Ready.{CanChange, changed};
-ghost use Rattle.qstore.specs.Stored.{IsSound};
 
 use crate::ready::{Decided, TreeChange};
 use crate::store::Store;
-use qledger::{Claim, Slots};
-use qplain::{Cred, MAX_BLOCKS};
+use qledger::{Bill, Claim, Slots};
+use qplain::{Cred, MAX_BLOCKS, Refusal};
 use qrules::{Kind, MAX_MOMENT};
 use qtree::{Content, Node};
 
@@ -37,7 +38,7 @@ impl Store {
         ensures declared { is_some result
             ≡ (is_declared self.now.state User uid && is_declared self.now.state Group gid) }
         ensures slots { IfSome result (λ slots. HasSlots self.now.books slots uid gid) }
-        ensures sound { IsSound self.now.state }
+        ensures whole { IsWhole self.now }
     {
         match (
             self.accounts.slot(Kind::User, uid),
@@ -87,6 +88,32 @@ impl Store {
         self.claim(cred, callers, node.uid, node.gid, blocks_of(node))
     }
 
+    /// The bill of a change by which the inode of one claim comes to stand in the place of the other's, and which gives
+    /// so many numbers, or why it is refused.
+    pub(super) fn bill(
+        &self,
+        cred: &Cred,
+        moment: u64,
+        given: u64,
+        from: Option<Claim>,
+        to: Option<Claim>,
+    ) -> Result<Bill, Refusal>
+        requires moment { moment ≤ MAX_MOMENT }
+        requires few { given ≤ 1 }
+        requires replacement { (S1 : State) × (f : Option Inode) × (t : Option Inode)
+            × IsReplacement self.now.books from to self.now.state S1 f t }
+        ensures granted { IfOk result (λ bill. (S1 : State) (f t : Option Inode)
+            → IsReplacement self.now.books from to self.now.state S1 f t → S1.next ≡ self.now.state.next + given
+            → (refusal_between self.now.state S1 cred.now moment ≡ None)
+            × AreBooksOf (ends_after S1 moment) (settled bill self.now.books)) }
+        ensures placed { IfOk result (IsBillFor self.now.books) }
+        ensures refused { IfErr result (λ refusal. (S1 : State) (f t : Option Inode)
+            → IsReplacement self.now.books from to self.now.state S1 f t → S1.next ≡ self.now.state.next + given
+            → refusal_between self.now.state S1 cred.now moment ≡ Some refusal) }
+    {
+        self.accounts.bill(cred, moment, self.next + given, from, to)
+    }
+
     /// Decides a change that passed its own tests and wants no room.
     pub(super) fn grant(
         &self,
@@ -105,7 +132,7 @@ impl Store {
         ensures { IsDecided self.now self.now cred.now moment (Becomes (changed self.now.state change []) number) []
             result }
     {
-        match self.accounts.bill(cred, moment, self.next, from, to) {
+        match self.bill(cred, moment, 0, from, to) {
             Ok(bill) => Decided::granted(number, from, to, change, bill),
             Err(refusal) => Decided::refused(refusal),
         }

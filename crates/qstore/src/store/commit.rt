@@ -1,7 +1,7 @@
 //! What is decided, done. It takes no memory and always succeeds.
 ghost use Rattle.std.specs.Prelude.{◌≡◌, ℕ, ◌-◌, ◌<◌, false, Some};
-ghost use Rattle.std.specs.BTreeMap.{is_at, remove_entry};
-ghost use Rattle.std.specs.Map.{lookup, set_value};
+ghost use Rattle.std.specs.BTreeMap.{is_at};
+ghost use Rattle.std.specs.Map.{lookup, remove_entry, set_value};
 ghost use Rattle.std.specs.Ordering.{nat_cmp};
 ghost use Rattle.qplain.specs.State.{State, is_dir};
 ghost use Rattle.qplain.specs.Names.{swept, without_name};

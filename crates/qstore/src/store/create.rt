@@ -7,7 +7,7 @@ ghost use Rattle.qplain.specs.Names.{create_as, created};
 ghost use Rattle.qplain.specs.State.{is_directory, named, new_file};
 ghost use Rattle.qplain.specs.Step.{settle};
 ghost use Rattle.qledger.specs.Books.{HasSlots};
-ghost use Rattle.qstore.specs.Decided.{IsDecided};
+ghost use Rattle.qstore.specs.Decided.{IsDecided, IsWhole};
 ghost use Rattle.qstore.specs.Ready.{IsRefused};
 ghost use Rattle.qstore.specs.Stored.{IsSameStore};
 
@@ -27,6 +27,7 @@ impl Store {
         path: &str,
     ) -> Result<Decided, NoMemory>
         requires callers { HasSlots self.old.books callers cred.now.uid cred.now.gid }
+        requires whole { IsWhole self.old }
         requires moment { moment ≤ MAX_MOMENT }
         ensures same { IsSameStore self.old self.new }
         ensures decided { IfOk result (IsDecided self.old self.new cred.now moment
@@ -54,6 +55,7 @@ impl Store {
         name: &str,
     ) -> Result<Decided, NoMemory>
         requires callers { HasSlots self.old.books callers cred.now.uid cred.now.gid }
+        requires whole { IsWhole self.old }
         requires moment { moment ≤ MAX_MOMENT }
         requires directory { is_directory self.old.state dir ≡ true }
         requires absent { named self.old.state dir name.now ≡ None }
@@ -66,7 +68,7 @@ impl Store {
             → IsOk result }
     {
         let to = Some(Claim::new(callers, 0));
-        let bill = match self.accounts.bill(cred, moment, self.next + 1, None, to) {
+        let bill = match self.bill(cred, moment, 1, None, to) {
             Ok(bill) => bill,
             Err(refusal) => return Ok(Decided::refused(refusal)),
         };

@@ -1,8 +1,7 @@
 //! To set limits (quotactl(2), Q_SETQUOTA; setquota(8)).
 ghost use Rattle.std.specs.Prelude.{◌≡◌, ◌≤◌, []};
 ghost use Rattle.qplain.specs.Quotas.{set_quota};
-ghost use Rattle.qstore.specs.Decided.{IsDecided};
-ghost use Rattle.qstore.specs.Stored.{IsSound};
+ghost use Rattle.qstore.specs.Decided.{IsDecided, IsWhole};
 
 use crate::ready::{Decided, Plan};
 use crate::store::Store;
@@ -20,7 +19,7 @@ impl Store {
         limits: Limits,
     ) -> Decided
         requires moment { moment ≤ MAX_MOMENT }
-        requires sound { IsSound self.now.state }
+        requires whole { IsWhole self.now }
         ensures { IsDecided self.now self.now cred.now moment (set_quota self.now.state cred.now kind id limits) []
             result }
     {

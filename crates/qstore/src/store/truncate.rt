@@ -3,8 +3,7 @@ ghost use Rattle.std.specs.Prelude.{◌≡◌, ◌≤◌, []};
 ghost use Rattle.qplain.specs.Attempt.{at_path};
 ghost use Rattle.qplain.specs.Files.{truncate_at};
 ghost use Rattle.qledger.specs.Books.{HasSlots};
-ghost use Rattle.qstore.specs.Decided.{IsDecided};
-ghost use Rattle.qstore.specs.Stored.{IsSound};
+ghost use Rattle.qstore.specs.Decided.{IsDecided, IsWhole};
 
 use crate::ready::{Decided, TreeChange};
 use crate::store::Store;
@@ -26,7 +25,7 @@ impl Store {
         size: u64,
     ) -> Decided
         requires callers { HasSlots self.now.books callers cred.now.uid cred.now.gid }
-        requires sound { IsSound self.now.state }
+        requires whole { IsWhole self.now }
         requires moment { moment ≤ MAX_MOMENT }
         ensures { IsDecided self.now self.now cred.now moment
             (at_path self.now.state (truncate_at self.now.state cred.now size) path.now) [] result }

@@ -1,5 +1,6 @@
 //! Where a path leads (path_resolution(7), narrowed).
-ghost use Rattle.std.specs.Prelude.{◌≡◌, ℕ, List, true, false, Some, Ok, Err, IfOk, IfErr};
+ghost use Rattle.std.specs.Prelude.{◌≡◌, ℕ, List, true, false, Some, Ok, Err, option_copied, IfOk, IfErr, IfSome};
+ghost use Rattle.std.specs.Option.{option_map};
 ghost use Rattle.std.specs.List.{slice_split};
 ghost use Rattle.qplain.specs.Walk.{components, follow, is_slash, last_name, walk};
 ghost use Rattle.qplain.specs.State.{Inode, inode_at, is_directory, named};
@@ -89,6 +90,15 @@ impl Store {
         Ok(Step { dir, name })
     }
 
+    /// The inode of this number, with its link count.
+    pub(super) fn inode(&self, number: u64) -> Option<&Node>
+        ensures there { option_map inode_of (option_copied result) ≡ inode_at self.now.state number }
+        ensures links { IfSome result (λ node. node.now.links
+            ≡ links_of self.now.state number (inode_of node.now).dir) }
+    {
+        self.tree.node(number)
+    }
+
     /// The inode that a path leads to.
     pub(super) fn find(&self, path: &str) -> Result<Found, Refusal>
         ensures there { IfOk result (λ found.
@@ -120,7 +130,10 @@ impl Store {
         let Some(names) = names_of(path) else {
             return Err(of_root);
         };
-        let Step { dir, name } = self.parent(names)?;
+        let Step { dir, name } = match self.parent(names) {
+            Ok(step) => step,
+            Err(refusal) => return Err(refusal),
+        };
         let leads_to = self.look(dir, name)?;
         Ok(Place {
             dir,

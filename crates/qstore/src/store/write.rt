@@ -5,9 +5,9 @@ ghost use Rattle.qplain.specs.Attempt.{at_path};
 ghost use Rattle.qplain.specs.Files.{write_into};
 ghost use Rattle.qplain.specs.Step.{settle};
 ghost use Rattle.qledger.specs.Books.{HasSlots};
-ghost use Rattle.qstore.specs.Decided.{IsDecided};
+ghost use Rattle.qstore.specs.Decided.{IsDecided, IsWhole};
 ghost use Rattle.qstore.specs.Ready.{IsRefused};
-ghost use Rattle.qstore.specs.Stored.{IsSameStore, IsSound};
+ghost use Rattle.qstore.specs.Stored.{IsSameStore};
 ghost use Rattle.qstore.specs.Targets.{IsTarget};
 
 use crate::ready::{Decided, TreeChange};
@@ -39,7 +39,7 @@ impl Store {
         bytes: &Data,
     ) -> Result<Decided, NoMemory>
         requires callers { HasSlots self.old.books callers cred.now.uid cred.now.gid }
-        requires sound { IsSound self.old.state }
+        requires whole { IsWhole self.old }
         requires moment { moment ≤ MAX_MOMENT }
         requires few { length bytes.now ≤ MAX_DATA }
         ensures same { IsSameStore self.old self.new }
@@ -104,7 +104,7 @@ impl Store {
         bytes: &Data,
         target: Target,
     ) -> Result<Decided, NoMemory>
-        requires sound { IsSound self.old.state }
+        requires whole { IsWhole self.old }
         requires moment { moment ≤ MAX_MOMENT }
         requires target { IsTarget self.old cred.now path.now off bytes.now target }
         ensures same { IsSameStore self.old self.new }
@@ -120,7 +120,7 @@ impl Store {
         } = target;
         let from = Some(claim);
         let to = Some(Claim::new(claim.slots, claim.weight.blocks + missing));
-        let bill = match self.accounts.bill(cred, moment, self.next, from, to) {
+        let bill = match self.bill(cred, moment, 0, from, to) {
             Ok(bill) => bill,
             Err(refusal) => return Ok(Decided::refused(refusal)),
         };
