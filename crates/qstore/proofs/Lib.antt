@@ -5,6 +5,8 @@ pub mod Walks
 pub mod Arguments
 pub mod Links
 pub mod Making
+pub mod Beginning
+pub mod Settling
 pub mod Steps
 pub mod Listed
 pub mod Deciding

@@ -1,0 +1,14 @@
+use Rattle.std.proofs.Common.{refl, subst}
+use Rattle.qplain.specs.Setups.{IsLawfulSetup, Setting}
+use Rattle.qstore.specs.declared.store.Store.TheInside.{Inside}
+use Rattle.qstore.proofs.Beginning.{counted-begun}
+use Rattle.qstore.proofs.store.Store.new.Goals as goal
+
+pub invariant_of-result : goal.invariant_of-result
+invariant_of-result c =
+    let accounts = c.in_ok-new.field-0 in
+    let tree = c.in_ok-new-2.field-0 in
+    let new : Inside = record { alloc = c.args.alloc; file_limit = 1073741824; accounts = accounts; tree = tree; next = 2 } in
+    let e = c.in_ok-new-2.ensures in
+    let lawful = subst (λ (s : Setting). IsLawfulSetup s) c.setup.view_is c.setup.invariant in
+    counted-begun c.args.setup new c.in_ok-new.ensures.books refl refl e.inodes e.names e.links lawful c.in_ok-new.ensures.in_range
