@@ -10,6 +10,8 @@ use std::io;
 
 const CHUNK: u64 = 65536;
 
+const GIB: u64 = 1 << 30;
+
 const FILL: Input = Input::Fill {
     count: CHUNK,
     byte: 7,
@@ -150,8 +152,46 @@ fn overwrite_byte_of_100000(file: &mut BlockFile, times: u64) -> Result<u64, NoM
 }
 
 #[inline(never)]
+fn freed_by_truncate_to_nothing(file: &BlockFile) -> u64 {
+    file.freed_by(0)
+}
+
+#[inline(never)]
+fn freed_by_truncate_of_one_block(file: &BlockFile, times: u64) -> u64 {
+    let mut freed = 0u64;
+    for _ in 0..times {
+        freed = freed.wrapping_add(file.freed_by(99_999 * BLOCK_SIZE));
+    }
+    freed
+}
+
+#[inline(never)]
+fn freed_by_truncate_of_holes(file: &BlockFile, times: u64) -> u64 {
+    let mut freed = 0u64;
+    for _ in 0..times {
+        freed = freed.wrapping_add(file.freed_by(0));
+    }
+    freed
+}
+
+#[inline(never)]
+fn truncate_holes(file: &mut BlockFile) -> u64 {
+    file.truncate(BLOCK_SIZE)
+}
+
+#[inline(never)]
+fn truncate_one_block(file: &mut BlockFile) -> u64 {
+    file.truncate(99_999 * BLOCK_SIZE)
+}
+
+#[inline(never)]
 fn truncate_to_nothing(file: &mut BlockFile) -> u64 {
     file.truncate(0)
+}
+
+#[inline(never)]
+fn drop_blocks(file: BlockFile) {
+    let _dropped = file;
 }
 
 fn filled(alloc: Global, byte: u8, len: usize) -> Result<Vec<u8>, NoMemory>
@@ -191,11 +231,30 @@ fn bytes(rt: &impl Print, alloc: Global) -> io::Result<()> {
     let many = fill_blocks(&mut large, 100_000)?;
     let again = overwrite_byte_of_100000(&mut large, 1000)?;
     println!(rt; "{many} blocks: {again} more by 1000 writes of a byte")?;
+    let all = freed_by_truncate_to_nothing(&large);
+    let one = freed_by_truncate_of_one_block(&large, 1000);
+    println!(rt; "{all} blocks to be freed, or 1 a time by 1000 cuts: {one}")?;
+    let last = truncate_one_block(&mut large);
     let freed = truncate_to_nothing(&mut large);
-    println!(rt; "{freed} blocks freed, {} left", large.allocated())
+    println!(rt;
+        "{last} and {freed} blocks freed, {} left",
+        large.allocated()
+    )
+}
+
+fn holes(rt: &impl Print, alloc: Global) -> io::Result<()> {
+    let mut file = BlockFile::new(alloc);
+    let few = file.write(GIB - 1, Input::Bytes(b"z"))?;
+    let freed = freed_by_truncate_of_holes(&file, 1000);
+    let gone = truncate_holes(&mut file);
+    println!(rt; "{few} block behind holes: {freed} by 1000 cuts, {gone} freed")?;
+    let many = fill_blocks(&mut file, 100_000)?;
+    drop_blocks(file);
+    println!(rt; "{many} blocks dropped")
 }
 
 fn main(rt: HostRuntime) -> io::Result<()> {
     chunks(&rt, rt.alloc())?;
-    bytes(&rt, rt.alloc())
+    bytes(&rt, rt.alloc())?;
+    holes(&rt, rt.alloc())
 }

@@ -2,6 +2,7 @@ pub mod Bytes
 mod Examples
 pub mod Freed
 pub mod Indexes
+pub mod Past
 pub mod Puts
 pub mod Reading
 pub mod Spans

@@ -3,7 +3,7 @@
 --     filled m k     its block is allocated
 --     byte_at m o    the byte at the offset o, or 0
 --     IsWhole ..     what is always true of a file's fields
-use Rattle.std.specs.Prelude.{◌≡◌, ℕ, ◌+◌, ◌*◌, ◌/◌, ◌%◌, ◌<◌, ◌≤◌, ◌^◌, Bool, true, ◌||◌, nat_lt, List, [], length, map, filter, is_some, Option, Some, None, Box}
+use Rattle.std.specs.Prelude.{◌≡◌, ℕ, ◌+◌, ◌-◌, ◌*◌, ◌/◌, ◌%◌, ◌<◌, ◌≤◌, ◌^◌, Bool, true, false, ◌||◌, nat_lt, List, [], length, map, filter, is_some, Option, Some, None, Box}
 use Rattle.std.specs.Ordering.{nat_cmp}
 use Rattle.std.specs.BTreeMap as tree
 use Rattle.std.specs.BTreeMap.{BTreeMap}
@@ -70,6 +70,17 @@ module _ {Z : Type 0} where
     pub fewer : (r : ℕ) → has_row new r ≡ true → has_row old r ≡ true
     pub count : (n : ℕ) → ((r : ℕ) → has_row old r ≡ true → r < n)
         → gaps (filled new) 0 (n * ROW_BLOCKS) ≡ gaps (filled old) 0 (n * ROW_BLOCKS) + freed
+
+  -- so many blocks have an index from first on: so many gaps fewer than indexes, up to any end past all rows
+  abbrev pub HasFrom : Table Z → ℕ → ℕ → Type 0
+  HasFrom m first blocks =
+      (end : ℕ) → 2 ^ 32 ≤ end → blocks + gaps (filled m) first (end - first) ≡ end - first
+
+  -- the first row from this number on, if there is one
+  abbrev pub IsNextRow : Table Z → ℕ → Option ℕ → Type 0
+  IsNextRow m from None = (q : ℕ) → from ≤ q → has_row m q ≡ false
+  IsNextRow m from (Some r) =
+      (from ≤ r) × (has_row m r ≡ true) × ((q : ℕ) → from ≤ q → q < r → has_row m q ≡ false)
 
   -- the bytes at the offsets below the size
   unfoldable pub bytes_of : Table Z → ℕ → List ℕ

@@ -1,15 +1,16 @@
 //! Cutting the rows of a file off at a size.
-ghost use Rattle.std.specs.Prelude.{◌≡◌, ◌≢◌, true, ℕ, ◌+◌, ◌*◌, ◌<◌, ◌≤◌, ◌^◌, ◌&&◌, nat_lt, None, IsSome, IfSome, IfNone};
+ghost use Rattle.std.specs.Prelude.{◌≡◌, ◌≢◌, true, ℕ, ◌+◌, ◌-◌, ◌*◌, ◌/◌, ◌<◌, ◌≤◌, ◌^◌, ◌&&◌, nat_lt, None, IsSome, IfSome, IfNone};
 ghost use Rattle.std.specs.Ordering.{nat_cmp};
 ghost use Rattle.std.specs.BTreeMap as tree;
 ghost use Rattle.std.specs.BTreeMap.{btree_map_len};
 ghost use Rattle.qblocks.specs.declared.block.TheConstants.{BLOCK_SIZE};
 ghost use Rattle.qblocks.specs.Row.{LosesBlocks, row_filled, row_byte};
-ghost use Rattle.qblocks.specs.Rows.{Frees, IsThereIfUsed, has_row, row_of, filled, byte_at};
+ghost use Rattle.qblocks.specs.Rows.{Frees, HasFrom, IsNextRow, IsThereIfUsed, has_row, row_of, filled, byte_at};
 
+use crate::block::BLOCK_SIZE;
 use crate::room::forget_row;
 use crate::row::{self, ROW_BLOCKS, ROW_SIZE};
-use crate::rows::Rows;
+use crate::rows::{Rows, missing_in_row};
 
 /// Takes out the last row if its number is `keep` or above, and gives the number of its blocks.
 fn pop_row(rows: &mut Rows, keep: u64) -> Option<u64>
@@ -86,4 +87,43 @@ pub(crate) fn cut(rows: &mut Rows, size: u64) -> u64
     let cut = cut_row(rows, size / ROW_SIZE, size % ROW_SIZE);
     forget_row(rows, size / ROW_SIZE);
     freed + cut
+}
+
+/// The number of the first row from `from` on, by a search.
+fn search_row(rows: &Rows, from: u64) -> Option<u64>
+    ensures { IsNextRow rows.now from result }
+{
+    match rows.range(from..).next() {
+        Some((r, _)) => Some(*r),
+        None => None,
+    }
+}
+
+/// The number of the first row from `from` on. Where that is the last row, or none, nothing is searched.
+fn next_row(rows: &Rows, from: u64) -> Option<u64>
+    ensures { IsNextRow rows.now from result }
+{
+    let Some((last, _)) = rows.last_key_value() else {
+        return None;
+    };
+    if *last > from {
+        return search_row(rows, from);
+    }
+    if *last == from { Some(from) } else { None }
+}
+
+/// How many blocks begin at `size` or behind.
+pub(crate) fn freed_by(rows: &Rows, size: u64) -> u64
+    requires size { size ≤ 2 ^ 40 }
+    requires bound { (r : ℕ) → has_row rows.now r ≡ true → r < 2 ^ 28 }
+    ensures { HasFrom rows.now ((size + BLOCK_SIZE - 1) / BLOCK_SIZE) result }
+{
+    let mut at = (size + BLOCK_SIZE - 1) / BLOCK_SIZE;
+    let mut freed = 0;
+    while let Some(r) = next_row(rows, at / ROW_BLOCKS) {
+        let first = at.max(r * ROW_BLOCKS) - r * ROW_BLOCKS;
+        freed += ROW_BLOCKS - first - missing_in_row(rows, r, first, ROW_BLOCKS);
+        at = (r + 1) * ROW_BLOCKS;
+    }
+    freed
 }

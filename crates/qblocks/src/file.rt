@@ -6,7 +6,7 @@ ghost use Rattle.qblocks.specs.Input.{input_bytes};
 ghost use Rattle.qblocks.specs.WriteRoom.{no_room, IsReadyToPut};
 
 use crate::block::BLOCK_SIZE;
-use crate::cut::cut;
+use crate::cut::{cut, freed_by};
 use crate::input::Input;
 use crate::room::{forget_rows, make_rows};
 use crate::row::ROW_SIZE;
@@ -88,6 +88,18 @@ impl BlockFile {
         ensures bound { result ≤ 2 ^ 28 }
     {
         rows::missing(&self.rows, off, len)
+    }
+
+    /// How many blocks `truncate` to this size would free.
+    ///
+    /// O(log n) for each 64 KiB in which it would free some, n being the number of allocated blocks. It
+    /// takes no memory.
+    pub fn freed_by(&self, size: u64) -> u64
+        requires { size ≤ MAX_SIZE }
+        ensures freed { MoreBlocks (after_truncate self.now.file size) self.now.file result }
+        ensures bound { result ≤ 2 ^ 28 }
+    {
+        freed_by(&self.rows, size)
     }
 
     /// The bytes from `off` up to `off + len` or the size, where that is less; none at the size or

@@ -22,6 +22,7 @@ pub mod Reaching
 pub mod Rising
 pub mod Replacing
 pub mod Removing
+pub mod GivingBack
 pub mod Linking
 pub mod Walking
 pub mod Playing

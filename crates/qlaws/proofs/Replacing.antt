@@ -87,6 +87,12 @@ with_inode-same S number inode there = λ i. record S { inodes = set_value-same 
 
 -- ---- what follows for all of them
 
+-- a use that does not rise has no fault
+pub fault_of-fewer : (sort : Sort) (account : Account) (moment count : ℕ) → count ≤ count_in sort account → fault_of sort account moment count ≡ None
+fault_of-fewer sort account moment count l =
+    let fewer : nat_le count (count_in sort account) ≡ true = grind (arith, tests, l) in
+    rw fewer refl
+
 module _ (S S1 : State) (from to : Option Inode) (replaces : Replaces S S1 from to) where
   -- the totals then
   pub total-after : (sort : Sort) → total_of S1 sort ≡ total_of S sort + weight_of sort to - weight_of sort from
@@ -146,11 +152,6 @@ module _ (S S1 : State) (from to : Option Inode) (replaces : Replaces S S1 from 
   charge-other : (kind : Kind) (id : ℕ) (sort : Sort) (o : Option Inode) → is_owned kind id o ≡ false → charge_of kind id sort o ≡ 0
   charge-other kind id sort None other = refl
   charge-other kind id sort (Some inode) other = ap (λ b. cond b (weight sort inode) 0) other
-
-  fault_of-fewer : (sort : Sort) (account : Account) (moment count : ℕ) → count ≤ count_in sort account → fault_of sort account moment count ≡ None
-  fault_of-fewer sort account moment count l =
-      let fewer : nat_le count (count_in sort account) ≡ true = grind (arith, tests, l) in
-      rw fewer refl
 
   use-fewer : (kind : Kind) (id : ℕ) (sort : Sort) → is_owned kind id to ≡ false → use_of S1 kind id sort ≤ use_of S kind id sort
   use-fewer kind id sort other =

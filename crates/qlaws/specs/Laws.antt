@@ -13,7 +13,9 @@ use Rattle.qrules.specs.Grace.{with_ends, with_limits}
 use Rattle.qrules.specs.declared.limits.Limits.{Limits}
 use Rattle.qblocks.specs.File.{empty_file}
 use Rattle.qplain.specs.declared.call.Call.{Call}
+use Rattle.qplain.specs.declared.call.Call.TheVariants.{Truncate, Unlink}
 use Rattle.qplain.specs.declared.refusal.Refusal.{Refusal}
+use Rattle.qplain.specs.declared.refusal.Refusal.TheVariants.{ENOSPC, EDQUOT}
 use Rattle.qplain.specs.declared.reply.Reply.TheVariants.{Refused}
 use Rattle.qplain.specs.declared.bounds.TheConstants.{MAX_NUMBER, ROOT}
 use Rattle.qplain.specs.Caller.{Caller, is_superuser}
@@ -113,6 +115,23 @@ abbrev pub LimitsHold : Type 0
 LimitsHold =
     (S : State) (cred : Caller) (moment : ℕ) (call : Call) → is_superuser cred ≡ false
     → All (PassesNoLimit S (step S cred moment call).0 moment) S.holders
+
+-- the refusal is for want of space or of quota
+abbrev pub is_for_limits : Refusal → Bool
+is_for_limits ENOSPC = true
+is_for_limits (EDQUOT kind over) = true
+is_for_limits r = false
+
+-- where this call is refused, that is not for want of space or of quota
+abbrev pub RefusesForNoLimit : State → Caller → ℕ → Call → Type 0
+RefusesForNoLimit S cred moment call =
+    (r : Refusal) → (step S cred moment call).1 ≡ Refused r → is_for_limits r ≡ false
+
+-- whoever is over a limit may give back: no truncation and no unlink is refused for a limit
+abbrev pub GivingBackIsGranted : Type 0
+GivingBackIsGranted = (S : State) (cred : Caller) (moment : ℕ) (path : List ℕ) → IsLawful S
+    → ((size : ℕ) → RefusesForNoLimit S cred moment (Truncate path size))
+    × RefusesForNoLimit S cred moment (Unlink path)
 
 -- in a lawful state the users' uses add up to the totals, and so do the groups'
 abbrev pub UsesAddUp : Type 0

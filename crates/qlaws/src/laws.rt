@@ -1,5 +1,5 @@
 //! The laws of the plain machine, each the contract of a function that does nothing when it runs.
-ghost use Rattle.qlaws.specs.Laws.{AllStayReached, EndsAreTheRules, EndsStay, LimitsHold, LimitsStay, NewLimitsAreTheRules, NumbersGoOn, OwnersHold, RefusalsChangeNothing, RightsHold, SetupsStay, StartIsLawful, StartIsReached, StepsStayLawful, UsesAddUp};
+ghost use Rattle.qlaws.specs.Laws.{AllStayReached, EndsAreTheRules, EndsStay, GivingBackIsGranted, LimitsHold, LimitsStay, NewLimitsAreTheRules, NumbersGoOn, OwnersHold, RefusalsChangeNothing, RightsHold, SetupsStay, StartIsLawful, StartIsReached, StepsStayLawful, UsesAddUp};
 
 /// Totals and inode numbers stay within the bounds, and a grace end stands exactly where use is over its soft limit.
 /// Principals, inodes and names stand once and in order. Every inode has declared owners and as many names as it may, a
@@ -18,6 +18,12 @@ pub fn refusals_change_nothing()
 /// No call of anybody but the superuser raises a use past a hard limit, or past a soft limit whose grace has ended.
 pub fn limits_hold()
     ensures { LimitsHold }
+{}
+
+/// From a lawful state no truncation and no unlink is refused for want of space or of quota: whoever is over a limit may
+/// give back.
+pub fn giving_back_is_granted()
+    ensures { GivingBackIsGranted }
 {}
 
 /// In a lawful state the uses of all users add up to the totals of the store, and so do those of all groups.

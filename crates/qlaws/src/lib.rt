@@ -3,8 +3,9 @@
 
 pub use examples::{more_worked_examples, worked_examples};
 pub use laws::{
-    ends_stay, holders_keep_the_rules, inodes_stay_reached, limits_hold, numbers_go_on,
-    refusals_change_nothing, rights_hold, setups_stay, stores_stay_lawful, uses_add_up,
+    ends_stay, giving_back_is_granted, holders_keep_the_rules, inodes_stay_reached, limits_hold,
+    numbers_go_on, refusals_change_nothing, rights_hold, setups_stay, stores_stay_lawful,
+    uses_add_up,
 };
 
 mod examples;

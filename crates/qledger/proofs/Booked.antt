@@ -25,6 +25,7 @@ use Rattle.qledger.specs.KeptHolders.{IsCountedIn, holder_in, holders_in}
 use Rattle.qledger.specs.Replacements.{IsReplacement}
 use Rattle.qledger.specs.Ledgers.{ArePosted, IsFinal, IsLedgerReplacement}
 use Rattle.qledger.specs.Decisions.{IsBillOf}
+use Rattle.qledger.proofs.ById.{by_id-posted}
 use Rattle.qledger.proofs.Counted.{ends-of-counted}
 use Rattle.qledger.proofs.Shares.{part}
 use Rattle.qledger.proofs.Posted.{counted-after, holder_after, holders-after, posted-all}
@@ -170,3 +171,13 @@ total-then b from to S S1 f t r sort =
     let gained = claim-weight b.users User to t sort r.users_to in
     let lost = claim-weight b.users User from f sort r.users_from in
     omega (arith, sum, gained, lost)
+
+-- the books stay in their ranges after a bill
+pub in_range-settled : (b : Books) (bill : Bill) → AreInRange b → AreInRange (settled bill b)
+in_range-settled b bill is = record {
+  size = is.size;
+  most_inodes = is.most_inodes;
+  graces = is.graces;
+  users = by_id-posted bill.users b.users is.users;
+  groups = by_id-posted bill.groups b.groups is.groups;
+}

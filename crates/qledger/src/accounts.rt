@@ -59,7 +59,8 @@ impl Model for Accounts {
 impl Accounts {
     /// The accounts of a new store, in which user 0 and group 0 have the root directory. An Err leaves nothing made.
     pub fn new(alloc: Global, setup: &Setup) -> Result<Accounts, NoMemory>
-        ensures { IfOk result (AreBooksOf (start setup.now)) }
+        ensures books { IfOk result (AreBooksOf (start setup.now)) }
+        ensures in_range { IfOk result AreInRange }
     {
         let graces = setup.graces();
         let users = Ledger::new(alloc, setup.users(), graces)?;

@@ -8,7 +8,8 @@ use Rattle.std.specs.Map.{lookup}
 use Rattle.qblocks.specs.File.{File}
 use Rattle.qplain.specs.State.{Inode, State, inode_at, named, new_file}
 use Rattle.qplain.specs.Use.{links_of}
-use Rattle.qplain.specs.Attempt.{created, with_file}
+use Rattle.qplain.specs.Names.{created}
+use Rattle.qplain.specs.Files.{with_file, with_inode}
 use Rattle.qlaws.specs.Laws.{IsLawful}
 use Rattle.qlaws.proofs.Tables.{lookup-insert_new, same-number}
 use Rattle.qlaws.proofs.Rising.{absent-next}

@@ -1,5 +1,5 @@
 -- The rows of the inodes of a store: what is kept for each number is what its inode counts to.
-use Rattle.std.proofs.Common.{◌≡◌, ℕ, suc, ◌+◌, ◌≤◌, List, [], ◌∷◌, length, map, sum_by, All, Some, slice_get, Result, Ok, Err, IfOk, OnOk, refl, ap, subst, ◌∙◌, arith}
+use Rattle.std.proofs.Common.{◌≡◌, ℕ, suc, ◌+◌, ◌≤◌, List, [], ◌∷◌, length, map, sum_by, All, Some, slice_get, Result, Ok, Err, IfErr, IfOk, OnOk, refl, ap, subst, ◌∙◌, arith}
 use Rattle.std.specs.Map.{keys_of, lookup, values_of}
 use Rattle.std.specs.BTreeMap.{is_at}
 use Rattle.std.specs.Ordering.{nat_cmp}
@@ -17,7 +17,7 @@ use Rattle.qplain.specs.Use.{links_of, weight}
 use Rattle.qstore.specs.Kept.{IsCounted}
 use Rattle.qstore.specs.Rows.{inode_row_of}
 use Rattle.qtree.specs.Tree.{kept_row}
-use Rattle.qstore.specs.declared.kept_holder.KeptHolder.{KeptHolder}
+use Rattle.qledger.specs.Books.{Books}
 use Rattle.qtree.proofs.Rows.{HasFewBlocks}
 
 -- blocks that are few in all are few in each inode
@@ -34,16 +34,31 @@ pub rows-where : {V E Row : Type 0} (items : V → List Row) (result : Result V 
 rows-where items (Ok rows) P made wanted is holds same = is ∙ same holds
 rows-where items (Err e) P made wanted is holds same = tt
 
-module _ {S : State} {users groups : List KeptHolder} {links : List (ℕ × ℕ)} {blocks inodes : ℕ} (kept : IsCounted S users groups links blocks inodes) where
+-- what holds where rows are made, and gives something else, gives it there
+pub on_ok : {V E : Type 0} (result : Result V E) (P Q : Type 0) → OnOk result P → (P → Q) → OnOk result Q
+on_ok (Ok rows) P Q holds gives = gives holds
+on_ok (Err e) P Q holds gives = tt
+
+-- a weaker fact of what is made
+pub ok_weaker : {V E : Type 0} (result : Result V E) (P Q : V → Type 0) → IfOk result P → ((v : V) → P v → Q v) → IfOk result Q
+ok_weaker (Ok v) P Q holds gives = gives v holds
+ok_weaker (Err e) P Q holds gives = tt
+
+-- and of why it is not
+pub err_weaker : {V E : Type 0} (result : Result V E) (P Q : E → Type 0) → IfErr result P → ((e : E) → P e → Q e) → IfErr result Q
+err_weaker (Ok v) P Q holds gives = tt
+err_weaker (Err e) P Q holds gives = gives e holds
+
+module _ {S : State} {b : Books} {links : List (ℕ × ℕ)} (kept : IsCounted S b links) where
   -- no inode of a store has more blocks than fit its row
   pub few-blocks : All HasFewBlocks S.inodes
-  few-blocks = let fit = kept.sound.lawful.blocks_fit in let low = kept.size_bound in few-of S.inodes (omega (arith, fit, low))
+  few-blocks = let fit = kept.sound.lawful.blocks_fit in let low = kept.in_range.size in let same = kept.books.size in few-of S.inodes (omega (arith, fit, low, same))
 
   -- the row with the kept links is the one with the counted links, for an inode that is found
   row-counted : (e : ℕ × Inode) → inode_at S e.0 ≡ Some e.1 → kept_row links e ≡ inode_row_of S e
   row-counted e found =
       let same : unwrap_or (lookup (is_at (nat_cmp e.0)) links) 0 ≡ links_of S e.0 e.1.dir =
-      ap (λ o. unwrap_or o 0) (kept.links_counted e.0 ∙ ap (option_map (λ inode. links_of S e.0 inode.dir)) found) in
+      ap (λ o. unwrap_or o 0) (kept.links e.0 ∙ ap (option_map (λ inode. links_of S e.0 inode.dir)) found) in
       λ i. record (inode_row_of S e) { links = same i }
 
   rows-counted : (es : List (ℕ × Inode))

@@ -1,11 +1,12 @@
 -- A walk that is made one name after another.
-use Rattle.std.proofs.Common.{◌≡◌, ℕ, ◌-◌, ◌<◌, Bool, List, [], ◌∷◌, length, take, fold, Result, Ok, Err, refl, ap, ◌∙◌, arith}
+use Rattle.std.proofs.Common.{◌≡◌, ℕ, ◌-◌, ◌<◌, Bool, List, [], ◌∷◌, length, take, fold, Option, Some, None, is_some, true, Result, Ok, Err, refl, ap, ◌∙◌, arith}
 use Rattle.std.specs.List.{slice_split}
 use Rattle.std.proofs.lemmas.List.Splits.{length-slice_split}
 use Rattle.qplain.specs.declared.refusal.Refusal.{Refusal}
 use Rattle.qplain.specs.declared.bounds.TheConstants.{ROOT}
 use Rattle.qplain.specs.State.{State}
-use Rattle.qplain.specs.Walk.{follow}
+use Rattle.qplain.specs.Walk.{as_directory, follow, last_name}
+use Rattle.qplain.specs.Attempt.{Attempt, Refuse, in_reached, under}
 use Rattle.qstore.specs.Paths.{parent}
 
 -- what is reached from here, where one name waits and the last of all is not followed
@@ -38,3 +39,23 @@ stops S reached name refusal (next ∷ names) some fault = ap (λ r. parent_from
 pub parent_from-stops : (S : State) (reached : Result ℕ Refusal) (name : List ℕ) (refusal : Refusal) (p : ℕ → Bool) (rest : List ℕ)
     → follow S reached name ≡ Err refusal → parent_from S reached name (slice_split p rest) ≡ Err refusal
 parent_from-stops S reached name refusal p rest fault = stops S reached name refusal (slice_split p rest) (omega (arith, length-slice_split p rest)) fault
+
+-- ---- the place of a path
+
+-- there is a last name where there is one
+some-last : (names : List (List ℕ)) → 0 < length names → is_some (last_name names) ≡ true
+some-last [] some = absurd (omega (arith, some))
+some-last (name ∷ []) some = refl
+some-last (name ∷ next ∷ rest) some = some-last (next ∷ rest) (omega arith)
+
+under-fault : (S : State) (of_root : Refusal) (try : ℕ → List ℕ → Attempt) (names : List (List ℕ)) (refusal : Refusal) (last : Option (List ℕ))
+    → is_some last ≡ true → parent S names ≡ Err refusal → under S of_root try names last ≡ Refuse refusal
+under-fault S of_root try names refusal None some fault = cc
+under-fault S of_root try names refusal (Some name) some fault = ap (λ r. in_reached try name (as_directory S r)) fault
+
+-- a fault of the walk to the place is the call's
+pub place-fault : (S : State) (of_root : Refusal) (try : ℕ → List ℕ → Attempt) (p : ℕ → Bool) (bytes : List ℕ) (refusal : Refusal)
+    → parent S (slice_split p bytes) ≡ Err refusal → under S of_root try (slice_split p bytes) (last_name (slice_split p bytes)) ≡ Refuse refusal
+place-fault S of_root try p bytes refusal fault =
+    let some : 0 < length (slice_split p bytes) = omega (arith, length-slice_split p bytes) in
+    under-fault S of_root try (slice_split p bytes) refusal (last_name (slice_split p bytes)) (some-last (slice_split p bytes) some) fault

@@ -2,7 +2,8 @@
 pub mod Stored
 pub mod Ready
 pub mod Rows
-pub mod KeptHolders
 pub mod Paths
-pub mod Writes
+pub mod Told
+pub mod Decided
+pub mod Targets
 pub mod Kept

@@ -1,119 +1,159 @@
 -- What a call that is ready will do, and when it may.
-use Rattle.std.specs.Prelude.{◌≡◌, ℕ, ◌+◌, ◌<◌, ◌≤◌, Bool, true, false, List, [], length, string_bytes, Option, Some, None, is_some, IfSome}
-use Rattle.std.specs.List.{slice_get}
-use Rattle.qrules.specs.declared.kind.Kind.{Kind}
-use Rattle.qrules.specs.declared.limits.Limits.{Limits}
+use Rattle.std.specs.Prelude.{◌≡◌, ℕ, ◌+◌, ◌<◌, ◌≤◌, Bool, true, false, List, [], length, string_bytes, is_some, Option, Some, None, IfSome}
+use Rattle.std.specs.Option.{unwrap_or}
 use Rattle.qrules.specs.declared.graces.Graces.{Graces}
-use Rattle.qrules.specs.declared.graces.TheConstants.{MAX_MOMENT}
-use Rattle.qrules.specs.Sort.{Inodes, Blocks}
 use Rattle.qrules.specs.Range.{are_graces_in_range}
-use Rattle.qblocks.specs.File.{MoreBlocks, after_write}
-use Rattle.qblocks.specs.WriteRoom.{IsReadyToPut}
 use Rattle.qblocks.specs.declared.file.TheConstants.{MAX_SIZE}
+use Rattle.qblocks.specs.File.{after_truncate, after_write}
+use Rattle.qblocks.specs.WriteRoom.{IsReadyToPut}
 use Rattle.qplain.specs.declared.call.Call.{Call}
-use Rattle.qplain.specs.declared.call.Call.TheVariants.{Create as CreateCall, Write as WriteCall, Read, Stat, SetQuota as SetQuotaCall, SetGrace as SetGraceCall, Quota}
+use Rattle.qplain.specs.declared.call.Call.TheVariants.{Create as CreateCall, Write as WriteCall, Truncate as TruncateCall, Read, Stat, Unlink as UnlinkCall, Chown as ChownCall, SetQuota, SetGrace, Quota}
 use Rattle.qplain.specs.declared.refusal.Refusal.{Refusal}
 use Rattle.qplain.specs.declared.reply.Reply.{Reply}
 use Rattle.qplain.specs.declared.reply.Reply.TheVariants.{Refused}
-use Rattle.qplain.specs.declared.bounds.TheConstants.{MAX_NUMBER}
 use Rattle.qplain.specs.State.{Inode, State, inode_at, is_directory, named, new_file}
-use Rattle.qplain.specs.Use.{total_of}
-use Rattle.qplain.specs.Decision.{ends_after}
-use Rattle.qplain.specs.Attempt.{created, with_file, with_limits_of}
-use Rattle.qstore.specs.declared.slots.Slots.{Slots}
+use Rattle.qplain.specs.Walk.{components, last_name}
+use Rattle.qplain.specs.Files.{with_inode}
+use Rattle.qplain.specs.Names.{created, swept, without_name}
+use Rattle.qplain.specs.Owners.{with_owners}
+use Rattle.qtree.specs.Room.{Room, file_room, name_room}
+use Rattle.qledger.specs.declared.bill.Bill.{Bill}
+use Rattle.qledger.specs.Bills.{IsBillFor, settled}
+use Rattle.qledger.specs.Books.{AreBooksOf, Books}
+use Rattle.qledger.specs.KeptHolders.{holders_in}
 use Rattle.qstore.specs.declared.ready.Plan.{Plan}
-use Rattle.qstore.specs.declared.ready.Plan.TheVariants.{Nothing, Create, Write, SetQuota, SetGrace}
+use Rattle.qstore.specs.declared.ready.Plan.TheVariants.{Nothing, Change, Limits, SetGraces}
 use Rattle.qstore.specs.declared.ready.Ready.{Ready}
-use Rattle.qtree.specs.Room.{file_room, name_room}
-use Rattle.qstore.specs.Stored.{HasSlots, IsSound, Stored, ids_of}
+use Rattle.qstore.specs.declared.ready.TreeChange.{TreeChange}
+use Rattle.qstore.specs.declared.ready.TreeChange.TheVariants.{Create, Write, Truncate, Unlink, Chown}
+use Rattle.qstore.specs.Stored.{IsSound, Stored}
 
 -- the bytes that a call brings
 abbrev pub bytes_of : Call → List ℕ
 bytes_of (CreateCall path) = []
 bytes_of (WriteCall path off bytes) = bytes
+bytes_of (TruncateCall path size) = []
 bytes_of (Read path off len) = []
 bytes_of (Stat path) = []
-bytes_of (SetQuotaCall kind id limits) = []
-bytes_of (SetGraceCall graces) = []
+bytes_of (UnlinkCall path) = []
+bytes_of (ChownCall path uid gid) = []
+bytes_of (SetQuota kind id limits) = []
+bytes_of (SetGrace graces) = []
 bytes_of (Quota kind id) = []
 
 -- the reply is a refusal
 abbrev pub IsRefused : Reply → Type 0
 IsRefused reply = (r : Refusal) × reply ≡ Refused r
 
--- the call wants no memory, whatever it is answered: stat, setquota, setgrace and quota
+-- the call wants no memory, whatever it is answered: truncate, stat, chown, setquota, setgrace and quota
 abbrev pub wants_no_memory : Call → Bool
 wants_no_memory (CreateCall path) = false
 wants_no_memory (WriteCall path off bytes) = false
+wants_no_memory (TruncateCall path size) = true
 wants_no_memory (Read path off len) = false
 wants_no_memory (Stat path) = true
-wants_no_memory (SetQuotaCall kind id limits) = true
-wants_no_memory (SetGraceCall graces) = true
+wants_no_memory (UnlinkCall path) = false
+wants_no_memory (ChownCall path uid gid) = true
+wants_no_memory (SetQuota kind id limits) = true
+wants_no_memory (SetGrace graces) = true
 wants_no_memory (Quota kind id) = true
 
--- the state after a write into what is at this number
-abbrev pub written_at : State → ℕ → ℕ → List ℕ → Option Inode → State
-written_at S number off bytes None = S
-written_at S number off bytes (Some inode) = with_file S number inode (after_write inode.file off bytes)
+-- the state in which the inode of this number, if it is there, is changed so
+abbrev pub altered_at : State → ℕ → (Inode → Inode) → Option Inode → State
+altered_at S number change None = S
+altered_at S number change (Some inode) = with_inode S number (change inode)
+
+-- the same for what is at the number
+abbrev pub altered : State → ℕ → (Inode → Inode) → State
+altered S number change = altered_at S number change (inode_at S number)
+
+-- the last name of a path
+abbrev pub name_in : List ℕ → List ℕ
+name_in path = unwrap_or (last_name (components path)) []
+
+-- what a change makes of inodes and names, told the bytes that the call brings
+abbrev pub changed : State → TreeChange → List ℕ → State
+changed S (Create dir name uid gid) bytes = created S (new_file uid gid) dir (string_bytes name)
+changed S (Write number off spare) bytes =
+    altered S number (λ inode. record inode { file = after_write inode.file off bytes })
+changed S (Truncate number size) bytes =
+    altered S number (λ inode. record inode { file = after_truncate inode.file size })
+changed S (Unlink dir path number) bytes = swept (without_name S dir (name_in path))
+changed S (Chown number uid gid) bytes = altered S number (λ inode. with_owners inode uid gid)
+
+-- the state with the holders that the books have after a bill
+abbrev pub billed : State → Bill → Books → State
+billed S bill b = record S { holders = holders_in (settled bill b).users (settled bill b).groups }
 
 -- the state that a plan leaves, told the bytes that the call brings
-abbrev pub effect : State → Plan → List ℕ → State
-effect S Nothing bytes = S
-effect S (Create dir name uid gid slots moment) bytes =
-    ends_after (created S (new_file uid gid) dir (string_bytes name)) moment
-effect S (Write number off spare slots moment) bytes =
-    ends_after (written_at S number off bytes (inode_at S number)) moment
-effect S (SetQuota kind id slot limits moment) bytes = ends_after (with_limits_of S kind id limits) moment
-effect S (SetGrace graces) bytes = record S { graces = graces }
+abbrev pub effect : Stored → Plan → List ℕ → State
+effect s Nothing bytes = s.state
+effect s (Change change bill) bytes = billed (changed s.state change bytes) bill s.books
+effect s (Limits bill) bytes = billed s.state bill s.books
+effect s (SetGraces graces) bytes = record s.state { graces = graces }
 
 -- what a ready call leaves, and its reply
-abbrev pub committed : State → Ready → State × Reply
-committed S r = (effect S r.plan r.bytes, r.reply)
+abbrev pub committed : Stored → Ready → State × Reply
+committed s r = (effect s r.plan r.bytes, r.reply)
 
 -- a new file may be put under this name
-pub record CreateIsReady (s : Stored) (dir : ℕ) (name : List ℕ) (uid gid : ℕ) (slots : Slots)
-    (moment : ℕ) : Type 0 where
-  pub directory : is_directory s.state dir ≡ true
-  pub absent : named s.state dir name ≡ None
-  pub few : total_of s.state Inodes + 1 ≤ s.state.most_inodes
-  pub number : s.state.next ≤ MAX_NUMBER
-  pub owners : HasSlots s slots uid gid
-  pub inode_room : 0 < s.room.inodes
-  pub name_room : 0 < name_room s.room dir
-  pub moment_bound : moment ≤ MAX_MOMENT
+pub record CanCreate (S : State) (room : Room) (dir : ℕ) (name : List ℕ) : Type 0 where
+  pub directory : is_directory S dir ≡ true
+  pub absent : named S dir name ≡ None
+  pub inode_room : 0 < room.inodes
+  pub name_room : 0 < name_room room dir
 
 -- these bytes may be written
-pub record WriteIsReady (s : Stored) (number off spare : ℕ) (slots : Slots) (moment : ℕ)
-    (bytes : List ℕ) : Type 0 where
+pub record CanWrite (S : State) (room : Room) (number off spare : ℕ) (bytes : List ℕ) : Type 0 where
   pub inode : Inode
-  pub there : inode_at s.state number ≡ Some inode
+  pub there : inode_at S number ≡ Some inode
   pub bound : off + length bytes ≤ MAX_SIZE
-  pub few : (blocks : ℕ) → MoreBlocks inode.file (after_write inode.file off bytes) blocks
-      → total_of s.state Blocks + blocks ≤ s.state.size
-  pub owners : HasSlots s slots inode.uid inode.gid
-  pub file_there : is_some (file_room s.room number) ≡ true
-  pub file_room : IfSome (file_room s.room number) (λ f. IsReadyToPut f off (length bytes) spare)
-  pub moment_bound : moment ≤ MAX_MOMENT
+  pub file_there : is_some (file_room room number) ≡ true
+  pub file_room : IfSome (file_room room number) (λ f. IsReadyToPut f off (length bytes) spare)
 
--- these limits may be set
-pub record SetQuotaIsReady (s : Stored) (kind : Kind) (id slot : ℕ) (limits : Limits) (moment : ℕ) : Type 0 where
-  pub slot_is : slice_get (ids_of s kind) slot ≡ Some id
-  pub moment_bound : moment ≤ MAX_MOMENT
+-- the inode is there, and a file
+pub record IsFile (S : State) (number : ℕ) : Type 0 where
+  pub inode : Inode
+  pub there : inode_at S number ≡ Some inode
+  pub is_file : inode.dir ≡ false
 
--- these graces may be set
-pub record SetGraceIsReady (s : Stored) (graces : Graces) : Type 0 where
-  pub range : are_graces_in_range graces ≡ true
+-- the file may be cut off or grow
+pub record CanTruncate (S : State) (number size : ℕ) : Type 0 where
+  pub file : IsFile S number
+  pub bound : size ≤ MAX_SIZE
+
+-- the name may go, which leads to a file
+pub record CanUnlink (S : State) (dir number : ℕ) (name : List ℕ) : Type 0 where
+  pub led : named S dir name ≡ Some number
+  pub file : IsFile S number
+
+-- the inode is there, and may get other owners
+pub record CanChown (S : State) (number : ℕ) : Type 0 where
+  pub inode : Inode
+  pub there : inode_at S number ≡ Some inode
+
+-- the change may be made, in this state and with this room
+abbrev pub CanChange : State → Room → TreeChange → List ℕ → Type 0
+CanChange S room (Create dir name uid gid) bytes = CanCreate S room dir (string_bytes name)
+CanChange S room (Write number off spare) bytes = CanWrite S room number off spare bytes
+CanChange S room (Truncate number size) bytes = CanTruncate S number size
+CanChange S room (Unlink dir path number) bytes = CanUnlink S dir number (name_in path)
+CanChange S room (Chown number uid gid) bytes = CanChown S number
+
+-- the bill is for these books, and after it they are those of the state
+pub record CanSettle (b : Books) (bill : Bill) (S : State) : Type 0 where
+  pub placed : IsBillFor b bill
+  pub books : AreBooksOf S (settled bill b)
 
 -- the store is as the plan needs it, told the bytes that the call brings
 abbrev pub CanCarryOut : Stored → Plan → List ℕ → Type 0
 CanCarryOut s Nothing bytes = Unit {0}
-CanCarryOut s (Create dir name uid gid slots moment) bytes =
-    CreateIsReady s dir (string_bytes name) uid gid slots moment
-CanCarryOut s (Write number off spare slots moment) bytes = WriteIsReady s number off spare slots moment bytes
-CanCarryOut s (SetQuota kind id slot limits moment) bytes = SetQuotaIsReady s kind id slot limits moment
-CanCarryOut s (SetGrace graces) bytes = SetGraceIsReady s graces
+CanCarryOut s (Change change bill) bytes =
+    CanChange s.state s.room change bytes × CanSettle s.books bill (effect s (Change change bill) bytes)
+CanCarryOut s (Limits bill) bytes = CanSettle s.books bill (effect s (Limits bill) bytes)
+CanCarryOut s (SetGraces graces) bytes = are_graces_in_range graces ≡ true
 
 -- the store is as `ready` left it, as far as the call needs
 pub record IsReady (s : Stored) (r : Ready) : Type 0 where
   pub can : CanCarryOut s r.plan r.bytes
-  pub sound : IsSound (effect s.state r.plan r.bytes)
+  pub sound : IsSound (effect s r.plan r.bytes)

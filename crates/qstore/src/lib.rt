@@ -4,9 +4,6 @@
 pub use ready::Ready;
 pub use store::Store;
 
-mod kept_holder;
-mod ledger;
 mod path;
 mod ready;
-mod slots;
 mod store;

@@ -2,6 +2,7 @@
 ghost use Rattle.std.specs.Prelude.{◌≡◌, ◌∷◌, ◌<◌, length, option_map, Some, IfSome};
 ghost use Rattle.std.specs.List.{position, slice_split};
 ghost use Rattle.qplain.specs.Walk.{components, is_name, is_slash};
+ghost use Rattle.qstore.specs.Ready.{name_in};
 ghost use Rattle.qstore.specs.Paths.{parts_in, path_fault};
 
 use qplain::{MAX_NAME, MAX_PATH, Refusal};
@@ -32,6 +33,20 @@ pub(crate) fn names_of(path: &str) -> Option<&str>
         [b'/'] => None,
         _ => cut(path).1,
     }
+}
+
+/// The last component of a path.
+pub(crate) fn last_of(path: &str) -> &str
+    ensures { result.now ≡ name_in path.now }
+{
+    let Some(names) = names_of(path) else {
+        return "";
+    };
+    let (mut name, mut behind) = cut(names);
+    while let Some(rest) = behind {
+        (name, behind) = cut(rest);
+    }
+    name
 }
 
 /// Whether it may be a component: it is not empty, and neither `.` nor `..`.

@@ -1,43 +1,63 @@
 //! A call that is decided, and what is left to do.
-ghost use Rattle.std.specs.Prelude.{◌≡◌, []};
+ghost use Rattle.std.specs.Prelude.{◌≡◌};
+ghost use Rattle.qstore.specs.Told.{told};
 
-use crate::slots::Slots;
 use qblocks::Spare;
-use qplain::{Data, Refusal, Reply};
-use qrules::{Graces, Kind, Limits};
+use qledger::{Bill, Claim, change_of};
+use qplain::{Data, Path, Refusal, Reply};
+use qrules::Graces;
 
-/// What a granted call still has to do, for which all room is made.
+/// A change of inodes and names, for which all room is made.
 #[derive(Drop)]
-pub(crate) enum Plan {
-    /// The reply is all.
-    Nothing,
+pub(crate) enum TreeChange {
     /// An empty file is to stand in the directory.
     Create {
         dir: u64,
         name: String,
         uid: u32,
         gid: u32,
-        slots: Slots,
-        moment: u64,
     },
     /// The call's bytes are to be written.
     Write {
         number: u64,
         off: u64,
         spare: Spare,
-        slots: Slots,
-        moment: u64,
+    },
+    /// A file is to have another size.
+    Truncate {
+        number: u64,
+        size: u64,
+    },
+    /// The last name of the path is to go out of the directory, and the file with it, if it has no other.
+    Unlink {
+        dir: u64,
+        path: Path,
+        number: u64,
+    },
+    /// An inode gets other owners.
+    Chown {
+        number: u64,
+        uid: u32,
+        gid: u32,
+    },
+}
+
+/// What a granted call still has to do.
+#[derive(Drop)]
+pub(crate) enum Plan {
+    /// The reply is all.
+    Nothing,
+    /// Inodes or names change, and the accounts with them.
+    Change {
+        change: TreeChange,
+        bill: Bill,
     },
     /// A record gets other limits.
-    SetQuota {
-        kind: Kind,
-        id: u32,
-        slot: usize,
-        limits: Limits,
-        moment: u64,
+    Limits {
+        bill: Bill,
     },
     /// The graces are to be these.
-    SetGrace {
+    SetGraces {
         graces: Graces,
     },
 }
@@ -67,6 +87,23 @@ impl Decided {
         ensures plan { result.plan ≡ Plan.Nothing }
     {
         Decided::answer(Reply::Refused(refusal))
+    }
+
+    /// The call is granted: the inode of one claim comes to stand in the place of the other's.
+    pub(crate) fn granted(
+        number: u64,
+        from: Option<Claim>,
+        to: Option<Claim>,
+        change: TreeChange,
+        bill: Bill,
+    ) -> Decided
+        ensures reply { result.reply ≡ Reply.Done number (told from to) }
+        ensures plan { result.plan ≡ Plan.Change change bill }
+    {
+        Decided {
+            reply: Reply::Done(number, change_of(from, to)),
+            plan: Plan::Change { change, bill },
+        }
     }
 }
 

@@ -1,34 +1,41 @@
 //! The store: its parts, and one call from its decision to its commit.
-ghost use Rattle.std.specs.Prelude.{◌≡◌, true, false, [], All, IfOk, OnOk, OnErr};
+ghost use Rattle.std.specs.Prelude.{◌≡◌, ◌≤◌, true, false, [], All, IfOk, OnOk, OnErr};
 ghost use Rattle.std.specs.Result.{IsOk};
 ghost use Rattle.qrules.specs.Sort.{Blocks, Inodes};
 ghost use Rattle.qplain.specs.State.{State, start};
 ghost use Rattle.qplain.specs.Use.{total_of};
 ghost use Rattle.qplain.specs.Caller.{is_superuser};
+ghost use Rattle.qplain.specs.Arguments.{has_bad_number};
+ghost use Rattle.qplain.specs.Calls.{attempt_of};
+ghost use Rattle.qplain.specs.Step.{settle, step};
 ghost use Rattle.qlaws.specs.Laws.{IsLawful, PassesNoLimit};
-ghost use Rattle.qplain.specs.Step.{step};
-ghost use Rattle.qstore.specs.Stored.{IsSound, Stored};
-ghost use Rattle.qstore.specs.Ready.{CanCarryOut, IsReady, IsRefused, bytes_of, effect, committed, wants_no_memory};
+ghost use Rattle.qledger.specs.Books.{HasSlots};
+ghost use Rattle.qstore.specs.Stored.{IsSameStore, IsSound, Stored};
+ghost use Rattle.qstore.specs.Decided.{IsDecided, IsWhole};
+ghost use Rattle.qstore.specs.Ready.{CanCarryOut, IsReady, IsRefused, bytes_of, committed, effect, wants_no_memory};
 
-use crate::ledger::Ledger;
 use crate::ready::{Decided, Plan, Ready};
-use crate::store::begin::{begun, ledger_of};
-use qplain::{Call, Cred, Data, NoMemory, Reply, Setup};
-use qrules::Graces;
+use qledger::{Accounts, Slots};
+use qplain::{Call, Cred, Data, FILE_LIMIT, NoMemory, Reply, Setup};
+use qrules::MAX_MOMENT;
 use qtree::Tree;
 use std::alloc::Global;
 use std::marker::Model;
 
-mod admit;
 mod arguments;
-mod begin;
+mod chown;
+mod claims;
+mod commit;
 mod create;
 mod quota;
 mod read;
+mod rights;
 mod rows;
 mod set_grace;
 mod set_quota;
 mod stat;
+mod truncate;
+mod unlink;
 mod walk;
 mod write;
 
@@ -38,16 +45,10 @@ mod write;
 #[derive(Drop)]
 pub struct Store {
     alloc: Global,
-    size: u64,
-    most_inodes: u64,
     file_limit: u64,
-    graces: Graces,
-    users: Ledger,
-    groups: Ledger,
+    accounts: Accounts,
     tree: Tree,
     next: u64,
-    blocks: u64,
-    inodes: u64,
 }
 
 impl Model for Store {
@@ -59,7 +60,7 @@ impl Model for Store {
 
     ghost view = { stored_of };
 
-    ghost invariant = { λ a. IsCounted (state_of a) a.users a.groups a.tree.links a.blocks a.inodes };
+    ghost invariant = { λ a. IsCounted (state_of a) a.accounts a.tree.links };
 }
 
 /// The bytes that a call brings, where it brings any.
@@ -75,15 +76,15 @@ fn brought<'a>(call: &'a Call, none: &'a Data) -> &'a Data
 
 /// The bytes of the call that its plan has to write, which the call goes on to share.
 fn bytes_for(plan: &Plan, call: &Call) -> Result<Data, NoMemory>
-    ensures effect { IfOk result (λ bytes. (S : State)
-        → effect S plan.now bytes ≡ effect S plan.now (bytes_of call.now)) }
+    ensures effect { IfOk result (λ bytes. (s : Stored)
+        → effect s plan.now bytes ≡ effect s plan.now (bytes_of call.now)) }
     ensures can { IfOk result (λ bytes. (s : Stored)
         → CanCarryOut s plan.now (bytes_of call.now) → CanCarryOut s plan.now bytes) }
     ensures nothing { plan.now ≡ Plan.Nothing → IsOk result }
     ensures answered { wants_no_memory call.now ≡ true → IsOk result }
 {
     match (plan, call) {
-        (Plan::Write { .. }, Call::Write { bytes, .. }) => bytes.copy(),
+        (Plan::Change { .. }, Call::Write { bytes, .. }) => bytes.copy(),
         _ => Ok(Data::fill(0, 0)),
     }
 }
@@ -98,10 +99,13 @@ impl Store {
     pub fn new(alloc: Global, setup: Setup, seed: u64) -> Result<Store, NoMemory>
         ensures { IfOk result (λ s. s.state ≡ start setup) }
     {
-        let users = ledger_of(alloc, setup.users(), setup.graces())?;
-        let groups = ledger_of(alloc, setup.groups(), setup.graces())?;
-        let tree = Tree::new(alloc, seed)?;
-        Ok(begun(alloc, &setup, users, groups, tree))
+        Ok(Store {
+            alloc,
+            file_limit: FILE_LIMIT,
+            accounts: Accounts::new(alloc, &setup)?,
+            tree: Tree::new(alloc, seed)?,
+            next: 2,
+        })
     }
 
     /// The allocated blocks of 4096 bytes. O(1).
@@ -109,7 +113,7 @@ impl Store {
         ensures blocks { result ≡ total_of self.now.state Blocks }
         ensures lawful { IsLawful self.now.state }
     {
-        self.blocks
+        self.accounts.blocks()
     }
 
     /// The inodes, the root among them. O(1).
@@ -117,13 +121,13 @@ impl Store {
         ensures inodes { result ≡ total_of self.now.state Inodes }
         ensures lawful { IsLawful self.now.state }
     {
-        self.inodes
+        self.accounts.inodes()
     }
 
     /// Decides a call, and makes every growth that it needs.
     fn decide(&mut self, cred: &Cred, moment: u64, call: &Call) -> Result<Decided, NoMemory>
-        ensures state { self.new.state ≡ self.old.state }
-        ensures step { IfOk result (λ d. (effect self.old.state d.plan (bytes_of call.now), d.reply)
+        ensures same { IsSameStore self.old self.new }
+        ensures step { IfOk result (λ d. (effect self.old d.plan (bytes_of call.now), d.reply)
             ≡ step self.old.state cred.now moment call.now) }
         ensures can { IfOk result (λ d. CanCarryOut self.new d.plan (bytes_of call.now)) }
         ensures sound { IsSound self.old.state }
@@ -131,19 +135,47 @@ impl Store {
         ensures answered { wants_no_memory call.now ≡ true → IsOk result }
         ensures nothing { IfOk result (λ d. IsRefused d.reply → d.plan ≡ Plan.Nothing) }
     {
-        let slots = match self.check(cred, moment, call) {
-            Ok(slots) => slots,
-            Err(refusal) => return Ok(Decided::refused(refusal)),
-        };
+        match self.check(cred, moment, call) {
+            Ok(callers) => self.decide_lawful(cred, callers, moment, call),
+            Err(refusal) => Ok(Decided::refused(refusal)),
+        }
+    }
+
+    /// Decides a call that is written as it may be, and makes every growth that it needs.
+    fn decide_lawful(
+        &mut self,
+        cred: &Cred,
+        callers: Slots,
+        moment: u64,
+        call: &Call,
+    ) -> Result<Decided, NoMemory>
+        requires callers { HasSlots self.old.books callers cred.now.uid cred.now.gid }
+        requires whole { IsWhole self.old }
+        requires moment { moment ≤ MAX_MOMENT }
+        requires numbers { has_bad_number self.old.state call.now ≡ false }
+        ensures same { IsSameStore self.old self.new }
+        ensures decided { IfOk result (IsDecided self.old self.new cred.now moment
+            (attempt_of self.old.state cred.now call.now) (bytes_of call.now)) }
+        ensures refused_first { IsRefused (settle self.old.state cred.now moment
+            (attempt_of self.old.state cred.now call.now)).1 → IsOk result }
+        ensures answered { wants_no_memory call.now ≡ true → IsOk result }
+    {
         match call {
-            Call::Create { path } => self.decide_create(cred, slots, moment, path.text()),
+            Call::Create { path } => self.decide_create(cred, callers, moment, path.text()),
             Call::Write { path, off, bytes } => {
-                self.decide_write(cred, slots, moment, path.text(), *off, bytes)
+                self.decide_write(cred, callers, moment, path.text(), *off, bytes)
+            }
+            Call::Truncate { path, size } => {
+                Ok(self.decide_truncate(cred, callers, moment, path.text(), *size))
             }
             Call::Read { path, off, len } => {
                 Ok(Decided::answer(self.decide_read(path.text(), *off, *len)?))
             }
             Call::Stat { path } => Ok(Decided::answer(self.decide_stat(path.text()))),
+            Call::Unlink { path } => self.decide_unlink(cred, callers, moment, path),
+            Call::Chown { path, uid, gid } => {
+                Ok(self.decide_chown(cred, callers, moment, path.text(), *uid, *gid))
+            }
             Call::SetQuota { kind, id, limits } => {
                 Ok(self.decide_set_quota(cred, moment, *kind, *id, *limits))
             }
@@ -152,45 +184,11 @@ impl Store {
         }
     }
 
-    /// Does what is decided. It takes no memory and always succeeds.
-    fn carry_out(&mut self, plan: Plan, bytes: &Data)
-        requires can { CanCarryOut self.old plan bytes.now }
-        requires sound { IsSound (effect self.old.state plan bytes.now) }
-        ensures { self.new.state ≡ effect self.old.state plan bytes.now }
-    {
-        match plan {
-            Plan::Nothing => {}
-            Plan::Create {
-                dir,
-                name,
-                uid,
-                gid,
-                slots,
-                moment,
-            } => self.commit_create(dir, name, uid, gid, slots, moment),
-            Plan::Write {
-                number,
-                off,
-                spare,
-                slots,
-                moment,
-            } => self.commit_write(number, off, spare, slots, moment, bytes),
-            Plan::SetQuota {
-                kind,
-                id,
-                slot,
-                limits,
-                moment,
-            } => self.commit_set_quota(kind, id, slot, limits, moment),
-            Plan::SetGrace { graces } => self.commit_set_grace(graces),
-        }
-    }
-
     /// Decides a call and makes every growth that it needs, and leaves the state as it was.
     ///
     /// `moment` is in seconds; above 2^40 the reply is EINVAL. A refusal is a reply, and wants no memory: EINVAL first,
     /// then ENAMETOOLONG, the call's own tests, ENOSPC, EDQUOT. Err is want of memory alone. It comes after all
-    /// refusals, so only a create, a write or a read that would be granted meets it, and it leaves the state as it was,
+    /// refusals, so only a create, a write, a read or an unlink that would be granted meets it, and it leaves the state as it was,
     /// too. The bytes of a write are not copied: the call and what is ready share them.
     ///
     /// The `Ready` is for `commit` of this store, before any other `ready`, `apply` or `commit` of it. It may be
@@ -198,7 +196,7 @@ impl Store {
     /// taken out by that file's next write.
     pub fn ready(&mut self, cred: &Cred, moment: u64, call: &Call) -> Result<Ready, NoMemory>
         ensures state { self.new.state ≡ self.old.state }
-        ensures step { IfOk result (λ r. committed self.old.state r ≡ step self.old.state cred.now moment call.now) }
+        ensures step { IfOk result (λ r. committed self.old r ≡ step self.old.state cred.now moment call.now) }
         ensures ready { IfOk result (IsReady self.new) }
 
         // Want of memory comes after all refusals, and some calls never want any.
@@ -215,7 +213,7 @@ impl Store {
     /// The caller owes that this store had no other `ready`, `apply` or `commit` since.
     pub fn commit(&mut self, ready: Ready) -> Reply
         requires { IsReady self.old ready }
-        ensures { (self.new.state, result) ≡ committed self.old.state ready }
+        ensures { (self.new.state, result) ≡ committed self.old ready }
     {
         let Ready { reply, plan, bytes } = ready;
         self.carry_out(plan, &bytes);

@@ -1,19 +1,20 @@
 //! To create a file (open(2)).
-ghost use Rattle.std.specs.Prelude.{◌≡◌, ◌≤◌, true, [], string_bytes, None, IfOk};
+ghost use Rattle.std.specs.Prelude.{◌≡◌, ◌≤◌, true, [], None, IfOk};
 ghost use Rattle.std.specs.Result.{IsOk};
-ghost use Rattle.qplain.specs.Attempt.{Becomes, created, create_under};
-ghost use Rattle.qplain.specs.Decision.{ends_after};
+ghost use Rattle.qplain.specs.declared.refusal.Refusal.TheVariants.{EEXIST};
+ghost use Rattle.qplain.specs.Attempt.{Becomes, in_place};
+ghost use Rattle.qplain.specs.Names.{create_as, created};
 ghost use Rattle.qplain.specs.State.{is_directory, named, new_file};
 ghost use Rattle.qplain.specs.Step.{settle};
-ghost use Rattle.qplain.specs.Walk.{components, last_name};
-ghost use Rattle.qstore.specs.Ready.{CanCarryOut, CreateIsReady, IsRefused, effect};
-ghost use Rattle.qstore.specs.Stored.{HasSlots, IsSound};
+ghost use Rattle.qledger.specs.Books.{HasSlots};
+ghost use Rattle.qstore.specs.Decided.{IsDecided, IsWhole};
+ghost use Rattle.qstore.specs.Ready.{IsRefused};
+ghost use Rattle.qstore.specs.Stored.{IsSameStore};
 
-use crate::path::names_of;
-use crate::ready::{Decided, Plan};
-use crate::slots::Slots;
+use crate::ready::{Decided, TreeChange};
 use crate::store::Store;
-use qplain::{Cred, NoMemory, ONE_INODE, Refusal, Reply};
+use qledger::{Claim, Slots};
+use qplain::{Cred, NoMemory, Refusal};
 use qrules::MAX_MOMENT;
 
 impl Store {
@@ -21,33 +22,26 @@ impl Store {
     pub(super) fn decide_create(
         &mut self,
         cred: &Cred,
-        slots: Slots,
+        callers: Slots,
         moment: u64,
         path: &str,
     ) -> Result<Decided, NoMemory>
-        requires slots { HasSlots self.old slots cred.now.uid cred.now.gid }
+        requires callers { HasSlots self.old.books callers cred.now.uid cred.now.gid }
+        requires whole { IsWhole self.old }
         requires moment { moment ≤ MAX_MOMENT }
-        ensures state { self.new.state ≡ self.old.state }
-        ensures step { IfOk result (λ d. (effect self.old.state d.plan [], d.reply)
-            ≡ settle self.old.state cred.now moment
-            (create_under self.old.state cred.now (components path.now) (last_name (components path.now)))) }
-        ensures ready { IfOk result (λ d. CanCarryOut self.new d.plan []) }
+        ensures same { IsSameStore self.old self.new }
+        ensures decided { IfOk result (IsDecided self.old self.new cred.now moment
+            (in_place self.old.state EEXIST (create_as self.old.state cred.now) path.now) []) }
         ensures refused_first { IsRefused (settle self.old.state cred.now moment
-            (create_under self.old.state cred.now (components path.now) (last_name (components path.now)))).1
-            → IsOk result }
-        ensures nothing { IfOk result (λ d. IsRefused d.reply → d.plan ≡ Plan.Nothing) }
+            (in_place self.old.state EEXIST (create_as self.old.state cred.now) path.now)).1 → IsOk result }
     {
-        let Some(names) = names_of(path) else {
-            return Ok(Decided::refused(Refusal::EEXIST));
-        };
-        let place = match self.parent(names) {
+        let place = match self.place_of(path, Refusal::EEXIST) {
             Ok(place) => place,
             Err(refusal) => return Ok(Decided::refused(refusal)),
         };
-        match self.look(place.dir, place.name) {
-            Ok(None) => self.make_file(cred, slots, moment, place.dir, place.name),
-            Ok(Some(_)) => Ok(Decided::refused(Refusal::EEXIST)),
-            Err(refusal) => Ok(Decided::refused(refusal)),
+        match place.leads_to {
+            Some(_) => Ok(Decided::refused(Refusal::EEXIST)),
+            None => self.make_file(cred, callers, moment, place.dir, place.name),
         }
     }
 
@@ -55,65 +49,37 @@ impl Store {
     fn make_file(
         &mut self,
         cred: &Cred,
-        slots: Slots,
+        callers: Slots,
         moment: u64,
         dir: u64,
         name: &str,
     ) -> Result<Decided, NoMemory>
-        requires slots { HasSlots self.old slots cred.now.uid cred.now.gid }
+        requires callers { HasSlots self.old.books callers cred.now.uid cred.now.gid }
+        requires whole { IsWhole self.old }
         requires moment { moment ≤ MAX_MOMENT }
         requires directory { is_directory self.old.state dir ≡ true }
         requires absent { named self.old.state dir name.now ≡ None }
-        ensures state { self.new.state ≡ self.old.state }
-        ensures step { IfOk result (λ d. (effect self.old.state d.plan [], d.reply)
-            ≡ settle self.old.state cred.now moment
+        ensures same { IsSameStore self.old self.new }
+        ensures decided { IfOk result (IsDecided self.old self.new cred.now moment
             (Becomes (created self.old.state (new_file cred.now.uid cred.now.gid) dir name.now)
-            self.old.state.next)) }
-        ensures ready { IfOk result (λ d. CanCarryOut self.new d.plan []) }
+            self.old.state.next) []) }
         ensures refused_first { IsRefused (settle self.old.state cred.now moment (Becomes
             (created self.old.state (new_file cred.now.uid cred.now.gid) dir name.now) self.old.state.next)).1
             → IsOk result }
-        ensures nothing { IfOk result (λ d. IsRefused d.reply → d.plan ≡ Plan.Nothing) }
     {
-        if let Some(refusal) = self.admit(cred, slots, moment, 0, 1) {
-            return Ok(Decided::refused(refusal));
-        }
+        let to = Some(Claim::new(callers, 0));
+        let bill = match self.bill(cred, moment, 1, None, to) {
+            Ok(bill) => bill,
+            Err(refusal) => return Ok(Decided::refused(refusal)),
+        };
         let name = String::from_str(self.alloc, name)?;
         self.tree.make_room(dir)?;
-        Ok(Decided {
-            reply: Reply::Done(self.next, ONE_INODE),
-            plan: Plan::Create {
-                dir,
-                name,
-                uid: cred.uid(),
-                gid: cred.gid(),
-                slots,
-                moment,
-            },
-        })
-    }
-
-    /// Puts an empty file where room is made.
-    pub(super) fn commit_create(
-        &mut self,
-        dir: u64,
-        name: String,
-        uid: u32,
-        gid: u32,
-        slots: Slots,
-        moment: u64,
-    )
-        requires can { CreateIsReady self.old dir (string_bytes name) uid gid slots moment }
-        requires sound { IsSound
-            (ends_after (created self.old.state (new_file uid gid) dir (string_bytes name)) moment) }
-        ensures { self.new.state
-            ≡ ends_after (created self.old.state (new_file uid gid) dir (string_bytes name)) moment }
-    {
-        self.tree
-            .add_file(self.next, dir, name, uid, gid, self.alloc);
-        self.users.charge(slots.user, self.graces, moment, 0, 1);
-        self.groups.charge(slots.group, self.graces, moment, 0, 1);
-        self.inodes += 1;
-        self.next += 1;
+        let change = TreeChange::Create {
+            dir,
+            name,
+            uid: cred.uid(),
+            gid: cred.gid(),
+        };
+        Ok(Decided::granted(self.next, None, to, change, bill))
     }
 }

@@ -1,34 +1,13 @@
 //! To ask for a quota record (quotactl(2), Q_GETQUOTA).
-ghost use Rattle.std.specs.Prelude.{◌≡◌, ℕ, ◌==◌, option_copied, IfSome};
-ghost use Rattle.std.specs.Option.{option_map};
-ghost use Rattle.std.specs.List.{find, list_any};
-ghost use Rattle.qplain.specs.Caller.{Caller};
-ghost use Rattle.qplain.specs.Arguments.{is_holder};
-ghost use Rattle.qplain.specs.Attempt.{ask_quota, is_own};
+ghost use Rattle.std.specs.Prelude.{◌≡◌, ℕ};
+ghost use Rattle.qplain.specs.Quotas.{ask_quota};
 ghost use Rattle.qplain.specs.Step.{settle};
-ghost use Rattle.qstore.specs.KeptHolders.{IsCountedIn, holder_in};
 
-use crate::kept_holder::KeptHolder;
 use crate::store::Store;
+use crate::store::rights::is_own;
+use qledger::KeptHolder;
 use qplain::{Cred, Quota, Refusal, Reply};
 use qrules::Kind;
-
-/// Whether the id is among these.
-fn is_among(id: u32, ids: &[u32]) -> bool
-    ensures { result ≡ list_any (λ other. other == id) ids.now }
-{
-    ids.iter().any(|other| *other == id)
-}
-
-/// Whether the record is the caller's own, or one of its groups'.
-fn is_own(cred: &Cred, kind: Kind, id: u32) -> bool
-    ensures { result ≡ is_own cred.now kind id }
-{
-    match kind {
-        Kind::User => cred.uid() == id,
-        Kind::Group => cred.gid() == id || is_among(id, cred.more()),
-    }
-}
 
 /// What a kept holder's record holds.
 fn quota_of(holder: &KeptHolder) -> Quota
@@ -51,18 +30,6 @@ fn quota_of(holder: &KeptHolder) -> Quota
 }
 
 impl Store {
-    /// The kept holder of this kind and id, if it is declared. O(log n), as many as are declared.
-    fn holder(&self, kind: Kind, id: u32) -> Option<&KeptHolder>
-        ensures found { option_map (holder_in kind) (option_copied result)
-            ≡ find (is_holder kind id) self.now.state.holders }
-        ensures counted { IfSome result (λ o. IsCountedIn self.now.state kind o.now) }
-    {
-        match kind {
-            Kind::User => self.users.find(id),
-            Kind::Group => self.groups.find(id),
-        }
-    }
-
     /// The reply to a question for a record.
     pub(super) fn decide_quota(&self, cred: &Cred, kind: Kind, id: u32) -> Reply
         ensures { (moment : ℕ) → (self.now.state, result)
@@ -71,7 +38,7 @@ impl Store {
         if cred.uid() != 0 && !is_own(cred, kind, id) {
             return Reply::Refused(Refusal::EPERM);
         }
-        match self.holder(kind, id) {
+        match self.accounts.find(kind, id) {
             Some(holder) => Reply::Quota(quota_of(holder)),
             None => Reply::Refused(Refusal::ESRCH),
         }

@@ -9,7 +9,7 @@ ghost use Rattle.qstore.specs.Rows.{StandsBefore, inode_row_of, name_row_of, rec
 
 use crate::store::Store;
 use qplain::NoMemory;
-use qrules::{InodeRow, Kind, NameRow, RecordRow};
+use qrules::{InodeRow, NameRow, RecordRow};
 
 impl Store {
     /// The quota records, each once: users by id, then groups by id. Uses are in blocks of 4096 bytes,
@@ -18,10 +18,7 @@ impl Store {
         ensures rows { IfOk result (λ rows. rows.items ≡ map (record_row_of self.now.state) self.now.state.holders) }
         ensures by_id { OnOk result (AllPairs StandsBefore self.now.state.holders) }
     {
-        let mut rows = Vec::new(self.alloc);
-        self.users.push_rows(self.alloc, Kind::User, &mut rows)?;
-        self.groups.push_rows(self.alloc, Kind::Group, &mut rows)?;
-        Ok(rows)
+        self.accounts.rows(self.alloc)
     }
 
     /// The inodes by number, each once, with its allocated blocks of 4096 bytes and the link count that is kept for it.

@@ -2,13 +2,13 @@
 ghost use Rattle.std.specs.Prelude.{◌≡◌, ℕ, length};
 ghost use Rattle.qblocks.specs.File.{size_of};
 ghost use Rattle.qplain.specs.Caller.{Caller};
-ghost use Rattle.qplain.specs.Attempt.{stat_reached};
+ghost use Rattle.qplain.specs.Attempt.{at_path};
+ghost use Rattle.qplain.specs.Files.{stat_at};
 ghost use Rattle.qplain.specs.Step.{settle};
-ghost use Rattle.qplain.specs.Walk.{components, walk};
 ghost use Rattle.qtree.specs.Nodes.{file_in, inode_of};
 
 use crate::store::Store;
-use qplain::{Refusal, Reply, Stat};
+use qplain::{Reply, Stat};
 use qtree::{Content, Node};
 
 /// What is known of an inode.
@@ -42,16 +42,11 @@ impl Store {
     /// The reply to a stat.
     pub(super) fn decide_stat(&self, path: &str) -> Reply
         ensures { (cred : Caller) (moment : ℕ) → (self.now.state, result)
-            ≡ settle self.now.state cred moment
-            (stat_reached self.now.state (walk self.now.state (components path.now))) }
+            ≡ settle self.now.state cred moment (at_path self.now.state (stat_at self.now.state) path.now) }
     {
-        let number = match self.walk(path) {
-            Ok(number) => number,
-            Err(refusal) => return Reply::Refused(refusal),
-        };
-        match self.tree.node(number) {
-            Some(node) => Reply::Stat(stat_of(number, node)),
-            None => Reply::Refused(Refusal::ENOENT),
+        match self.find(path) {
+            Ok(found) => Reply::Stat(stat_of(found.number, found.node)),
+            Err(refusal) => Reply::Refused(refusal),
         }
     }
 }

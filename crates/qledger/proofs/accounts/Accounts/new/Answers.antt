@@ -16,8 +16,8 @@ pub new-requires-2-clause-by_id : goal.new-requires-2-clause-by_id
 new-requires-2-clause-by_id c = subst (λ (ps : List Principal). IsStrictlyIncreasing (map (λ p. p.id) ps))
     (sym c.groups.ensures.groups) (group-ids-rise c.args.setup.now c.groups.ensures.lawful)
 
-pub returns : goal.returns
-returns c =
+pub returns-clause-books : goal.returns-clause-books
+returns-clause-books c =
     let s = c.args.setup.now in
     let graces = c.graces-graces.ensures.graces in
     let users = c.in_ok-users.ensures ∙ (λ i. map (new_holder (graces i)) (c.users.ensures.users i)) in

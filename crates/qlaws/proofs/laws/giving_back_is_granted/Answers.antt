@@ -1,0 +1,5 @@
+use Rattle.qlaws.proofs.GivingBack.{giving_back_is_granted}
+use Rattle.qlaws.proofs.laws.giving_back_is_granted.Goals as goal
+
+pub returns : goal.returns
+returns c = giving_back_is_granted

@@ -1,0 +1,31 @@
+use Rattle.std.proofs.Common.{◌≡◌, true, ◌&&◌, Some, refl, sym, ap, subst, ◌∙◌, arith}
+use Rattle.qrules.specs.declared.kind.Kind.TheVariants.{User, Group}
+use Rattle.qplain.specs.Arguments.{is_declared}
+use Rattle.qplain.specs.State.{inode_at}
+use Rattle.qtree.specs.Nodes.{inode_of}
+use Rattle.qlaws.proofs.Fitting.{known-owners}
+use Rattle.qstore.specs.Kept.{state_of}
+use Rattle.qstore.specs.Stored.{Stored}
+use Rattle.qstore.proofs.Deciding.{weight-fits}
+use Rattle.qstore.proofs.store.Store.claim_of.Goals as goal
+
+pub claim-requires-clause-declared : goal.claim-requires-clause-declared
+claim-requires-clause-declared c =
+    let x = c.args in
+    let inode = inode_of x.node.now in
+    let there = subst (λ (v : Stored). inode_at v.state x.number ≡ Some inode) (sym c.self.view_is) c.requires.there in
+    subst (λ (v : Stored). (is_declared v.state User inode.uid && is_declared v.state Group inode.gid) ≡ true) c.self.view_is
+    (known-owners (state_of c.self.inside) x.number inode c.self.invariant.sound.lawful.parts there)
+
+pub returns-clause-claimed : goal.returns-clause-claimed
+returns-clause-claimed c = c.claim.ensures.claimed (inode_of c.args.node.now) refl refl (sym c.blocks_of.ensures)
+
+pub returns-clause-few : goal.returns-clause-few
+returns-clause-few c =
+    let x = c.args in
+    let a = c.self.inside in
+    let there = subst (λ (v : Stored). inode_at v.state x.number ≡ Some (inode_of x.node.now)) (sym c.self.view_is) c.requires.there in
+    let fits = weight-fits (state_of a) x.number (inode_of x.node.now) there c.self.invariant.sound.lawful in
+    let low = c.self.invariant.in_range.size in
+    let weight = c.claim.ensures.blocks ∙ c.blocks_of.ensures in
+    omega (arith, fits, low, weight)

@@ -1,0 +1,49 @@
+//! To give an inode other owners (chown(2)).
+ghost use Rattle.std.specs.Prelude.{◌≡◌, ◌≤◌, ◌||◌, false, []};
+ghost use Rattle.qrules.specs.declared.kind.Kind.TheVariants.{User, Group};
+ghost use Rattle.qplain.specs.Arguments.{is_undeclared};
+ghost use Rattle.qplain.specs.Attempt.{at_path};
+ghost use Rattle.qplain.specs.Owners.{chown_at};
+ghost use Rattle.qledger.specs.Books.{HasSlots};
+ghost use Rattle.qstore.specs.Decided.{IsDecided, IsWhole};
+
+use crate::ready::{Decided, TreeChange};
+use crate::store::Store;
+use crate::store::rights::may_give;
+use crate::store::walk::Found;
+use qledger::Slots;
+use qplain::{Cred, Refusal};
+use qrules::MAX_MOMENT;
+
+impl Store {
+    /// Decides other owners of an inode; what is None stays.
+    pub(super) fn decide_chown(
+        &self,
+        cred: &Cred,
+        callers: Slots,
+        moment: u64,
+        path: &str,
+        uid: Option<u32>,
+        gid: Option<u32>,
+    ) -> Decided
+        requires callers { HasSlots self.now.books callers cred.now.uid cred.now.gid }
+        requires whole { IsWhole self.now }
+        requires moment { moment ≤ MAX_MOMENT }
+        requires declared { (is_undeclared self.now.state User uid || is_undeclared self.now.state Group gid) ≡ false }
+        ensures { IsDecided self.now self.now cred.now moment
+            (at_path self.now.state (chown_at self.now.state cred.now uid gid) path.now) [] result }
+    {
+        let Found { number, node } = match self.find(path) {
+            Ok(found) => found,
+            Err(refusal) => return Decided::refused(refusal),
+        };
+        let (uid, gid) = (uid.unwrap_or(node.uid), gid.unwrap_or(node.gid));
+        if !may_give(cred, node, uid, gid) {
+            return Decided::refused(Refusal::EPERM);
+        }
+        let from = self.claim_of(cred, callers, number, node);
+        let to = self.claim(cred, callers, uid, gid, from.weight.blocks);
+        let change = TreeChange::Chown { number, uid, gid };
+        self.grant(cred, moment, number, Some(from), Some(to), change)
+    }
+}

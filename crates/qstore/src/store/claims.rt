@@ -1,0 +1,140 @@
+//! What an inode takes of its owners' records, and the bill of a change.
+ghost use Rattle.std.specs.Prelude.{◌≡◌, ℕ, ◌+◌, ◌≤◌, ◌&&◌, [], true, Option, None, Some, is_some, IfOk, IfErr, IfSome};
+ghost use Rattle.std.specs.Option.{IsSome};
+ghost use Rattle.qrules.specs.declared.kind.Kind.TheVariants.{User, Group};
+ghost use Rattle.qrules.specs.Sort.{Blocks};
+ghost use Rattle.qplain.specs.State.{Inode, State, inode_at};
+ghost use Rattle.qplain.specs.Use.{weight};
+ghost use Rattle.qplain.specs.Arguments.{is_declared};
+ghost use Rattle.qplain.specs.Attempt.{Becomes};
+ghost use Rattle.qtree.specs.Nodes.{inode_of};
+ghost use Rattle.qplain.specs.Decision.{ends_after, refusal_between};
+ghost use Rattle.qledger.specs.Bills.{IsBillFor, settled};
+ghost use Rattle.qledger.specs.Books.{AreBooksOf, HasSlots};
+ghost use Rattle.qledger.specs.Replacements.{IsReplacement};
+ghost use Rattle.qstore.specs.Decided.{IsClaimed, IsDecided, IsWhole};
+ghost use Rattle.qstore.specs.Ready.{CanChange, changed};
+
+use crate::ready::{Decided, TreeChange};
+use crate::store::Store;
+use qledger::{Bill, Claim, Slots};
+use qplain::{Cred, MAX_BLOCKS, Refusal};
+use qrules::{Kind, MAX_MOMENT};
+use qtree::{Content, Node};
+
+/// The allocated blocks of an inode.
+fn blocks_of(node: &Node) -> u64
+    ensures { result ≡ weight Blocks (inode_of node.now) }
+{
+    match &node.content {
+        Content::Directory(_) => 0,
+        Content::File(file) => file.allocated(),
+    }
+}
+
+impl Store {
+    /// Where the records of this user and this group stand, if both are declared.
+    pub(super) fn slots(&self, uid: u32, gid: u32) -> Option<Slots>
+        ensures declared { is_some result
+            ≡ (is_declared self.now.state User uid && is_declared self.now.state Group gid) }
+        ensures slots { IfSome result (λ slots. HasSlots self.now.books slots uid gid) }
+        ensures whole { IsWhole self.now }
+    {
+        match (
+            self.accounts.slot(Kind::User, uid),
+            self.accounts.slot(Kind::Group, gid),
+        ) {
+            (Some(user), Some(group)) => Some(Slots { user, group }),
+            _ => None,
+        }
+    }
+
+    /// The same, where those of the caller are found already.
+    fn owners(&self, cred: &Cred, callers: Slots, uid: u32, gid: u32) -> Option<Slots>
+        requires callers { HasSlots self.now.books callers cred.now.uid cred.now.gid }
+        ensures declared { (is_declared self.now.state User uid && is_declared self.now.state Group gid) ≡ true
+            → IsSome result }
+        ensures slots { IfSome result (λ slots. HasSlots self.now.books slots uid gid) }
+    {
+        if uid == cred.uid() && gid == cred.gid() {
+            return Some(callers);
+        }
+        self.slots(uid, gid)
+    }
+
+    /// What an inode of these owners takes that has so many blocks.
+    pub(super) fn claim(&self, cred: &Cred, callers: Slots, uid: u32, gid: u32, blocks: u64) -> Claim
+        requires callers { HasSlots self.now.books callers cred.now.uid cred.now.gid }
+        requires declared { (is_declared self.now.state User uid && is_declared self.now.state Group gid) ≡ true }
+        ensures claimed { (inode : Inode) → inode.uid ≡ uid → inode.gid ≡ gid → weight Blocks inode ≡ blocks
+            → IsClaimed self.now.books (Some result) (Some inode) }
+        ensures blocks { result.weight.blocks ≡ blocks }
+    {
+        match self.owners(cred, callers, uid, gid) {
+            Some(slots) => Claim::new(slots, blocks),
+            None => unreachable!(),
+        }
+    }
+
+    /// What an inode that is there takes.
+    pub(super) fn claim_of(&self, cred: &Cred, callers: Slots, number: u64, node: &Node) -> Claim
+        requires callers { HasSlots self.now.books callers cred.now.uid cred.now.gid }
+        requires there { inode_at self.now.state number ≡ Some (inode_of node.now) }
+        ensures claimed { IsClaimed self.now.books (Some result) (Some (inode_of node.now)) }
+        ensures blocks { result.weight.blocks ≡ weight Blocks (inode_of node.now) }
+        ensures few { result.weight.blocks ≤ MAX_BLOCKS }
+    {
+        let _ = &self.next;
+        self.claim(cred, callers, node.uid, node.gid, blocks_of(node))
+    }
+
+    /// The bill of a change by which the inode of one claim comes to stand in the place of the other's, and which gives
+    /// so many numbers, or why it is refused.
+    pub(super) fn bill(
+        &self,
+        cred: &Cred,
+        moment: u64,
+        given: u64,
+        from: Option<Claim>,
+        to: Option<Claim>,
+    ) -> Result<Bill, Refusal>
+        requires moment { moment ≤ MAX_MOMENT }
+        requires few { given ≤ 1 }
+        requires replacement { (S1 : State) × (f : Option Inode) × (t : Option Inode)
+            × IsReplacement self.now.books from to self.now.state S1 f t }
+        ensures granted { IfOk result (λ bill. (S1 : State) (f t : Option Inode)
+            → IsReplacement self.now.books from to self.now.state S1 f t → S1.next ≡ self.now.state.next + given
+            → (refusal_between self.now.state S1 cred.now moment ≡ None)
+            × AreBooksOf (ends_after S1 moment) (settled bill self.now.books)) }
+        ensures placed { IfOk result (IsBillFor self.now.books) }
+        ensures refused { IfErr result (λ refusal. (S1 : State) (f t : Option Inode)
+            → IsReplacement self.now.books from to self.now.state S1 f t → S1.next ≡ self.now.state.next + given
+            → refusal_between self.now.state S1 cred.now moment ≡ Some refusal) }
+    {
+        self.accounts.bill(cred, moment, self.next + given, from, to)
+    }
+
+    /// Decides a change that passed its own tests and wants no room.
+    pub(super) fn grant(
+        &self,
+        cred: &Cred,
+        moment: u64,
+        number: u64,
+        from: Option<Claim>,
+        to: Option<Claim>,
+        change: TreeChange,
+    ) -> Decided
+        requires moment { moment ≤ MAX_MOMENT }
+        requires replacement { (f : Option Inode) × (t : Option Inode)
+            × IsReplacement self.now.books from to self.now.state (changed self.now.state change []) f t }
+        requires next { (changed self.now.state change []).next ≡ self.now.state.next }
+        requires can { CanChange self.now.state self.now.room change [] }
+        ensures { IsDecided self.now self.now cred.now moment (Becomes (changed self.now.state change []) number) []
+            result }
+    {
+        match self.bill(cred, moment, 0, from, to) {
+            Ok(bill) => Decided::granted(number, from, to, change, bill),
+            Err(refusal) => Decided::refused(refusal),
+        }
+    }
+}

@@ -1,0 +1,109 @@
+//! What is decided, done. It takes no memory and always succeeds.
+ghost use Rattle.std.specs.Prelude.{◌≡◌, ℕ, ◌-◌, ◌<◌, false, Some};
+ghost use Rattle.std.specs.BTreeMap.{is_at};
+ghost use Rattle.std.specs.Map.{lookup, remove_entry, set_value};
+ghost use Rattle.std.specs.Ordering.{nat_cmp};
+ghost use Rattle.qplain.specs.State.{State, is_dir};
+ghost use Rattle.qplain.specs.Names.{swept, without_name};
+ghost use Rattle.qlaws.specs.Laws.{IsLawful};
+ghost use Rattle.qstore.specs.Kept.{IsTreeOf};
+ghost use Rattle.qstore.specs.Ready.{CanCarryOut, CanChange, CanSettle, CanUnlink, billed, changed, effect, name_in};
+ghost use Rattle.qstore.specs.Stored.{IsSound};
+
+use crate::path::last_of;
+use crate::ready::{Plan, TreeChange};
+use crate::store::Store;
+use qledger::Bill;
+use qplain::{Data, Path};
+use qtree::{Node, Tree};
+use std::alloc::Global;
+
+/// Takes one link from a file, and the file with its last one.
+fn drop_link(tree: &mut Tree, number: u64)
+    requires file { is_dir (lookup (is_at (nat_cmp number)) tree.old.inodes) ≡ false }
+    ensures names { tree.new.names ≡ tree.old.names }
+    ensures last { lookup (is_at (nat_cmp number)) tree.old.links ≡ Some 1
+        → (tree.new.inodes ≡ remove_entry (is_at (nat_cmp number)) tree.old.inodes)
+        × (tree.new.links ≡ remove_entry (is_at (nat_cmp number)) tree.old.links) }
+    ensures more { (links : ℕ) → lookup (is_at (nat_cmp number)) tree.old.links ≡ Some links → 1 < links
+        → (tree.new.inodes ≡ tree.old.inodes)
+        × (tree.new.links ≡ set_value (is_at (nat_cmp number)) tree.old.links (links - 1)) }
+{
+    let links = match tree.node(number) {
+        Some(node) => node.links,
+        None => 0,
+    };
+    if links > 1 {
+        tree.set_links(number, links - 1);
+    } else {
+        tree.take_node(number);
+    }
+}
+
+/// Takes the last name of a path out of a directory, and one link from the file that it leads to.
+fn take_name(tree: &mut Tree, dir: u64, path: &Path, number: u64)
+    requires { (S : State) × IsTreeOf S tree.old × IsLawful S × CanUnlink S dir number (name_in path.now) }
+    ensures { (S : State) → IsTreeOf S tree.old → IsLawful S → CanUnlink S dir number (name_in path.now)
+        → IsTreeOf (swept (without_name S dir (name_in path.now))) tree.new }
+{
+    tree.take_name(dir, last_of(path.text()));
+    drop_link(tree, number);
+}
+
+/// Makes a change of inodes and names, and gives the number of the next inode.
+fn make(tree: &mut Tree, next: u64, alloc: Global, change: TreeChange, bytes: &Data) -> u64
+    requires can { (S : State) × IsTreeOf S tree.old × (S.next ≡ next) × IsLawful S
+        × CanChange S tree.old.room change bytes.now }
+    ensures tree { (S : State) → IsTreeOf S tree.old → S.next ≡ next → IsLawful S
+        → CanChange S tree.old.room change bytes.now → IsTreeOf (changed S change bytes.now) tree.new }
+    ensures next { (S : State) → S.next ≡ next → CanChange S tree.old.room change bytes.now
+        → (changed S change bytes.now).next ≡ result }
+{
+    match change {
+        TreeChange::Create {
+            dir,
+            name,
+            uid,
+            gid,
+        } => {
+            tree.add_file(next, dir, name, uid, gid, alloc);
+            return next + 1;
+        }
+        TreeChange::Write { number, off, spare } => {
+            tree.put(number, off, bytes, spare);
+        }
+        TreeChange::Truncate { number, size } => {
+            tree.truncate(number, size);
+        }
+        TreeChange::Unlink { dir, path, number } => take_name(tree, dir, &path, number),
+        TreeChange::Chown { number, uid, gid } => tree.set_owners(number, uid, gid),
+    }
+    next
+}
+
+impl Store {
+    /// Does what is decided.
+    pub(super) fn carry_out(&mut self, plan: Plan, bytes: &Data)
+        requires can { CanCarryOut self.old plan bytes.now }
+        requires sound { IsSound (effect self.old plan bytes.now) }
+        ensures { self.new.state ≡ effect self.old plan bytes.now }
+    {
+        match plan {
+            Plan::Nothing => {}
+            Plan::Change { change, bill } => self.commit_change(change, bill, bytes),
+            Plan::Limits { bill } => self.accounts.settle(bill),
+            Plan::SetGraces { graces } => self.accounts.set_graces(graces),
+        }
+    }
+
+    /// Makes a change of inodes and names, and settles its bill.
+    fn commit_change(&mut self, change: TreeChange, bill: Bill, bytes: &Data)
+        requires can { CanChange self.old.state self.old.room change bytes.now }
+        requires settles { CanSettle self.old.books bill (billed (changed self.old.state change bytes.now) bill self.old.books) }
+        requires sound { IsSound (billed (changed self.old.state change bytes.now) bill self.old.books) }
+        ensures { self.new.state ≡ billed (changed self.old.state change bytes.now) bill self.old.books }
+    {
+        self.next = make(&mut self.tree, self.next, self.alloc, change, bytes);
+        self.accounts.settle(bill);
+    }
+}

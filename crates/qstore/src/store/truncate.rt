@@ -1,0 +1,51 @@
+//! To cut a file off, or to let it grow (truncate(2)).
+ghost use Rattle.std.specs.Prelude.{◌≡◌, ◌≤◌, []};
+ghost use Rattle.qplain.specs.Attempt.{at_path};
+ghost use Rattle.qplain.specs.Files.{truncate_at};
+ghost use Rattle.qledger.specs.Books.{HasSlots};
+ghost use Rattle.qstore.specs.Decided.{IsDecided, IsWhole};
+
+use crate::ready::{Decided, TreeChange};
+use crate::store::Store;
+use crate::store::rights::may_write;
+use crate::store::walk::Found;
+use qledger::{Claim, Slots};
+use qplain::{Cred, Refusal};
+use qrules::MAX_MOMENT;
+use qtree::Content;
+
+impl Store {
+    /// Decides another size of a file.
+    pub(super) fn decide_truncate(
+        &self,
+        cred: &Cred,
+        callers: Slots,
+        moment: u64,
+        path: &str,
+        size: u64,
+    ) -> Decided
+        requires callers { HasSlots self.now.books callers cred.now.uid cred.now.gid }
+        requires whole { IsWhole self.now }
+        requires moment { moment ≤ MAX_MOMENT }
+        ensures { IsDecided self.now self.now cred.now moment
+            (at_path self.now.state (truncate_at self.now.state cred.now size) path.now) [] result }
+    {
+        let Found { number, node } = match self.find(path) {
+            Ok(found) => found,
+            Err(refusal) => return Decided::refused(refusal),
+        };
+        let Content::File(file) = &node.content else {
+            return Decided::refused(Refusal::EISDIR);
+        };
+        if !may_write(cred, node) {
+            return Decided::refused(Refusal::EACCES);
+        }
+        if size > self.file_limit {
+            return Decided::refused(Refusal::EFBIG);
+        }
+        let from = self.claim_of(cred, callers, number, node);
+        let to = Claim::new(from.slots, from.weight.blocks - file.freed_by(size));
+        let change = TreeChange::Truncate { number, size };
+        self.grant(cred, moment, number, Some(from), Some(to), change)
+    }
+}

@@ -1,0 +1,101 @@
+//! To take a name of a file away, and the file with its last name (unlink(2)).
+ghost use Rattle.std.specs.Prelude.{◌≡◌, ◌≤◌, ◌<◌, [], IfOk, Some, None};
+ghost use Rattle.std.specs.Result.{IsOk};
+ghost use Rattle.qplain.specs.declared.refusal.Refusal.TheVariants.{EISDIR};
+ghost use Rattle.qplain.specs.Attempt.{in_place};
+ghost use Rattle.qplain.specs.Names.{unlink_as};
+ghost use Rattle.qplain.specs.State.{named};
+ghost use Rattle.qplain.specs.Step.{settle};
+ghost use Rattle.qledger.specs.Books.{HasSlots};
+ghost use Rattle.qstore.specs.Decided.{IsDecided, IsWhole};
+ghost use Rattle.qstore.specs.Ready.{IsRefused, name_in};
+
+use crate::ready::{Decided, TreeChange};
+use crate::store::Store;
+use qledger::{Claim, Slots};
+use qplain::{Cred, NoMemory, Path, Refusal};
+use qrules::MAX_MOMENT;
+use qtree::{Content, Node};
+
+/// What is left of what a file takes, once a name of it has gone.
+fn left_of(node: &Node, claim: Claim) -> Option<Claim>
+    ensures more { 1 < node.now.links → result ≡ Some claim }
+    ensures last { node.now.links ≤ 1 → result ≡ None }
+{
+    if node.links > 1 { Some(claim) } else { None }
+}
+
+impl Store {
+    /// Decides that a name goes.
+    pub(super) fn decide_unlink(
+        &self,
+        cred: &Cred,
+        callers: Slots,
+        moment: u64,
+        path: &Path,
+    ) -> Result<Decided, NoMemory>
+        requires callers { HasSlots self.now.books callers cred.now.uid cred.now.gid }
+        requires whole { IsWhole self.now }
+        requires moment { moment ≤ MAX_MOMENT }
+        ensures decided { IfOk result (IsDecided self.now self.now cred.now moment
+            (in_place self.now.state EISDIR (unlink_as self.now.state cred.now) path.now) []) }
+        ensures refused_first { IsRefused (settle self.now.state cred.now moment
+            (in_place self.now.state EISDIR (unlink_as self.now.state cred.now) path.now)).1 → IsOk result }
+    {
+        let place = match self.place_of(path.text(), Refusal::EISDIR) {
+            Ok(place) => place,
+            Err(refusal) => return Ok(Decided::refused(refusal)),
+        };
+        match place.leads_to {
+            Some(number) => {
+                self.take_name(cred, callers, moment, path, place.dir, place.name, number)
+            }
+            None => Ok(Decided::refused(Refusal::ENOENT)),
+        }
+    }
+
+    /// Decides that the last name of the path goes, which leads to this number.
+    fn take_name(
+        &self,
+        cred: &Cred,
+        callers: Slots,
+        moment: u64,
+        path: &Path,
+        dir: u64,
+        name: &str,
+        number: u64,
+    ) -> Result<Decided, NoMemory>
+        requires callers { HasSlots self.now.books callers cred.now.uid cred.now.gid }
+        requires whole { IsWhole self.now }
+        requires moment { moment ≤ MAX_MOMENT }
+        requires last { name_in path.now ≡ name.now }
+        requires led { named self.now.state dir name.now ≡ Some number }
+        ensures decided { IfOk result (IsDecided self.now self.now cred.now moment
+            (unlink_as self.now.state cred.now dir name.now) []) }
+        ensures refused_first { IsRefused (settle self.now.state cred.now moment
+            (unlink_as self.now.state cred.now dir name.now)).1 → IsOk result }
+    {
+        let Some(node) = self.inode(number) else {
+            return Ok(Decided::refused(Refusal::ENOENT));
+        };
+        let Content::File(_) = &node.content else {
+            return Ok(Decided::refused(Refusal::EISDIR));
+        };
+        if !self.may_remove(cred, dir, number, node) {
+            return Ok(Decided::refused(Refusal::EPERM));
+        }
+        let claim = self.claim_of(cred, callers, number, node);
+        let from = Some(claim);
+        let to = left_of(node, claim);
+        let bill = match self.bill(cred, moment, 0, from, to) {
+            Ok(bill) => bill,
+            Err(refusal) => return Ok(Decided::refused(refusal)),
+        };
+        let change = TreeChange::Unlink {
+            dir,
+            path: path.copy()?,
+            number,
+        };
+        Ok(Decided::granted(number, from, to, change, bill))
+    }
+}
