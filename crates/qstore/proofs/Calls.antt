@@ -1,27 +1,38 @@
 -- The plain results of the calls that change inodes, and what stands where then.
-use Rattle.std.proofs.Common.{◌≡◌, ℕ, ◌+◌, ◌-◌, ◌^◌, ◌<◌, ◌≤◌, ◌==◌, ⊎_elim, Bool, true, false, not, nat_lt, cond, List, [], length, Option, None, Some, refl, sym, ap, subst, ◌∙◌, tests, arith}
+use Rattle.std.proofs.Common.{◌≡◌, ℕ, ◌+◌, ◌-◌, ◌^◌, ◌<◌, ◌≤◌, ◌==◌, ⊎_elim, Bool, true, false, not, ◌&&◌, ◌||◌, unwrap_or, nat_lt, cond, List, [], ◌∷◌, length, Option, None, Some, refl, sym, ap, subst, ◌∙◌, tests, arith}
 use Rattle.std.proofs.lemmas.Bool.{cases_lt}
 use Rattle.qrules.specs.Sort.{Blocks}
-use Rattle.qblocks.specs.File.{Adds, File, MoreBlocks, after_truncate, after_write, with_touched}
+use Rattle.qblocks.specs.File.{Adds, File, MoreBlocks, after_truncate, after_write, blocks_of, with_touched}
 use Rattle.qplain.specs.declared.refusal.Refusal.TheVariants.{EACCES, EFBIG, EISDIR, EPERM}
 use Rattle.qplain.specs.declared.reply.Reply.TheVariants.{Done}
+use Rattle.qrules.specs.declared.kind.Kind.TheVariants.{User, Group}
+use Rattle.qplain.specs.Arguments.{is_declared, is_undeclared}
 use Rattle.qplain.specs.Attempt.{Answer, Attempt, Becomes, Refuse, at_inode, at_reached, no_change}
 use Rattle.qplain.specs.Caller.{Caller}
 use Rattle.qplain.specs.Files.{truncate_at, with_file, with_inode, write_into}
-use Rattle.qplain.specs.Names.{swept, unlink_as, unlink_at, without_name}
+use Rattle.qplain.specs.Names.{created, swept, unlink_as, unlink_at, without_name}
 use Rattle.qplain.specs.Owners.{give, with_owners}
 use Rattle.qplain.specs.Rights.{may_give, may_remove, may_write}
-use Rattle.qplain.specs.State.{Inode, State, inode_at, named}
+use Rattle.qplain.specs.State.{Inode, State, inode_at, named, new_file}
 use Rattle.qplain.specs.Use.{links_of, weight}
 use Rattle.qplain.specs.Walk.{led_to}
+use Rattle.qlaws.specs.Laws.{FitsTogether}
+use Rattle.qlaws.proofs.Settling.{absent-next}
 use Rattle.qlaws.proofs.Removing.{Replaces-last, Replaces-more, links_of-unlinked}
-use Rattle.qlaws.proofs.Replacing.{Replaces-changed}
+use Rattle.qlaws.proofs.Replacing.{Replaces-changed, Replaces-created}
 use Rattle.qledger.specs.declared.claim.Claim.{Claim}
+use Rattle.qledger.specs.declared.claim.Slots.{Slots}
+use Rattle.qledger.specs.Books.{HasSlots}
+use Rattle.qtree.specs.Tree.{IsSameTree, RoomyTree}
+use Rattle.qstore.specs.declared.store.Store.TheInside.{Inside}
+use Rattle.qstore.specs.declared.store.write.Target.{Target}
+use Rattle.qstore.specs.Kept.{state_of, stored_of}
+use Rattle.qstore.specs.Targets.{IsTarget}
 use Rattle.qledger.specs.Replacements.{IsReplacement}
 use Rattle.qstore.specs.Decided.{IsClaimed, IsWhole}
 use Rattle.qstore.specs.Ready.{altered, altered_at}
-use Rattle.qstore.specs.Stored.{Stored}
-use Rattle.qstore.proofs.Deciding.{replacement, unclaimed}
+use Rattle.qstore.specs.Stored.{IsSameStore, Stored}
+use Rattle.qstore.proofs.Deciding.{claimed, claimed-again, replacement, unclaimed}
 
 -- ---- the tests
 
@@ -55,6 +66,36 @@ pub give-becomes : (S : State) (cred : Caller) (uid gid number : ℕ) (inode : I
     → give S cred uid gid number inode ≡ Becomes (with_inode S number (with_owners inode uid gid)) number
 give-becomes S cred uid gid number inode may =
     λ i. cond (not (may i)) (Refuse EPERM) (Becomes (with_inode S number (with_owners inode uid gid)) number)
+
+-- and is refused to who may not give it
+pub give-refused : (S : State) (cred : Caller) (uid gid number : ℕ) (inode : Inode) → may_give cred inode uid gid ≡ false
+    → give S cred uid gid number inode ≡ Refuse EPERM
+give-refused S cred uid gid number inode may =
+    λ i. cond (not (may i)) (Refuse EPERM) (Becomes (with_inode S number (with_owners inode uid gid)) number)
+
+-- owners that are named and declared, or that are not named, are declared
+pub named-declared : (S : State) (uid gid : Option ℕ) (u g : ℕ) → (is_undeclared S User uid || is_undeclared S Group gid) ≡ false
+    → (is_declared S User u && is_declared S Group g) ≡ true
+    → (is_declared S User (unwrap_or uid u) && is_declared S Group (unwrap_or gid g)) ≡ true
+named-declared S None None u g none own = own
+named-declared S (Some a) None u g none own = by (is_declared S User a) (is_declared S User u) (is_declared S Group g) none own
+  where
+    by : (p q r : Bool) → (not p || false) ≡ false → (q && r) ≡ true → (p && r) ≡ true
+    by true true r n o = o
+    by true false r n o = cc
+    by false q r n o = cc
+named-declared S None (Some b) u g none own = by (is_declared S Group b) (is_declared S User u) (is_declared S Group g) none own
+  where
+    by : (p q r : Bool) → not p ≡ false → (q && r) ≡ true → (q && p) ≡ true
+    by true true r n o = refl
+    by true false r n o = cc
+    by false q r n o = cc
+named-declared S (Some a) (Some b) u g none own = by (is_declared S User a) (is_declared S Group b) none
+  where
+    by : (p q : Bool) → (not p || not q) ≡ false → (p && q) ≡ true
+    by true true n = refl
+    by true false n = cc
+    by false q n = cc
 
 -- a change of the inode that is there
 pub altered-there : (S : State) (number : ℕ) (change : Inode → Inode) (inode : Inode) → inode_at S number ≡ Some inode
@@ -107,7 +148,62 @@ unlinked-replaced s whole dir name number inode led there file claim to links cl
     S1 : State
     S1 = swept (without_name s.state dir name)
 
+    fits : FitsTogether s.state
     fits = whole.sound.lawful.parts
 
     some : links_of S1 number false + 1 ≡ links_of s.state number false
     some = links_of-unlinked s.state dir name number inode fits led there file
+
+-- a file that changes stands where it stood, with a claim on the same records
+pub resized-replaced : (s : Stored) → IsWhole s → (number : ℕ) (inode : Inode) (file : File) → inode_at s.state number ≡ Some inode
+    → (from to : Claim) (blocks : ℕ) → IsClaimed s.books (Some from) (Some inode)
+    → to ≡ record { slots = from.slots; weight = record { blocks = blocks; inodes = 1 } }
+    → blocks_of file ≡ blocks → blocks ≤ 2 ^ 32
+    → IsReplacement s.books (Some from) (Some to) s.state (with_file s.state number inode file) (Some inode) (Some (record inode { file = file }))
+resized-replaced s whole number inode file there from to blocks claimed is same few =
+    changed-replaced s whole number inode (record inode { file = file }) there from to claimed
+    (subst (λ (c : Claim). IsClaimed s.books (Some c) (Some (record inode { file = file }))) (sym is)
+    (claimed-again s.books from blocks inode (record inode { file = file }) claimed refl refl same))
+    (omega (arith, same, few))
+
+-- the write of a target
+pub target-replaced : (s : Stored) → IsWhole s → (cred : Caller) (path : List ℕ) (off : ℕ) (bytes : List ℕ) (target : Target)
+    (t : IsTarget s cred path off bytes target) (to : Claim)
+    → to ≡ record { slots = target.claim.slots; weight = record { blocks = target.claim.weight.blocks + target.missing; inodes = 1 } }
+    → IsReplacement s.books (Some target.claim) (Some to) s.state (with_file s.state target.number t.inode (after_write t.inode.file off bytes))
+    (Some t.inode) (Some (record t.inode { file = after_write t.inode.file off bytes }))
+target-replaced s whole cred path off bytes target t to is =
+    let more = more-of-adds t.inode.file off bytes target.missing t.missing in
+    let old = t.blocks in
+    let few = t.few in
+    let few_missing = t.few_missing in
+    resized-replaced s whole target.number t.inode (after_write t.inode.file off bytes) t.there target.claim to
+    (target.claim.weight.blocks + target.missing) t.claimed is (omega (arith, more, old)) (omega (arith, few, few_missing))
+
+-- other owners of an inode that is there
+pub given-replaced : (s : Stored) → IsWhole s → (number uid gid : ℕ) (inode : Inode) → inode_at s.state number ≡ Some inode
+    → (from to : Claim) → IsClaimed s.books (Some from) (Some inode) → IsClaimed s.books (Some to) (Some (with_owners inode uid gid))
+    → weight Blocks inode ≤ 2 ^ 32
+    → IsReplacement s.books (Some from) (Some to) s.state (with_inode s.state number (with_owners inode uid gid)) (Some inode)
+    (Some (with_owners inode uid gid))
+given-replaced s whole number uid gid inode there from to lost gained few =
+    changed-replaced s whole number inode (with_owners inode uid gid) there from to lost gained few
+
+-- a new file of the caller's
+pub created-replaced : (s : Stored) → IsWhole s → (dir : ℕ) (name : List ℕ) (slots : Slots) (uid gid : ℕ) → HasSlots s.books slots uid gid
+    → (to : Claim) → to ≡ record { slots = slots; weight = record { blocks = 0; inodes = 1 } }
+    → IsReplacement s.books None (Some to) s.state (created s.state (new_file uid gid) dir name) None (Some (new_file uid gid))
+created-replaced s whole dir name slots uid gid has to is =
+    replacement s.books None (Some to) s.state (created s.state (new_file uid gid) dir name) None (Some (new_file uid gid)) whole.sound.lawful whole.books
+    (Replaces-created s.state (new_file uid gid) dir name (absent-next s.state whole.sound.lawful)) (unclaimed s.books)
+    (subst (λ (c : Claim). IsClaimed s.books (Some c) (Some (new_file uid gid))) (sym is)
+    (claimed s.books slots uid gid 0 (new_file uid gid) has refl refl refl)) (omega arith)
+
+-- ---- the store in which room is made
+
+-- it is the same store
+pub same-tree : (a : Inside) (tree : RoomyTree) → IsSameTree a.tree tree → IsSameStore (stored_of a) (stored_of (record a { tree = tree }))
+same-tree a tree same = record {
+  state = λ i. record (state_of a) { inodes = same.inodes i; names = same.names i };
+  books = refl;
+}

@@ -4,6 +4,7 @@ pub mod Parts
 pub mod Walks
 pub mod Arguments
 pub mod Links
+pub mod Making
 pub mod Steps
 pub mod Listed
 pub mod Deciding

@@ -4,7 +4,8 @@ use Rattle.std.specs.Prelude.{◌≡◌, ℕ, List}
 use Rattle.std.specs.Option.{option_map}
 use Rattle.std.specs.Ordering.{nat_cmp}
 use Rattle.std.specs.BTreeMap.{is_at}
-use Rattle.std.specs.Map.{lookup}
+use Rattle.std.specs.List.Sorted.{IsStrictlySortedBy}
+use Rattle.std.specs.Map.{keys_of, lookup}
 use Rattle.qplain.specs.State.{State, inode_at}
 use Rattle.qplain.specs.Use.{links_of}
 use Rattle.qtree.specs.Tree.{RoomyTree}
@@ -36,15 +37,17 @@ AreLinks S links =
     (number : ℕ) → lookup (is_at (nat_cmp number)) links
     ≡ option_map (λ inode. links_of S number inode.dir) (inode_at S number)
 
--- the tree has the state's inodes and names, and keeps their link counts
+-- the tree has the state's inodes and names, and keeps their link counts in the order of the numbers
 pub record IsTreeOf (S : State) (tree : RoomyTree) : Type 0 where
   pub inodes : tree.inodes ≡ S.inodes
   pub names : tree.names ≡ S.names
   pub links : AreLinks S tree.links
+  pub in_order : IsStrictlySortedBy nat_cmp (keys_of tree.links)
 
--- the state is sound, and what is kept beside it is what it counts to: the books, and each inode's links
+-- the state is sound, and what is kept beside it is what it counts to: the books, and each inode's links in order
 pub record IsCounted (S : State) (b : Books) (kept : List (ℕ × ℕ)) : Type 0 where
   pub sound : IsSound S
   pub books : AreBooksOf S b
   pub in_range : AreInRange b
   pub links : AreLinks S kept
+  pub in_order : IsStrictlySortedBy nat_cmp (keys_of kept)

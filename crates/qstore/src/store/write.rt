@@ -1,5 +1,5 @@
 //! To write into a file (write(2)).
-ghost use Rattle.std.specs.Prelude.{◌≡◌, ℕ, ◌≤◌, length, IfOk, IfErr};
+ghost use Rattle.std.specs.Prelude.{◌≡◌, ℕ, ◌+◌, ◌≤◌, nat_lt, length, IfOk, IfErr};
 ghost use Rattle.std.specs.Result.{IsOk};
 ghost use Rattle.qplain.specs.Attempt.{at_path};
 ghost use Rattle.qplain.specs.Files.{write_into};
@@ -54,6 +54,14 @@ impl Store {
         }
     }
 
+    /// Whether the end of so many bytes at the offset is past the file limit.
+    fn is_past_limit(&self, off: u64, len: u64) -> bool
+        requires { len ≤ MAX_DATA }
+        ensures past { result ≡ nat_lt self.now.state.file_limit (off + len) }
+    {
+        off > self.file_limit || off + len > self.file_limit
+    }
+
     /// The file that the path leads to, if the write comes so far, or else its reply.
     fn target(
         &self,
@@ -64,6 +72,7 @@ impl Store {
         bytes: &Data,
     ) -> Result<Target, Reply>
         requires callers { HasSlots self.now.books callers cred.now.uid cred.now.gid }
+        requires whole { IsWhole self.now }
         requires few { length bytes.now ≤ MAX_DATA }
         ensures granted { IfOk result (IsTarget self.now cred.now path.now off bytes.now) }
         ensures refused { IfErr result (λ reply. (moment : ℕ) → settle self.now.state cred.now moment
@@ -84,7 +93,7 @@ impl Store {
             return Err(Reply::Done(number, NO_CHANGE));
         }
         let len = bytes.len();
-        if off > self.file_limit || off + len > self.file_limit {
+        if self.is_past_limit(off, len) {
             return Err(Reply::Refused(Refusal::EFBIG));
         }
         Ok(Target {

@@ -1,4 +1,4 @@
-use Rattle.std.proofs.Common.{◌≡◌, ℕ, ◌+◌, ◌≤◌, Option, None, Some, refl, sym, ap, subst, arith}
+use Rattle.std.proofs.Common.{◌≡◌, ℕ, ◌+◌, ◌≤◌, Option, None, Some, sym, ap, subst}
 use Rattle.std.specs.Prelude.{IfErr, IfOk}
 use Rattle.qstore.proofs.Listed.{err_weaker, ok_weaker}
 use Rattle.qplain.specs.Decision.{ends_after, refusal_between}
@@ -9,12 +9,6 @@ use Rattle.qledger.specs.Replacements.{IsReplacement}
 use Rattle.qstore.specs.Kept.{state_of}
 use Rattle.qstore.specs.Stored.{Stored}
 use Rattle.qstore.proofs.store.Store.bill.Goals as goal
-
-pub overflow_add-self : goal.overflow_add-self
-overflow_add-self c =
-    let low = c.self.invariant.sound.lawful.next_fits in
-    let few = c.requires.few in
-    omega (arith, low, few)
 
 pub bill-requires-clause-replacement : goal.bill-requires-clause-replacement
 bill-requires-clause-replacement c =
