@@ -10,6 +10,7 @@ use Rattle.qplain.specs.Step.{step}
 use Rattle.qlaws.proofs.Playing.{legal-one_more, play-one_more}
 use Rattle.qstore.specs.declared.ready.Ready.{Ready}
 use Rattle.qstore.specs.Ready.{committed}
+use Rattle.qstore.specs.Stored.{Stored}
 use Rattle.qrun.specs.declared.journaled_store.TheConstants.{MAX_ENTRIES}
 use Rattle.qrun.specs.Journaled.{IsPlayed, Journaled, entry_of}
 
@@ -32,10 +33,10 @@ played_on old new worker line reply is few setting journal stepped =
     }
 
 -- what was ready and is carried out is the plain machine's step, with the reply that was copied beforehand
-pub carried_out : (before ready_state after : State) (r : Ready) (reply shown copy : Reply) (line : Line)
-    → ready_state ≡ before → committed before r ≡ step before line.cred line.moment line.call
-    → (after, reply) ≡ committed ready_state r → shown ≡ r.reply → copy ≡ shown
+pub carried_out : (before after : State) (ready : Stored) (r : Ready) (reply shown copy : Reply) (line : Line)
+    → committed ready r ≡ step before line.cred line.moment line.call
+    → (after, reply) ≡ committed ready r → shown ≡ r.reply → copy ≡ shown
     → (after, copy) ≡ step before line.cred line.moment line.call
-carried_out before ready_state after r reply shown copy line same stepped done told copied =
+carried_out before after ready r reply shown copy line stepped done told copied =
     let given : reply ≡ r.reply = ap (λ p. p.1) done in
-    ap (λ x. (after, x)) (copied ∙ told ∙ sym given) ∙ done ∙ ap (λ T. committed T r) same ∙ stepped
+    ap (λ x. (after, x)) (copied ∙ told ∙ sym given) ∙ done ∙ stepped

@@ -196,7 +196,7 @@ impl Store {
     /// taken out by that file's next write.
     pub fn ready(&mut self, cred: &Cred, moment: u64, call: &Call) -> Result<Ready, NoMemory>
         ensures state { self.new.state ≡ self.old.state }
-        ensures step { IfOk result (λ r. committed self.old r ≡ step self.old.state cred.now moment call.now) }
+        ensures step { IfOk result (λ r. committed self.new r ≡ step self.old.state cred.now moment call.now) }
         ensures ready { IfOk result (IsReady self.new) }
 
         // Want of memory comes after all refusals, and some calls never want any.

@@ -13,5 +13,5 @@ invariant_of-self-2 c =
     c.append.ensures.items ∙ rw c.in_ok-reserve.ensures.items
     (ap (λ line. c.self.inside.journal.items ++ entry_of c.args.worker line c.in_ok-copy.copy ∷ []) c.in_ok-cred.ensures) in
     played_on (journaled_of c.self.inside) _ c.args.worker c.args.line.now c.in_ok-copy.copy c.self.invariant few refl entries
-    (carried_out _ _ _ c.in_ok-ready.ready _ _ _ c.args.line.now c.in_ok-ready.ensures.state
+    (carried_out c.self.inside.store.state _ c.ready.new.self c.in_ok-ready.ready _ _ _ c.args.line.now
     c.in_ok-ready.ensures.step c.commit-reply.ensures c.reply.ensures c.in_ok-copy.ensures)

@@ -18,3 +18,12 @@ returns-clause-ready c =
       can = c.in_ok-bytes.ensures.can new c.in_ok-reply.ensures.can;
       sound = subst IsSound same sound;
     }
+
+-- what is ready leaves in the store with the room what the plain machine's step leaves
+pub returns-clause-step : goal.returns-clause-step
+returns-clause-step c =
+    let x = c.args in
+    let plan = c.in_ok-reply.field-0.plan in
+    let new = c.decide.new.self in
+    let same = c.in_ok-bytes.ensures.effect new ∙ effect-same x.self.now new c.decide.ensures.same plan (bytes_of x.call.now) in
+    (λ i. (same i, c.in_ok-reply.field-0.reply)) ∙ c.in_ok-reply.ensures.step
