@@ -172,24 +172,6 @@ total-then b from to S S1 f t r sort =
     let lost = claim-weight b.users User from f sort r.users_from in
     omega (arith, sum, gained, lost)
 
--- no more is lost than is there
-pub lost-total : (b : Books) (from to : Option Claim) (S S1 : State) (f t : Option Inode) → IsReplacement b from to S S1 f t → (sort : Sort)
-    → part sort (weight_in from) ≤ total_of S sort + part sort (weight_in to)
-lost-total b from to S S1 f t r sort =
-    let sum = r.replaces.totals sort in
-    let gained = claim-weight b.users User to t sort r.users_to in
-    let lost = claim-weight b.users User from f sort r.users_from in
-    omega (arith, sum, gained, lost)
-
--- and the sum is small
-pub gained-total : (b : Books) (from to : Option Claim) (S S1 : State) (f t : Option Inode) → AreInRange b → IsReplacement b from to S S1 f t → (sort : Sort)
-    → total_of S sort + part sort (weight_in to) ≤ MAX_USE
-gained-total b from to S S1 f t in_range r sort =
-    let sum = r.replaces.totals sort in
-    let gained = claim-weight b.users User to t sort r.users_to in
-    let few = few-then b from to S S1 f t in_range r sort in
-    omega (arith, sum, gained, few)
-
 -- the books stay in their ranges after a bill
 pub in_range-settled : (b : Books) (bill : Bill) → AreInRange b → AreInRange (settled bill b)
 in_range-settled b bill is = record {

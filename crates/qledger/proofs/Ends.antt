@@ -3,8 +3,8 @@ use Rattle.std.proofs.Common.{◌≡◌, ℕ, ◌+◌}
 use Rattle.qrules.specs.declared.graces.Graces.{Graces}
 use Rattle.qrules.specs.Sort.{Inodes, Blocks, grace_of}
 use Rattle.qrules.specs.Account.{Account, HasEnds, is_over_soft}
-use Rattle.qrules.specs.Grace.{end_after, with_ends}
-use Rattle.qlaws.proofs.Ends.{next_end-same, next_end-stands}
+use Rattle.qrules.specs.Grace.{end_after}
+use Rattle.qlaws.proofs.Ends.{next_end-same}
 
 -- an account whose ends are where they should be keeps its block end
 pub block_end-same : (account : Account) (graces : Graces) (moment : ℕ) → HasEnds account → end_after Blocks account graces moment ≡ account.block_end
@@ -13,10 +13,3 @@ block_end-same account graces moment ends = next_end-same (is_over_soft Blocks a
 -- and its inode end
 pub inode_end-same : (account : Account) (graces : Graces) (moment : ℕ) → HasEnds account → end_after Inodes account graces moment ≡ account.inode_end
 inode_end-same account graces moment ends = next_end-same (is_over_soft Inodes account) account.inode_end (moment + grace_of Inodes graces) ends.inodes
-
--- the ends that stand after any change are where they should be
-pub HasEnds-with_ends : (account : Account) (graces : Graces) (moment : ℕ) → HasEnds (with_ends account graces moment)
-HasEnds-with_ends account graces moment = record {
-  inodes = next_end-stands (is_over_soft Inodes account) account.inode_end (moment + grace_of Inodes graces);
-  blocks = next_end-stands (is_over_soft Blocks account) account.block_end (moment + grace_of Blocks graces);
-}

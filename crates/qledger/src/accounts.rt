@@ -19,7 +19,7 @@ ghost use Rattle.qledger.specs.Decisions.{bill_refusal, IsBillOf};
 ghost use Rattle.qledger.specs.Rows.{StandsBefore, record_row_of};
 
 use crate::bill::{Bill, Postings};
-use crate::claim::{Claim, Share, weight_of};
+use crate::claim::{Claim, share_of, weight_of};
 use crate::kept_holder::KeptHolder;
 use crate::ledger::Ledger;
 use qplain::{Cred, MAX_NUMBER, NoMemory, Refusal, Setup};
@@ -54,23 +54,6 @@ impl Model for Accounts {
     ghost use Rattle.qledger.specs.Books.{AreInRange};
 
     ghost invariant = { λ a. AreInRange (books_of a) };
-}
-
-/// What a claim takes of the record of a kind.
-fn share_of(kind: Kind, claim: Option<Claim>) -> Option<Share>
-    ensures { result ≡ option_map (share_in kind) claim }
-{
-    match (kind, claim) {
-        (_, None) => None,
-        (Kind::User, Some(claim)) => Some(Share {
-            slot: claim.slots.user,
-            weight: claim.weight,
-        }),
-        (Kind::Group, Some(claim)) => Some(Share {
-            slot: claim.slots.group,
-            weight: claim.weight,
-        }),
-    }
 }
 
 impl Accounts {
@@ -134,8 +117,9 @@ impl Accounts {
         self.ledger(kind).find(id)
     }
 
-    /// The bill of a call by which the inode of one claim comes to stand in the place of the other's, and with which so
-    /// many numbers are given, or why it is refused: space comes before quota, and the superuser passes every quota.
+    /// The bill of a call by which the inode of one claim comes to stand in the place of the other's, or why the call is
+    /// refused: space comes before quota, and the superuser passes every quota. `next` is the number that would be given
+    /// next after it.
     pub fn bill(
         &self,
         cred: &Cred,

@@ -1,8 +1,10 @@
 //! What an inode takes, and from whose records.
 ghost use Rattle.std.specs.Prelude.{◌≡◌, ◌+◌, ◌-◌, ◌==◌};
-ghost use Rattle.qledger.specs.Claims.{weight_in, weight_at};
+ghost use Rattle.std.specs.Option.{option_map};
+ghost use Rattle.qledger.specs.Claims.{share_in, weight_in, weight_at};
 
 use qplain::Change;
+use qrules::Kind;
 
 /// What is counted of an inode: its allocated blocks of 4096 bytes, and itself.
 #[derive(Clone, Copy)]
@@ -57,6 +59,23 @@ pub(crate) fn weight_of(claim: Option<Claim>) -> Weight
     match claim {
         Some(claim) => claim.weight,
         None => NOTHING,
+    }
+}
+
+/// What a claim takes of the record of a kind.
+pub(crate) fn share_of(kind: Kind, claim: Option<Claim>) -> Option<Share>
+    ensures { result ≡ option_map (share_in kind) claim }
+{
+    match (kind, claim) {
+        (_, None) => None,
+        (Kind::User, Some(claim)) => Some(Share {
+            slot: claim.slots.user,
+            weight: claim.weight,
+        }),
+        (Kind::Group, Some(claim)) => Some(Share {
+            slot: claim.slots.group,
+            weight: claim.weight,
+        }),
     }
 }
 

@@ -17,7 +17,7 @@ pub const MAX_USE: u64 = 1 << 40;
 /// The quota record of one user or group: what it uses, its limits and its grace ends (quotactl(2)).
 ///
 /// Blocks are of 4096 bytes and block limits in KiB; moments are seconds. A grace end stands exactly where use is
-/// over that soft limit. No call takes memory, and only `test` refuses.
+/// over that soft limit. No call takes memory, and only `test` and `test_uses` refuse.
 #[derive(Clone, Copy, Debug, PartialEq, Eq)]
 pub struct Record {
     blocks: u64,

@@ -34,7 +34,7 @@ use Rattle.qledger.specs.Replacements.{IsReplacement}
 use Rattle.qledger.proofs.Booked.{claim-weight}
 use Rattle.qstore.specs.declared.ready.Decided.{Decided}
 use Rattle.qstore.specs.declared.ready.Plan.{Plan}
-use Rattle.qstore.specs.declared.ready.Plan.TheVariants.{Nothing, Change, Limits as SetLimits}
+use Rattle.qstore.specs.declared.ready.Plan.TheVariants.{Nothing, Change, Limits as SetLimits, SetGraces}
 use Rattle.qstore.specs.declared.ready.TreeChange.{TreeChange}
 use Rattle.qstore.specs.Decided.{IsClaimed, IsDecided}
 use Rattle.qstore.specs.Ready.{CanCarryOut, CanChange, CanSettle, IsRefused, billed, changed, effect}
@@ -205,3 +205,10 @@ decided-limits s cred moment kind id limits bill lawful super declared books pla
   where
     left : billed s.state bill s.books ≡ ends_after (with_limits_of s.state kind id limits) moment
     left = λ i. record s.state { holders = sym books.holders i }
+
+-- a plan leaves the same of two stores that are the same
+pub effect-same : (old new : Stored) → IsSameStore old new → (plan : Plan) (bytes : List ℕ) → effect new plan bytes ≡ effect old plan bytes
+effect-same old new same Nothing bytes = same.state
+effect-same old new same (Change change bill) bytes = λ i. billed (changed (same.state i) change bytes) bill (same.books i)
+effect-same old new same (SetLimits bill) bytes = λ i. billed (same.state i) bill (same.books i)
+effect-same old new same (SetGraces graces) bytes = λ i. record (same.state i) { graces = graces }

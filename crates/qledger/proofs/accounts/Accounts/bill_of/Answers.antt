@@ -1,4 +1,4 @@
-use Rattle.std.proofs.Common.{◌≡◌, ℕ, ◌+◌, ◌-◌, List, Option, option_map, sym, subst, ◌∙◌}
+use Rattle.std.proofs.Common.{◌≡◌, ℕ, ◌+◌, ◌-◌, List, Option, sym, subst, ◌∙◌}
 use Rattle.qrules.specs.declared.kind.Kind.{Kind}
 use Rattle.qrules.specs.declared.kind.Kind.TheVariants.{User, Group}
 use Rattle.qrules.specs.Sort.{Inodes, Blocks}
@@ -7,7 +7,6 @@ use Rattle.qledger.specs.declared.bill.Postings.{Postings}
 use Rattle.qledger.specs.declared.claim.Share.{Share}
 use Rattle.qledger.specs.declared.kept_holder.KeptHolder.{KeptHolder}
 use Rattle.qledger.specs.Books.{Books}
-use Rattle.qledger.specs.Claims.{share_in}
 use Rattle.qledger.specs.Kept.{books_of}
 use Rattle.qledger.specs.Replacements.{IsReplacement}
 use Rattle.qledger.specs.Ledgers.{ArePosted}
