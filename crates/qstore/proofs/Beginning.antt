@@ -1,5 +1,5 @@
 -- A new store: it is in the state at the start, and what it keeps is what that counts to.
-use Rattle.std.proofs.Common.{◌≡◌, ℕ, Bool, true, false, cond, List, [], ◌∷◌, Some, None, refl, sym, subst, ◌∙◌, arith}
+use Rattle.std.proofs.Common.{◌≡◌, ℕ, Bool, true, false, cond, [], ◌∷◌, Some, None, refl, sym, subst, arith}
 use Rattle.std.specs.BTreeMap.{is_at}
 use Rattle.std.specs.List.Sorted.{IsStrictlySortedBy}
 use Rattle.std.specs.Option.{option_map}
@@ -9,9 +9,7 @@ use Rattle.qplain.specs.Setups.{IsLawfulSetup, Setting}
 use Rattle.qplain.specs.State.{State, root, start}
 use Rattle.qplain.specs.Use.{links_of}
 use Rattle.qlaws.proofs.Start.{start_is_lawful}
-use Rattle.qledger.specs.Books.{AreBooksOf, AreInRange, Books}
-use Rattle.qledger.specs.KeptHolders.{holders_in}
-use Rattle.qtree.specs.Tree.{RoomyTree}
+use Rattle.qledger.specs.Books.{AreBooksOf, AreInRange}
 use Rattle.qstore.specs.Kept.{AreLinks, IsCounted, state_of}
 use Rattle.qstore.specs.declared.store.Store.TheInside.{Inside}
 use Rattle.qstore.proofs.Making.{InOrder}

@@ -1,5 +1,5 @@
 -- The tree after each change of inodes and names: it is that of the changed state.
-use Rattle.std.proofs.Common.{◌≡◌, ℕ, ◌+◌, ◌-◌, ◌<◌, ◌≤◌, ⊎_elim, false, List, Option, Some, None, refl, sym, ap, subst, ◌∙◌, arith}
+use Rattle.std.proofs.Common.{◌≡◌, ℕ, ◌-◌, ◌<◌, ◌≤◌, ⊎_elim, false, List, Some, None, sym, ap, subst, ◌∙◌, arith}
 use Rattle.std.specs.Ordering.{nat_cmp}
 use Rattle.std.specs.Cmp.{nat_cmp_total}
 use Rattle.std.specs.BTreeMap.{insert_entry, is_at}
@@ -7,7 +7,7 @@ use Rattle.std.specs.List.Sorted.{IsStrictlySortedBy}
 use Rattle.std.specs.Map.{keys_of, lookup, remove_entry, set_value}
 use Rattle.std.proofs.lemmas.Bool.{cases_lt}
 use Rattle.std.proofs.lemmas.Map.{keys-set_value}
-use Rattle.qplain.specs.State.{Inode, NameKey, State, inode_at, name_key_cmp, named, new_file}
+use Rattle.qplain.specs.State.{Inode, State, inode_at, name_key_cmp, named, new_file}
 use Rattle.qplain.specs.Use.{links_of}
 use Rattle.qplain.specs.Names.{created, swept, without_name}
 use Rattle.qplain.specs.Files.{with_inode}
@@ -67,25 +67,26 @@ pub tree-unlinked : (S : State) (tree after : RoomyTree) (dir number : ℕ) (nam
 tree-unlinked S tree after dir number name lawful can inodes names kept in_order same last more =
     ⊎_elim
     (λ (many : 1 < links_of S number false).
-        let left = more (links_of S number false) shown many in
-        record {
-          inodes = left.0 ∙ inodes ∙ sym (inodes-more S dir name number inode lawful.parts can.led there file many);
-          names = same ∙ names;
-          links = subst (AreLinks T) (sym left.1) (links-more S tree.links kept lawful dir name number inode can.led there file many);
-          in_order = subst InOrder (sym left.1)
-              (subst (IsStrictlySortedBy nat_cmp) (sym (keys-set_value (is_at (nat_cmp number)) tree.links (links_of S number false - 1))) in_order);
-        })
+    let left = more (links_of S number false) shown many in
+    record {
+      inodes = left.0 ∙ inodes ∙ sym (inodes-more S dir name number inode lawful.parts can.led there file many);
+      names = same ∙ names;
+      links = subst (AreLinks T) (sym left.1) (links-more S tree.links kept lawful dir name number inode can.led there file many);
+      in_order = subst InOrder (sym left.1)
+          (subst (IsStrictlySortedBy nat_cmp) (sym (keys-set_value (is_at (nat_cmp number)) tree.links (links_of S number false - 1))) in_order);
+    })
     (λ (few : links_of S number false ≤ 1).
-        let one : links_of S number false ≡ 1 = let sum = some-links S tree.links kept lawful dir name number inode can.led there file in omega (arith, sum, few) in
-        let left = last (shown ∙ ap Some one) in
-        record {
-          inodes =
-              left.0 ∙ ap (remove_entry (is_at (nat_cmp number))) inodes
-              ∙ sym (inodes-last S dir name number inode lawful.parts can.led there file one);
-          names = same ∙ names;
-          links = subst (AreLinks T) (sym left.1) (links-last S tree.links kept lawful dir name number inode can.led there file in_order one);
-          in_order = subst InOrder (sym left.1) (sorted-remove nat_cmp (is_at (nat_cmp number)) tree.links in_order);
-        })
+    let sum = some-links S tree.links kept lawful dir name number inode can.led there file in
+    let one : links_of S number false ≡ 1 = omega (arith, sum, few) in
+    let left = last (shown ∙ ap Some one) in
+    record {
+      inodes =
+          left.0 ∙ ap (remove_entry (is_at (nat_cmp number))) inodes
+          ∙ sym (inodes-last S dir name number inode lawful.parts can.led there file one);
+      names = same ∙ names;
+      links = subst (AreLinks T) (sym left.1) (links-last S tree.links kept lawful dir name number inode can.led there file in_order one);
+      in_order = subst InOrder (sym left.1) (sorted-remove nat_cmp (is_at (nat_cmp number)) tree.links in_order);
+    })
     (cases_lt 1 (links_of S number false))
   where
     T : State

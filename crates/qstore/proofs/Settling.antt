@@ -1,8 +1,6 @@
 -- What a store keeps after a change and its bill is what its new state counts to.
 use Rattle.std.proofs.Common.{◌≡◌, ℕ, Bool, true, false, List, Option, Some, None, refl, sym, ap, subst, ◌∙◌}
-use Rattle.std.specs.Ordering.{nat_cmp}
 use Rattle.std.specs.Option.{option_map}
-use Rattle.qrules.specs.declared.graces.Graces.{Graces}
 use Rattle.qplain.specs.State.{Holder, Inode, State, inode_at}
 use Rattle.qplain.specs.Use.{links_of}
 use Rattle.qledger.specs.declared.bill.Bill.{Bill}
@@ -16,7 +14,6 @@ use Rattle.qstore.specs.declared.store.Store.TheInside.{Inside}
 use Rattle.qstore.specs.Kept.{AreLinks, IsCounted, IsTreeOf, state_of, stored_of}
 use Rattle.qstore.specs.Ready.{CanSettle, altered_at, billed, changed}
 use Rattle.qstore.specs.Stored.{IsSound, Stored}
-use Rattle.qstore.proofs.Making.{InOrder}
 
 -- what no change of inodes and names touches
 pub record KeepsBounds (old new : State) : Type 0 where

@@ -1,5 +1,4 @@
 use Rattle.std.proofs.Common.{ap, refl, subst, sym}
-use Rattle.qplain.specs.State.{State}
 use Rattle.qlaws.specs.Laws.{IsLawful}
 use Rattle.qtree.specs.Room.{Room}
 use Rattle.qstore.specs.declared.store.Store.TheInside.{Inside}

@@ -1,11 +1,10 @@
-use Rattle.std.proofs.Common.{ap, refl, string_bytes, subst, sym, ◌∙◌}
+use Rattle.std.proofs.Common.{refl, string_bytes, subst, sym, ◌∙◌}
 use Rattle.std.specs.BTreeMap.{is_at}
 use Rattle.std.specs.Map.{lookup}
 use Rattle.std.specs.Ordering.{nat_cmp}
 use Rattle.qblocks.specs.File.{after_truncate, after_write}
 use Rattle.qplain.specs.Owners.{with_owners}
 use Rattle.qlaws.proofs.Rising.{absent-next}
-use Rattle.qtree.specs.Tree.{RoomyTree}
 use Rattle.qstore.specs.declared.ready.TreeChange.{TreeChange}
 use Rattle.qstore.specs.Kept.{IsTreeOf}
 use Rattle.qstore.specs.Ready.{CanChange, changed}
