@@ -19,7 +19,6 @@ pub mod Rights
 pub mod Giving
 pub mod Finding
 pub mod Reaching
-pub mod Rising
 pub mod Replacing
 pub mod Removing
 pub mod GivingBack

@@ -2,5 +2,4 @@
 pub mod Laws
 pub mod Examples
 pub mod MoreExamples
-pub mod Rises
 pub mod Replaces

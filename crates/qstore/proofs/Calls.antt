@@ -1,5 +1,5 @@
 -- The plain results of the calls that change inodes, and what stands where then.
-use Rattle.std.proofs.Common.{◌≡◌, ℕ, ◌+◌, ◌-◌, ◌^◌, ◌<◌, ◌≤◌, ◌==◌, ⊎_elim, Bool, true, false, not, ◌&&◌, ◌||◌, unwrap_or, nat_lt, cond, List, [], ◌∷◌, length, Option, None, Some, refl, sym, ap, subst, ◌∙◌, tests, arith}
+use Rattle.std.proofs.Common.{◌≡◌, ℕ, ◌+◌, ◌^◌, ◌<◌, ◌≤◌, ◌==◌, ⊎_elim, Bool, true, false, not, ◌&&◌, ◌||◌, unwrap_or, nat_lt, cond, List, [], ◌∷◌, length, Option, None, Some, refl, sym, ap, subst, ◌∙◌, arith}
 use Rattle.std.proofs.lemmas.Bool.{cases_lt}
 use Rattle.qrules.specs.Sort.{Blocks}
 use Rattle.qblocks.specs.File.{Adds, File, MoreBlocks, after_truncate, after_write, blocks_of, with_touched}
@@ -7,7 +7,7 @@ use Rattle.qplain.specs.declared.refusal.Refusal.TheVariants.{EACCES, EFBIG, EIS
 use Rattle.qplain.specs.declared.reply.Reply.TheVariants.{Done}
 use Rattle.qrules.specs.declared.kind.Kind.TheVariants.{User, Group}
 use Rattle.qplain.specs.Arguments.{is_declared, is_undeclared}
-use Rattle.qplain.specs.Attempt.{Answer, Attempt, Becomes, Refuse, at_inode, at_reached, no_change}
+use Rattle.qplain.specs.Attempt.{Answer, Becomes, Refuse, at_inode, at_reached, no_change}
 use Rattle.qplain.specs.Caller.{Caller}
 use Rattle.qplain.specs.Files.{truncate_at, with_file, with_inode, write_into}
 use Rattle.qplain.specs.Names.{created, swept, unlink_as, unlink_at, without_name}

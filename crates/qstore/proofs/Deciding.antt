@@ -1,7 +1,6 @@
 -- What a decision comes to: once for all calls.
-use Rattle.std.proofs.Common.{◌≡◌, ℕ, ◌+◌, ◌-◌, ◌^◌, ◌≤◌, ◌==◌, true, not, cond, List, [], Option, None, Some, refl, sym, ap, subst, ◌∙◌, arith}
-use Rattle.std.specs.Result.{IsOk}
-use Rattle.qrules.specs.declared.kind.Kind.TheVariants.{User, Group}
+use Rattle.std.proofs.Common.{◌≡◌, ℕ, ◌-◌, ◌^◌, ◌≤◌, ◌==◌, true, not, cond, List, [], Option, None, Some, refl, sym, ap, subst, ◌∙◌, arith}
+use Rattle.qrules.specs.declared.kind.Kind.TheVariants.{User}
 use Rattle.qrules.specs.Sort.{Inodes, Blocks}
 use Rattle.qrules.specs.declared.kind.Kind.{Kind}
 use Rattle.qrules.specs.declared.limits.Limits.{Limits}
@@ -28,8 +27,6 @@ use Rattle.qledger.specs.declared.claim.Claim.{Claim}
 use Rattle.qledger.specs.declared.claim.Slots.{Slots}
 use Rattle.qledger.specs.Bills.{IsBillFor, settled}
 use Rattle.qledger.specs.Books.{AreBooksOf, Books, HasSlots}
-use Rattle.qledger.specs.Claims.{weight_in}
-use Rattle.qledger.specs.KeptHolders.{holders_in}
 use Rattle.qledger.specs.Replacements.{IsReplacement}
 use Rattle.qledger.proofs.Booked.{claim-weight}
 use Rattle.qstore.specs.declared.ready.Decided.{Decided}
@@ -37,7 +34,7 @@ use Rattle.qstore.specs.declared.ready.Plan.{Plan}
 use Rattle.qstore.specs.declared.ready.Plan.TheVariants.{Nothing, Change, Limits as SetLimits, SetGraces}
 use Rattle.qstore.specs.declared.ready.TreeChange.{TreeChange}
 use Rattle.qstore.specs.Decided.{IsClaimed, IsDecided}
-use Rattle.qstore.specs.Ready.{CanCarryOut, CanChange, CanSettle, IsRefused, billed, changed, effect}
+use Rattle.qstore.specs.Ready.{CanCarryOut, CanChange, IsRefused, billed, changed, effect}
 use Rattle.qstore.specs.Stored.{IsSameStore, Stored}
 use Rattle.qstore.specs.Told.{told}
 

@@ -15,7 +15,7 @@ use Rattle.qplain.specs.Files.{with_inode}
 use Rattle.qlaws.specs.Laws.{IsLawful}
 use Rattle.qlaws.proofs.Fitting.{links_of-changed, or_right}
 use Rattle.qlaws.proofs.Tables.{lookup-insert_new, same-number}
-use Rattle.qlaws.proofs.Rising.{absent-next}
+use Rattle.qlaws.proofs.Settling.{absent-next}
 use Rattle.qlaws.proofs.Linking.{inode_at-created, inode_at-with_inode, links_of-created-others, links_of-new_file}
 use Rattle.qlaws.proofs.Removing.{inode_at-last, inodes-more, links_of-unlinked, links_of-unlinked-others}
 use Rattle.qstore.specs.Kept.{AreLinks}

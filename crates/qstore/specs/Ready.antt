@@ -1,7 +1,6 @@
 -- What a call that is ready will do, and when it may.
 use Rattle.std.specs.Prelude.{◌≡◌, ℕ, ◌+◌, ◌<◌, ◌≤◌, Bool, true, false, List, [], length, string_bytes, is_some, Option, Some, None, IfSome}
 use Rattle.std.specs.Option.{unwrap_or}
-use Rattle.qrules.specs.declared.graces.Graces.{Graces}
 use Rattle.qrules.specs.Range.{are_graces_in_range}
 use Rattle.qblocks.specs.declared.file.TheConstants.{MAX_SIZE}
 use Rattle.qblocks.specs.File.{after_truncate, after_write}

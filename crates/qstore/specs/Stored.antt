@@ -1,5 +1,5 @@
 -- What a caller sees of a store: the plain machine's state, and beside it the room that `ready` makes and the books.
-use Rattle.std.specs.Prelude.{◌≡◌, ℕ, ◌≤◌}
+use Rattle.std.specs.Prelude.{◌≡◌, ◌≤◌}
 use Rattle.qblocks.specs.declared.file.TheConstants.{MAX_SIZE}
 use Rattle.qplain.specs.State.{State}
 use Rattle.qlaws.specs.Laws.{IsLawful}

@@ -1,7 +1,7 @@
 use Rattle.std.proofs.Common.{rules, ◌≡◌, ◌&&◌, true, false, [], Some, refl, sym, ap, subst, ◌∙◌, arith}
 use Rattle.qrules.specs.declared.kind.Kind.TheVariants.{User, Group}
 use Rattle.qplain.specs.Arguments.{is_declared}
-use Rattle.qplain.specs.Attempt.{Attempt, Becomes, Refuse}
+use Rattle.qplain.specs.Attempt.{Becomes}
 use Rattle.qplain.specs.declared.refusal.Refusal.TheVariants.{EPERM}
 use Rattle.qplain.specs.Owners.{chown_at, give, with_owners}
 use Rattle.qplain.specs.Rights.{may_give}
@@ -54,10 +54,12 @@ grant-requires-clause-replacement c =
     let blocks = c.claim_of-from.ensures.blocks in
     let few = c.claim_of-from.ensures.few in
     let r = given-replaced s c.requires.whole number uid gid inode there c.claim_of-from.result c.claim-to.result c.claim_of-from.ensures.claimed
-    (c.claim-to.ensures.claimed (with_owners inode uid gid) refl refl (sym blocks)) (omega (arith, blocks, few)) in
-    (Some inode, Some (with_owners inode uid gid),
-    subst (λ (T : State). IsReplacement s.books (Some c.claim_of-from.result) (Some c.claim-to.result) s.state T (Some inode) (Some (with_owners inode uid gid)))
-    (sym (altered-there s.state number (λ i. with_owners i uid gid) inode there)) r)
+    (c.claim-to.ensures.claimed (with_owners inode uid gid) refl refl (sym blocks)) (omega (arith, blocks, few)) in (
+      Some inode,
+      Some (with_owners inode uid gid),
+      subst (λ (T : State). IsReplacement s.books (Some c.claim_of-from.result) (Some c.claim-to.result) s.state T (Some inode) (Some (with_owners inode uid gid)))
+          (sym (altered-there s.state number (λ i. with_owners i uid gid) inode there)) r,
+    )
 
 pub returns : goal.returns
 returns c =

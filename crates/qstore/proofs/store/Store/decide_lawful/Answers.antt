@@ -1,4 +1,4 @@
-use Rattle.std.proofs.Common.{rules, ◌≡◌, sym, ap, ◌∙◌}
+use Rattle.std.proofs.Common.{rules, sym, ap, ◌∙◌}
 use Rattle.qplain.specs.Attempt.{at_path}
 use Rattle.qplain.specs.Calls.{attempt_of}
 use Rattle.qplain.specs.Files.{read_from, stat_at}

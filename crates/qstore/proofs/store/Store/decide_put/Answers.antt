@@ -1,8 +1,5 @@
-use Rattle.std.proofs.Common.{◌≡◌, ℕ, ◌+◌, Some, None, length, refl, sym, ap, subst, ◌∙◌, arith}
+use Rattle.std.proofs.Common.{◌≡◌, ℕ, ◌+◌, Some, sym, ap, subst, ◌∙◌, arith}
 use Rattle.std.specs.Option.{IfSome}
-use Rattle.std.specs.Ordering.{nat_cmp}
-use Rattle.std.specs.BTreeMap.{is_at}
-use Rattle.std.specs.Map.{lookup}
 use Rattle.qblocks.specs.File.{after_write}
 use Rattle.qblocks.specs.WriteRoom.{IsReadyToPut}
 use Rattle.qplain.specs.Attempt.{Attempt}
@@ -22,9 +19,12 @@ bill-requires-clause-replacement c =
     let x = c.args in
     let s = x.self.now in
     let t = c.requires.target in
-    let after = after_write t.inode.file x.off x.bytes.now in
-    (with_file s.state x.target.number t.inode after, Some t.inode, Some (record t.inode { file = after }),
-    target-replaced s c.requires.whole x.cred.now x.path.now x.off x.bytes.now x.target t c.new.result c.new.ensures)
+    let after = after_write t.inode.file x.off x.bytes.now in (
+      with_file s.state x.target.number t.inode after,
+      Some t.inode,
+      Some (record t.inode { file = after }),
+      target-replaced s c.requires.whole x.cred.now x.path.now x.off x.bytes.now x.target t c.new.result c.new.ensures,
+    )
 
 pub returns-in-Err-clause-decided : goal.returns-in-Err-clause-decided
 returns-in-Err-clause-decided c =

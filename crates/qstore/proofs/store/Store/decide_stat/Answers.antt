@@ -1,4 +1,4 @@
-use Rattle.std.proofs.Common.{◌≡◌, sym, ap, ◌∙◌}
+use Rattle.std.proofs.Common.{sym, ap, ◌∙◌}
 use Rattle.qplain.specs.declared.reply.Reply.TheVariants.{Stat}
 use Rattle.qplain.specs.Files.{stat_at, stat_of}
 use Rattle.qplain.specs.Step.{settle}

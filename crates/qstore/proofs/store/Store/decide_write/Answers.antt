@@ -1,4 +1,3 @@
-use Rattle.std.proofs.Common.{◌≡◌}
 use Rattle.qstore.proofs.Deciding.{decided-answered}
 use Rattle.qstore.proofs.store.Store.decide_write.Goals as goal
 

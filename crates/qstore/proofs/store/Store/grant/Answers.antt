@@ -1,4 +1,4 @@
-use Rattle.std.proofs.Common.{◌≡◌, ◌+◌, [], refl, sym, ap, ◌∙◌, arith}
+use Rattle.std.proofs.Common.{◌≡◌, ◌+◌, [], refl, arith}
 use Rattle.qstore.specs.Ready.{changed}
 use Rattle.qstore.proofs.Deciding.{decided-billed, decided-unbilled, same-store}
 use Rattle.qstore.proofs.store.Store.grant.Goals as goal

@@ -1,4 +1,4 @@
-use Rattle.std.proofs.Common.{rules, ◌≡◌, List, sym, ap, ◌∙◌}
+use Rattle.std.proofs.Common.{rules, ◌≡◌, ap, ◌∙◌}
 use Rattle.std.specs.List.{slice_split}
 use Rattle.qplain.specs.Walk.{components, is_slash, last_name}
 use Rattle.qplain.specs.Attempt.{under}

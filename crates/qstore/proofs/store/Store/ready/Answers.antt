@@ -1,4 +1,4 @@
-use Rattle.std.proofs.Common.{sym, subst, ap, ◌∙◌}
+use Rattle.std.proofs.Common.{sym, subst, ◌∙◌}
 use Rattle.qstore.specs.Ready.{bytes_of, effect}
 use Rattle.qstore.specs.Stored.{IsSound}
 use Rattle.qstore.proofs.Deciding.{effect-same}

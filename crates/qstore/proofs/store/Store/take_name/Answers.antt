@@ -1,4 +1,4 @@
-use Rattle.std.proofs.Common.{rules, ◌≡◌, ◌+◌, ◌<◌, ◌≤◌, true, false, [], Some, None, refl, sym, ap, subst, ◌∙◌, arith}
+use Rattle.std.proofs.Common.{rules, ◌≡◌, ◌+◌, true, false, [], Some, sym, ap, subst, ◌∙◌, arith}
 use Rattle.qplain.specs.Attempt.{Attempt}
 use Rattle.qplain.specs.Names.{swept, without_name}
 use Rattle.qplain.specs.Rights.{may_remove}

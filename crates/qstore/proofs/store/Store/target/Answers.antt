@@ -1,13 +1,8 @@
-use Rattle.std.proofs.Common.{rules, ◌≡◌, ℕ, ◌+◌, ◌==◌, Bool, true, false, not, nat_lt, cond, length, sym, ap, ◌∙◌, tests, arith}
-use Rattle.qblocks.specs.File.{after_write}
-use Rattle.qplain.specs.declared.refusal.Refusal.TheVariants.{EACCES, EFBIG, EISDIR}
-use Rattle.qplain.specs.declared.reply.Reply.TheVariants.{Done}
-use Rattle.qplain.specs.Attempt.{Answer, Attempt, Becomes, Refuse, no_change}
-use Rattle.qplain.specs.Files.{with_file, write_into}
+use Rattle.std.proofs.Common.{rules, ◌≡◌, ◌+◌, ◌==◌, true, false, nat_lt, length, sym, ap, ◌∙◌, tests, arith}
+use Rattle.qplain.specs.Files.{write_into}
 use Rattle.qplain.specs.Rights.{may_write}
 use Rattle.qplain.specs.Step.{settle}
 use Rattle.qtree.specs.Nodes.{inode_of, is_dir_content}
-use Rattle.qstore.specs.Stored.{Stored}
 use Rattle.qstore.proofs.Calls.{write-becomes}
 use Rattle.qstore.proofs.store.Store.target.Goals as goal
 

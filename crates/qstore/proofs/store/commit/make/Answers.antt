@@ -4,7 +4,7 @@ use Rattle.std.specs.Map.{lookup}
 use Rattle.std.specs.Ordering.{nat_cmp}
 use Rattle.qblocks.specs.File.{after_truncate, after_write}
 use Rattle.qplain.specs.Owners.{with_owners}
-use Rattle.qlaws.proofs.Rising.{absent-next}
+use Rattle.qlaws.proofs.Settling.{absent-next}
 use Rattle.qstore.specs.declared.ready.TreeChange.{TreeChange}
 use Rattle.qstore.specs.Kept.{IsTreeOf}
 use Rattle.qstore.specs.Ready.{CanChange, changed}
