@@ -67,25 +67,26 @@ pub tree-unlinked : (S : State) (tree after : RoomyTree) (dir number : ℕ) (nam
 tree-unlinked S tree after dir number name lawful can inodes names kept in_order same last more =
     ⊎_elim
     (λ (many : 1 < links_of S number false).
-        let left = more (links_of S number false) shown many in
-        record {
-          inodes = left.0 ∙ inodes ∙ sym (inodes-more S dir name number inode lawful.parts can.led there file many);
-          names = same ∙ names;
-          links = subst (AreLinks T) (sym left.1) (links-more S tree.links kept lawful dir name number inode can.led there file many);
-          in_order = subst InOrder (sym left.1)
-              (subst (IsStrictlySortedBy nat_cmp) (sym (keys-set_value (is_at (nat_cmp number)) tree.links (links_of S number false - 1))) in_order);
-        })
+    let left = more (links_of S number false) shown many in
+    record {
+      inodes = left.0 ∙ inodes ∙ sym (inodes-more S dir name number inode lawful.parts can.led there file many);
+      names = same ∙ names;
+      links = subst (AreLinks T) (sym left.1) (links-more S tree.links kept lawful dir name number inode can.led there file many);
+      in_order = subst InOrder (sym left.1)
+          (subst (IsStrictlySortedBy nat_cmp) (sym (keys-set_value (is_at (nat_cmp number)) tree.links (links_of S number false - 1))) in_order);
+    })
     (λ (few : links_of S number false ≤ 1).
-        let one : links_of S number false ≡ 1 = let sum = some-links S tree.links kept lawful dir name number inode can.led there file in omega (arith, sum, few) in
-        let left = last (shown ∙ ap Some one) in
-        record {
-          inodes =
-              left.0 ∙ ap (remove_entry (is_at (nat_cmp number))) inodes
-              ∙ sym (inodes-last S dir name number inode lawful.parts can.led there file one);
-          names = same ∙ names;
-          links = subst (AreLinks T) (sym left.1) (links-last S tree.links kept lawful dir name number inode can.led there file in_order one);
-          in_order = subst InOrder (sym left.1) (sorted-remove nat_cmp (is_at (nat_cmp number)) tree.links in_order);
-        })
+    let sum = some-links S tree.links kept lawful dir name number inode can.led there file in
+    let one : links_of S number false ≡ 1 = omega (arith, sum, few) in
+    let left = last (shown ∙ ap Some one) in
+    record {
+      inodes =
+          left.0 ∙ ap (remove_entry (is_at (nat_cmp number))) inodes
+          ∙ sym (inodes-last S dir name number inode lawful.parts can.led there file one);
+      names = same ∙ names;
+      links = subst (AreLinks T) (sym left.1) (links-last S tree.links kept lawful dir name number inode can.led there file in_order one);
+      in_order = subst InOrder (sym left.1) (sorted-remove nat_cmp (is_at (nat_cmp number)) tree.links in_order);
+    })
     (cases_lt 1 (links_of S number false))
   where
     T : State

@@ -48,18 +48,11 @@ pub(crate) enum Plan {
     /// The reply is all.
     Nothing,
     /// Inodes or names change, and the accounts with them.
-    Change {
-        change: TreeChange,
-        bill: Bill,
-    },
+    Change { change: TreeChange, bill: Bill },
     /// A record gets other limits.
-    Limits {
-        bill: Bill,
-    },
+    Limits { bill: Bill },
     /// The graces are to be these.
-    SetGraces {
-        graces: Graces,
-    },
+    SetGraces { graces: Graces },
 }
 
 /// The reply of a call, and its plan.

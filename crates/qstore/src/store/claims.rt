@@ -63,7 +63,14 @@ impl Store {
     }
 
     /// What an inode of these owners takes that has so many blocks.
-    pub(super) fn claim(&self, cred: &Cred, callers: Slots, uid: u32, gid: u32, blocks: u64) -> Claim
+    pub(super) fn claim(
+        &self,
+        cred: &Cred,
+        callers: Slots,
+        uid: u32,
+        gid: u32,
+        blocks: u64,
+    ) -> Claim
         requires callers { HasSlots self.now.books callers cred.now.uid cred.now.gid }
         requires declared { (is_declared self.now.state User uid && is_declared self.now.state Group gid) ≡ true }
         ensures claimed { (inode : Inode) → inode.uid ≡ uid → inode.gid ≡ gid → weight Blocks inode ≡ blocks
@@ -111,7 +118,8 @@ impl Store {
             → IsReplacement self.now.books from to self.now.state S1 f t → S1.next ≡ self.now.state.next + given
             → refusal_between self.now.state S1 cred.now moment ≡ Some refusal) }
     {
-        self.accounts.bill(cred, moment, self.next + given, from, to)
+        self.accounts
+            .bill(cred, moment, self.next + given, from, to)
     }
 
     /// Decides a change that passed its own tests and wants no room.

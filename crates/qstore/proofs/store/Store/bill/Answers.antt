@@ -13,9 +13,14 @@ use Rattle.qstore.proofs.store.Store.bill.Goals as goal
 pub bill-requires-clause-replacement : goal.bill-requires-clause-replacement
 bill-requires-clause-replacement c =
     let x = c.args in
-    let r = c.requires.replacement in
-    (x.self.now.state, r.0, r.1, r.2, subst (λ (b : Books). IsReplacement b x.from x.to x.self.now.state r.0 r.1 r.2)
-    (sym (ap (λ (v : Stored). v.books) c.self.view_is)) r.3)
+    let r = c.requires.replacement in (
+      x.self.now.state,
+      r.0,
+      r.1,
+      r.2,
+      subst (λ (b : Books). IsReplacement b x.from x.to x.self.now.state r.0 r.1 r.2)
+          (sym (ap (λ (v : Stored). v.books) c.self.view_is)) r.3,
+    )
 
 pub returns-clause-granted : goal.returns-clause-granted
 returns-clause-granted c =

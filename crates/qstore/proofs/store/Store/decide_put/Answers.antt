@@ -22,9 +22,12 @@ bill-requires-clause-replacement c =
     let x = c.args in
     let s = x.self.now in
     let t = c.requires.target in
-    let after = after_write t.inode.file x.off x.bytes.now in
-    (with_file s.state x.target.number t.inode after, Some t.inode, Some (record t.inode { file = after }),
-    target-replaced s c.requires.whole x.cred.now x.path.now x.off x.bytes.now x.target t c.new.result c.new.ensures)
+    let after = after_write t.inode.file x.off x.bytes.now in (
+      with_file s.state x.target.number t.inode after,
+      Some t.inode,
+      Some (record t.inode { file = after }),
+      target-replaced s c.requires.whole x.cred.now x.path.now x.off x.bytes.now x.target t c.new.result c.new.ensures,
+    )
 
 pub returns-in-Err-clause-decided : goal.returns-in-Err-clause-decided
 returns-in-Err-clause-decided c =

@@ -63,10 +63,12 @@ grant-requires-clause-replacement c =
     let less : blocks_of after ≡ c.claim_of-from.result.weight.blocks - c.freed_by.result = omega (arith, freed, blocks) in
     let r = resized-replaced s c.requires.whole number inode after there c.claim_of-from.result c.new-to.result
     (c.claim_of-from.result.weight.blocks - c.freed_by.result) c.claim_of-from.ensures.claimed c.new-to.ensures less (omega (arith, few)) in
-    let made = altered-there s.state number (λ i. record i { file = after_truncate i.file x.size }) inode there in
-    (Some inode, Some (record inode { file = after }),
-    subst (λ (T : State). IsReplacement s.books (Some c.claim_of-from.result) (Some c.new-to.result) s.state T (Some inode)
-    (Some (record inode { file = after }))) (sym made) r)
+    let made = altered-there s.state number (λ i. record i { file = after_truncate i.file x.size }) inode there in (
+      Some inode,
+      Some (record inode { file = after }),
+      subst (λ (T : State). IsReplacement s.books (Some c.claim_of-from.result) (Some c.new-to.result) s.state T (Some inode)
+          (Some (record inode { file = after }))) (sym made) r,
+    )
 
 pub returns : goal.returns
 returns c =

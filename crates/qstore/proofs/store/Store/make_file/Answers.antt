@@ -13,9 +13,12 @@ pub bill-requires-clause-replacement : goal.bill-requires-clause-replacement
 bill-requires-clause-replacement c =
     let x = c.args in
     let s = x.self.now in
-    let cred = x.cred.now in
-    (created s.state (new_file cred.uid cred.gid) x.dir x.name.now, None, Some (new_file cred.uid cred.gid),
-    created-replaced s c.requires.whole x.dir x.name.now x.callers cred.uid cred.gid c.requires.callers c.new.result c.new.ensures)
+    let cred = x.cred.now in (
+      created s.state (new_file cred.uid cred.gid) x.dir x.name.now,
+      None,
+      Some (new_file cred.uid cred.gid),
+      created-replaced s c.requires.whole x.dir x.name.now x.callers cred.uid cred.gid c.requires.callers c.new.result c.new.ensures,
+    )
 
 pub returns-in-Err-clause-decided : goal.returns-in-Err-clause-decided
 returns-in-Err-clause-decided c =
