@@ -139,7 +139,8 @@ module _ (old new : Stored) (same : IsSameStore old new) (cred : Caller) (moment
         (λ i. (effect old (plan i) bytes, reply i))
         ∙ (λ i. (left i, Done number (told-change old.books from to old.state S1 f t r i)))
         ∙ sym (settle-granted old.state S1 cred moment number granted.0);
-    can = subst (λ (p : Plan). CanCarryOut new p bytes) (sym plan) (can, record { placed = subst (λ (b : Books). IsBillFor b bill) (sym same.books) placed; books = books });
+    can = subst (λ (p : Plan). CanCarryOut new p bytes) (sym plan)
+        (can, record { placed = subst (λ (b : Books). IsBillFor b bill) (sym same.books) placed; books = books });
     nothing = λ refused. done-unrefused number (told from to) d.reply reply refused;
   }
     where

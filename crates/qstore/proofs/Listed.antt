@@ -52,7 +52,11 @@ err_weaker (Err e) P Q holds gives = gives e holds
 module _ {S : State} {b : Books} {links : List (ℕ × ℕ)} (kept : IsCounted S b links) where
   -- no inode of a store has more blocks than fit its row
   pub few-blocks : All HasFewBlocks S.inodes
-  few-blocks = let fit = kept.sound.lawful.blocks_fit in let low = kept.in_range.size in let same = kept.books.size in few-of S.inodes (omega (arith, fit, low, same))
+  few-blocks =
+      let fit = kept.sound.lawful.blocks_fit in
+      let low = kept.in_range.size in
+      let same = kept.books.size in
+      few-of S.inodes (omega (arith, fit, low, same))
 
   -- the row with the kept links is the one with the counted links, for an inode that is found
   row-counted : (e : ℕ × Inode) → inode_at S e.0 ≡ Some e.1 → kept_row links e ≡ inode_row_of S e

@@ -13,7 +13,8 @@ use Rattle.qstore.specs.Decided.{IsClaimed}
 use Rattle.qstore.specs.Stored.{Stored}
 
 -- the write goes into an inode that is there and a file, and its claim and the new blocks are the target's
-pub record IsTarget (s : Stored) (cred : Caller) (path : List ℕ) (off : ℕ) (bytes : List ℕ) (target : Target) : Type 0 where
+pub record IsTarget (s : Stored) (cred : Caller) (path : List ℕ) (off : ℕ) (bytes : List ℕ)
+    (target : Target) : Type 0 where
   pub inode : Inode
   pub there : inode_at s.state target.number ≡ Some inode
   pub is_file : inode.dir ≡ false

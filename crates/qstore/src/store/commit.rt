@@ -99,7 +99,8 @@ impl Store {
     /// Makes a change of inodes and names, and settles its bill.
     fn commit_change(&mut self, change: TreeChange, bill: Bill, bytes: &Data)
         requires can { CanChange self.old.state self.old.room change bytes.now }
-        requires settles { CanSettle self.old.books bill (billed (changed self.old.state change bytes.now) bill self.old.books) }
+        requires settles { CanSettle self.old.books bill
+            (billed (changed self.old.state change bytes.now) bill self.old.books) }
         requires sound { IsSound (billed (changed self.old.state change bytes.now) bill self.old.books) }
         ensures { self.new.state ≡ billed (changed self.old.state change bytes.now) bill self.old.books }
     {

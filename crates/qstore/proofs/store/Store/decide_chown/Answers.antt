@@ -27,7 +27,8 @@ returns-then-not-may_give c =
     let inode = inode_of c.in-Ok.found.node.now in
     let found = c.in-Ok.ensures.found (chown_at S x.cred.now x.uid x.gid) in
     let owners : chown_at S x.cred.now x.uid x.gid number inode
-    ≡ give S x.cred.now c.unwrap_or-uid.result c.unwrap_or-gid.result number inode = λ i. give S x.cred.now (sym c.unwrap_or-uid.ensures i) (sym c.unwrap_or-gid.ensures i) number inode in
+    ≡ give S x.cred.now c.unwrap_or-uid.result c.unwrap_or-gid.result number inode =
+    λ i. give S x.cred.now (sym c.unwrap_or-uid.ensures i) (sym c.unwrap_or-gid.ensures i) number inode in
     let may : may_give x.cred.now inode c.unwrap_or-uid.result c.unwrap_or-gid.result ≡ false = search rules in
     decided-refused x.self.now x.self.now x.cred.now x.moment _ [] c.refused-then-not-may_give.result EPERM
     (found ∙ owners ∙ give-refused S x.cred.now c.unwrap_or-uid.result c.unwrap_or-gid.result number inode may)
@@ -57,7 +58,8 @@ grant-requires-clause-replacement c =
     (c.claim-to.ensures.claimed (with_owners inode uid gid) refl refl (sym blocks)) (omega (arith, blocks, few)) in (
       Some inode,
       Some (with_owners inode uid gid),
-      subst (λ (T : State). IsReplacement s.books (Some c.claim_of-from.result) (Some c.claim-to.result) s.state T (Some inode) (Some (with_owners inode uid gid)))
+      subst (λ (T : State). IsReplacement s.books (Some c.claim_of-from.result) (Some c.claim-to.result) s.state T
+          (Some inode) (Some (with_owners inode uid gid)))
           (sym (altered-there s.state number (λ i. with_owners i uid gid) inode there)) r,
     )
 
@@ -71,7 +73,8 @@ returns c =
     let gid = c.unwrap_or-gid.result in
     let found = c.in-Ok.ensures.found (chown_at S x.cred.now x.uid x.gid) in
     let owners : chown_at S x.cred.now x.uid x.gid number inode
-    ≡ give S x.cred.now c.unwrap_or-uid.result c.unwrap_or-gid.result number inode = λ i. give S x.cred.now (sym c.unwrap_or-uid.ensures i) (sym c.unwrap_or-gid.ensures i) number inode in
+    ≡ give S x.cred.now c.unwrap_or-uid.result c.unwrap_or-gid.result number inode =
+    λ i. give S x.cred.now (sym c.unwrap_or-uid.ensures i) (sym c.unwrap_or-gid.ensures i) number inode in
     let may : may_give x.cred.now inode uid gid ≡ true = search rules in
     let made = altered-there S number (λ i. with_owners i uid gid) inode c.in-Ok.ensures.there in
     decided-along x.self.now x.self.now x.cred.now x.moment _ _ [] c.grant.result
