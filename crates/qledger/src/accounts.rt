@@ -117,9 +117,9 @@ impl Accounts {
         self.ledger(kind).find(id)
     }
 
-    /// The bill of a call by which the inode of one claim comes to stand in the place of the other's, or why the call is
-    /// refused: space comes before quota, and the superuser passes every quota. `next` is the number that would be given
-    /// next after it.
+    /// Writes the bill of a call by which the inode of one claim comes to stand in the place of the other's, or tells why
+    /// the call is refused: space comes before quota, and the superuser passes every quota. `next` is the number that
+    /// would be given next after it.
     pub fn bill(
         &self,
         cred: &Cred,
@@ -127,23 +127,24 @@ impl Accounts {
         next: u64,
         from: Option<Claim>,
         to: Option<Claim>,
-    ) -> Result<Bill, Refusal>
+        bill: &mut Bill,
+    ) -> Result<(), Refusal>
         requires moment { moment ≤ MAX_MOMENT }
         requires replacement { (S : State) × (S1 : State) × (f : Option Inode) × (t : Option Inode)
             × IsReplacement self.now from to S S1 f t }
-        ensures granted { IfOk result (λ bill. (S S1 : State) (f t : Option Inode)
+        ensures granted { OnOk result ((S S1 : State) (f t : Option Inode)
             → IsReplacement self.now from to S S1 f t → S1.next ≡ next
             → (refusal_between S S1 cred.now moment ≡ None)
-            × AreBooksOf (ends_after S1 moment) (settled bill self.now)) }
-        ensures placed { IfOk result (IsBillFor self.now) }
+            × AreBooksOf (ends_after S1 moment) (settled bill.new self.now)) }
+        ensures placed { OnOk result (IsBillFor self.now bill.new) }
         ensures refused { IfErr result (λ refusal. (S S1 : State) (f t : Option Inode)
             → IsReplacement self.now from to S S1 f t → S1.next ≡ next
             → refusal_between S S1 cred.now moment ≡ Some refusal) }
     {
-        let bill = self.bill_of(moment, from, to);
-        match self.refusal(cred, moment, next, &bill) {
+        *bill = self.bill_of(moment, from, to);
+        match self.refusal(cred, moment, next, bill) {
             Some(refusal) => Err(refusal),
-            None => Ok(bill),
+            None => Ok(()),
         }
     }
 
@@ -245,12 +246,12 @@ impl Accounts {
     }
 
     /// Puts the records and totals of a bill in their places. It takes no memory and always succeeds.
-    pub fn settle(&mut self, bill: Bill)
-        requires { IsBillFor self.old bill }
-        ensures { self.new ≡ settled bill self.old }
+    pub fn settle(&mut self, bill: &Bill)
+        requires { IsBillFor self.old bill.now }
+        ensures { self.new ≡ settled bill.now self.old }
     {
-        self.users.settle(bill.users);
-        self.groups.settle(bill.groups);
+        self.users.settle(&bill.users);
+        self.groups.settle(&bill.groups);
         self.blocks = bill.blocks;
         self.inodes = bill.inodes;
     }

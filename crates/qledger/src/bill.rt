@@ -28,6 +28,18 @@ pub struct Bill {
     pub(crate) inodes: u64,
 }
 
+impl Bill {
+    /// A bill of nothing, where one is to be put that is granted.
+    pub fn empty() -> Bill {
+        Bill {
+            users: Postings::none(),
+            groups: Postings::none(),
+            blocks: 0,
+            inodes: 0,
+        }
+    }
+}
+
 impl Postings {
     /// No record changes.
     pub(crate) fn none() -> Postings

@@ -211,9 +211,9 @@ impl Ledger {
     }
 
     /// Puts a record where it stands.
-    fn post(&mut self, posting: Option<Posting>)
-        requires { IfSome posting (λ p. IsSlotOf self.old p.slot p.id) }
-        ensures { self.new ≡ map (post posting) self.old }
+    fn post(&mut self, posting: &Option<Posting>)
+        requires { IfSome posting.now (λ p. IsSlotOf self.old p.slot p.id) }
+        ensures { self.new ≡ map (post posting.now) self.old }
     {
         match posting {
             Some(posting) => self.holders[posting.slot].account = posting.account,
@@ -222,12 +222,12 @@ impl Ledger {
     }
 
     /// Puts both records of the postings where they stand.
-    pub(crate) fn settle(&mut self, postings: Postings)
-        requires { ArePlaced self.old postings }
-        ensures { self.new ≡ map (posted postings) self.old }
+    pub(crate) fn settle(&mut self, postings: &Postings)
+        requires { ArePlaced self.old postings.now }
+        ensures { self.new ≡ map (posted postings.now) self.old }
     {
-        self.post(postings.from);
-        self.post(postings.to);
+        self.post(&postings.from);
+        self.post(&postings.to);
     }
 
     /// Appends the rows of these records.

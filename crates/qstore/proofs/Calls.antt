@@ -28,11 +28,10 @@ use Rattle.qstore.specs.declared.store.Store.TheInside.{Inside}
 use Rattle.qstore.specs.declared.store.write.Target.{Target}
 use Rattle.qstore.specs.Kept.{state_of, stored_of}
 use Rattle.qstore.specs.Targets.{IsTarget}
-use Rattle.qledger.specs.Replacements.{IsReplacement}
-use Rattle.qstore.specs.Decided.{IsClaimed, IsWhole}
+use Rattle.qstore.specs.Decided.{IsAsked, IsClaimed, IsWhole}
 use Rattle.qstore.specs.Ready.{altered, altered_at}
 use Rattle.qstore.specs.Stored.{IsSameStore, Stored}
-use Rattle.qstore.proofs.Deciding.{claimed, claimed-again, replacement, unclaimed}
+use Rattle.qstore.proofs.Deciding.{asked-for, claimed, claimed-again, unclaimed}
 
 -- ---- the tests
 
@@ -112,41 +111,36 @@ more-of-adds file off (byte ∷ rest) blocks adds = adds
 -- ---- what stands where
 
 -- a changed inode stands where it stood
-pub changed-replaced : (s : Stored) → IsWhole s → (number : ℕ) (inode after : Inode) → inode_at s.state number ≡ Some inode
+pub changed-asked : (s : Stored) → IsWhole s → (number : ℕ) (inode after : Inode) → inode_at s.state number ≡ Some inode
     → (from to : Claim) → IsClaimed s.books (Some from) (Some inode) → IsClaimed s.books (Some to) (Some after) → weight Blocks after ≤ 2 ^ 32
-    → IsReplacement s.books (Some from) (Some to) s.state (with_inode s.state number after) (Some inode) (Some after)
-changed-replaced s whole number inode after there from to lost gained few =
-    replacement s.books (Some from) (Some to) s.state (with_inode s.state number after) (Some inode) (Some after) whole.sound.lawful whole.books
-    (Replaces-changed s.state number inode after there) lost gained few
+    → IsAsked s (Some from) (Some to) 0 (with_inode s.state number after)
+changed-asked s whole number inode after there from to lost gained few =
+    asked-for s whole (Some from) (Some to) 0 (with_inode s.state number after) (Some inode) (Some after)
+    (Replaces-changed s.state number inode after there) (omega arith) lost gained few
 
 -- a file that loses a name stands there still, or not
-pub record IsUnlinked (s : Stored) (from to : Option Claim) (S1 : State) (inode : Inode) : Type 0 where
-  pub left : Option Inode
-  pub replaced : IsReplacement s.books from to s.state S1 (Some inode) left
-
-pub unlinked-replaced : (s : Stored) → IsWhole s → (dir : ℕ) (name : List ℕ) (number : ℕ) (inode : Inode) → named s.state dir name ≡ Some number
+pub unlinked-asked : (s : Stored) → IsWhole s → (dir : ℕ) (name : List ℕ) (number : ℕ) (inode : Inode) → named s.state dir name ≡ Some number
     → inode_at s.state number ≡ Some inode → inode.dir ≡ false
     → (claim : Claim) (to : Option Claim) (links : ℕ) → IsClaimed s.books (Some claim) (Some inode) → weight Blocks inode ≤ 2 ^ 32
-    → links ≡ links_of s.state number false → (1 < links → to ≡ Some claim) → (links ≤ 1 → to ≡ None)
-    → IsUnlinked s (Some claim) to (swept (without_name s.state dir name)) inode
-unlinked-replaced s whole dir name number inode led there file claim to links claimed few same more last =
+    → links ≡ links_of s.state number inode.dir → (1 < links → to ≡ Some claim) → (links ≤ 1 → to ≡ None)
+    → IsAsked s (Some claim) to 0 (swept (without_name s.state dir name))
+unlinked-asked s whole dir name number inode led there file claim to links claimed few kept more last =
     ⊎_elim
-    (λ (many : 1 < links). record {
-      left = Some inode;
-      replaced = replacement s.books (Some claim) to s.state S1 (Some inode) (Some inode) whole.sound.lawful whole.books
-          (Replaces-more s.state dir name number inode fits led there file (omega (arith, many, same)))
-          claimed (subst (λ (o : Option Claim). IsClaimed s.books o (Some inode)) (sym (more many)) claimed) few;
-    })
-    (λ (one : links ≤ 1). record {
-      left = None;
-      replaced = replacement s.books (Some claim) to s.state S1 (Some inode) None whole.sound.lawful whole.books
-          (Replaces-last s.state dir name number inode fits led there file (omega (arith, one, same, some)))
-          claimed (subst (λ (o : Option Claim). IsClaimed s.books o None) (sym (last one)) (unclaimed s.books)) (omega arith);
-    })
+    (λ (many : 1 < links).
+    asked-for s whole (Some claim) to 0 S1 (Some inode) (Some inode)
+    (Replaces-more s.state dir name number inode fits led there file (omega (arith, many, same))) (omega arith)
+    claimed (subst (λ (o : Option Claim). IsClaimed s.books o (Some inode)) (sym (more many)) claimed) few)
+    (λ (one : links ≤ 1).
+    asked-for s whole (Some claim) to 0 S1 (Some inode) None
+    (Replaces-last s.state dir name number inode fits led there file (omega (arith, one, same, some))) (omega arith)
+    claimed (subst (λ (o : Option Claim). IsClaimed s.books o None) (sym (last one)) (unclaimed s.books)) (omega arith))
     (cases_lt 1 links)
   where
     S1 : State
     S1 = swept (without_name s.state dir name)
+
+    same : links ≡ links_of s.state number false
+    same = kept ∙ ap (links_of s.state number) file
 
     fits : FitsTogether s.state
     fits = whole.sound.lawful.parts
@@ -155,55 +149,49 @@ unlinked-replaced s whole dir name number inode led there file claim to links cl
     some = links_of-unlinked s.state dir name number inode fits led there file
 
 -- a file that changes stands where it stood, with a claim on the same records
-pub resized-replaced : (s : Stored) → IsWhole s → (number : ℕ) (inode : Inode) (file : File) → inode_at s.state number ≡ Some inode
+pub resized-asked : (s : Stored) → IsWhole s → (number : ℕ) (inode : Inode) (file : File) → inode_at s.state number ≡ Some inode
     → (from to : Claim) (blocks : ℕ) → IsClaimed s.books (Some from) (Some inode)
     → to ≡ record { slots = from.slots; weight = record { blocks = blocks; inodes = 1 } }
     → blocks_of file ≡ blocks → blocks ≤ 2 ^ 32
-    → IsReplacement s.books (Some from) (Some to) s.state (with_file s.state number inode file) (Some inode) (Some (record inode { file = file }))
-resized-replaced s whole number inode file there from to blocks claimed is same few =
-    changed-replaced s whole number inode (record inode { file = file }) there from to claimed
+    → IsAsked s (Some from) (Some to) 0 (with_file s.state number inode file)
+resized-asked s whole number inode file there from to blocks claimed is same few =
+    changed-asked s whole number inode (record inode { file = file }) there from to claimed
     (subst (λ (c : Claim). IsClaimed s.books (Some c) (Some (record inode { file = file }))) (sym is)
     (claimed-again s.books from blocks inode (record inode { file = file }) claimed refl refl same))
     (omega (arith, same, few))
 
 -- the write of a target
-pub target-replaced : (s : Stored) → IsWhole s → (cred : Caller) (path : List ℕ) (off : ℕ) (bytes : List ℕ) (target : Target)
+pub target-asked : (s : Stored) → IsWhole s → (cred : Caller) (path : List ℕ) (off : ℕ) (bytes : List ℕ) (target : Target)
     (t : IsTarget s cred path off bytes target) (to : Claim)
     → to ≡ record { slots = target.claim.slots; weight = record { blocks = target.claim.weight.blocks + target.missing; inodes = 1 } }
-    → IsReplacement s.books (Some target.claim) (Some to) s.state (with_file s.state target.number t.inode (after_write t.inode.file off bytes))
-    (Some t.inode) (Some (record t.inode { file = after_write t.inode.file off bytes }))
-target-replaced s whole cred path off bytes target t to is =
+    → IsAsked s (Some target.claim) (Some to) 0 (with_file s.state target.number t.inode (after_write t.inode.file off bytes))
+target-asked s whole cred path off bytes target t to is =
     let more = more-of-adds t.inode.file off bytes target.missing t.missing in
     let old = t.blocks in
     let few = t.few in
     let few_missing = t.few_missing in
-    resized-replaced s whole target.number t.inode (after_write t.inode.file off bytes) t.there target.claim to
+    resized-asked s whole target.number t.inode (after_write t.inode.file off bytes) t.there target.claim to
     (target.claim.weight.blocks + target.missing) t.claimed is (omega (arith, more, old)) (omega (arith, few, few_missing))
 
--- other owners of an inode that is there
-pub given-replaced : (s : Stored) → IsWhole s → (number uid gid : ℕ) (inode : Inode) → inode_at s.state number ≡ Some inode
-    → (from to : Claim) → IsClaimed s.books (Some from) (Some inode) → IsClaimed s.books (Some to) (Some (with_owners inode uid gid))
-    → weight Blocks inode ≤ 2 ^ 32
-    → IsReplacement s.books (Some from) (Some to) s.state (with_inode s.state number (with_owners inode uid gid)) (Some inode)
-    (Some (with_owners inode uid gid))
-given-replaced s whole number uid gid inode there from to lost gained few =
-    changed-replaced s whole number inode (with_owners inode uid gid) there from to lost gained few
-
 -- a new file of the caller's
-pub created-replaced : (s : Stored) → IsWhole s → (dir : ℕ) (name : List ℕ) (slots : Slots) (uid gid : ℕ) → HasSlots s.books slots uid gid
+pub created-asked : (s : Stored) → IsWhole s → (dir : ℕ) (name : List ℕ) (slots : Slots) (uid gid : ℕ) → HasSlots s.books slots uid gid
     → (to : Claim) → to ≡ record { slots = slots; weight = record { blocks = 0; inodes = 1 } }
-    → IsReplacement s.books None (Some to) s.state (created s.state (new_file uid gid) dir name) None (Some (new_file uid gid))
-created-replaced s whole dir name slots uid gid has to is =
-    replacement s.books None (Some to) s.state (created s.state (new_file uid gid) dir name) None (Some (new_file uid gid)) whole.sound.lawful whole.books
-    (Replaces-created s.state (new_file uid gid) dir name (absent-next s.state whole.sound.lawful)) (unclaimed s.books)
+    → IsAsked s None (Some to) 1 (created s.state (new_file uid gid) dir name)
+created-asked s whole dir name slots uid gid has to is =
+    asked-for s whole None (Some to) 1 (created s.state (new_file uid gid) dir name) None (Some (new_file uid gid))
+    (Replaces-created s.state (new_file uid gid) dir name (absent-next s.state whole.sound.lawful)) refl (unclaimed s.books)
     (subst (λ (c : Claim). IsClaimed s.books (Some c) (Some (new_file uid gid))) (sym is)
     (claimed s.books slots uid gid 0 (new_file uid gid) has refl refl refl)) (omega arith)
 
 -- ---- the store in which room is made
 
--- it is the same store
-pub same-tree : (a : Inside) (tree : RoomyTree) → IsSameTree a.tree tree → IsSameStore (stored_of a) (stored_of (record a { tree = tree }))
-same-tree a tree same = record {
-  state = λ i. record (state_of a) { inodes = same.inodes i; names = same.names i };
-  books = refl;
+-- it is the same store as the one that admitted the bill
+pub same-with_room : (old admitted : Stored) (a : Inside) (tree : RoomyTree) → IsSameStore old admitted → stored_of a ≡ admitted
+    → IsSameTree a.tree tree → IsSameStore old (stored_of (record a { tree = tree }))
+same-with_room old admitted a tree same is made = record {
+  state =
+      (λ i. record (state_of a) { inodes = made.inodes i; names = made.names i })
+      ∙ ap (λ (v : Stored). v.state) is
+      ∙ same.state;
+  books = ap (λ (v : Stored). v.books) is ∙ same.books;
 }

@@ -1,5 +1,5 @@
 -- What a decision comes to: once for all calls.
-use Rattle.std.proofs.Common.{◌≡◌, ℕ, ◌-◌, ◌^◌, ◌≤◌, ◌==◌, true, not, cond, List, [], Option, None, Some, refl, sym, ap, subst, ◌∙◌, arith}
+use Rattle.std.proofs.Common.{◌≡◌, ℕ, ◌+◌, ◌-◌, ◌^◌, ◌≤◌, ◌==◌, true, not, cond, List, [], Option, None, Some, refl, sym, ap, subst, ◌∙◌, arith}
 use Rattle.qrules.specs.declared.kind.Kind.TheVariants.{User}
 use Rattle.qrules.specs.Sort.{Inodes, Blocks}
 use Rattle.qrules.specs.declared.kind.Kind.{Kind}
@@ -27,13 +27,14 @@ use Rattle.qledger.specs.declared.claim.Claim.{Claim}
 use Rattle.qledger.specs.declared.claim.Slots.{Slots}
 use Rattle.qledger.specs.Bills.{IsBillFor, settled}
 use Rattle.qledger.specs.Books.{AreBooksOf, Books, HasSlots}
+use Rattle.qledger.specs.KeptHolders.{holders_in}
 use Rattle.qledger.specs.Replacements.{IsReplacement}
 use Rattle.qledger.proofs.Booked.{claim-weight}
 use Rattle.qstore.specs.declared.ready.Decided.{Decided}
 use Rattle.qstore.specs.declared.ready.Plan.{Plan}
-use Rattle.qstore.specs.declared.ready.Plan.TheVariants.{Nothing, Change, Limits as SetLimits, SetGraces}
+use Rattle.qstore.specs.declared.ready.Plan.TheVariants.{Nothing, Change, Limits as SetLimits}
 use Rattle.qstore.specs.declared.ready.TreeChange.{TreeChange}
-use Rattle.qstore.specs.Decided.{IsClaimed, IsDecided}
+use Rattle.qstore.specs.Decided.{IsAsked, IsBilled, IsClaimed, IsDecided, IsUnbilled, IsWhole}
 use Rattle.qstore.specs.Ready.{CanCarryOut, CanChange, IsRefused, billed, changed, effect}
 use Rattle.qstore.specs.Stored.{IsSameStore, Stored}
 use Rattle.qstore.specs.Told.{told}
@@ -63,17 +64,23 @@ pub unclaimed : (b : Books) → IsClaimed b None None
 unclaimed b = record { users = tt; groups = tt }
 
 -- a plain result in which one inode stands where another stood is one that a bill may be asked for
-pub replacement : (b : Books) (from to : Option Claim) (S S1 : State) (f t : Option Inode) → IsLawful S → AreBooksOf S b → Replaces S S1 f t
-    → IsClaimed b from f → IsClaimed b to t → weight_of Blocks t ≤ 2 ^ 32 → IsReplacement b from to S S1 f t
-replacement b from to S S1 f t lawful books replaces lost gained few = record {
-  lawful = lawful;
-  books = books;
-  replaces = replaces;
-  users_from = lost.users;
-  users_to = gained.users;
-  groups_from = lost.groups;
-  groups_to = gained.groups;
-  few = few;
+pub asked-for : (s : Stored) → IsWhole s → (from to : Option Claim) (given : ℕ) (S1 : State) (f t : Option Inode) → Replaces s.state S1 f t
+    → S1.next ≡ s.state.next + given → IsClaimed s.books from f → IsClaimed s.books to t → weight_of Blocks t ≤ 2 ^ 32
+    → IsAsked s from to given S1
+asked-for s whole from to given S1 f t replaces next lost gained few = record {
+  before = f;
+  after = t;
+  replaced = record {
+    lawful = whole.sound.lawful;
+    books = whole.books;
+    replaces = replaces;
+    users_from = lost.users;
+    users_to = gained.users;
+    groups_from = lost.groups;
+    groups_to = gained.groups;
+    few = few;
+  };
+  next = next;
 }
 
 -- ---- what is told
@@ -102,64 +109,75 @@ told-change b from to S S1 f t r =
 pub done-unrefused : {A : Type 0} (number : ℕ) (change : TotalChange) (reply : Reply) → reply ≡ Done number change → IsRefused reply → A
 done-unrefused number change reply is refused = let same = sym is ∙ refused.1 in cc
 
--- a refusal decides an attempt that is refused so
-pub decided-refused : (old new : Stored) (cred : Caller) (moment : ℕ) (attempt : Attempt) (bytes : List ℕ) (d : Decided) (r : Refusal)
-    → attempt ≡ Refuse r → d.reply ≡ Refused r → d.plan ≡ Nothing → IsDecided old new cred moment attempt bytes d
-decided-refused old new cred moment attempt bytes d r is reply plan = record {
-  step = (λ i. (effect old (plan i) bytes, reply i)) ∙ sym (ap (settle old.state cred moment) is);
-  can = subst (λ (p : Plan). CanCarryOut new p bytes) (sym plan) tt;
-  nothing = λ refused. plan;
-}
-
--- an answer decides an attempt that is answered so
-pub decided-answered : (old new : Stored) (cred : Caller) (moment : ℕ) (attempt : Attempt) (bytes : List ℕ) (d : Decided) (reply : Reply)
-    → settle old.state cred moment attempt ≡ (old.state, reply) → d.reply ≡ reply → d.plan ≡ Nothing → IsDecided old new cred moment attempt bytes d
-decided-answered old new cred moment attempt bytes d reply is same plan = record {
-  step = (λ i. (effect old (plan i) bytes, same i)) ∙ sym is;
-  can = subst (λ (p : Plan). CanCarryOut new p bytes) (sym plan) tt;
-  nothing = λ refused. plan;
-}
-
-module _ (old new : Stored) (same : IsSameStore old new) (cred : Caller) (moment number : ℕ) (S1 : State) (bytes : List ℕ) where
-  -- a bill that is refused decides the plain result
-  pub decided-unbilled : (d : Decided) (r : Refusal) → refusal_between old.state S1 cred moment ≡ Some r → d.reply ≡ Refused r → d.plan ≡ Nothing
-      → IsDecided old new cred moment (Becomes S1 number) bytes d
-  decided-unbilled d r is reply plan =
-      decided-answered old new cred moment (Becomes S1 number) bytes d (Refused r) (settle-refused old.state S1 cred moment number r is) reply plan
-
-  -- and so does one that is granted
-  pub decided-billed : (from to : Option Claim) (f t : Option Inode) (change : TreeChange) (bill : Bill) (d : Decided)
-      → IsReplacement old.books from to old.state S1 f t
-      → (refusal_between old.state S1 cred moment ≡ None) × AreBooksOf (ends_after S1 moment) (settled bill old.books)
-      → IsBillFor old.books bill → changed old.state change bytes ≡ S1 → CanChange new.state new.room change bytes
-      → d.reply ≡ Done number (told from to) → d.plan ≡ Change change bill
-      → IsDecided old new cred moment (Becomes S1 number) bytes d
-  decided-billed from to f t change bill d r granted placed made can reply plan = record {
-    step =
-        (λ i. (effect old (plan i) bytes, reply i))
-        ∙ (λ i. (left i, Done number (told-change old.books from to old.state S1 f t r i)))
-        ∙ sym (settle-granted old.state S1 cred moment number granted.0);
-    can = subst (λ (p : Plan). CanCarryOut new p bytes) (sym plan)
-        (can, record { placed = subst (λ (b : Books). IsBillFor b bill) (sym same.books) placed; books = books });
-    nothing = λ refused. done-unrefused number (told from to) d.reply reply refused;
-  }
-    where
-      left : billed (changed old.state change bytes) bill old.books ≡ ends_after S1 moment
-      left = λ i. record (made i) { holders = sym granted.1.holders i }
-
-      there : effect new (Change change bill) bytes ≡ ends_after S1 moment
-      there = (λ i. billed (changed (same.state i) change bytes) bill (same.books i)) ∙ left
-
-      books : AreBooksOf (effect new (Change change bill) bytes) (settled bill new.books)
-      books = subst (λ (S : State). AreBooksOf S (settled bill new.books)) (sym there)
-          (subst (λ (b : Books). AreBooksOf (ends_after S1 moment) (settled bill b)) (sym same.books) granted.1)
-
 -- a plain result that is granted is no refusal
 pub granted-unrefused : {A : Type 0} (S S1 : State) (cred : Caller) (moment number : ℕ) → refusal_between S S1 cred moment ≡ None
     → IsRefused (settle S cred moment (Becomes S1 number)).1 → A
 granted-unrefused S S1 cred moment number none refused =
     done-unrefused number (change_between S S1) (settle S cred moment (Becomes S1 number)).1
     (ap (λ (t : State × Reply). t.1) (settle-granted S S1 cred moment number none)) refused
+
+-- an answer decides an attempt that is answered so
+pub decided-answered : (old new : Stored) (cred : Caller) (moment : ℕ) (attempt : Attempt) (bytes : List ℕ) (d : Decided) (reply : Reply)
+    → new.state ≡ old.state → settle old.state cred moment attempt ≡ (old.state, reply) → d.reply ≡ reply → d.plan ≡ Nothing
+    → IsDecided old new cred moment attempt bytes d
+decided-answered old new cred moment attempt bytes d reply state is same plan = record {
+  step = (λ i. (effect new (plan i) bytes, same i)) ∙ (λ i. (state i, reply)) ∙ sym is;
+  can = subst (λ (p : Plan). CanCarryOut new p bytes) (sym plan) tt;
+  nothing = λ refused. plan;
+}
+
+-- a refusal decides an attempt that is refused so
+pub decided-refused : (old new : Stored) (cred : Caller) (moment : ℕ) (attempt : Attempt) (bytes : List ℕ) (d : Decided) (r : Refusal)
+    → new.state ≡ old.state → attempt ≡ Refuse r → d.reply ≡ Refused r → d.plan ≡ Nothing → IsDecided old new cred moment attempt bytes d
+decided-refused old new cred moment attempt bytes d r state is reply plan =
+    decided-answered old new cred moment attempt bytes d (Refused r) state (ap (settle old.state cred moment) is) reply plan
+
+module _ (old new : Stored) (same : IsSameStore old new) (cred : Caller) (moment number given : ℕ) (from to : Option Claim)
+    (S1 : State) (bytes : List ℕ) (asked : IsAsked old from to given S1) where
+  -- a bill that is refused decides the plain result
+  pub decided-unbilled : (attempt : Attempt) (d : Decided) (refusal : Refusal) → attempt ≡ Becomes S1 number
+      → IsUnbilled old cred moment from to given refusal → d.reply ≡ Refused refusal → d.plan ≡ Nothing
+      → IsDecided old new cred moment attempt bytes d
+  decided-unbilled attempt d refusal becomes is reply plan =
+      decided-answered old new cred moment attempt bytes d (Refused refusal) same.state
+      (ap (settle old.state cred moment) becomes ∙ settle-refused old.state S1 cred moment number refusal (is S1 asked)) reply plan
+
+  -- and so does one that is granted
+  pub decided-billed : (attempt : Attempt) (change : TreeChange) (d : Decided) → attempt ≡ Becomes S1 number
+      → IsBilled old new.bill cred moment from to given
+      → changed old.state change bytes ≡ S1 → CanChange new.state new.room change bytes
+      → d.reply ≡ Done number (told from to) → d.plan ≡ Change change
+      → IsDecided old new cred moment attempt bytes d
+  decided-billed attempt change d becomes billed_so made can reply plan = record {
+    step =
+        (λ i. (effect new (plan i) bytes, reply i))
+        ∙ (λ i. (there i, Done number (told-change old.books from to old.state S1 asked.before asked.after asked.replaced i)))
+        ∙ sym (ap (settle old.state cred moment) becomes ∙ settle-granted old.state S1 cred moment number granted.0);
+    can = subst (λ (p : Plan). CanCarryOut new p bytes) (sym plan)
+        (can, record { placed = subst (λ (b : Books). IsBillFor b new.bill) (sym same.books) billed_so.placed; books = books });
+    nothing = λ refused. done-unrefused number (told from to) d.reply reply refused;
+  }
+    where
+      granted : (refusal_between old.state S1 cred moment ≡ None) × AreBooksOf (ends_after S1 moment) (settled new.bill old.books)
+      granted = billed_so.granted S1 asked
+
+      there : billed new (changed new.state change bytes) ≡ ends_after S1 moment
+      there =
+          (λ i. record (changed (same.state i) change bytes) {
+            holders = holders_in (settled new.bill (same.books i)).users (settled new.bill (same.books i)).groups;
+          })
+          ∙ (λ i. record (made i) { holders = sym granted.1.holders i })
+
+      books : AreBooksOf (billed new (changed new.state change bytes)) (settled new.bill new.books)
+      books = subst (λ (S : State). AreBooksOf S (settled new.bill new.books)) (sym there)
+          (subst (λ (b : Books). AreBooksOf (ends_after S1 moment) (settled new.bill b)) (sym same.books) granted.1)
+
+  -- a plain result whose bill is granted is no refusal
+  pub billed-unrefused : {A : Type 0} (bill : Bill) (attempt : Attempt) → attempt ≡ Becomes S1 number
+      → IsBilled old bill cred moment from to given → IsRefused (settle old.state cred moment attempt).1 → A
+  billed-unrefused bill attempt becomes billed_so refused =
+      granted-unrefused old.state S1 cred moment number (billed_so.granted S1 asked).0
+      (subst (λ (a : Attempt). IsRefused (settle old.state cred moment a).1) becomes refused)
 
 -- the same store
 pub same-store : (s : Stored) → IsSameStore s s
@@ -186,27 +204,28 @@ bytes-unrefused S cred moment attempt bytes is refused =
     cc
 
 -- new limits that the superuser sets of a declared principal
-pub decided-limits : (s : Stored) (cred : Caller) (moment : ℕ) (kind : Kind) (id : ℕ) (limits : Limits) (bill : Bill) → IsLawful s.state
-    → (cred.uid == 0) ≡ true → is_declared s.state kind id ≡ true
-    → AreBooksOf (ends_after (with_limits_of s.state kind id limits) moment) (settled bill s.books) → IsBillFor s.books bill
-    → IsDecided s s cred moment (set_quota s.state cred kind id limits) [] (record { reply = Done 0 no_change; plan = SetLimits bill })
-decided-limits s cred moment kind id limits bill lawful super declared books placed = record {
+pub decided-limits : (old new : Stored) → IsSameStore old new → (cred : Caller) (moment : ℕ) (kind : Kind) (id : ℕ) (limits : Limits)
+    → IsLawful old.state → (cred.uid == 0) ≡ true → is_declared old.state kind id ≡ true
+    → AreBooksOf (ends_after (with_limits_of old.state kind id limits) moment) (settled new.bill old.books) → IsBillFor old.books new.bill
+    → IsDecided old new cred moment (set_quota old.state cred kind id limits) [] (record { reply = Done 0 no_change; plan = SetLimits })
+decided-limits old new same cred moment kind id limits lawful super declared books placed = record {
   step =
       (λ i. (left i, Done 0 no_change))
-      ∙ sym ((λ i. settle s.state cred moment
+      ∙ sym ((λ i. settle old.state cred moment
       (cond (not (super i)) (Refuse EPERM)
-      (cond (not (declared i)) (Refuse ESRCH) (Becomes (with_limits_of s.state kind id limits) 0))))
-      ∙ settle-with_limits_of s.state kind id limits cred moment lawful.blocks_fit lawful.inodes_fit lawful.next_fits);
-  can = record { placed = placed; books = subst (λ (S : State). AreBooksOf S (settled bill s.books)) (sym left) books };
+      (cond (not (declared i)) (Refuse ESRCH) (Becomes (with_limits_of old.state kind id limits) 0))))
+      ∙ settle-with_limits_of old.state kind id limits cred moment lawful.blocks_fit lawful.inodes_fit lawful.next_fits);
+  can = record {
+    placed = subst (λ (b : Books). IsBillFor b new.bill) (sym same.books) placed;
+    books = subst (λ (S : State). AreBooksOf S (settled new.bill new.books)) (sym left)
+        (subst (λ (b : Books). AreBooksOf (ends_after (with_limits_of old.state kind id limits) moment) (settled new.bill b)) (sym same.books) books);
+  };
   nothing = λ refused. done-unrefused 0 no_change (Done 0 no_change) refl refused;
 }
   where
-    left : billed s.state bill s.books ≡ ends_after (with_limits_of s.state kind id limits) moment
-    left = λ i. record s.state { holders = sym books.holders i }
-
--- a plan leaves the same of two stores that are the same
-pub effect-same : (old new : Stored) → IsSameStore old new → (plan : Plan) (bytes : List ℕ) → effect new plan bytes ≡ effect old plan bytes
-effect-same old new same Nothing bytes = same.state
-effect-same old new same (Change change bill) bytes = λ i. billed (changed (same.state i) change bytes) bill (same.books i)
-effect-same old new same (SetLimits bill) bytes = λ i. billed (same.state i) bill (same.books i)
-effect-same old new same (SetGraces graces) bytes = λ i. record (same.state i) { graces = graces }
+    left : billed new new.state ≡ ends_after (with_limits_of old.state kind id limits) moment
+    left =
+        (λ i. record (same.state i) {
+          holders = holders_in (settled new.bill (same.books i)).users (settled new.bill (same.books i)).groups;
+        })
+        ∙ (λ i. record old.state { holders = sym books.holders i })

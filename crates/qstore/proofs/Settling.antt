@@ -3,7 +3,6 @@ use Rattle.std.proofs.Common.{◌≡◌, ℕ, Bool, true, false, List, Option, S
 use Rattle.std.specs.Option.{option_map}
 use Rattle.qplain.specs.State.{Holder, Inode, State, inode_at}
 use Rattle.qplain.specs.Use.{links_of}
-use Rattle.qledger.specs.declared.bill.Bill.{Bill}
 use Rattle.qledger.specs.Bills.{settled}
 use Rattle.qledger.specs.Books.{AreBooksOf, AreInRange, Books}
 use Rattle.qledger.specs.KeptHolders.{holders_in}
@@ -61,20 +60,23 @@ pub tree-kept : (s : Stored) (a : Inside) → s ≡ stored_of a → IsCounted (s
 tree-kept s a is counted =
     subst (λ (t : Stored). IsTreeOf t.state a.tree) (sym is) (record { inodes = refl; names = refl; links = counted.links; in_order = counted.in_order })
 
-module _ (s : Stored) (a new : Inside) (T : State) (bill : Bill) (is : s ≡ stored_of a) (keeps : KeepsBounds s.state T)
-    (counted : IsCounted (state_of a) a.accounts a.tree.links) (limit : new.file_limit ≡ a.file_limit) (settles : new.accounts ≡ settled bill a.accounts)
+module _ (s : Stored) (a new : Inside) (T : State) (is : s ≡ stored_of a) (keeps : KeepsBounds s.state T)
+    (counted : IsCounted (state_of a) a.accounts a.tree.links) (limit : new.file_limit ≡ a.file_limit) (settles : new.accounts ≡ settled a.bill a.accounts)
     (tree : IsTreeOf T new.tree) (next : T.next ≡ new.next) where
   books : s.books ≡ a.accounts
   books = ap (λ (t : Stored). t.books) is
 
+  bill : s.bill ≡ a.bill
+  bill = ap (λ (t : Stored). t.bill) is
+
   state : s.state ≡ state_of a
   state = ap (λ (t : Stored). t.state) is
 
-  settled-here : new.accounts ≡ settled bill s.books
-  settled-here = settles ∙ ap (settled bill) (sym books)
+  settled-here : new.accounts ≡ settled s.bill s.books
+  settled-here = settles ∙ (λ i. settled (sym bill i) (sym books i))
 
   -- the state that it stands for then
-  pub state-billed : state_of new ≡ billed T bill s.books
+  pub state-billed : state_of new ≡ billed s T
   state-billed =
       let size = ap (λ (b : Books). b.size) settles ∙ sym (ap (λ (S : State). S.size) state) ∙ sym keeps.size in
       let most = ap (λ (b : Books). b.most_inodes) settles ∙ sym (ap (λ (S : State). S.most_inodes) state) ∙ sym keeps.most_inodes in
@@ -92,12 +94,12 @@ module _ (s : Stored) (a new : Inside) (T : State) (bill : Bill) (is : s ≡ sto
       }
 
   -- what it keeps then is what that counts to
-  pub counted-billed : CanSettle s.books bill (billed T bill s.books) → IsSound (billed T bill s.books) → IsCounted (state_of new) new.accounts new.tree.links
+  pub counted-billed : CanSettle s T → IsSound (billed s T) → IsCounted (state_of new) new.accounts new.tree.links
   counted-billed can sound =
       subst (λ (S : State). IsCounted S new.accounts new.tree.links) (sym state-billed) (record {
         sound = sound;
-        books = subst (AreBooksOf (billed T bill s.books)) (sym settled-here) can.books;
-        in_range = subst AreInRange (sym settles) (in_range-settled a.accounts bill counted.in_range);
-        links = links-held T (holders_in (settled bill s.books).users (settled bill s.books).groups) new.tree.links tree.links;
+        books = subst (AreBooksOf (billed s T)) (sym settled-here) can.books;
+        in_range = subst AreInRange (sym settles) (in_range-settled a.accounts a.bill counted.in_range);
+        links = links-held T (holders_in (settled s.bill s.books).users (settled s.bill s.books).groups) new.tree.links tree.links;
         in_order = tree.in_order;
       })

@@ -29,7 +29,7 @@ state_of a = record {
 
 -- what a caller sees of a store
 abbrev pub stored_of : Inside → Stored
-stored_of a = record { state = state_of a; room = a.tree.room; books = a.accounts }
+stored_of a = record { state = state_of a; room = a.tree.room; books = a.accounts; bill = a.bill }
 
 -- the link counts are those of the inodes that are there
 abbrev pub AreLinks : State → List (ℕ × ℕ) → Type 0

@@ -16,9 +16,8 @@ use Rattle.qplain.specs.Files.{with_inode}
 use Rattle.qplain.specs.Names.{created, swept, without_name}
 use Rattle.qplain.specs.Owners.{with_owners}
 use Rattle.qtree.specs.Room.{Room, file_room, name_room}
-use Rattle.qledger.specs.declared.bill.Bill.{Bill}
 use Rattle.qledger.specs.Bills.{IsBillFor, settled}
-use Rattle.qledger.specs.Books.{AreBooksOf, Books}
+use Rattle.qledger.specs.Books.{AreBooksOf}
 use Rattle.qledger.specs.KeptHolders.{holders_in}
 use Rattle.qstore.specs.declared.ready.Plan.{Plan}
 use Rattle.qstore.specs.declared.ready.Plan.TheVariants.{Nothing, Change, Limits, SetGraces}
@@ -80,15 +79,15 @@ changed S (Truncate number size) bytes =
 changed S (Unlink dir path number) bytes = swept (without_name S dir (name_in path))
 changed S (Chown number uid gid) bytes = altered S number (λ inode. with_owners inode uid gid)
 
--- the state with the holders that the books have after a bill
-abbrev pub billed : State → Bill → Books → State
-billed S bill b = record S { holders = holders_in (settled bill b).users (settled bill b).groups }
+-- the state with the holders that the store's books have after its bill
+abbrev pub billed : Stored → State → State
+billed s S = record S { holders = holders_in (settled s.bill s.books).users (settled s.bill s.books).groups }
 
 -- the state that a plan leaves, told the bytes that the call brings
 abbrev pub effect : Stored → Plan → List ℕ → State
 effect s Nothing bytes = s.state
-effect s (Change change bill) bytes = billed (changed s.state change bytes) bill s.books
-effect s (Limits bill) bytes = billed s.state bill s.books
+effect s (Change change) bytes = billed s (changed s.state change bytes)
+effect s Limits bytes = billed s s.state
 effect s (SetGraces graces) bytes = record s.state { graces = graces }
 
 -- what a ready call leaves, and its reply
@@ -139,17 +138,17 @@ CanChange S room (Truncate number size) bytes = CanTruncate S number size
 CanChange S room (Unlink dir path number) bytes = CanUnlink S dir number (name_in path)
 CanChange S room (Chown number uid gid) bytes = CanChown S number
 
--- the bill is for these books, and after it they are those of the state
-pub record CanSettle (b : Books) (bill : Bill) (S : State) : Type 0 where
-  pub placed : IsBillFor b bill
-  pub books : AreBooksOf S (settled bill b)
+-- the store's bill is for its books, which after it are those of this state with the bill's holders
+pub record CanSettle (s : Stored) (S : State) : Type 0 where
+  pub placed : IsBillFor s.books s.bill
+  pub books : AreBooksOf (billed s S) (settled s.bill s.books)
 
 -- the store is as the plan needs it, told the bytes that the call brings
 abbrev pub CanCarryOut : Stored → Plan → List ℕ → Type 0
 CanCarryOut s Nothing bytes = Unit {0}
-CanCarryOut s (Change change bill) bytes =
-    CanChange s.state s.room change bytes × CanSettle s.books bill (effect s (Change change bill) bytes)
-CanCarryOut s (Limits bill) bytes = CanSettle s.books bill (effect s (Limits bill) bytes)
+CanCarryOut s (Change change) bytes =
+    CanChange s.state s.room change bytes × CanSettle s (changed s.state change bytes)
+CanCarryOut s Limits bytes = CanSettle s s.state
 CanCarryOut s (SetGraces graces) bytes = are_graces_in_range graces ≡ true
 
 -- the store is as `ready` left it, as far as the call needs

@@ -1,9 +1,11 @@
--- What a caller sees of a store: the plain machine's state, and beside it the room that `ready` makes and the books.
+-- What a caller sees of a store: the plain machine's state, and beside it the room that `ready` makes, the books and the
+-- bill that was granted last.
 use Rattle.std.specs.Prelude.{◌≡◌, ◌≤◌}
 use Rattle.qblocks.specs.declared.file.TheConstants.{MAX_SIZE}
 use Rattle.qplain.specs.State.{State}
 use Rattle.qlaws.specs.Laws.{IsLawful}
 use Rattle.qtree.specs.Room.{Room}
+use Rattle.qledger.specs.declared.bill.Bill.{Bill}
 use Rattle.qledger.specs.Books.{Books}
 
 -- a state that a store can be in: a lawful one, whose file limit is within what a file can hold
@@ -11,13 +13,14 @@ pub record IsSound (S : State) : Type 0 where
   pub lawful : IsLawful S
   pub file_bound : S.file_limit ≤ MAX_SIZE
 
--- the state, the room that is made in it, and the books that its accounts are kept in
+-- the state, the room that is made in it, the books that its accounts are kept in, and the bill that is to be settled
 pub record Stored : Type 0 where
   pub state : State
   pub room : Room
   pub books : Books
+  pub bill : Bill
 
--- the two have the same state and books, whatever room there is
+-- the two have the same state and books, whatever room and whatever bill there is
 pub record IsSameStore (old new : Stored) : Type 0 where
   pub state : new.state ≡ old.state
   pub books : new.books ≡ old.books

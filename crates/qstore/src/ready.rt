@@ -3,7 +3,7 @@ ghost use Rattle.std.specs.Prelude.{◌≡◌};
 ghost use Rattle.qstore.specs.Told.{told};
 
 use qblocks::Spare;
-use qledger::{Bill, Claim, change_of};
+use qledger::{Claim, change_of};
 use qplain::{Data, Path, Refusal, Reply};
 use qrules::Graces;
 
@@ -47,10 +47,10 @@ pub(crate) enum TreeChange {
 pub(crate) enum Plan {
     /// The reply is all.
     Nothing,
-    /// Inodes or names change, and the accounts with them.
-    Change { change: TreeChange, bill: Bill },
-    /// A record gets other limits.
-    Limits { bill: Bill },
+    /// Inodes or names change, and the accounts by the store's bill.
+    Change { change: TreeChange },
+    /// A record gets other limits, by the store's bill.
+    Limits,
     /// The graces are to be these.
     SetGraces { graces: Graces },
 }
@@ -88,14 +88,13 @@ impl Decided {
         from: Option<Claim>,
         to: Option<Claim>,
         change: TreeChange,
-        bill: Bill,
     ) -> Decided
         ensures reply { result.reply ≡ Reply.Done number (told from to) }
-        ensures plan { result.plan ≡ Plan.Change change bill }
+        ensures plan { result.plan ≡ Plan.Change change }
     {
         Decided {
             reply: Reply::Done(number, change_of(from, to)),
-            plan: Plan::Change { change, bill },
+            plan: Plan::Change { change },
         }
     }
 }

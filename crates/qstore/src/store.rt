@@ -15,7 +15,7 @@ ghost use Rattle.qstore.specs.Decided.{IsDecided, IsWhole};
 ghost use Rattle.qstore.specs.Ready.{CanCarryOut, IsReady, IsRefused, bytes_of, committed, effect, wants_no_memory};
 
 use crate::ready::{Decided, Plan, Ready};
-use qledger::{Accounts, Slots};
+use qledger::{Accounts, Bill, Slots};
 use qplain::{Call, Cred, Data, FILE_LIMIT, NoMemory, Reply, Setup};
 use qrules::MAX_MOMENT;
 use qtree::Tree;
@@ -49,6 +49,7 @@ pub struct Store {
     accounts: Accounts,
     tree: Tree,
     next: u64,
+    bill: Bill,
 }
 
 impl Model for Store {
@@ -105,6 +106,7 @@ impl Store {
             accounts: Accounts::new(alloc, &setup)?,
             tree: Tree::new(alloc, seed)?,
             next: 2,
+            bill: Bill::empty(),
         })
     }
 
@@ -127,7 +129,7 @@ impl Store {
     /// Decides a call, and makes every growth that it needs.
     fn decide(&mut self, cred: &Cred, moment: u64, call: &Call) -> Result<Decided, NoMemory>
         ensures same { IsSameStore self.old self.new }
-        ensures step { IfOk result (λ d. (effect self.old d.plan (bytes_of call.now), d.reply)
+        ensures step { IfOk result (λ d. (effect self.new d.plan (bytes_of call.now), d.reply)
             ≡ step self.old.state cred.now moment call.now) }
         ensures can { IfOk result (λ d. CanCarryOut self.new d.plan (bytes_of call.now)) }
         ensures sound { IsSound self.old.state }

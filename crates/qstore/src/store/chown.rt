@@ -6,6 +6,7 @@ ghost use Rattle.qplain.specs.Attempt.{at_path};
 ghost use Rattle.qplain.specs.Owners.{chown_at};
 ghost use Rattle.qledger.specs.Books.{HasSlots};
 ghost use Rattle.qstore.specs.Decided.{IsDecided, IsWhole};
+ghost use Rattle.qstore.specs.Stored.{IsSameStore};
 
 use crate::ready::{Decided, TreeChange};
 use crate::store::Store;
@@ -18,7 +19,7 @@ use qrules::MAX_MOMENT;
 impl Store {
     /// Decides other owners of an inode; what is None stays.
     pub(super) fn decide_chown(
-        &self,
+        &mut self,
         cred: &Cred,
         callers: Slots,
         moment: u64,
@@ -26,12 +27,13 @@ impl Store {
         uid: Option<u32>,
         gid: Option<u32>,
     ) -> Decided
-        requires callers { HasSlots self.now.books callers cred.now.uid cred.now.gid }
-        requires whole { IsWhole self.now }
+        requires callers { HasSlots self.old.books callers cred.now.uid cred.now.gid }
+        requires whole { IsWhole self.old }
         requires moment { moment ≤ MAX_MOMENT }
-        requires declared { (is_undeclared self.now.state User uid || is_undeclared self.now.state Group gid) ≡ false }
-        ensures { IsDecided self.now self.now cred.now moment
-            (at_path self.now.state (chown_at self.now.state cred.now uid gid) path.now) [] result }
+        requires declared { (is_undeclared self.old.state User uid || is_undeclared self.old.state Group gid) ≡ false }
+        ensures same { IsSameStore self.old self.new }
+        ensures decided { IsDecided self.old self.new cred.now moment
+            (at_path self.old.state (chown_at self.old.state cred.now uid gid) path.now) [] result }
     {
         let Found { number, node } = match self.find(path) {
             Ok(found) => found,

@@ -1,5 +1,5 @@
 //! What an inode takes of its owners' records, and the bill of a change.
-ghost use Rattle.std.specs.Prelude.{◌≡◌, ℕ, ◌+◌, ◌≤◌, ◌&&◌, [], true, Option, None, Some, is_some, IfOk, IfErr, IfSome};
+ghost use Rattle.std.specs.Prelude.{◌≡◌, ℕ, ◌+◌, ◌≤◌, ◌&&◌, [], true, Option, None, Some, is_some, IfErr, IfSome, OnOk};
 ghost use Rattle.std.specs.Option.{IsSome};
 ghost use Rattle.qrules.specs.declared.kind.Kind.TheVariants.{User, Group};
 ghost use Rattle.qrules.specs.Sort.{Blocks};
@@ -8,16 +8,14 @@ ghost use Rattle.qplain.specs.Use.{weight};
 ghost use Rattle.qplain.specs.Arguments.{is_declared};
 ghost use Rattle.qplain.specs.Attempt.{Becomes};
 ghost use Rattle.qtree.specs.Nodes.{inode_of};
-ghost use Rattle.qplain.specs.Decision.{ends_after, refusal_between};
-ghost use Rattle.qledger.specs.Bills.{IsBillFor, settled};
-ghost use Rattle.qledger.specs.Books.{AreBooksOf, HasSlots};
-ghost use Rattle.qledger.specs.Replacements.{IsReplacement};
-ghost use Rattle.qstore.specs.Decided.{IsClaimed, IsDecided, IsWhole};
+ghost use Rattle.qledger.specs.Books.{HasSlots};
+ghost use Rattle.qstore.specs.Decided.{IsAsked, IsBilled, IsClaimed, IsDecided, IsUnbilled, IsWhole};
 ghost use Rattle.qstore.specs.Ready.{CanChange, changed};
+ghost use Rattle.qstore.specs.Stored.{IsSameStore};
 
 use crate::ready::{Decided, TreeChange};
 use crate::store::Store;
-use qledger::{Bill, Claim, Slots};
+use qledger::{Claim, Slots};
 use qplain::{Cred, MAX_BLOCKS, Refusal};
 use qrules::{Kind, MAX_MOMENT};
 use qtree::{Content, Node};
@@ -95,36 +93,32 @@ impl Store {
         self.claim(cred, callers, node.uid, node.gid, blocks_of(node))
     }
 
-    /// The bill of a change by which the inode of one claim comes to stand in the place of the other's, and which gives
-    /// so many numbers, or why it is refused.
-    pub(super) fn bill(
-        &self,
+    /// Keeps the bill of a change by which the inode of one claim comes to stand in the place of the other's, and which
+    /// gives so many numbers, or tells why it is refused.
+    pub(super) fn admit(
+        &mut self,
         cred: &Cred,
         moment: u64,
-        given: u64,
         from: Option<Claim>,
         to: Option<Claim>,
-    ) -> Result<Bill, Refusal>
+        given: u64,
+    ) -> Result<(), Refusal>
         requires moment { moment ≤ MAX_MOMENT }
         requires few { given ≤ 1 }
-        requires replacement { (S1 : State) × (f : Option Inode) × (t : Option Inode)
-            × IsReplacement self.now.books from to self.now.state S1 f t }
-        ensures granted { IfOk result (λ bill. (S1 : State) (f t : Option Inode)
-            → IsReplacement self.now.books from to self.now.state S1 f t → S1.next ≡ self.now.state.next + given
-            → (refusal_between self.now.state S1 cred.now moment ≡ None)
-            × AreBooksOf (ends_after S1 moment) (settled bill self.now.books)) }
-        ensures placed { IfOk result (IsBillFor self.now.books) }
-        ensures refused { IfErr result (λ refusal. (S1 : State) (f t : Option Inode)
-            → IsReplacement self.now.books from to self.now.state S1 f t → S1.next ≡ self.now.state.next + given
-            → refusal_between self.now.state S1 cred.now moment ≡ Some refusal) }
+        requires asked { (S1 : State) × IsAsked self.old from to given S1 }
+        ensures same { IsSameStore self.old self.new }
+        ensures room { self.new.room ≡ self.old.room }
+        ensures granted { OnOk result (IsBilled self.old self.new.bill cred.now moment from to given) }
+        ensures refused { IfErr result (IsUnbilled self.old cred.now moment from to given) }
     {
+        let next = self.next + given;
         self.accounts
-            .bill(cred, moment, self.next + given, from, to)
+            .bill(cred, moment, next, from, to, &mut self.bill)
     }
 
     /// Decides a change that passed its own tests and wants no room.
     pub(super) fn grant(
-        &self,
+        &mut self,
         cred: &Cred,
         moment: u64,
         number: u64,
@@ -133,15 +127,14 @@ impl Store {
         change: TreeChange,
     ) -> Decided
         requires moment { moment ≤ MAX_MOMENT }
-        requires replacement { (f : Option Inode) × (t : Option Inode)
-            × IsReplacement self.now.books from to self.now.state (changed self.now.state change []) f t }
-        requires next { (changed self.now.state change []).next ≡ self.now.state.next }
-        requires can { CanChange self.now.state self.now.room change [] }
-        ensures { IsDecided self.now self.now cred.now moment (Becomes (changed self.now.state change []) number) []
-            result }
+        requires asked { IsAsked self.old from to 0 (changed self.old.state change []) }
+        requires can { CanChange self.old.state self.old.room change [] }
+        ensures same { IsSameStore self.old self.new }
+        ensures decided { IsDecided self.old self.new cred.now moment
+            (Becomes (changed self.old.state change []) number) [] result }
     {
-        match self.bill(cred, moment, 0, from, to) {
-            Ok(bill) => Decided::granted(number, from, to, change, bill),
+        match self.admit(cred, moment, from, to, 0) {
+            Ok(()) => Decided::granted(number, from, to, change),
             Err(refusal) => Decided::refused(refusal),
         }
     }

@@ -13,7 +13,6 @@ ghost use Rattle.qstore.specs.Stored.{IsSound};
 use crate::path::last_of;
 use crate::ready::{Plan, TreeChange};
 use crate::store::Store;
-use qledger::Bill;
 use qplain::{Data, Path};
 use qtree::{Node, Tree};
 use std::alloc::Global;
@@ -90,21 +89,20 @@ impl Store {
     {
         match plan {
             Plan::Nothing => {}
-            Plan::Change { change, bill } => self.commit_change(change, bill, bytes),
-            Plan::Limits { bill } => self.accounts.settle(bill),
+            Plan::Change { change } => self.commit_change(change, bytes),
+            Plan::Limits => self.accounts.settle(&self.bill),
             Plan::SetGraces { graces } => self.accounts.set_graces(graces),
         }
     }
 
-    /// Makes a change of inodes and names, and settles its bill.
-    fn commit_change(&mut self, change: TreeChange, bill: Bill, bytes: &Data)
+    /// Makes a change of inodes and names, and settles the store's bill.
+    fn commit_change(&mut self, change: TreeChange, bytes: &Data)
         requires can { CanChange self.old.state self.old.room change bytes.now }
-        requires settles { CanSettle self.old.books bill
-            (billed (changed self.old.state change bytes.now) bill self.old.books) }
-        requires sound { IsSound (billed (changed self.old.state change bytes.now) bill self.old.books) }
-        ensures { self.new.state ≡ billed (changed self.old.state change bytes.now) bill self.old.books }
+        requires settles { CanSettle self.old (changed self.old.state change bytes.now) }
+        requires sound { IsSound (billed self.old (changed self.old.state change bytes.now)) }
+        ensures { self.new.state ≡ billed self.old (changed self.old.state change bytes.now) }
     {
         self.next = make(&mut self.tree, self.next, self.alloc, change, bytes);
-        self.accounts.settle(bill);
+        self.accounts.settle(&self.bill);
     }
 }

@@ -68,10 +68,10 @@ impl Store {
             → IsOk result }
     {
         let to = Some(Claim::new(callers, 0));
-        let bill = match self.bill(cred, moment, 1, None, to) {
-            Ok(bill) => bill,
+        match self.admit(cred, moment, None, to, 1) {
+            Ok(()) => {}
             Err(refusal) => return Ok(Decided::refused(refusal)),
-        };
+        }
         let name = String::from_str(self.alloc, name)?;
         self.tree.make_room(dir)?;
         let change = TreeChange::Create {
@@ -80,6 +80,6 @@ impl Store {
             uid: cred.uid(),
             gid: cred.gid(),
         };
-        Ok(Decided::granted(self.next, None, to, change, bill))
+        Ok(Decided::granted(self.next, None, to, change))
     }
 }

@@ -2,6 +2,7 @@
 ghost use Rattle.std.specs.Prelude.{◌≡◌, ◌≤◌, []};
 ghost use Rattle.qplain.specs.Quotas.{set_quota};
 ghost use Rattle.qstore.specs.Decided.{IsDecided, IsWhole};
+ghost use Rattle.qstore.specs.Stored.{IsSameStore};
 
 use crate::ready::{Decided, Plan};
 use crate::store::Store;
@@ -11,7 +12,7 @@ use qrules::{Kind, Limits, MAX_MOMENT};
 impl Store {
     /// Decides the setting of limits.
     pub(super) fn decide_set_quota(
-        &self,
+        &mut self,
         cred: &Cred,
         moment: u64,
         kind: Kind,
@@ -19,8 +20,9 @@ impl Store {
         limits: Limits,
     ) -> Decided
         requires moment { moment ≤ MAX_MOMENT }
-        requires whole { IsWhole self.now }
-        ensures { IsDecided self.now self.now cred.now moment (set_quota self.now.state cred.now kind id limits) []
+        requires whole { IsWhole self.old }
+        ensures same { IsSameStore self.old self.new }
+        ensures decided { IsDecided self.old self.new cred.now moment (set_quota self.old.state cred.now kind id limits) []
             result }
     {
         if cred.uid() != 0 {
@@ -28,12 +30,13 @@ impl Store {
         }
         match self.accounts.slot(kind, id) {
             None => Decided::refused(Refusal::ESRCH),
-            Some(slot) => Decided {
-                reply: Reply::Done(0, NO_CHANGE),
-                plan: Plan::Limits {
-                    bill: self.accounts.bill_of_limits(kind, slot, limits, moment),
-                },
-            },
+            Some(slot) => {
+                self.bill = self.accounts.bill_of_limits(kind, slot, limits, moment);
+                Decided {
+                    reply: Reply::Done(0, NO_CHANGE),
+                    plan: Plan::Limits,
+                }
+            }
         }
     }
 }

@@ -4,6 +4,7 @@ ghost use Rattle.qplain.specs.Attempt.{at_path};
 ghost use Rattle.qplain.specs.Files.{truncate_at};
 ghost use Rattle.qledger.specs.Books.{HasSlots};
 ghost use Rattle.qstore.specs.Decided.{IsDecided, IsWhole};
+ghost use Rattle.qstore.specs.Stored.{IsSameStore};
 
 use crate::ready::{Decided, TreeChange};
 use crate::store::Store;
@@ -17,19 +18,21 @@ use qtree::Content;
 impl Store {
     /// Decides another size of a file.
     pub(super) fn decide_truncate(
-        &self,
+        &mut self,
         cred: &Cred,
         callers: Slots,
         moment: u64,
         path: &str,
         size: u64,
     ) -> Decided
-        requires callers { HasSlots self.now.books callers cred.now.uid cred.now.gid }
-        requires whole { IsWhole self.now }
+        requires callers { HasSlots self.old.books callers cred.now.uid cred.now.gid }
+        requires whole { IsWhole self.old }
         requires moment { moment ≤ MAX_MOMENT }
-        ensures { IsDecided self.now self.now cred.now moment
-            (at_path self.now.state (truncate_at self.now.state cred.now size) path.now) [] result }
+        ensures same { IsSameStore self.old self.new }
+        ensures decided { IsDecided self.old self.new cred.now moment
+            (at_path self.old.state (truncate_at self.old.state cred.now size) path.now) [] result }
     {
+        let limit = self.file_limit;
         let Found { number, node } = match self.find(path) {
             Ok(found) => found,
             Err(refusal) => return Decided::refused(refusal),
@@ -40,7 +43,7 @@ impl Store {
         if !may_write(cred, node) {
             return Decided::refused(Refusal::EACCES);
         }
-        if size > self.file_limit {
+        if size > limit {
             return Decided::refused(Refusal::EFBIG);
         }
         let from = self.claim_of(cred, callers, number, node);

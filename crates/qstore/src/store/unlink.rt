@@ -2,13 +2,14 @@
 ghost use Rattle.std.specs.Prelude.{◌≡◌, ◌≤◌, ◌<◌, [], IfOk, Some, None};
 ghost use Rattle.std.specs.Result.{IsOk};
 ghost use Rattle.qplain.specs.declared.refusal.Refusal.TheVariants.{EISDIR};
-ghost use Rattle.qplain.specs.Attempt.{in_place};
-ghost use Rattle.qplain.specs.Names.{unlink_as};
+ghost use Rattle.qplain.specs.Attempt.{Becomes, in_place};
+ghost use Rattle.qplain.specs.Names.{swept, unlink_as, without_name};
 ghost use Rattle.qplain.specs.State.{named};
 ghost use Rattle.qplain.specs.Step.{settle};
 ghost use Rattle.qledger.specs.Books.{HasSlots};
-ghost use Rattle.qstore.specs.Decided.{IsDecided, IsWhole};
-ghost use Rattle.qstore.specs.Ready.{IsRefused, name_in};
+ghost use Rattle.qstore.specs.Decided.{IsAsked, IsDecided, IsWhole};
+ghost use Rattle.qstore.specs.Ready.{CanUnlink, IsRefused, name_in};
+ghost use Rattle.qstore.specs.Stored.{IsSameStore};
 
 use crate::ready::{Decided, TreeChange};
 use crate::store::Store;
@@ -28,19 +29,20 @@ fn left_of(node: &Node, claim: Claim) -> Option<Claim>
 impl Store {
     /// Decides that a name goes.
     pub(super) fn decide_unlink(
-        &self,
+        &mut self,
         cred: &Cred,
         callers: Slots,
         moment: u64,
         path: &Path,
     ) -> Result<Decided, NoMemory>
-        requires callers { HasSlots self.now.books callers cred.now.uid cred.now.gid }
-        requires whole { IsWhole self.now }
+        requires callers { HasSlots self.old.books callers cred.now.uid cred.now.gid }
+        requires whole { IsWhole self.old }
         requires moment { moment ≤ MAX_MOMENT }
-        ensures decided { IfOk result (IsDecided self.now self.now cred.now moment
-            (in_place self.now.state EISDIR (unlink_as self.now.state cred.now) path.now) []) }
-        ensures refused_first { IsRefused (settle self.now.state cred.now moment
-            (in_place self.now.state EISDIR (unlink_as self.now.state cred.now) path.now)).1 → IsOk result }
+        ensures same { IsSameStore self.old self.new }
+        ensures decided { IfOk result (IsDecided self.old self.new cred.now moment
+            (in_place self.old.state EISDIR (unlink_as self.old.state cred.now) path.now) []) }
+        ensures refused_first { IsRefused (settle self.old.state cred.now moment
+            (in_place self.old.state EISDIR (unlink_as self.old.state cred.now) path.now)).1 → IsOk result }
     {
         let place = match self.place_of(path.text(), Refusal::EISDIR) {
             Ok(place) => place,
@@ -56,7 +58,7 @@ impl Store {
 
     /// Decides that the last name of the path goes, which leads to this number.
     fn take_name(
-        &self,
+        &mut self,
         cred: &Cred,
         callers: Slots,
         moment: u64,
@@ -65,15 +67,16 @@ impl Store {
         name: &str,
         number: u64,
     ) -> Result<Decided, NoMemory>
-        requires callers { HasSlots self.now.books callers cred.now.uid cred.now.gid }
-        requires whole { IsWhole self.now }
+        requires callers { HasSlots self.old.books callers cred.now.uid cred.now.gid }
+        requires whole { IsWhole self.old }
         requires moment { moment ≤ MAX_MOMENT }
         requires last { name_in path.now ≡ name.now }
-        requires led { named self.now.state dir name.now ≡ Some number }
-        ensures decided { IfOk result (IsDecided self.now self.now cred.now moment
-            (unlink_as self.now.state cred.now dir name.now) []) }
-        ensures refused_first { IsRefused (settle self.now.state cred.now moment
-            (unlink_as self.now.state cred.now dir name.now)).1 → IsOk result }
+        requires led { named self.old.state dir name.now ≡ Some number }
+        ensures same { IsSameStore self.old self.new }
+        ensures decided { IfOk result (IsDecided self.old self.new cred.now moment
+            (unlink_as self.old.state cred.now dir name.now) []) }
+        ensures refused_first { IsRefused (settle self.old.state cred.now moment
+            (unlink_as self.old.state cred.now dir name.now)).1 → IsOk result }
     {
         let Some(node) = self.inode(number) else {
             return Ok(Decided::refused(Refusal::ENOENT));
@@ -85,17 +88,37 @@ impl Store {
             return Ok(Decided::refused(Refusal::EPERM));
         }
         let claim = self.claim_of(cred, callers, number, node);
-        let from = Some(claim);
-        let to = left_of(node, claim);
-        let bill = match self.bill(cred, moment, 0, from, to) {
-            Ok(bill) => bill,
+        let left = left_of(node, claim);
+        self.grant_unlink(cred, moment, path, dir, number, claim, left)
+    }
+
+    /// Decides the same once it passed its own tests, and shares the path.
+    fn grant_unlink(
+        &mut self,
+        cred: &Cred,
+        moment: u64,
+        path: &Path,
+        dir: u64,
+        number: u64,
+        claim: Claim,
+        left: Option<Claim>,
+    ) -> Result<Decided, NoMemory>
+        requires moment { moment ≤ MAX_MOMENT }
+        requires asked { IsAsked self.old (Some claim) left 0
+            (swept (without_name self.old.state dir (name_in path.now))) }
+        requires can { CanUnlink self.old.state dir number (name_in path.now) }
+        ensures same { IsSameStore self.old self.new }
+        ensures decided { IfOk result (IsDecided self.old self.new cred.now moment
+            (Becomes (swept (without_name self.old.state dir (name_in path.now))) number) []) }
+        ensures refused_first { IsRefused (settle self.old.state cred.now moment
+            (Becomes (swept (without_name self.old.state dir (name_in path.now))) number)).1 → IsOk result }
+    {
+        match self.admit(cred, moment, Some(claim), left, 0) {
+            Ok(()) => {}
             Err(refusal) => return Ok(Decided::refused(refusal)),
-        };
-        let change = TreeChange::Unlink {
-            dir,
-            path: path.copy()?,
-            number,
-        };
-        Ok(Decided::granted(number, from, to, change, bill))
+        }
+        let path = path.copy()?;
+        let change = TreeChange::Unlink { dir, path, number };
+        Ok(Decided::granted(number, Some(claim), left, change))
     }
 }

@@ -129,12 +129,12 @@ impl Store {
         } = target;
         let from = Some(claim);
         let to = Some(Claim::new(claim.slots, claim.weight.blocks + missing));
-        let bill = match self.bill(cred, moment, 0, from, to) {
-            Ok(bill) => bill,
+        match self.admit(cred, moment, from, to, 0) {
+            Ok(()) => {}
             Err(refusal) => return Ok(Decided::refused(refusal)),
-        };
+        }
         let spare = self.tree.ready_write(number, off, bytes.len(), missing)?;
         let change = TreeChange::Write { number, off, spare };
-        Ok(Decided::granted(number, from, to, change, bill))
+        Ok(Decided::granted(number, from, to, change))
     }
 }

@@ -5,7 +5,7 @@ use Rattle.qledger.proofs.accounts.Accounts.settle.Goals as goal
 
 pub invariant_of-self : goal.invariant_of-self
 invariant_of-self c =
-    let bill = c.args.bill in
+    let bill = c.args.bill.now in
     record {
       size = c.self.invariant.size;
       most_inodes = c.self.invariant.most_inodes;

@@ -5,4 +5,4 @@ use Rattle.qledger.proofs.ledger.Ledger.settle.Goals as goal
 
 pub returns : goal.returns
 returns c =
-    c.post-2.ensures ∙ ap (map (post c.args.postings.to)) c.post.ensures ∙ sym (posted-both c.args.postings c.args.self.now)
+    c.post-2.ensures ∙ ap (map (post c.args.postings.now.to)) c.post.ensures ∙ sym (posted-both c.args.postings.now c.args.self.now)

@@ -14,10 +14,10 @@ invariant_of-self c =
     let a = c.self.inside in
     let view = sym c.self.view_is in
     let made = c.make-self-inside in
-    let new : Inside = record { alloc = a.alloc; file_limit = a.file_limit; accounts = c.settle.new.self; tree = made.new.tree; next = made.result } in
+    let new : Inside = record { alloc = a.alloc; file_limit = a.file_limit; accounts = c.settle.new.self; tree = made.new.tree; next = made.result; bill = a.bill } in
     let next = ap (λ (t : Stored). t.state.next) view in
     let can = subst (λ (r : Room). CanChange s.state r x.change x.bytes.now) (ap (λ (t : Stored). t.room) view) c.requires.can in
     let lawful = subst (λ (t : Stored). IsLawful t.state) c.self.view_is c.self.invariant.sound.lawful in
     let tree = made.ensures.tree s.state (tree-kept s a view c.self.invariant) next lawful can in
-    counted-billed s a new (changed s.state x.change x.bytes.now) x.bill view (bounds-changed s.state x.change x.bytes.now)
+    counted-billed s a new (changed s.state x.change x.bytes.now) view (bounds-changed s.state x.change x.bytes.now)
     c.self.invariant refl c.settle.ensures tree (made.ensures.next s.state next can) c.requires.settles c.requires.sound

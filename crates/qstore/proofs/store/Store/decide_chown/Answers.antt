@@ -5,22 +5,21 @@ use Rattle.qplain.specs.Attempt.{Becomes}
 use Rattle.qplain.specs.declared.refusal.Refusal.TheVariants.{EPERM}
 use Rattle.qplain.specs.Owners.{chown_at, give, with_owners}
 use Rattle.qplain.specs.Rights.{may_give}
-use Rattle.qplain.specs.State.{State}
 use Rattle.qtree.specs.Nodes.{inode_of}
 use Rattle.qlaws.proofs.Fitting.{known-owners}
-use Rattle.qledger.specs.Replacements.{IsReplacement}
-use Rattle.qstore.proofs.Calls.{altered-there, give-becomes, give-refused, given-replaced, named-declared}
+use Rattle.qstore.specs.Decided.{IsAsked}
+use Rattle.qstore.proofs.Calls.{altered-there, give-becomes, give-refused, changed-asked, named-declared}
 use Rattle.qstore.proofs.Deciding.{decided-along, decided-refused}
 use Rattle.qstore.proofs.store.Store.decide_chown.Goals as goal
 
-pub returns-in-Err : goal.returns-in-Err
-returns-in-Err c =
+pub returns-in-Err-clause-decided : goal.returns-in-Err-clause-decided
+returns-in-Err-clause-decided c =
     let x = c.args in
-    decided-refused x.self.now x.self.now x.cred.now x.moment _ [] c.refused.result c.in-Err.refusal
+    decided-refused x.self.now x.self.now x.cred.now x.moment _ [] c.refused.result c.in-Err.refusal refl
     (c.in-Err.ensures.fault (chown_at x.self.now.state x.cred.now x.uid x.gid)) c.refused.ensures.reply c.refused.ensures.plan
 
-pub returns-then-not-may_give : goal.returns-then-not-may_give
-returns-then-not-may_give c =
+pub returns-then-not-may_give-clause-decided : goal.returns-then-not-may_give-clause-decided
+returns-then-not-may_give-clause-decided c =
     let x = c.args in
     let S = x.self.now.state in
     let number = c.in-Ok.found.number in
@@ -30,7 +29,7 @@ returns-then-not-may_give c =
     ≡ give S x.cred.now c.unwrap_or-uid.result c.unwrap_or-gid.result number inode =
     λ i. give S x.cred.now (sym c.unwrap_or-uid.ensures i) (sym c.unwrap_or-gid.ensures i) number inode in
     let may : may_give x.cred.now inode c.unwrap_or-uid.result c.unwrap_or-gid.result ≡ false = search rules in
-    decided-refused x.self.now x.self.now x.cred.now x.moment _ [] c.refused-then-not-may_give.result EPERM
+    decided-refused x.self.now x.self.now x.cred.now x.moment _ [] c.refused-then-not-may_give.result EPERM refl
     (found ∙ owners ∙ give-refused S x.cred.now c.unwrap_or-uid.result c.unwrap_or-gid.result number inode may)
     c.refused-then-not-may_give.ensures.reply c.refused-then-not-may_give.ensures.plan
 
@@ -43,8 +42,8 @@ claim-to-requires-clause-declared c =
     (λ i. is_declared S User (c.unwrap_or-uid.ensures i) && is_declared S Group (c.unwrap_or-gid.ensures i))
     ∙ named-declared S x.uid x.gid inode.uid inode.gid c.requires.declared known
 
-pub grant-requires-clause-replacement : goal.grant-requires-clause-replacement
-grant-requires-clause-replacement c =
+pub grant-requires-clause-asked : goal.grant-requires-clause-asked
+grant-requires-clause-asked c =
     let x = c.args in
     let s = x.self.now in
     let inode = inode_of c.in-Ok.found.node.now in
@@ -54,17 +53,14 @@ grant-requires-clause-replacement c =
     let gid = c.unwrap_or-gid.result in
     let blocks = c.claim_of-from.ensures.blocks in
     let few = c.claim_of-from.ensures.few in
-    let r = given-replaced s c.requires.whole number uid gid inode there c.claim_of-from.result c.claim-to.result c.claim_of-from.ensures.claimed
-    (c.claim-to.ensures.claimed (with_owners inode uid gid) refl refl (sym blocks)) (omega (arith, blocks, few)) in (
-      Some inode,
-      Some (with_owners inode uid gid),
-      subst (λ (T : State). IsReplacement s.books (Some c.claim_of-from.result) (Some c.claim-to.result) s.state T
-          (Some inode) (Some (with_owners inode uid gid)))
-          (sym (altered-there s.state number (λ i. with_owners i uid gid) inode there)) r,
-    )
+    let after = with_owners inode uid gid in
+    subst (IsAsked s (Some c.claim_of-from.result) (Some c.claim-to.result) 0)
+    (sym (altered-there s.state number (λ i. with_owners i uid gid) inode there))
+    (changed-asked s c.requires.whole number inode after there c.claim_of-from.result c.claim-to.result c.claim_of-from.ensures.claimed
+    (c.claim-to.ensures.claimed after refl refl (sym blocks)) (omega (arith, blocks, few)))
 
-pub returns : goal.returns
-returns c =
+pub returns-clause-decided : goal.returns-clause-decided
+returns-clause-decided c =
     let x = c.args in
     let S = x.self.now.state in
     let number = c.in-Ok.found.number in
@@ -77,5 +73,5 @@ returns c =
     λ i. give S x.cred.now (sym c.unwrap_or-uid.ensures i) (sym c.unwrap_or-gid.ensures i) number inode in
     let may : may_give x.cred.now inode uid gid ≡ true = search rules in
     let made = altered-there S number (λ i. with_owners i uid gid) inode c.in-Ok.ensures.there in
-    decided-along x.self.now x.self.now x.cred.now x.moment _ _ [] c.grant.result
-    (sym (found ∙ owners ∙ give-becomes S x.cred.now uid gid number inode may ∙ ap (λ T. Becomes T number) (sym made))) c.grant.ensures
+    decided-along x.self.now c.grant.new.self x.cred.now x.moment _ _ [] c.grant.result
+    (sym (found ∙ owners ∙ give-becomes S x.cred.now uid gid number inode may ∙ ap (λ T. Becomes T number) (sym made))) c.grant.ensures.decided

@@ -1,29 +1,27 @@
-use Rattle.std.proofs.Common.{◌≡◌, ◌+◌, [], refl, arith}
-use Rattle.qstore.specs.Ready.{changed}
-use Rattle.qstore.proofs.Deciding.{decided-billed, decided-unbilled, same-store}
+use Rattle.std.proofs.Common.{[], refl, subst, sym}
+use Rattle.qplain.specs.State.{State}
+use Rattle.qtree.specs.Room.{Room}
+use Rattle.qstore.specs.Ready.{CanChange, changed}
+use Rattle.qstore.proofs.Deciding.{decided-billed, decided-unbilled}
 use Rattle.qstore.proofs.store.Store.grant.Goals as goal
 
-pub bill-requires-clause-replacement : goal.bill-requires-clause-replacement
-bill-requires-clause-replacement c =
-    let r = c.requires.replacement in
-    (changed c.args.self.now.state c.args.change [], r.0, r.1, r.2)
+pub admit-requires-clause-asked : goal.admit-requires-clause-asked
+admit-requires-clause-asked c = (changed c.args.self.now.state c.args.change [], c.requires.asked)
 
-pub returns-in-Ok : goal.returns-in-Ok
-returns-in-Ok c =
+pub returns-in-Ok-clause-decided : goal.returns-in-Ok-clause-decided
+returns-in-Ok-clause-decided c =
     let x = c.args in
     let s = x.self.now in
-    let S1 = changed s.state x.change [] in
-    let r = c.requires.replacement in
-    let next : S1.next ≡ s.state.next + 0 = let same = c.requires.next in omega (arith, same) in
-    decided-billed s s (same-store s) x.cred.now x.moment x.number S1 [] x.from x.to r.0 r.1 x.change c.in-Ok.bill c.granted.result r.2
-    (c.in-Ok.ensures.granted S1 r.0 r.1 r.2 next) c.in-Ok.ensures.placed refl c.requires.can c.granted.ensures.reply c.granted.ensures.plan
+    let same = c.admit.ensures.same in
+    decided-billed s c.admit.new.self same x.cred.now x.moment x.number 0 x.from x.to (changed s.state x.change []) [] c.requires.asked _
+    x.change c.granted.result refl c.in-Ok.ensures.granted refl
+    (subst (λ (t : Room). CanChange c.admit.new.self.state t x.change []) (sym c.admit.ensures.room)
+    (subst (λ (S : State). CanChange S s.room x.change []) (sym same.state) c.requires.can))
+    c.granted.ensures.reply c.granted.ensures.plan
 
-pub returns-in-Err : goal.returns-in-Err
-returns-in-Err c =
+pub returns-in-Err-clause-decided : goal.returns-in-Err-clause-decided
+returns-in-Err-clause-decided c =
     let x = c.args in
     let s = x.self.now in
-    let S1 = changed s.state x.change [] in
-    let r = c.requires.replacement in
-    let next : S1.next ≡ s.state.next + 0 = let same = c.requires.next in omega (arith, same) in
-    decided-unbilled s s (same-store s) x.cred.now x.moment x.number S1 [] c.refused.result c.in-Err.refusal
-    (c.in-Err.ensures.refused S1 r.0 r.1 r.2 next) c.refused.ensures.reply c.refused.ensures.plan
+    decided-unbilled s c.admit.new.self c.admit.ensures.same x.cred.now x.moment x.number 0 x.from x.to (changed s.state x.change []) []
+    c.requires.asked _ c.refused.result c.in-Err.refusal refl c.in-Err.ensures.refused c.refused.ensures.reply c.refused.ensures.plan

@@ -1,23 +1,21 @@
-use Rattle.std.proofs.Common.{rules, ◌≡◌, [], Some, None, string_bytes, refl, ap, subst, ◌∙◌}
+use Rattle.std.proofs.Common.{rules, ◌≡◌, [], string_bytes, refl, None, Some, sym, ap, subst, ◌∙◌}
 use Rattle.qplain.specs.Names.{created}
 use Rattle.qplain.specs.State.{State, is_directory, named, new_file}
 use Rattle.qplain.specs.declared.reply.Reply.TheVariants.{Done}
+use Rattle.qstore.specs.Decided.{IsBilled}
 use Rattle.qstore.specs.Kept.{stored_of}
 use Rattle.qstore.specs.Told.{told}
-use Rattle.qstore.specs.Stored.{IsSameStore, Stored}
-use Rattle.qstore.proofs.Calls.{created-replaced, same-tree}
-use Rattle.qstore.proofs.Deciding.{decided-billed, decided-unbilled, granted-unrefused, same-store}
+use Rattle.qstore.specs.Stored.{Stored}
+use Rattle.qstore.proofs.Calls.{created-asked, same-with_room}
+use Rattle.qstore.proofs.Deciding.{billed-unrefused, decided-billed, decided-unbilled, same-store}
 use Rattle.qstore.proofs.store.Store.make_file.Goals as goal
 
-pub bill-requires-clause-replacement : goal.bill-requires-clause-replacement
-bill-requires-clause-replacement c =
+pub admit-requires-clause-asked : goal.admit-requires-clause-asked
+admit-requires-clause-asked c =
     let x = c.args in
-    let s = x.self.now in
     let cred = x.cred.now in (
-      created s.state (new_file cred.uid cred.gid) x.dir x.name.now,
-      None,
-      Some (new_file cred.uid cred.gid),
-      created-replaced s c.requires.whole x.dir x.name.now x.callers cred.uid cred.gid c.requires.callers c.new.result c.new.ensures,
+      created x.self.now.state (new_file cred.uid cred.gid) x.dir x.name.now,
+      created-asked x.self.now c.requires.whole x.dir x.name.now x.callers cred.uid cred.gid c.requires.callers c.new.result c.new.ensures,
     )
 
 pub returns-in-Err-clause-decided : goal.returns-in-Err-clause-decided
@@ -25,28 +23,25 @@ returns-in-Err-clause-decided c =
     let x = c.args in
     let s = x.self.now in
     let cred = x.cred.now in
-    let S1 = created s.state (new_file cred.uid cred.gid) x.dir x.name.now in
-    let r = created-replaced s c.requires.whole x.dir x.name.now x.callers cred.uid cred.gid c.requires.callers c.new.result c.new.ensures in
-    decided-unbilled s s (same-store s) cred x.moment s.state.next S1 [] c.refused.result c.in-Err.refusal
-    (c.in-Err.ensures.refused S1 None (Some (new_file cred.uid cred.gid)) r refl) c.refused.ensures.reply c.refused.ensures.plan
+    let asked = created-asked s c.requires.whole x.dir x.name.now x.callers cred.uid cred.gid c.requires.callers c.new.result c.new.ensures in
+    decided-unbilled s c.admit.new.self c.admit.ensures.same cred x.moment s.state.next 1 None _ _ [] asked _ c.refused.result c.in-Err.refusal
+    refl c.in-Err.ensures.refused c.refused.ensures.reply c.refused.ensures.plan
 
 pub returns-in_err-name-clause-refused_first : goal.returns-in_err-name-clause-refused_first
 returns-in_err-name-clause-refused_first c =
     let x = c.args in
     let s = x.self.now in
     let cred = x.cred.now in
-    let S1 = created s.state (new_file cred.uid cred.gid) x.dir x.name.now in
-    let r = created-replaced s c.requires.whole x.dir x.name.now x.callers cred.uid cred.gid c.requires.callers c.new.result c.new.ensures in
-    granted-unrefused s.state S1 cred x.moment s.state.next (c.in-Ok.ensures.granted S1 None (Some (new_file cred.uid cred.gid)) r refl).0
+    let asked = created-asked s c.requires.whole x.dir x.name.now x.callers cred.uid cred.gid c.requires.callers c.new.result c.new.ensures in
+    billed-unrefused s s (same-store s) cred x.moment s.state.next 1 None _ _ [] asked _ _ refl c.in-Ok.ensures.granted
 
 pub returns-in_err-make_room-clause-refused_first : goal.returns-in_err-make_room-clause-refused_first
 returns-in_err-make_room-clause-refused_first c =
     let x = c.args in
     let s = x.self.now in
     let cred = x.cred.now in
-    let S1 = created s.state (new_file cred.uid cred.gid) x.dir x.name.now in
-    let r = created-replaced s c.requires.whole x.dir x.name.now x.callers cred.uid cred.gid c.requires.callers c.new.result c.new.ensures in
-    granted-unrefused s.state S1 cred x.moment s.state.next (c.in-Ok.ensures.granted S1 None (Some (new_file cred.uid cred.gid)) r refl).0
+    let asked = created-asked s c.requires.whole x.dir x.name.now x.callers cred.uid cred.gid c.requires.callers c.new.result c.new.ensures in
+    billed-unrefused s s (same-store s) cred x.moment s.state.next 1 None _ _ [] asked _ _ refl c.in-Ok.ensures.granted
 
 pub returns-clause-decided : goal.returns-clause-decided
 returns-clause-decided c =
@@ -54,15 +49,14 @@ returns-clause-decided c =
     let s = x.self.now in
     let a = c.self.inside in
     let cred = x.cred.now in
-    let S1 = created s.state (new_file cred.uid cred.gid) x.dir x.name.now in
-    let r = created-replaced s c.requires.whole x.dir x.name.now x.callers cred.uid cred.gid c.requires.callers c.new.result c.new.ensures in
-    let granted = c.in-Ok.ensures.granted S1 None (Some (new_file cred.uid cred.gid)) r refl in
-    let new = stored_of (record a { tree = c.make_room.new.self }) in
-    let same : IsSameStore s new = subst (λ (v : Stored). IsSameStore v new) c.self.view_is (same-tree a c.make_room.new.self c.make_room.ensures.same) in
+    let asked = created-asked s c.requires.whole x.dir x.name.now x.callers cred.uid cred.gid c.requires.callers c.new.result c.new.ensures in
+    let tree = c.make_room.new.self in
+    let same = same-with_room s c.admit.new.self a tree c.admit.ensures.same c.self.view_is c.make_room.ensures.same in
     let name : string_bytes c.in_ok-name.name ≡ x.name.now = search rules in
     let room = c.in_ok-make_room.ensures.room in
-    decided-billed s new same cred x.moment s.state.next S1 [] _ _ None (Some (new_file cred.uid cred.gid))
-    _ c.in-Ok.bill c.granted.result r granted c.in-Ok.ensures.placed
+    let number = ap (λ (v : Stored). v.state.next) c.self.view_is ∙ ap (λ (S : State). S.next) c.admit.ensures.same.state in
+    decided-billed s (stored_of (record a { tree = tree })) same cred x.moment s.state.next 1 None _ _ [] asked _ _ c.granted.result refl
+    (subst (λ (v : Stored). IsBilled s v.bill cred x.moment None (Some c.new.result) 1) (sym c.self.view_is) c.in-Ok.ensures.granted)
     (λ i. created s.state (new_file (c.uid.ensures i) (c.gid.ensures i)) x.dir (name i))
     (record {
       directory = ap (λ (S : State). is_directory S x.dir) same.state ∙ c.requires.directory;
@@ -70,4 +64,4 @@ returns-clause-decided c =
       inode_room = room.inode;
       name_room = room.name;
     })
-    (c.granted.ensures.reply ∙ ap (λ (v : Stored). Done v.state.next (told None (Some c.new.result))) c.self.view_is) c.granted.ensures.plan
+    (c.granted.ensures.reply ∙ ap (λ n. Done n (told None (Some c.new.result))) number) c.granted.ensures.plan

@@ -1,7 +1,6 @@
 use Rattle.std.proofs.Common.{sym, subst, ◌∙◌}
 use Rattle.qstore.specs.Ready.{bytes_of, effect}
 use Rattle.qstore.specs.Stored.{IsSound}
-use Rattle.qstore.proofs.Deciding.{effect-same}
 use Rattle.qstore.proofs.Steps.{IsSound-from_step}
 use Rattle.qstore.proofs.store.Store.ready.Goals as goal
 
@@ -10,20 +9,16 @@ returns-clause-ready c =
     let x = c.args in
     let plan = c.in_ok-reply.field-0.plan in
     let new = c.decide.new.self in
-    let sound = IsSound-from_step x.self.now.state (effect x.self.now plan (bytes_of x.call.now))
+    let sound = IsSound-from_step x.self.now.state (effect new plan (bytes_of x.call.now))
     x.cred.now x.moment x.call.now c.in_ok-reply.field-0.reply
     c.decide.ensures.sound c.in_ok-reply.ensures.step in
-    let same = sym (effect-same x.self.now new c.decide.ensures.same plan (bytes_of x.call.now)) ∙ sym (c.in_ok-bytes.ensures.effect new) in
     record {
       can = c.in_ok-bytes.ensures.can new c.in_ok-reply.ensures.can;
-      sound = subst IsSound same sound;
+      sound = subst IsSound (sym (c.in_ok-bytes.ensures.effect new)) sound;
     }
 
--- what is ready leaves in the store with the room what the plain machine's step leaves
+-- what is ready leaves in the store with the room and the bill what the plain machine's step leaves
 pub returns-clause-step : goal.returns-clause-step
 returns-clause-step c =
-    let x = c.args in
-    let plan = c.in_ok-reply.field-0.plan in
     let new = c.decide.new.self in
-    let same = c.in_ok-bytes.ensures.effect new ∙ effect-same x.self.now new c.decide.ensures.same plan (bytes_of x.call.now) in
-    (λ i. (same i, c.in_ok-reply.field-0.reply)) ∙ c.in_ok-reply.ensures.step
+    (λ i. (c.in_ok-bytes.ensures.effect new i, c.in_ok-reply.field-0.reply)) ∙ c.in_ok-reply.ensures.step
