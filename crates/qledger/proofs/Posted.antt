@@ -20,7 +20,7 @@ use Rattle.qledger.specs.declared.kept_holder.KeptHolder.{KeptHolder}
 use Rattle.qledger.specs.Bills.{post, posted}
 use Rattle.qledger.specs.Claims.{IsShareOf}
 use Rattle.qledger.specs.KeptHolders.{AreById, IsCountedIn, IsSlotOf, holder_in}
-use Rattle.qledger.specs.Ledgers.{ArePosted, IsFinal, IsLedgerReplacement, record_after}
+use Rattle.qledger.specs.Ledgers.{ArePosted, IsFinal, IsLedgerReplacement, apart, record_after}
 use Rattle.qledger.proofs.Counted.{account_of-counted}
 use Rattle.qledger.proofs.Ends.{block_end-same, inode_end-same}
 use Rattle.qledger.proofs.Shares.{counted-there, slot-once}
@@ -111,6 +111,23 @@ not-owner os kind S1 moment (Some share) (Some inode) (Some q) o is slots final 
     let id : q.id ≡ owner kind inode = same_Some q.id (owner kind inode) both in
     ap (λ n. n == o.id) (sym id) ∙ other
 
+-- nor is the inode that is given up, where neither posting has it
+not-loser : (os : List KeptHolder) (kind : Kind) (S1 : State) (moment : ℕ) (from to : Option Share) (f : Option Inode) (p q : Option Posting)
+    (o : KeptHolder) → IsShareOf os kind from f → option_map (λ p. p.slot) p ≡ option_map (λ s. s.slot) (apart from to)
+    → option_map (λ p. p.slot) q ≡ option_map (λ s. s.slot) to → IfSome p (IsFinal os kind S1 moment) → IfSome q (IsFinal os kind S1 moment)
+    → matches p o ≡ false → matches q o ≡ false → is_owned kind o.id f ≡ false
+not-loser os kind S1 moment None to f p q o is p_slot q_slot p_final q_final not_p not_q = not-owner os kind S1 moment None f None o is refl tt refl
+not-loser os kind S1 moment (Some lost) None f p q o is p_slot q_slot p_final q_final not_p not_q =
+    not-owner os kind S1 moment (Some lost) f p o is p_slot p_final not_p
+not-loser os kind S1 moment (Some lost) (Some gained) f p q o is p_slot q_slot p_final q_final not_p not_q = by (lost.slot == gained.slot) refl
+  where
+    by : (b : Bool) → (lost.slot == gained.slot) ≡ b → is_owned kind o.id f ≡ false
+    by true one =
+        let same : gained.slot ≡ lost.slot = grind (arith, tests, one) in
+        not-owner os kind S1 moment (Some lost) f q o is (q_slot ∙ ap Some same) q_final not_q
+    by false two =
+        not-owner os kind S1 moment (Some lost) f p o is (p_slot ∙ ap (λ b. option_map (λ s. s.slot) (cond b None (Some lost))) two) p_final not_p
+
 -- a record whose ends are where they should be keeps them
 with_ends-same : (S1 : State) (moment : ℕ) (account : Account) → HasEnds account → with_ends account S1.graces moment ≡ account
 with_ends-same S1 moment account ends =
@@ -126,7 +143,7 @@ module _ (os : List KeptHolder) (kind : Kind) (from to : Option Share) (S S1 : S
       (All-get_or (λ h. HasEnds h.account) os k o (slice_get_within os k o there) r.ends) in
       let account : account_of S1 (holder_in kind o) ≡ o.account =
       account-other S S1 f t r.replaces (holder_in kind o)
-      (not-owner os kind S1 moment from f p.from o r.lost done.from_there done.from_final not_from)
+      (not-loser os kind S1 moment from to f p.from p.to o r.lost done.from_there done.to_there done.from_final done.to_final not_from not_to)
       (not-owner os kind S1 moment to t p.to o r.gained done.to_there done.to_final not_to)
       ∙ account_of-counted S kind o counted in
       ap (λ a. record o { account = a }) (sym (with_ends-same S1 moment o.account ends) ∙ ap (λ a. with_ends a S1.graces moment) (sym account))

@@ -14,7 +14,7 @@ use Rattle.qledger.specs.declared.claim.Weight.{Weight}
 use Rattle.qledger.specs.declared.kept_holder.KeptHolder.{KeptHolder}
 use Rattle.qledger.specs.Claims.{IsShareOf, nothing, weight_at}
 use Rattle.qledger.specs.KeptHolders.{AreById, IsCountedIn, IsSlotOf}
-use Rattle.qledger.specs.Ledgers.{IsLedgerReplacement}
+use Rattle.qledger.specs.Ledgers.{IsLedgerReplacement, apart}
 use Rattle.qledger.proofs.ById.{above-first, above-slot, by_id-rest, slot-below}
 
 -- an id stands at one slot alone
@@ -132,3 +132,14 @@ pub share-below : (os : List KeptHolder) (kind : Kind) (share : Option Share) (i
 share-below os kind None inode is = tt
 share-below os kind (Some share) None is = cc
 share-below os kind (Some share) (Some inode) is = slot-below os share.slot (owner kind inode) is.slot
+
+-- and so is the slot of the one that is given up, where it has another record
+pub apart-below : (os : List KeptHolder) (from to : Option Share) → IfSome from (λ s. s.slot < length os)
+    → IfSome (apart from to) (λ s. s.slot < length os)
+apart-below os None to below = tt
+apart-below os (Some lost) None below = below
+apart-below os (Some lost) (Some gained) below = by (lost.slot == gained.slot)
+  where
+    by : (b : Bool) → IfSome (cond b None (Some lost)) (λ s. s.slot < length os)
+    by true = tt
+    by false = below

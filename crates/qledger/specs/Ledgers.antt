@@ -57,10 +57,16 @@ pub record IsFinal (holders : List KeptHolder) (kind : Kind) (S1 : State) (momen
   pub slot : IsSlotOf holders p.slot p.id
   pub account : (o : KeptHolder) → slice_get holders p.slot ≡ Some o → p.account ≡ record_after S1 moment kind o
 
--- the postings of one kind are final, one for each share
+-- the share that is given up, unless the other is taken of the same record
+abbrev pub apart : Option Share → Option Share → Option Share
+apart None to = None
+apart (Some lost) None = Some lost
+apart (Some lost) (Some gained) = if lost.slot == gained.slot then None else Some lost
+
+-- the postings of one kind are final, one for each record that a share is of
 pub record ArePosted (holders : List KeptHolder) (kind : Kind) (S1 : State) (moment : ℕ)
     (from to : Option Share) (p : Postings) : Type 0 where
-  pub from_there : option_map (λ q. q.slot) p.from ≡ option_map (λ share. share.slot) from
+  pub from_there : option_map (λ q. q.slot) p.from ≡ option_map (λ share. share.slot) (apart from to)
   pub to_there : option_map (λ q. q.slot) p.to ≡ option_map (λ share. share.slot) to
   pub from_final : IfSome p.from (IsFinal holders kind S1 moment)
   pub to_final : IfSome p.to (IsFinal holders kind S1 moment)

@@ -141,40 +141,38 @@ impl Accounts {
             → IsReplacement self.now from to S S1 f t → S1.next ≡ next
             → refusal_between S S1 cred.now moment ≡ Some refusal) }
     {
-        *bill = self.bill_of(moment, from, to);
+        self.write_bill(moment, from, to, bill);
         match self.refusal(cred, moment, next, bill) {
             Some(refusal) => Err(refusal),
             None => Ok(()),
         }
     }
 
-    /// The records and totals as they will be. It tests nothing.
-    fn bill_of(&self, moment: u64, from: Option<Claim>, to: Option<Claim>) -> Bill
+    /// Writes the records and totals as they will be. It tests nothing.
+    fn write_bill(
+        &self,
+        moment: u64,
+        from: Option<Claim>,
+        to: Option<Claim>,
+        bill: &mut Bill,
+    )
         requires moment { moment ≤ MAX_MOMENT }
         requires replacement { (S : State) × (S1 : State) × (f : Option Inode) × (t : Option Inode)
             × IsReplacement self.now from to S S1 f t }
         ensures bill { (S S1 : State) (f t : Option Inode)
-            → IsReplacement self.now from to S S1 f t → IsBillOf self.now from to S S1 moment result }
+            → IsReplacement self.now from to S S1 f t → IsBillOf self.now from to S S1 moment bill.new }
         ensures in_range { AreInRange self.now }
     {
         let (lost, gained) = (weight_of(from), weight_of(to));
         let graces = self.graces;
-        Bill {
-            users: self.users.postings(
-                share_of(Kind::User, from),
-                share_of(Kind::User, to),
-                graces,
-                moment,
-            ),
-            groups: self.groups.postings(
-                share_of(Kind::Group, from),
-                share_of(Kind::Group, to),
-                graces,
-                moment,
-            ),
-            blocks: self.blocks + gained.blocks - lost.blocks,
-            inodes: self.inodes + gained.inodes - lost.inodes,
-        }
+        let (user, next_user) = (share_of(Kind::User, from), share_of(Kind::User, to));
+        let (group, next_group) = (share_of(Kind::Group, from), share_of(Kind::Group, to));
+        self.users
+            .write_postings(user, next_user, graces, moment, &mut bill.users);
+        self.groups
+            .write_postings(group, next_group, graces, moment, &mut bill.groups);
+        bill.blocks = self.blocks + gained.blocks - lost.blocks;
+        bill.inodes = self.inodes + gained.inodes - lost.inodes;
     }
 
     /// Whether the bill is past the bounds, or past the last number.

@@ -11,7 +11,8 @@ pub struct Posting {
     pub(crate) account: Record,
 }
 
-/// What becomes of the records of one kind: that of the owner who gives an inode up, and that of the one who has it then.
+/// What becomes of the records of one kind: that of the owner who gives an inode up, if it is another's, and that of the
+/// one who has it then.
 #[derive(Clone, Copy)]
 pub struct Postings {
     pub(crate) from: Option<Posting>,

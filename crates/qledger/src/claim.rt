@@ -2,6 +2,7 @@
 ghost use Rattle.std.specs.Prelude.{◌≡◌, ◌+◌, ◌-◌, ◌==◌};
 ghost use Rattle.std.specs.Option.{option_map};
 ghost use Rattle.qledger.specs.Claims.{share_in, weight_in, weight_at};
+ghost use Rattle.qledger.specs.Ledgers.{apart};
 
 use qplain::Change;
 use qrules::Kind;
@@ -86,6 +87,16 @@ pub(crate) fn weight_at(share: Option<Share>, slot: usize) -> Weight
     match share {
         Some(share) if share.slot == slot => share.weight,
         _ => NOTHING,
+    }
+}
+
+/// The share that is given up, unless the other is taken of the same record.
+pub(crate) fn apart(from: Option<Share>, to: Option<Share>) -> Option<Share>
+    ensures { result ≡ apart from to }
+{
+    match (from, to) {
+        (Some(lost), Some(gained)) if lost.slot == gained.slot => None,
+        (from, _) => from,
     }
 }
 

@@ -11,7 +11,7 @@ ghost use Rattle.qledger.specs.Bills.{ArePlaced, post, posted};
 ghost use Rattle.qledger.specs.Ledgers.{ArePosted, holder_row, IsFinal, IsHolderAt, IsLedgerReplacement, new_holder, refusal_of};
 
 use crate::bill::{Posting, Postings};
-use crate::claim::{Share, weight_at};
+use crate::claim::{Share, apart, weight_at};
 use crate::kept_holder::{KeptHolder, new_holder};
 use qplain::{NoMemory, Principal, Refusal};
 use qrules::{Graces, Kind, Limits, MAX_GRACE, MAX_MOMENT, RecordRow};
@@ -144,14 +144,16 @@ impl Ledger {
         }
     }
 
-    /// The records of both owners as they will be where one inode comes to stand in the place of another.
-    pub(crate) fn postings(
+    /// Writes the records of both owners as they will be where one inode comes to stand in the place of another; one record
+    /// where both have the same.
+    pub(crate) fn write_postings(
         &self,
         from: Option<Share>,
         to: Option<Share>,
         graces: Graces,
         moment: u64,
-    ) -> Postings
+        postings: &mut Postings,
+    )
         requires moment { moment ≤ MAX_MOMENT }
         requires block_grace { graces.block ≤ MAX_GRACE }
         requires inode_grace { graces.inode ≤ MAX_GRACE }
@@ -159,12 +161,10 @@ impl Ledger {
             × IsLedgerReplacement self.now kind from to S S1 f t }
         ensures { (kind : Kind) (S S1 : State) (f t : Option Inode)
             → IsLedgerReplacement self.now kind from to S S1 f t → S.graces ≡ graces
-            → ArePosted self.now kind S1 moment from to result }
+            → ArePosted self.now kind S1 moment from to postings.new }
     {
-        Postings {
-            from: self.posting_for(from, from, to, graces, moment),
-            to: self.posting_for(to, from, to, graces, moment),
-        }
+        postings.from = self.posting_for(apart(from, to), from, to, graces, moment);
+        postings.to = self.posting_for(to, from, to, graces, moment);
     }
 
     /// The record at this slot with new limits.

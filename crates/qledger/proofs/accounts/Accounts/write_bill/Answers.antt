@@ -11,10 +11,10 @@ use Rattle.qledger.specs.Kept.{books_of}
 use Rattle.qledger.specs.Replacements.{IsReplacement}
 use Rattle.qledger.specs.Ledgers.{ArePosted}
 use Rattle.qledger.proofs.Booked.{groups-replaced, total-then, users-replaced}
-use Rattle.qledger.proofs.accounts.Accounts.bill_of.Goals as goal
+use Rattle.qledger.proofs.accounts.Accounts.write_bill.Goals as goal
 
-pub postings-requires-clause-replacement : goal.postings-requires-clause-replacement
-postings-requires-clause-replacement c =
+pub write_postings-requires-clause-replacement : goal.write_postings-requires-clause-replacement
+write_postings-requires-clause-replacement c =
     let x = c.args in
     let r = c.requires.replacement in
     let inside = subst (λ (b : Books). IsReplacement b x.from x.to r.0 r.1 r.2 r.3) (sym c.self.view_is) r.4 in (
@@ -23,12 +23,12 @@ postings-requires-clause-replacement c =
       r.1,
       r.2,
       r.3,
-      rw (c.share_of.ensures, c.share_of-2.ensures)
+      rw (c.share_of-user.ensures, c.share_of-next_user.ensures)
           (users-replaced (books_of c.self.inside) x.from x.to r.0 r.1 r.2 r.3 c.self.invariant inside),
     )
 
-pub postings-requires-2-clause-replacement : goal.postings-requires-2-clause-replacement
-postings-requires-2-clause-replacement c =
+pub write_postings-requires-2-clause-replacement : goal.write_postings-requires-2-clause-replacement
+write_postings-requires-2-clause-replacement c =
     let x = c.args in
     let r = c.requires.replacement in
     let inside = subst (λ (b : Books). IsReplacement b x.from x.to r.0 r.1 r.2 r.3) (sym c.self.view_is) r.4 in (
@@ -37,7 +37,7 @@ postings-requires-2-clause-replacement c =
       r.1,
       r.2,
       r.3,
-      rw (c.share_of-3.ensures, c.share_of-4.ensures)
+      rw (c.share_of-group.ensures, c.share_of-next_group.ensures)
           (groups-replaced (books_of c.self.inside) x.from x.to r.0 r.1 r.2 r.3 c.self.invariant inside),
     )
 
@@ -60,10 +60,10 @@ returns-clause-bill c = rw (← c.self.view_is) (λ S S1 f t r.
     let gained = c.weight_of-gained.ensures in
     let lost = c.weight_of-lost.ensures in
     record {
-      users = posted-shares b.users User S1 x.moment c.postings.result c.share_of.ensures c.share_of-2.ensures
-          (c.postings.ensures User S S1 f t (rw (c.share_of.ensures, c.share_of-2.ensures) users) (sym r.books.graces));
-      groups = posted-shares b.groups Group S1 x.moment c.postings-2.result c.share_of-3.ensures c.share_of-4.ensures
-          (c.postings-2.ensures Group S S1 f t (rw (c.share_of-3.ensures, c.share_of-4.ensures) groups) (sym r.books.graces));
+      users = posted-shares b.users User S1 x.moment c.write_postings.new.postings c.share_of-user.ensures c.share_of-next_user.ensures
+          (c.write_postings.ensures User S S1 f t (rw (c.share_of-user.ensures, c.share_of-next_user.ensures) users) (sym r.books.graces));
+      groups = posted-shares b.groups Group S1 x.moment c.write_postings-2.new.postings c.share_of-group.ensures c.share_of-next_group.ensures
+          (c.write_postings-2.ensures Group S S1 f t (rw (c.share_of-group.ensures, c.share_of-next_group.ensures) groups) (sym r.books.graces));
       blocks = (λ i. r.books.blocks i + (gained i).blocks - (lost i).blocks) ∙ total-then b x.from x.to S S1 f t r Blocks;
       inodes = (λ i. r.books.inodes i + (gained i).inodes - (lost i).inodes) ∙ total-then b x.from x.to S S1 f t r Inodes;
     })

@@ -1,0 +1,23 @@
+use Rattle.std.proofs.Common.{◌<◌, length, Option, IfSome, option_map, sym, ap, subst, ◌∙◌}
+use Rattle.qledger.specs.declared.claim.Share.{Share}
+use Rattle.qledger.proofs.Shares.{apart-below, share-below}
+use Rattle.qledger.proofs.ledger.Ledger.write_postings.Goals as goal
+
+pub posting_for-postings-requires-clause-slot : goal.posting_for-postings-requires-clause-slot
+posting_for-postings-requires-clause-slot c =
+    let x = c.args in
+    let r = c.requires.replacement in
+    subst (λ (o : Option Share). IfSome o (λ s. s.slot < length x.self.now)) (sym c.apart.ensures)
+    (apart-below x.self.now x.from x.to (share-below x.self.now r.0 x.from r.3 r.5.lost))
+
+pub posting_for-postings-requires-2-clause-slot : goal.posting_for-postings-requires-2-clause-slot
+posting_for-postings-requires-2-clause-slot c =
+    let r = c.requires.replacement in share-below c.args.self.now r.0 c.args.to r.4 r.5.gained
+
+pub returns : goal.returns
+returns c kind S S1 f t r graces = record {
+  from_there = c.posting_for-postings.ensures.slot ∙ ap (option_map (λ s. s.slot)) c.apart.ensures;
+  to_there = c.posting_for-postings-2.ensures.slot;
+  from_final = c.posting_for-postings.ensures.posting kind S S1 f t r graces;
+  to_final = c.posting_for-postings-2.ensures.posting kind S S1 f t r graces;
+}
