@@ -1,10 +1,11 @@
 //! Room for a write: the rows that it needs, made beforehand.
 ghost use Rattle.std.specs.Prelude.{◌≡◌, ◌≢◌, true, false, ℕ, ◌≤◌, OnOk};
-ghost use Rattle.qblocks.specs.Row.{in_span};
-ghost use Rattle.qblocks.specs.Rows.{SameBlocks, IsThereIfUsed, has_row};
+ghost use Rattle.qblocks.specs.declared.row.TheConstants.{ROW_BLOCKS};
+ghost use Rattle.qblocks.specs.Row.{gaps, in_span, row_filled};
+ghost use Rattle.qblocks.specs.Rows.{SameBlocks, IsThereIfUsed, has_row, row_of};
 
-use crate::row::{ROW_BLOCKS, empty_row};
-use crate::rows::{Rows, missing_in_row};
+use crate::row::{self, empty_row};
+use crate::rows::Rows;
 use std::alloc::{AllocError as NoMemory, Global};
 use std::collections::btree_map::Entry;
 
@@ -40,13 +41,24 @@ pub(crate) fn make_rows(
     Ok(())
 }
 
+/// Whether the row `r` is there and holds no block.
+fn is_vacant(rows: &Rows, r: u64) -> bool
+    ensures vacant { result ≡ true → gaps (row_filled (row_of rows.now r)) 0 ROW_BLOCKS ≡ ROW_BLOCKS }
+    ensures used { result ≡ false → IsThereIfUsed rows.now r }
+{
+    match rows.get(&r) {
+        Some(row) => row::is_vacant(row),
+        None => false,
+    }
+}
+
 /// Takes out the row `r` if it holds no block.
 pub(crate) fn forget_row(rows: &mut Rows, r: u64)
     ensures same { SameBlocks rows.old rows.new }
     ensures used { IsThereIfUsed rows.new r }
     ensures others { (q : ℕ) → q ≢ r → has_row rows.new q ≡ has_row rows.old q }
 {
-    if missing_in_row(rows, r, 0, ROW_BLOCKS) == ROW_BLOCKS {
+    if is_vacant(rows, r) {
         let _row = rows.remove(&r);
     }
 }

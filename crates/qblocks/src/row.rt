@@ -1,5 +1,5 @@
 //! A row: 16 slots beside each other, for 64 KiB of the file.
-ghost use Rattle.std.specs.Prelude.{◌≡◌, ◌≢◌, true, ℕ, ◌+◌, ◌-◌, ◌*◌, ◌/◌, ◌<◌, ◌≤◌, ◌&&◌, ◌^◌, nat_lt, length, is_some, IfOk, OnOk, None, if◌then◌else◌, ◌++◌, map, vec_len};
+ghost use Rattle.std.specs.Prelude.{◌≡◌, ◌≢◌, true, false, ℕ, ◌+◌, ◌-◌, ◌*◌, ◌/◌, ◌<◌, ◌≤◌, ◌&&◌, ◌^◌, nat_lt, length, is_some, IfOk, OnOk, None, if◌then◌else◌, ◌++◌, map, vec_len};
 ghost use Rattle.std.specs.List.{range_with_len};
 ghost use Rattle.qblocks.specs.Input.{input_bytes};
 ghost use Rattle.qblocks.specs.Row.{Overwrites, PutsInRow, LosesBlocks, byte_of, slot_at, row_filled, row_byte, gaps, gaps_in};
@@ -40,6 +40,19 @@ pub(crate) fn missing(row: &Row, first: u64, end: u64) -> u64
         }
     }
     missing
+}
+
+/// Whether no slot holds a block. It looks no further than the first that does.
+pub(crate) fn is_vacant(row: &Row) -> bool
+    ensures vacant { result ≡ true → gaps (row_filled row.now) 0 ROW_BLOCKS ≡ ROW_BLOCKS }
+    ensures used { result ≡ false → gaps (row_filled row.now) 0 ROW_BLOCKS ≢ ROW_BLOCKS }
+{
+    for j in 0..ROW_BLOCKS {
+        if row[j as usize].is_some() {
+            return false;
+        }
+    }
+    true
 }
 
 /// Writes `input` at the byte `at` of the block `j`, which comes from `spare` where there is none yet.
