@@ -1,5 +1,5 @@
 //! Cutting the rows of a file off at a size.
-ghost use Rattle.std.specs.Prelude.{◌≡◌, ◌≢◌, true, ℕ, ◌+◌, ◌-◌, ◌*◌, ◌/◌, ◌<◌, ◌≤◌, ◌^◌, ◌&&◌, nat_lt, None, IsSome, IfSome, IfNone};
+ghost use Rattle.std.specs.Prelude.{◌≡◌, ◌≢◌, true, ℕ, ◌+◌, ◌-◌, ◌*◌, ◌/◌, ◌<◌, ◌≤◌, ◌^◌, ◌&&◌, nat_lt, None, Some, option_map, IsSome, IfSome, IfNone};
 ghost use Rattle.std.specs.Ordering.{nat_cmp};
 ghost use Rattle.std.specs.BTreeMap as tree;
 ghost use Rattle.std.specs.BTreeMap.{btree_map_len};
@@ -9,8 +9,8 @@ ghost use Rattle.qblocks.specs.Rows.{Frees, HasFrom, IsNextRow, IsThereIfUsed, h
 
 use crate::block::BLOCK_SIZE;
 use crate::room::forget_row;
-use crate::row::{self, ROW_BLOCKS, ROW_SIZE};
-use crate::rows::{Rows, missing_in_row};
+use crate::row::{self, ROW_BLOCKS, ROW_SIZE, Row};
+use crate::rows::Rows;
 
 /// Takes out the last row if its number is `keep` or above, and gives the number of its blocks.
 fn pop_row(rows: &mut Rows, keep: u64) -> Option<u64>
@@ -89,27 +89,29 @@ pub(crate) fn cut(rows: &mut Rows, size: u64) -> u64
     freed + cut
 }
 
-/// The number of the first row from `from` on, by a search.
-fn search_row(rows: &Rows, from: u64) -> Option<u64>
-    ensures { IsNextRow rows.now from result }
+/// The first row from `from` on, with its number, by a search.
+fn search_row(rows: &Rows, from: u64) -> Option<(u64, &Box<Row>)>
+    ensures next { IsNextRow rows.now from (option_map (λ e. e.0) result) }
+    ensures row { IfSome result (λ e. tree.get nat_cmp rows.now e.0 ≡ Some e.1.now) }
 {
     match rows.range(from..).next() {
-        Some((r, _)) => Some(*r),
+        Some((r, row)) => Some((*r, row)),
         None => None,
     }
 }
 
-/// The number of the first row from `from` on. Where that is the last row, or none, nothing is searched.
-fn next_row(rows: &Rows, from: u64) -> Option<u64>
-    ensures { IsNextRow rows.now from result }
+/// The first row from `from` on, with its number. Where that is the last row, or none, nothing is searched.
+fn next_row(rows: &Rows, from: u64) -> Option<(u64, &Box<Row>)>
+    ensures next { IsNextRow rows.now from (option_map (λ e. e.0) result) }
+    ensures row { IfSome result (λ e. tree.get nat_cmp rows.now e.0 ≡ Some e.1.now) }
 {
-    let Some((last, _)) = rows.last_key_value() else {
+    let Some((last, row)) = rows.last_key_value() else {
         return None;
     };
     if *last > from {
         return search_row(rows, from);
     }
-    if *last == from { Some(from) } else { None }
+    if *last == from { Some((*last, row)) } else { None }
 }
 
 /// How many blocks begin at `size` or behind.
@@ -120,9 +122,9 @@ pub(crate) fn freed_by(rows: &Rows, size: u64) -> u64
 {
     let mut at = (size + BLOCK_SIZE - 1) / BLOCK_SIZE;
     let mut freed = 0;
-    while let Some(r) = next_row(rows, at / ROW_BLOCKS) {
+    while let Some((r, row)) = next_row(rows, at / ROW_BLOCKS) {
         let first = at.max(r * ROW_BLOCKS) - r * ROW_BLOCKS;
-        freed += ROW_BLOCKS - first - missing_in_row(rows, r, first, ROW_BLOCKS);
+        freed += ROW_BLOCKS - first - row::missing(row, first, ROW_BLOCKS);
         at = (r + 1) * ROW_BLOCKS;
     }
     freed

@@ -24,19 +24,23 @@ returns-in-Some c =
     let steps = c.in-Some.ensures.steps in
     let first = subst (λ es. IfSome (slice_get es 0) (λ e.
     (is_gt (nat_cmp c.args.from e.0) ≡ false) × (tree.get nat_cmp c.args.rows.now e.0 ≡ Some e.1))) steps
-    (weaker _ _ (slice_get c.range.result 0) (λ e h. (h.0.0, h.1)) range.1) in (
-      le_from_not_gt c.args.from c.in-Some.r.now first.0,
-      ap is_some first.1,
-      λ q l h. ⊎_elim
-          (λ there.
-          let least = subst (λ es. IfSome (slice_get es 0) (λ e. is_gt (nat_cmp e.0 q) ≡ false)) steps
-          (range.2 q (not_gt_from_le c.args.from q l, tt) there) in
-          absurd (omega (arith, h, le_from_not_gt c.in-Some.r.now q least)))
-          (λ absent. absent)
-          (cases_Bool (has_row c.args.rows.now q)),
-    )
+    (weaker _ _ (slice_get c.range.result 0) (λ e h. (h.0.0, h.1)) range.1) in
+    record {
+      next = (
+        le_from_not_gt c.args.from c.in-Some.r.now first.0,
+        ap is_some first.1,
+        λ q l h. ⊎_elim
+            (λ there.
+            let least = subst (λ es. IfSome (slice_get es 0) (λ e. is_gt (nat_cmp e.0 q) ≡ false)) steps
+            (range.2 q (not_gt_from_le c.args.from q l, tt) there) in
+            absurd (omega (arith, h, le_from_not_gt c.in-Some.r.now q least)))
+            (λ absent. absent)
+            (cases_Bool (has_row c.args.rows.now q)),
+      );
+      row = first.1;
+    }
 
-pub returns-in-None : goal.returns-in-None
-returns-in-None c =
+pub returns-in-None-clause-next : goal.returns-in-None-clause-next
+returns-in-None-clause-next c =
     let range = c.range.ensures.in_range tt in
     λ q l. ap is_some (range.5 c.in-None.ensures.steps.0 q (not_gt_from_le c.args.from q l, tt))
