@@ -1,6 +1,4 @@
--- What the proofs of more than one file share: of ledgers, of the holders whose records they keep, of paths,
--- then of stores.
-pub mod Parts
+-- What the proofs of more than one file share: of walks, of what is written, of link counts, then of stores.
 pub mod Walks
 pub mod Arguments
 pub mod Links

@@ -1,6 +1,5 @@
 -- What a call that is ready will do, and when it may.
 use Rattle.std.specs.Prelude.{◌≡◌, ℕ, ◌+◌, ◌<◌, ◌≤◌, Bool, true, false, List, [], length, string_bytes, is_some, Option, Some, None, IfSome}
-use Rattle.std.specs.Option.{unwrap_or}
 use Rattle.qrules.specs.Range.{are_graces_in_range}
 use Rattle.qblocks.specs.declared.file.TheConstants.{MAX_SIZE}
 use Rattle.qblocks.specs.File.{after_truncate, after_write}
@@ -11,10 +10,10 @@ use Rattle.qplain.specs.declared.refusal.Refusal.{Refusal}
 use Rattle.qplain.specs.declared.reply.Reply.{Reply}
 use Rattle.qplain.specs.declared.reply.Reply.TheVariants.{Refused}
 use Rattle.qplain.specs.State.{Inode, State, inode_at, is_directory, named, new_file}
-use Rattle.qplain.specs.Walk.{components, last_name}
 use Rattle.qplain.specs.Files.{with_inode}
 use Rattle.qplain.specs.Names.{created, swept, without_name}
 use Rattle.qplain.specs.Owners.{with_owners}
+pub use Rattle.qpath.specs.Paths.{name_in}
 use Rattle.qtree.specs.Room.{Room, file_room, name_room}
 use Rattle.qledger.specs.Bills.{IsBillFor, settled}
 use Rattle.qledger.specs.Books.{AreBooksOf}
@@ -64,10 +63,6 @@ altered_at S number change (Some inode) = with_inode S number (change inode)
 -- the same for what is at the number
 abbrev pub altered : State → ℕ → (Inode → Inode) → State
 altered S number change = altered_at S number change (inode_at S number)
-
--- the last name of a path
-abbrev pub name_in : List ℕ → List ℕ
-name_in path = unwrap_or (last_name (components path)) []
 
 -- what a change makes of inodes and names, told the bytes that the call brings
 abbrev pub changed : State → TreeChange → List ℕ → State

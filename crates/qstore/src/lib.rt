@@ -4,6 +4,5 @@
 pub use ready::Ready;
 pub use store::Store;
 
-mod path;
 mod ready;
 mod store;

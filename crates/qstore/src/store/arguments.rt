@@ -3,14 +3,14 @@ ghost use Rattle.std.specs.Prelude.{◌≡◌, not, nat_lt, ◌||◌, ◌&&◌, 
 ghost use Rattle.std.specs.List.{list_all};
 ghost use Rattle.qrules.specs.declared.kind.Kind.TheVariants.{User, Group};
 ghost use Rattle.qplain.specs.Arguments.{has_bad_number, is_declared, is_undeclared, paths_of, refusal_of_arguments};
-ghost use Rattle.qstore.specs.Paths.{path_fault, paths_fault};
+ghost use Rattle.qpath.specs.Paths.{path_fault, paths_fault};
 ghost use Rattle.qledger.specs.Books.{HasSlots};
 ghost use Rattle.qstore.specs.Decided.{IsWhole};
 ghost use Rattle.qstore.specs.Stored.{IsSound};
 
-use crate::path::fault_of;
 use crate::store::Store;
 use qledger::Slots;
+use qpath::fault_of;
 use qplain::{Call, Cred, MAX_DATA, Refusal};
 use qrules::{Kind, MAX_MOMENT};
 

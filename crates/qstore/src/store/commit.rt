@@ -10,9 +10,9 @@ ghost use Rattle.qstore.specs.Kept.{IsTreeOf};
 ghost use Rattle.qstore.specs.Ready.{CanCarryOut, CanChange, CanSettle, CanUnlink, billed, changed, effect, name_in};
 ghost use Rattle.qstore.specs.Stored.{IsSound};
 
-use crate::path::last_of;
 use crate::ready::{Plan, TreeChange};
 use crate::store::Store;
+use qpath::last_of;
 use qplain::{Data, Path};
 use qtree::{Node, Tree};
 use std::alloc::Global;

@@ -10,8 +10,8 @@ ghost use Rattle.qtree.specs.Nodes.{inode_of};
 ghost use Rattle.qstore.specs.Ready.{name_in};
 ghost use Rattle.qstore.specs.Paths.{parent};
 
-use crate::path::{cut, names_of};
 use crate::store::Store;
+use qpath::{cut, names_of};
 use qplain::{ROOT, Refusal};
 use qtree::Node;
 

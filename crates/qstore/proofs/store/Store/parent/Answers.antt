@@ -1,6 +1,7 @@
 use Rattle.std.proofs.Common.{rules, Ok, option_map, ap, ◌∙◌}
 use Rattle.qplain.specs.Walk.{is_slash, last_name}
-use Rattle.qstore.specs.Paths.{parent, parts_in}
+use Rattle.qpath.specs.Paths.{parts_in}
+use Rattle.qstore.specs.Paths.{parent}
 use Rattle.qstore.proofs.Walks.{parent-from, parent_from-stops}
 use Rattle.qstore.proofs.store.Store.parent.Goals as goal
 

@@ -3,7 +3,8 @@ use denote.Shadow.{shadow}
 use denote.Text.{Utf8}
 use Rattle.std.specs.List.{slice_split}
 use Rattle.qplain.specs.Walk.{is_slash, last_name}
-use Rattle.qstore.specs.Paths.{parent, parts_in}
+use Rattle.qpath.specs.Paths.{parts_in}
+use Rattle.qstore.specs.Paths.{parent}
 use Rattle.qstore.proofs.Walks.{parent_from}
 use Rattle.qstore.proofs.store.Store.parent.Given as goal
 

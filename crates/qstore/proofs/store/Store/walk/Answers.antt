@@ -1,6 +1,6 @@
 use Rattle.std.proofs.Common.{rules, option_map}
 use Rattle.qlaws.proofs.Walking.{walk-fault}
-use Rattle.qstore.specs.Paths.{parts_in}
+use Rattle.qpath.specs.Paths.{parts_in}
 use Rattle.qstore.proofs.store.Store.walk.Goals as goal
 
 pub returns-in_err-reached : goal.returns-in_err-reached

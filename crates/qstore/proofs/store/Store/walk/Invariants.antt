@@ -1,6 +1,6 @@
 use Rattle.std.proofs.Common.{◌≡◌, ◌+◌, length, fold, option_map, unwrap_or, Ok}
 use Rattle.qplain.specs.Walk.{components, follow, walk}
-use Rattle.qstore.specs.Paths.{parts_in}
+use Rattle.qpath.specs.Paths.{parts_in}
 use Rattle.qstore.proofs.store.Store.walk.Given as goal
 
 -- the walk goes on from what is reached

@@ -1,7 +1,7 @@
 use Rattle.std.proofs.Common.{◌≡◌, [], ◌∷◌, rules, sym, ap, ◌∙◌}
 use Rattle.qplain.specs.Arguments.{paths_of}
-use Rattle.qstore.specs.Paths.{path_fault, paths_fault}
-use Rattle.qstore.proofs.Parts.{path_fault-one}
+use Rattle.qpath.specs.Paths.{path_fault, paths_fault}
+use Rattle.qpath.proofs.Parts.{path_fault-one}
 use Rattle.qstore.proofs.store.arguments.paths_fault.Goals as goal
 
 pub returns-in-Create : goal.returns-in-Create

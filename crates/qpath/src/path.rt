@@ -1,9 +1,8 @@
-//! Paths as calls write them: what is wrong with one, and its components one after another.
+//! One path: what is wrong with it, and its components one after another.
 ghost use Rattle.std.specs.Prelude.{◌≡◌, ◌∷◌, ◌<◌, length, option_map, Some, IfSome};
 ghost use Rattle.std.specs.List.{position, slice_split};
 ghost use Rattle.qplain.specs.Walk.{components, is_name, is_slash};
-ghost use Rattle.qstore.specs.Ready.{name_in};
-ghost use Rattle.qstore.specs.Paths.{parts_in, path_fault};
+ghost use Rattle.qpath.specs.Paths.{name_in, parts_in, path_fault};
 
 use qplain::{MAX_NAME, MAX_PATH, Refusal};
 
@@ -14,8 +13,8 @@ fn slash_in(text: &str) -> Option<usize>
     text.as_bytes().iter().position(|byte| *byte == b'/')
 }
 
-/// The text before the first slash, and that behind it, if there is one.
-pub(crate) fn cut(text: &str) -> (&str, Option<&str>)
+/// The text before the first slash, and that behind it, if there is one. O(bytes before it).
+pub fn cut(text: &str) -> (&str, Option<&str>)
     ensures parts { slice_split is_slash text.now ≡ result.0.now ∷ parts_in (option_map (λ rest. rest.now) result.1) }
     ensures less { IfSome result.1 (λ rest. length rest.now < length text.now) }
 {
@@ -25,8 +24,8 @@ pub(crate) fn cut(text: &str) -> (&str, Option<&str>)
     }
 }
 
-/// The components of a path, with slashes between them, if there are any.
-pub(crate) fn names_of(path: &str) -> Option<&str>
+/// The components of a path that is written as it may be, with slashes between them, if there are any: `/` has none.
+pub fn names_of(path: &str) -> Option<&str>
     ensures { components path.now ≡ parts_in (option_map (λ names. names.now) result) }
 {
     match path.as_bytes() {
@@ -35,8 +34,8 @@ pub(crate) fn names_of(path: &str) -> Option<&str>
     }
 }
 
-/// The last component of a path.
-pub(crate) fn last_of(path: &str) -> &str
+/// The last component of a path, or nothing of `/`. O(bytes).
+pub fn last_of(path: &str) -> &str
     ensures { result.now ≡ name_in path.now }
 {
     let Some(names) = names_of(path) else {
@@ -56,8 +55,9 @@ fn is_name(name: &str) -> bool
     !matches!(name.as_bytes(), [] | [b'.'] | [b'.', b'.'])
 }
 
-/// What is wrong with a path: EINVAL for its form, else ENAMETOOLONG.
-pub(crate) fn fault_of(path: &str) -> Option<Refusal>
+/// What is wrong with a path: EINVAL for its form, else ENAMETOOLONG of a component above 255 bytes, or of the whole
+/// above 4095. O(bytes).
+pub fn fault_of(path: &str) -> Option<Refusal>
     ensures { result ≡ path_fault path.now }
 {
     if path.as_bytes().first() != Some(&b'/') {

@@ -5,7 +5,7 @@ use Rattle.std.proofs.lemmas.List.Sums.{fails_before_first}
 use Rattle.std.proofs.lemmas.List.Splits.{slice_split_first, slice_split_none}
 use Rattle.qplain.specs.declared.refusal.Refusal.TheVariants.{EINVAL, ENAMETOOLONG}
 use Rattle.qplain.specs.Walk.{is_too_long, is_well_formed}
-use Rattle.qstore.specs.Paths.{path_fault, paths_fault}
+use Rattle.qpath.specs.Paths.{path_fault, paths_fault}
 
 -- what a slot that is found says of the test
 found_at : (b : Bool) (n at : ℕ) → cond b (Some n) None ≡ Some at → (b ≡ true) × (n ≡ at)

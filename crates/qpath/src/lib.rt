@@ -1,0 +1,6 @@
+//! Paths as calls write them: what is wrong with one, and its components one after another, without a copy.
+#![tactic(auto)]
+
+pub use path::{cut, fault_of, last_of, names_of};
+
+mod path;
