@@ -1,5 +1,5 @@
--- What a caller sees of a store: the plain machine's state, and beside it the room that `ready` makes, the books and the
--- bill that was granted last.
+-- What a caller sees of a store: the plain machine's state, and beside it the room that `ready` makes, the books and
+-- the bill that was granted last.
 use Rattle.std.specs.Prelude.{◌≡◌, ◌≤◌}
 use Rattle.qblocks.specs.declared.file.TheConstants.{MAX_SIZE}
 use Rattle.qplain.specs.State.{State}

@@ -22,8 +22,8 @@ impl Store {
         requires moment { moment ≤ MAX_MOMENT }
         requires whole { IsWhole self.old }
         ensures same { IsSameStore self.old self.new }
-        ensures decided { IsDecided self.old self.new cred.now moment (set_quota self.old.state cred.now kind id limits) []
-            result }
+        ensures decided { IsDecided self.old self.new cred.now moment
+            (set_quota self.old.state cred.now kind id limits) [] result }
     {
         if cred.uid() != 0 {
             return Decided::refused(Refusal::EPERM);

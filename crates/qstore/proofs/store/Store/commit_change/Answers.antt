@@ -14,7 +14,7 @@ invariant_of-self c =
     let a = c.self.inside in
     let view = sym c.self.view_is in
     let made = c.make-self-inside in
-    let new : Inside = record { alloc = a.alloc; file_limit = a.file_limit; accounts = c.settle.new.self; tree = made.new.tree; next = made.result; bill = a.bill } in
+    let new : Inside = record a { accounts = c.settle.new.self; tree = made.new.tree; next = made.result } in
     let next = ap (λ (t : Stored). t.state.next) view in
     let can = subst (λ (r : Room). CanChange s.state r x.change x.bytes.now) (ap (λ (t : Stored). t.room) view) c.requires.can in
     let lawful = subst (λ (t : Stored). IsLawful t.state) c.self.view_is c.self.invariant.sound.lawful in

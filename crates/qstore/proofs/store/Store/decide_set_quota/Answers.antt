@@ -19,8 +19,9 @@ returns-in-Some-clause-decided c =
     let super : (cred.uid == 0) ≡ true = let uid = c.uid.ensures in let same = c.if-uid-ne0.false in grind (arith, tests, uid, same) in
     let declared : is_declared (state_of a) x.kind x.id ≡ true = sym (c.slot.ensures.declared (state_of a) inv.books) ∙ ap (λ o. is_some o) c.in-Some.is in
     let new = stored_of (record a { bill = c.bill_of_limits-self-inside.result }) in
+    let bill = c.bill_of_limits-self-inside.ensures in
     let same : IsSameStore (stored_of a) new = record { state = refl; books = refl } in
     subst (λ (v : Stored). IsDecided v new cred x.moment (set_quota v.state cred x.kind x.id x.limits) []
     (record { reply = Done 0 no_change; plan = Limits })) c.self.view_is
     (decided-limits (stored_of a) new same cred x.moment x.kind x.id x.limits inv.sound.lawful super declared
-    (c.bill_of_limits-self-inside.ensures.books (state_of a) x.id c.in-Some.ensures.slot inv.sound.lawful inv.books) c.bill_of_limits-self-inside.ensures.placed)
+    (bill.books (state_of a) x.id c.in-Some.ensures.slot inv.sound.lawful inv.books) bill.placed)
