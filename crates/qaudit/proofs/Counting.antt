@@ -4,7 +4,7 @@ use Rattle.std.specs.declared.cmp.Ordering.{Ordering}
 use Rattle.std.specs.declared.cmp.Ordering.TheVariants.{Less, Equal, Greater}
 use Rattle.std.specs.BTreeMap.{insert_entry, is_at}
 use Rattle.std.specs.BTreeSet.{insert_key}
-use Rattle.std.specs.List.{fold, sum_by}
+use Rattle.std.specs.List.{sum_by}
 use Rattle.std.specs.Map.{keys_of, lookup, values_of}
 use Rattle.std.specs.Option.{unwrap_or}
 use Rattle.std.specs.Ordering.{match_ordering, nat_cmp}
@@ -78,9 +78,9 @@ count_of-push kind rows row q =
     let mine : ℕ = cond (is_owned kind q row) row.blocks 0 in
     let one : ℕ = cond (is_owned kind q row) 1 0 in
     let blocks : sum_by (blocks_to kind q) (rows ++ row ∷ []) ≡ sum_by (blocks_to kind q) rows + mine =
-        sum_by-append (blocks_to kind q) rows (row ∷ []) ∙ omega arith in
+    sum_by-append (blocks_to kind q) rows (row ∷ []) ∙ omega arith in
     let inodes : sum_by (λ r. cond (is_owned kind q r) 1 0) (rows ++ row ∷ []) ≡ sum_by (λ r. cond (is_owned kind q r) 1 0) rows + one =
-        sum_by-append (λ r. cond (is_owned kind q r) 1 0) rows (row ∷ []) ∙ omega arith in
+    sum_by-append (λ r. cond (is_owned kind q r) 1 0) rows (row ∷ []) ∙ omega arith in
     added q (sum_by (blocks_to kind q) rows) (sum_by (blocks_to kind q) (rows ++ row ∷ []))
     (sum_by (λ r. cond (is_owned kind q r) 1 0) rows) (sum_by (λ r. cond (is_owned kind q r) 1 0) (rows ++ row ∷ []))
     row.blocks (is_owned kind q row) blocks inodes

@@ -62,11 +62,7 @@ fn by_id(alloc: Global, counts: &[CountRow]) -> Result<BTreeMap<u32, CountRow>, 
 }
 
 /// The ids of a kind that have a record.
-fn recorded(
-    alloc: Global,
-    kind: Kind,
-    records: &[RecordRow],
-) -> Result<BTreeSet<u32>, NoMemory>
+fn recorded(alloc: Global, kind: Kind, records: &[RecordRow]) -> Result<BTreeSet<u32>, NoMemory>
     ensures { IfOk result (λ found. (q : ℕ) → contains nat_cmp found q ≡ has_record kind records.now q) }
 {
     let mut found = BTreeSet::new(alloc);
@@ -82,16 +78,16 @@ fn recorded(
 fn push_use(
     alloc: Global,
     counted: CountRow,
-    record: &RecordRow,
+    row: &RecordRow,
     differences: &mut Vec<Difference>,
 ) -> Result<(), NoMemory>
-    ensures { OnOk result (differences.new.items ≡ differences.old.items ++ (if is_off counted record.now
-        then Difference.Uses record.now.kind record.now counted ∷ [] else [])) }
+    ensures { OnOk result (differences.new.items ≡ differences.old.items ++ (if is_off counted row.now
+        then Difference.Uses row.now.kind row.now counted ∷ [] else [])) }
 {
-    if record.blocks != counted.blocks || record.inodes != counted.inodes {
+    if row.blocks != counted.blocks || row.inodes != counted.inodes {
         differences.push(Difference::Uses {
-            kind: record.kind,
-            row: copy_of(alloc, record)?,
+            kind: row.kind,
+            row: copy_of(alloc, row)?,
             counted,
         })?;
     }
@@ -165,8 +161,9 @@ fn push_links(links: &[LinkRow], differences: &mut Vec<Difference>) -> Result<()
     Ok(())
 }
 
-/// Holds counts against quota records: first the records, in order, that show other blocks or inodes than were counted;
-/// then the users, and then the groups, that own something and have no record; then the inodes whose link counts differ.
+/// Holds counts against quota records (quotacheck(8)): first the records, in order, that show other blocks or inodes
+/// than were counted; then the users, and then the groups, that own something and have no record; then the inodes whose
+/// link counts differ.
 ///
 /// Of an id that stands in several counts the first one counts. O((i + r) log (i + r)) for counts of i rows and r
 /// records; an Err is want of memory, and leaves nothing made.
@@ -179,8 +176,20 @@ pub fn compare(
 {
     let mut differences = Vec::new(alloc);
     push_uses(alloc, counts, records, &mut differences)?;
-    push_owners(alloc, Kind::User, counts.users.as_slice(), records, &mut differences)?;
-    push_owners(alloc, Kind::Group, counts.groups.as_slice(), records, &mut differences)?;
+    push_owners(
+        alloc,
+        Kind::User,
+        counts.users.as_slice(),
+        records,
+        &mut differences,
+    )?;
+    push_owners(
+        alloc,
+        Kind::Group,
+        counts.groups.as_slice(),
+        records,
+        &mut differences,
+    )?;
     push_links(counts.links.as_slice(), &mut differences)?;
     Ok(differences)
 }

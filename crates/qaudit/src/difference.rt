@@ -13,7 +13,10 @@ pub enum Difference {
         counted: CountRow,
     },
     /// An owner of inodes has no quota record.
-    NoRow { kind: Kind, counted: CountRow },
+    NoRow {
+        kind: Kind,
+        counted: CountRow,
+    },
     /// An inode's row shows another link count than was counted.
     Links(LinkRow),
 }

@@ -1,4 +1,3 @@
-use Rattle.std.proofs.Common.{◌∙◌}
 use Rattle.std.specs.Ordering.{nat_cmp}
 use Rattle.qaudit.proofs.Counting.{keys-insert_entry}
 use Rattle.qaudit.proofs.owners.add_row.Goals as goal

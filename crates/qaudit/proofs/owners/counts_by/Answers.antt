@@ -13,8 +13,8 @@ loop-row-init c = (
 pub loop-row-preserved : goal.loop-row-preserved
 loop-row-preserved c = (
   one_counted c.args.kind c.args.inodes.now c.loop-row.row-index _ _ _ _ c.loop-row.invariant.0 c.loop-row-test.true refl
-  (rw c.owner_of.ensures at c.in_ok-add_row.ensures.keys)
-  (λ q. rw c.owner_of.ensures at (c.in_ok-add_row.ensures.counts q)),
+      (rw c.owner_of.ensures at c.in_ok-add_row.ensures.keys)
+      (λ q. rw c.owner_of.ensures at (c.in_ok-add_row.ensures.counts q)),
   one_few c.loop-row.row-index _ _ _ _ c.loop-row.invariant.1 (omega arith) c.in_ok-add_row.ensures.counts,
 )
 
@@ -36,4 +36,6 @@ loop-row-2-preserved c =
     c.in-Some.ensures.steps c.in_ok-push.ensures.items c.loop-row-2.invariant
 
 pub returns : goal.returns
-returns c = sym (append-nil c.loop-row-2.rows.items) ∙ sym (ap (λ es. c.loop-row-2.rows.items ++ values_of es) c.in-None.ensures.steps.0) ∙ c.loop-row-2.invariant
+returns c =
+    sym (append-nil c.loop-row-2.rows.items)
+    ∙ sym (ap (λ es. c.loop-row-2.rows.items ++ values_of es) c.in-None.ensures.steps.0) ∙ c.loop-row-2.invariant
