@@ -1,5 +1,5 @@
 -- Rows counted one after the other come to what the sums over all of them say.
-use Rattle.std.proofs.Common.{◌≡◌, ℕ, ◌+◌, ◌*◌, ◌^◌, ◌≤◌, ◌<◌, ◌==◌, Bool, true, false, cond, List, [], ◌∷◌, ◌++◌, length, map, take, get_or, Some, refl, sym, ap, ◌∙◌, append_assoc, arith, add-one, All}
+use Rattle.std.proofs.Common.{◌≡◌, ℕ, ◌+◌, ◌^◌, ◌≤◌, ◌<◌, ◌==◌, Bool, true, false, cond, List, [], ◌∷◌, ◌++◌, length, map, take, get_or, Some, refl, sym, ap, ◌∙◌, append_assoc, arith, add-one, All, count_by, le_trans}
 use Rattle.std.specs.declared.cmp.Ordering.{Ordering}
 use Rattle.std.specs.declared.cmp.Ordering.TheVariants.{Less, Equal, Greater}
 use Rattle.std.specs.BTreeMap.{insert_entry, is_at}
@@ -9,9 +9,9 @@ use Rattle.std.specs.Map.{keys_of, lookup, values_of}
 use Rattle.std.specs.Option.{unwrap_or}
 use Rattle.std.specs.Ordering.{match_ordering, nat_cmp}
 use Rattle.std.proofs.Math.Seq.{take-suc}
-use Rattle.std.proofs.lemmas.List.{map-append}
+use Rattle.std.proofs.lemmas.List.{length-take-le, map-append}
 use Rattle.std.proofs.lemmas.List.Elements.{All-head, All-tail}
-use Rattle.std.proofs.lemmas.List.Sums.{fold_push, sum_by-append}
+use Rattle.std.proofs.lemmas.List.Sums.{count_by-le-length, fold_push, sum_by-append, sum_by_more_le_part}
 use Rattle.qrules.specs.declared.inode_row.InodeRow.{InodeRow}
 use Rattle.qrules.specs.declared.kind.Kind.{Kind}
 use Rattle.qaudit.specs.declared.counts.CountRow.{CountRow}
@@ -116,32 +116,26 @@ pub values-counted : (kind : Kind) (rows : List InodeRow) (es : List (ℕ × Cou
 values-counted kind rows es counted found =
     values-found (count_of kind rows) es es counted.counts found ∙ ap (map (count_of kind rows)) counted.keys
 
--- so many rows of less than 2^32 blocks come to no more
-pub record AreFew (count : ℕ) (es : List (ℕ × CountRow)) : Type 0 where
-  pub blocks : (q : ℕ) → (entry_of es q).blocks ≤ count * 2 ^ 32
-  pub inodes : (q : ℕ) → (entry_of es q).inodes ≤ count
+part : (mine : Bool) (blocks : ℕ) → cond mine blocks 0 ≤ blocks
+part true blocks = omega arith
+part false blocks = omega arith
 
--- before the first row
-pub none_few : (es : List (ℕ × CountRow)) → es ≡ [] → AreFew 0 es
-none_few es none = record {
-  blocks = λ q. rw none (omega arith);
-  inodes = λ q. rw none (omega arith);
-}
+-- with one row more, an owner's blocks are still among all blocks
+pub blocks_fit : (kind : Kind) (rows : List InodeRow) (count : ℕ) (row d : InodeRow) (es : List (ℕ × CountRow)) (q : ℕ)
+    → AreCounted kind (take count rows) es → count < length rows → row ≡ get_or rows count d
+    → sum_by (λ r. r.blocks) rows < 2 ^ 64 → (entry_of es q).blocks + row.blocks < 2 ^ 64
+blocks_fit kind rows count row d es q so_far few is fits =
+    let within = sum_by_more_le_part (blocks_to kind q) (λ r. r.blocks) rows count d few (λ r. part (is_owned kind q r) r.blocks) in
+    le_trans (rw (so_far.counts q, is) (omega (arith, within))) fits
 
--- one row more is of few blocks, whoever owns it
-few_more : (n : CountRow) (blocks count : ℕ) (mine : Bool) → blocks < 2 ^ 32 → n.blocks ≤ count * 2 ^ 32 → n.inodes ≤ count
-    → ((cond mine (with_row n blocks) n).blocks ≤ (count + 1) * 2 ^ 32) × ((cond mine (with_row n blocks) n).inodes ≤ count + 1)
-few_more n blocks count true small few_blocks few_inodes = (omega arith, omega arith)
-few_more n blocks count false small few_blocks few_inodes = (omega arith, omega arith)
-
--- one row more
-pub one_few : (count blocks owner : ℕ) (old new : List (ℕ × CountRow)) → AreFew count old → blocks < 2 ^ 32
-    → ((q : ℕ) → entry_of new q ≡ cond (owner == q) (with_row (entry_of old q) blocks) (entry_of old q))
-    → AreFew (count + 1) new
-one_few count blocks owner old new few small counts = record {
-  blocks = λ q. rw (counts q) ((few_more (entry_of old q) blocks count (owner == q) small (few.blocks q) (few.inodes q)).0);
-  inodes = λ q. rw (counts q) ((few_more (entry_of old q) blocks count (owner == q) small (few.blocks q) (few.inodes q)).1);
-}
+-- and its rows are among all rows
+pub inodes_fit : (kind : Kind) (rows : List InodeRow) (count : ℕ) (es : List (ℕ × CountRow)) (q : ℕ)
+    → AreCounted kind (take count rows) es → count < length rows → (entry_of es q).inodes ≤ count
+inodes_fit kind rows count es q so_far few =
+    let mine : (entry_of es q).inodes ≡ count_by (is_owned kind q) (take count rows) = ap (λ n. n.inodes) (so_far.counts q) in
+    let within = count_by-le-length (is_owned kind q) (take count rows) in
+    let taken = length-take-le count rows (omega (arith, few)) in
+    omega (arith, mine, within, taken)
 
 -- a value of the entries that are left is pushed
 pub values_push : (old new all : List CountRow) (es rest : List (ℕ × CountRow)) (e : ℕ × CountRow) → es ≡ e ∷ rest

@@ -1,5 +1,5 @@
 //! What the rows of each owner come to.
-ghost use Rattle.std.specs.Prelude.{◌≡◌, ◌≤◌, ◌<◌, ◌+◌, ◌*◌, ◌==◌, ◌^◌, ℕ, if◌then◌else◌, IfOk, OnOk, length};
+ghost use Rattle.std.specs.Prelude.{◌≡◌, ◌<◌, ◌+◌, ◌==◌, ◌^◌, ℕ, if◌then◌else◌, IfOk, OnOk, sum_by};
 ghost use Rattle.std.specs.BTreeMap.{keys};
 ghost use Rattle.std.specs.BTreeSet.{insert_key};
 ghost use Rattle.std.specs.Ordering.{nat_cmp};
@@ -58,7 +58,7 @@ pub(crate) fn counts_by(
     kind: Kind,
     inodes: &[InodeRow],
 ) -> Result<Vec<CountRow>, NoMemory>
-    requires few { length inodes.now ≤ 2 ^ 32 }
+    requires fits { sum_by (λ row. row.blocks) inodes.now < 2 ^ 64 }
     ensures { IfOk result (λ counts. counts.items ≡ counts_by kind inodes.now) }
 {
     let mut counts = BTreeMap::new(alloc);

@@ -1,5 +1,5 @@
 //! The recount of rows.
-ghost use Rattle.std.specs.Prelude.{◌≡◌, ◌≤◌, ◌^◌, IfOk, length, sum_by};
+ghost use Rattle.std.specs.Prelude.{◌≡◌, ◌≤◌, ◌<◌, ◌^◌, ◌⊎◌, IfOk, length, sum_by};
 ghost use Rattle.qaudit.specs.Recount.{recount_of};
 
 use crate::links::link_rows;
@@ -10,7 +10,7 @@ use std::alloc::Global;
 
 /// The blocks of all rows.
 fn blocks_of(inodes: &[InodeRow]) -> u64
-    requires few { length inodes.now ≤ 2 ^ 32 }
+    requires fits { (length inodes.now ≤ 2 ^ 32) ⊎ (sum_by (λ row. row.blocks) inodes.now < 2 ^ 64) }
     ensures { result ≡ sum_by (λ row. row.blocks) inodes.now }
 {
     let mut blocks = 0;
@@ -24,15 +24,16 @@ fn blocks_of(inodes: &[InodeRow]) -> u64
 /// inodes, and the links of each inode (quotacheck(8)).
 ///
 /// Numbers and ids may stand in several rows. Blocks are of 4096 bytes. O((i + n) log (i + n)) for i rows of inodes and
-/// n of names; an Err is want of memory, and leaves nothing made.
+/// n of names; an Err is want of memory, and leaves nothing made. All blocks must fit 64 bits, as those of 2^32 rows do.
 pub fn recount(alloc: Global, inodes: &[InodeRow], names: &[NameRow]) -> Result<Counts, NoMemory>
-    requires few { length inodes.now ≤ 2 ^ 32 }
+    requires fits { (length inodes.now ≤ 2 ^ 32) ⊎ (sum_by (λ row. row.blocks) inodes.now < 2 ^ 64) }
     ensures { IfOk result (λ counts. counts ≡ recount_of inodes.now names.now) }
 {
+    let blocks = blocks_of(inodes);
     Ok(Counts {
         users: Items::new(counts_by(alloc, Kind::User, inodes)?),
         groups: Items::new(counts_by(alloc, Kind::Group, inodes)?),
-        blocks: blocks_of(inodes),
+        blocks,
         inodes: inodes.len() as u64,
         links: Items::new(link_rows(alloc, inodes, names)?),
     })
