@@ -45,7 +45,7 @@ is_same_kind Group Group = true
 
 -- some record is for this owner
 abbrev pub has_record : Kind → List RecordRow → ℕ → Bool
-has_record kind records id = list_any (λ r. is_same_kind kind r.kind && r.id == id) records
+has_record kind records id = list_any (λ r. is_same_kind kind r.kind && id == r.id) records
 
 -- the link counts differ
 abbrev pub is_off_by_links : LinkRow → Bool
