@@ -76,10 +76,7 @@ fn put_difference<W: Write>(out: &mut W, difference: &Difference) -> Result<(), 
     }
 }
 
-fn put_differences<W: Write>(
-    out: &mut W,
-    differences: &[Difference],
-) -> Result<(), RefusedWrite>
+fn put_differences<W: Write>(out: &mut W, differences: &[Difference]) -> Result<(), RefusedWrite>
     ensures { Writes (W.contents out.old) (W.contents out.new) result (flat_map difference_text differences.now) }
 {
     for difference in differences {
