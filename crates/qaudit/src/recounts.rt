@@ -23,8 +23,9 @@ fn blocks_of(inodes: &[InodeRow]) -> u64
 /// Counts rows of inodes and of names afresh, whoever made them: what each user and each group owns, all blocks and
 /// inodes, and the links of each inode (quotacheck(8)).
 ///
-/// Numbers and ids may stand in several rows. Blocks are of 4096 bytes. O((i + n) log (i + n)) for i rows of inodes and
-/// n of names; an Err is want of memory, and leaves nothing made. All blocks must fit 64 bits, as those of 2^32 rows do.
+/// Numbers and ids may stand in several rows. Blocks are of 4096 bytes; all of them must fit 64 bits, as those of 2^32
+/// rows do. O((i + n) log (i + n)) for i rows of inodes and n of names; an Err is want of memory, and leaves nothing
+/// made.
 pub fn recount(alloc: Global, inodes: &[InodeRow], names: &[NameRow]) -> Result<Counts, NoMemory>
     requires fits { (length inodes.now ≤ 2 ^ 32) ⊎ (sum_by (λ row. row.blocks) inodes.now < 2 ^ 64) }
     ensures { IfOk result (λ counts. counts ≡ recount_of inodes.now names.now) }

@@ -9,7 +9,8 @@ use Rattle.qaudit.specs.declared.counts.LinkRow.{LinkRow}
 use Rattle.qaudit.specs.declared.difference.Difference.{Difference}
 use Rattle.qaudit.specs.declared.difference.Difference.TheVariants.{Uses, NoRow, Links}
 
--- the line of a record that shows other uses than were counted: of blocks and of inodes the recorded use, then the counted
+-- the line of a record that shows other uses than were counted: of blocks and of inodes the recorded use, then the
+-- counted
 abbrev pub use_text : Kind → RecordRow → CountRow → List ℕ
 use_text kind r counted = concat (
     kind_text kind ∷ codes " " ∷ decimal r.id

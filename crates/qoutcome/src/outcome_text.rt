@@ -51,8 +51,8 @@ fn put_run<W: Write>(outcome: &Outcome, moment: u64, out: &mut W) -> Result<(), 
     Ok(put_totals(out, outcome)?)
 }
 
-/// Writes what a run came to: each worker's transcript, the quota report as of the moment, the totals, and what an audit
-/// of the store found. It takes no memory.
+/// Writes what a run came to: each worker's transcript, the quota report as of the moment, the totals, and what an
+/// audit of the store found. It takes no memory.
 ///
 /// Totals and bounds are in blocks of 4096 bytes and in inodes; the report is in KiB (profile, after repquota(8)).
 /// After an Err some beginning of the text went out.
