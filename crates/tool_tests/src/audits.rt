@@ -117,7 +117,10 @@ fn rows_may_be_missing_or_repeated(rt: HostRuntime) -> Result<(), AllocError> {
 #[test]
 fn no_rows_come_to_nothing(rt: HostRuntime) -> Result<(), AllocError> {
     let text = told(rt.alloc(), &[], &[], &[(Kind::User, 0, 0, 1)])?;
-    assert_eq!(rt; text.as_slice(), b"audit 1\nuser 0 blocks 0 0 inodes 1 0\n".as_slice());
+    assert_eq!(rt;
+        text.as_slice(),
+        b"audit 1\nuser 0 blocks 0 0 inodes 1 0\n".as_slice()
+    );
     let text = told(rt.alloc(), &[], &[], &[])?;
     assert_eq!(rt; text.as_slice(), b"audit ok\n".as_slice());
     Ok(())
