@@ -10,6 +10,7 @@ use Rattle.qplain.specs.declared.receipt.Receipt.{Receipt}
 use Rattle.qplain.specs.declared.transcript.Transcript.{Transcript}
 use Rattle.qrun.specs.declared.outcome.Outcome.{Outcome}
 use Rattle.qline.specs.Replies.{reply_text}
+use Rattle.qoutcome.specs.Audits.{audit_text}
 
 -- the word of a call that is not journaled
 abbrev pub call_fault_text : CallFault → List ℕ
@@ -44,7 +45,11 @@ totals_text o = concat (codes "totals blocks " ∷ decimal (total_of o.store.sta
 abbrev pub moment_text : ℕ → List ℕ
 moment_text moment = concat (codes "quota at " ∷ decimal moment ∷ codes "\n" ∷ [])
 
--- the outcome of a run, with the quota report as of a moment
-abbrev pub outcome_text : Outcome → ℕ → List ℕ
-outcome_text o moment = flat_map transcript_text o.transcripts
+-- the transcripts, the quota report as of a moment, and the totals
+abbrev pub run_text : Outcome → ℕ → List ℕ
+run_text o moment = flat_map transcript_text o.transcripts
     ++ moment_text moment ++ report_text o.records moment ++ totals_text o
+
+-- the outcome of a run: what it left as of a moment, and what an audit of it found
+abbrev pub outcome_text : Outcome → ℕ → List ℕ
+outcome_text o moment = run_text o moment ++ audit_text o.differences

@@ -1,9 +1,11 @@
-//! Outcomes of runs as text: transcripts, the quota report and the totals.
+//! Outcomes of runs as text: transcripts, the quota report, the totals and the audit.
 #![tactic(auto)]
 
+pub use audit_text::write_audit;
 pub use outcome_text::write_outcome;
 pub use write_fault::WriteFault;
 
+mod audit_text;
 mod outcome_text;
 mod transcript_text;
 mod write_fault;

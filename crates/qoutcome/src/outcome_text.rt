@@ -2,9 +2,10 @@
 ghost use Rattle.std.specs.Prelude.{◌≡◌, codes, decimal, ◌∷◌, []};
 ghost use Rattle.std.specs.List.{concat};
 ghost use Rattle.qtext.specs.Written.{Writes};
-ghost use Rattle.qoutcome.specs.Outcomes.{moment_text, outcome_text, totals_text};
+ghost use Rattle.qoutcome.specs.Outcomes.{moment_text, outcome_text, run_text, totals_text};
 
 use crate::WriteFault;
+use crate::audit_text::write_audit;
 use crate::transcript_text::put_transcripts;
 use qaudit::report;
 use qrun::Outcome;
@@ -39,12 +40,22 @@ fn put_totals<W: Write>(out: &mut W, outcome: &Outcome) -> Result<(), RefusedWri
     put_pieces(out, &pieces)
 }
 
-/// Writes what a run came to: each worker's transcript, the quota report as of the moment, and the totals. It takes no
-/// memory.
+/// Writes the transcripts, the report as of the moment, and the totals.
+#[tactic(auto, using(qtext::proofs::Fronts::front_of_first, qtext::proofs::Fronts::writes_then))]
+fn put_run<W: Write>(outcome: &Outcome, moment: u64, out: &mut W) -> Result<(), WriteFault>
+    ensures { Writes (W.contents out.old) (W.contents out.new) result (run_text outcome.now moment) }
+{
+    put_transcripts(out, outcome.transcripts.as_slice())?;
+    put_moment(out, moment)?;
+    report(outcome.records.as_slice(), moment, out)?;
+    Ok(put_totals(out, outcome)?)
+}
+
+/// Writes what a run came to: each worker's transcript, the quota report as of the moment, the totals, and what an
+/// audit of the store found. It takes no memory.
 ///
 /// Totals and bounds are in blocks of 4096 bytes and in inodes; the report is in KiB (profile, after repquota(8)).
 /// After an Err some beginning of the text went out.
-#[tactic(auto, using(qtext::proofs::Fronts::front_of_first, qtext::proofs::Fronts::writes_then))]
 pub fn write_outcome<W: Write>(
     outcome: &Outcome,
     moment: u64,
@@ -52,8 +63,6 @@ pub fn write_outcome<W: Write>(
 ) -> Result<(), WriteFault>
     ensures { Writes (W.contents out.old) (W.contents out.new) result (outcome_text outcome.now moment) }
 {
-    put_transcripts(out, outcome.transcripts.as_slice())?;
-    put_moment(out, moment)?;
-    report(outcome.records.as_slice(), moment, out)?;
-    Ok(put_totals(out, outcome)?)
+    put_run(outcome, moment, out)?;
+    write_audit(outcome.differences.as_slice(), out)
 }

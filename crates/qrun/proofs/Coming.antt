@@ -5,6 +5,7 @@ use Rattle.qplain.specs.declared.line.Line.{Line}
 use Rattle.qplain.specs.Setups.{Setting}
 use Rattle.qplain.specs.Journal.{entries_of}
 use Rattle.qstore.specs.Rows.{record_row_of}
+use Rattle.qrows.specs.Own.{differences_in}
 use Rattle.qplain.specs.declared.call_fault.CallFault.{CallFault}
 use Rattle.qplain.specs.declared.receipt.Receipt.{Receipt}
 use Rattle.qrun.specs.declared.outcome.Outcome.{Outcome}
@@ -44,8 +45,9 @@ all_belong lines journal answers all k d less = (0, omega arith, sym (all k d le
 pub alone : (setting : Setting) (scripts : List (List Line)) (j : Journaled) (o : Outcome) → IsPlayed j
     → j.setting ≡ setting → AreTranscriptsOf 1 scripts j.journal o.transcripts
     → All (Belongs o.transcripts) j.journal → o.setup ≡ j.setting → o.store ≡ j.stored → o.journal ≡ j.journal
-    → o.records ≡ map (record_row_of j.stored.state) j.stored.state.holders → IsOutcomeOf setting scripts o
-alone setting scripts j o played same transcripts belong setup store journal records = record {
+    → o.records ≡ map (record_row_of j.stored.state) j.stored.state.holders
+    → o.differences ≡ differences_in j.stored.state → o.differences ≡ [] → IsOutcomeOf setting scripts o
+alone setting scripts j o played same transcripts belong setup store journal records differences agree = record {
   setup = rw (setup, same) refl;
   legal = rw (journal, sym same) played.legal;
   few = rw journal played.few;
@@ -53,4 +55,6 @@ alone setting scripts j o played same transcripts belong setup store journal rec
   transcripts = rw journal transcripts;
   belong = rw journal belong;
   records = rw store records;
+  differences = rw store differences;
+  agree = agree;
 }

@@ -6,6 +6,7 @@ use Rattle.qplain.specs.Setups.{Setting}
 use Rattle.qplain.specs.State.{start}
 use Rattle.qplain.specs.Journal.{IsLegal, entries_of, play}
 use Rattle.qstore.specs.Rows.{record_row_of}
+use Rattle.qrows.specs.Own.{differences_in}
 use Rattle.qplain.specs.declared.call_fault.CallFault.{CallFault}
 use Rattle.qplain.specs.declared.call_fault.CallFault.TheVariants.{JournalFull, OutOfMemory}
 use Rattle.qrun.specs.declared.journaled_store.TheConstants.{MAX_ENTRIES}
@@ -64,8 +65,8 @@ AreTranscriptsOf worker (lines ∷ scripts) journal [] = ⊥
 abbrev pub Belongs : List Transcript → Entry → Type 0
 Belongs transcripts e = Contains (map (λ t. t.worker) transcripts) e.worker
 
--- what a run of these scripts leaves, from this setup on; the journal is no longer than it may be, and no entry belongs
--- to anyone else
+-- what a run of these scripts leaves, from this setup on; the journal is no longer than it may be, no entry belongs to
+-- anyone else, and the differences are those of the store's own rows, of which there are none
 pub record IsOutcomeOf (setting : Setting) (scripts : List (List Line)) (o : Outcome) : Type 0 where
   pub setup : o.setup ≡ setting
   pub legal : IsLegal (start setting) o.journal
@@ -74,3 +75,5 @@ pub record IsOutcomeOf (setting : Setting) (scripts : List (List Line)) (o : Out
   pub transcripts : AreTranscriptsOf 1 scripts o.journal o.transcripts
   pub belong : All (Belongs o.transcripts) o.journal
   pub records : o.records ≡ map (record_row_of o.store.state) o.store.state.holders
+  pub differences : o.differences ≡ differences_in o.store.state
+  pub agree : o.differences ≡ []

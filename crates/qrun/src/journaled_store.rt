@@ -2,9 +2,12 @@
 ghost use Rattle.std.specs.Prelude.{◌≡◌, ◌<◌, ◌≤◌, ◌+◌, ◌++◌, ◌∷◌, [], ◌↔◌, length, map, vec_len, vec_capacity, IfOk, OnErr, OnOk, Err};
 ghost use Rattle.qplain.specs.State.{start};
 ghost use Rattle.qstore.specs.Rows.{record_row_of};
+ghost use Rattle.qrows.specs.Own.{differences_in, record_rows};
 ghost use Rattle.qrun.specs.Journaled.{IsJournaled, IsPlayed};
 
+use qaudit::Difference;
 use qplain::{CallFault, Entry, Line, NoMemory, Receipt, Setup};
+use qrows::audit;
 use qrules::RecordRow;
 use qstore::Store;
 use std::alloc::Global;
@@ -111,6 +114,15 @@ impl JournaledStore {
             ≡ map (record_row_of self.now.stored.state) self.now.stored.state.holders) }
     {
         self.store.record_rows()
+    }
+
+    /// What an audit of the store finds, by its own rows and these records, which are its own.
+    pub(crate) fn audit(&self, records: &[RecordRow]) -> Result<Vec<Difference>, NoMemory>
+        requires own { records.now ≡ record_rows self.now.stored.state }
+        ensures differences { IfOk result (λ found. found.items ≡ differences_in self.now.stored.state) }
+        ensures none { IfOk result (λ found. found.items ≡ []) }
+    {
+        audit(self.alloc, &self.store, records)
     }
 
     /// The setup, the store and the journal.

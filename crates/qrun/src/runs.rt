@@ -7,6 +7,7 @@ ghost use Rattle.qrun.specs.Runs.{AreTranscriptsOf, Belongs, FullIsToldFirst, Is
 
 use crate::Outcome;
 use crate::journaled_store::{JournaledStore, append};
+use qaudit::Difference;
 use qplain::{CallFault, Line, NoMemory, Receipt, Setup, Transcript};
 use qrules::{Items, RecordRow};
 use std::alloc::Global;
@@ -79,12 +80,14 @@ fn outcome_of(
     store: JournaledStore,
     transcripts: Items<Transcript>,
     records: Vec<RecordRow>,
+    differences: Vec<Difference>,
 ) -> Outcome
     ensures setup { result.setup ≡ store.setting }
     ensures store { result.store ≡ store.stored }
     ensures journal { result.journal ≡ store.journal }
     ensures transcripts { result.transcripts ≡ transcripts }
     ensures records { result.records ≡ records.items }
+    ensures differences { result.differences ≡ differences.items }
     ensures played { IsPlayed store }
 {
     let (setup, store, journal) = store.into_parts();
@@ -94,6 +97,7 @@ fn outcome_of(
         journal: Items::new(journal),
         transcripts,
         records: Items::new(records),
+        differences: Items::new(differences),
     }
 }
 
@@ -108,7 +112,8 @@ fn play_lines(
 {
     let transcripts = transcripts_of(alloc, &mut store, lines)?;
     let records = store.record_rows()?;
-    Ok(outcome_of(store, transcripts, records))
+    let differences = store.audit(&records)?;
+    Ok(outcome_of(store, transcripts, records, differences))
 }
 
 /// Plays the lines of one worker on a new store of the setup.

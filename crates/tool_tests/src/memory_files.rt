@@ -26,6 +26,7 @@ quota at 0
 user    root             --          4          0          0          -          2          0          0          -
 group   root             --          4          0          0          -          2          0          0          -
 totals blocks 1 of 10 inodes 2 of 6
+audit ok
 ";
 
 /// The files `a.toml` and `s.txt`, for one of which memory may be wanted and not there.

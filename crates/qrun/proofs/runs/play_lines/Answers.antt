@@ -9,3 +9,4 @@ returns c =
     (rw left.transcripts c.in_ok-transcripts.ensures.transcripts)
     (rw left.transcripts c.in_ok-transcripts.ensures.belong) left.setup left.store left.journal
     (left.records ∙ c.in_ok-records.ensures)
+    (left.differences ∙ c.in_ok-differences.ensures.differences) (left.differences ∙ c.in_ok-differences.ensures.none)

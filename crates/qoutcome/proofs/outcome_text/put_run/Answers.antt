@@ -1,0 +1,29 @@
+use Rattle.std.specs.List.{flat_map}
+use Rattle.qaudit.specs.Reports.{report_text}
+use Rattle.qtext.proofs.Fronts.{appends_then, front_of_first, front_of_second, refused_first, refused_last}
+use Rattle.qoutcome.specs.Outcomes.{moment_text, totals_text, transcript_text}
+use Rattle.qoutcome.proofs.outcome_text.put_run.Goals as goal
+
+pub returns-in_err-put_moment : goal.returns-in_err-put_moment
+returns-in_err-put_moment g c =
+    refused_first _ _ _ _ (totals_text c.args.outcome.now) c.from_residual-in_err-put_moment.ensures.0
+    (front_of_first _ _ _ (report_text c.args.outcome.now.records c.args.moment)
+    (front_of_second _ _ _ (flat_map transcript_text c.args.outcome.now.transcripts)
+    (moment_text c.args.moment) (rw c.as_slice.ensures at c.in_ok-put_transcripts.ensures)
+    c.in_err-put_moment.ensures))
+
+pub returns-in_err-report : goal.returns-in_err-report
+returns-in_err-report g c =
+    refused_first _ _ _ _ (totals_text c.args.outcome.now) c.from_residual-in_err-report.ensures.0
+    (front_of_second _ _ _ _ (report_text c.args.outcome.now.records c.args.moment)
+    (appends_then _ _ _ (flat_map transcript_text c.args.outcome.now.transcripts) (moment_text c.args.moment)
+    (rw c.as_slice.ensures at c.in_ok-put_transcripts.ensures) c.in_ok-put_moment.ensures)
+    (rw c.as_slice-2.ensures at c.in_err-report.ensures))
+
+pub returns-in_err-put_totals : goal.returns-in_err-put_totals
+returns-in_err-put_totals g c =
+    refused_last _ _ _ _ _ (totals_text c.args.outcome.now) c.from_residual-in_err-put_totals.ensures.0
+    (appends_then _ _ _ _ (report_text c.args.outcome.now.records c.args.moment)
+    (appends_then _ _ _ (flat_map transcript_text c.args.outcome.now.transcripts) (moment_text c.args.moment)
+    (rw c.as_slice.ensures at c.in_ok-put_transcripts.ensures) c.in_ok-put_moment.ensures)
+    (rw c.as_slice-2.ensures at c.in_ok-report.ensures)) c.in_err-put_totals.ensures
