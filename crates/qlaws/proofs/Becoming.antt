@@ -9,19 +9,20 @@ use Rattle.qrules.specs.declared.graces.Graces.{Graces}
 use Rattle.qrules.specs.declared.graces.TheConstants.{MAX_MOMENT}
 use Rattle.qblocks.specs.File.{File, after_truncate, after_write, read_at}
 use Rattle.qplain.specs.declared.call.Call.{Call}
-use Rattle.qplain.specs.declared.call.Call.TheVariants.{Create, Write, Truncate, Read, Stat as AskStat, Unlink, Chown, SetQuota, SetGrace, Quota as AskQuota}
+use Rattle.qplain.specs.declared.call.Call.TheVariants.{Create, Mkdir, Write, Truncate, Read, Stat as AskStat, Unlink, Chown, SetQuota, SetGrace, Quota as AskQuota}
 use Rattle.qplain.specs.declared.refusal.Refusal.{Refusal}
-use Rattle.qplain.specs.declared.refusal.Refusal.TheVariants.{EINVAL, ENAMETOOLONG, ENOTDIR, EEXIST, EISDIR, EACCES, EFBIG, EPERM, ESRCH}
+use Rattle.qplain.specs.declared.refusal.Refusal.TheVariants.{EINVAL, ENAMETOOLONG, ENOTDIR, EEXIST, EISDIR, EACCES, EFBIG, EMLINK, EPERM, ESRCH}
 use Rattle.qplain.specs.declared.reply.Reply.TheVariants.{Bytes, Done}
 use Rattle.qplain.specs.Caller.{Caller, is_superuser}
-use Rattle.qplain.specs.State.{Holder, Inode, State, inode_at, is_directory, named, new_file}
+use Rattle.qplain.specs.State.{Holder, Inode, State, inode_at, is_directory, named, new_directory, new_file}
+use Rattle.qplain.specs.Use.{has_too_many_links}
 use Rattle.qplain.specs.Walk.{as_directory, components, is_well_formed, is_too_long, last_name, led_to, place, walk}
 use Rattle.qplain.specs.Decision.{ends_after, refusal_between}
 use Rattle.qplain.specs.Arguments.{has_bad_number, is_declared, is_holder, is_known, is_undeclared, paths_of, refusal_of_arguments}
 use Rattle.qplain.specs.Attempt.{Attempt, Refuse, Answer, Becomes, at_inode, at_name, at_path, at_reached, in_place, in_reached, no_change, under}
 use Rattle.qplain.specs.Rights.{is_member, is_own, is_owner, may_give, may_remove, may_write}
 use Rattle.qplain.specs.Files.{read_from, stat_at, truncate_at, with_file, with_inode, write_into}
-use Rattle.qplain.specs.Names.{create_as, created, swept, unlink_as, unlink_at, without_name}
+use Rattle.qplain.specs.Names.{create_as, created, mkdir_as, swept, unless_too_many_links, unlink_as, unlink_at, without_name}
 use Rattle.qplain.specs.Owners.{chown_at, with_owners}
 use Rattle.qplain.specs.Quotas.{ask_quota, quota_from, set_quota, set_grace, with_limits_of}
 use Rattle.qplain.specs.Calls.{attempt, attempt_of, unless}
@@ -43,7 +44,8 @@ pub record IsOwn (cred : Caller) (inode : Inode) : Type 0 where
 -- the plain results that the calls of a caller may have
 pub record HoldsOfResults (P : State → Type 0) (S : State) (cred : Caller) : Type 0 where
   pub created : (inode : Inode) (dir : ℕ) (name : List ℕ) → IsOwn cred inode → has_known_owners S inode ≡ true → IsSound inode
-      → is_directory S dir ≡ true → named S dir name ≡ None → P (created S inode dir name)
+      → is_directory S dir ≡ true → named S dir name ≡ None → (inode.dir && has_too_many_links (created S inode dir name)) ≡ false
+      → P (created S inode dir name)
   pub changed : (number : ℕ) (inode after : Inode) → inode_at S number ≡ Some inode → MayFollow S inode after
       → may_give cred inode after.uid after.gid ≡ true → P (with_inode S number after)
   pub removed : (dir : ℕ) (name : List ℕ) (number : ℕ) (inode : Inode) → named S dir name ≡ Some number → inode_at S number ≡ Some inode
@@ -159,7 +161,18 @@ module _ (P : State → Type 0) (S : State) (cred : Caller) (holds : HoldsOfResu
   create_as-becomes dir name known stands =
       choice P (is_some (named S dir name)) (Refuse EEXIST) (Becomes (created S (new_file cred.uid cred.gid) dir name) S.next) tt
       (λ absent. holds.created (new_file cred.uid cred.gid) dir name (record { user = refl; group = refl }) (known-caller S cred known)
-      (empty-sound (new_file cred.uid cred.gid) refl) stands (none-from_not_some (named S dir name) absent))
+      (empty-sound (new_file cred.uid cred.gid) refl) stands (none-from_not_some (named S dir name) absent) refl)
+
+  unless_too_many_links-becomes : (new : State) (number : ℕ) → (has_too_many_links new ≡ false → P new) → OnBecomes P (unless_too_many_links new number)
+  unless_too_many_links-becomes new number p = choice P (has_too_many_links new) (Refuse EMLINK) (Becomes new number) tt p
+
+  mkdir_as-becomes : (dir : ℕ) (name : List ℕ) → is_known S cred ≡ true → is_directory S dir ≡ true → OnBecomes P (mkdir_as S cred dir name)
+  mkdir_as-becomes dir name known stands =
+      let inode : Inode = new_directory cred.uid cred.gid in
+      choice P (is_some (named S dir name)) (Refuse EEXIST) (unless_too_many_links (created S inode dir name) S.next) tt
+      (λ absent. unless_too_many_links-becomes (created S inode dir name) S.next
+      (λ few. holds.created inode dir name (record { user = refl; group = refl }) (known-caller S cred known)
+      (empty-sound inode refl) stands (none-from_not_some (named S dir name) absent) few))
 
   write_into-becomes : (off : ℕ) (bytes : List ℕ) (number : ℕ) (inode : Inode) → inode_at S number ≡ Some inode
       → OnBecomes P (write_into S cred off bytes number inode)
@@ -231,6 +244,8 @@ module _ (P : State → Type 0) (S : State) (cred : Caller) (holds : HoldsOfResu
   attempt_of-becomes : (call : Call) → is_known S cred ≡ true → has_bad_number S call ≡ false → OnBecomes P (attempt_of S cred call)
   attempt_of-becomes (Create path) known good =
       in_place-becomes EEXIST (create_as S cred) path (λ dir name placed stands. create_as-becomes dir name known stands)
+  attempt_of-becomes (Mkdir path) known good =
+      in_place-becomes EEXIST (mkdir_as S cred) path (λ dir name placed stands. mkdir_as-becomes dir name known stands)
   attempt_of-becomes (Write path off bytes) known good =
       at_path-becomes (write_into S cred off bytes) path (λ number inode there. write_into-becomes off bytes number inode there)
   attempt_of-becomes (Truncate path size) known good =

@@ -5,15 +5,15 @@ use Rattle.std.specs.List.Sorted.{IsStrictlySortedBy}
 use Rattle.std.specs.Map.{keys_of, lookup, remove_entry}
 use Rattle.std.specs.declared.cmp.Ordering.{Ordering}
 use Rattle.std.specs.declared.cmp.Ordering.TheVariants.{Less, Equal, Greater}
-use Rattle.std.specs.Ordering.{eq_by_cmp, is_eq, ordering_reverse}
+use Rattle.std.specs.Ordering.{eq_by_cmp, is_eq, nat_cmp, ordering_reverse}
 use Rattle.std.specs.BTreeMap.{insert_entry, is_at}
-use Rattle.std.specs.Cmp.{IsEquivalence, IsTotalOrder, eq_by_cmp_equiv}
+use Rattle.std.specs.Cmp.{IsEquivalence, IsTotalOrder, eq_by_cmp_equiv, nat_cmp_total}
 use Rattle.std.proofs.lemmas.Bool.{cond-false, cond-true}
-use Rattle.std.proofs.lemmas.List.Elements.{All-head, All-tail}
+use Rattle.std.proofs.lemmas.List.Elements.{All-from_recursion, All-head, All-tail}
 use Rattle.std.proofs.lemmas.List.Sums.{sum_by-cons}
 use Rattle.std.proofs.lemmas.Map.{lookup-remove_entry}
 use Rattle.std.proofs.lemmas.Map.Keys.{IsDistinct-from_sorted}
-use Rattle.qplain.specs.State.{NameKey, State, name_key_cmp, named}
+use Rattle.qplain.specs.State.{Inode, NameKey, State, inode_at, name_key_cmp, named}
 use Rattle.qlaws.proofs.Tables.{lookup-insert_new, name_key_total}
 use Rattle.qlaws.proofs.Fitting.{not_both}
 use Rattle.qlaws.proofs.Sweeping.{key-dir}
@@ -58,6 +58,10 @@ each-found-by {R = R} o (e ∷ es) sorted = (
   cond-true (is_at (R e.0) e.0) (Some e.1) (lookup (is_at (R e.0)) es) ((eq_by_cmp_equiv o).refl e.0),
   found-later o e es es sorted.0 (each-found-by o es sorted.1),
 )
+
+-- so each inode is found under its number
+pub found-at : (S : State) → IsStrictlySortedBy nat_cmp (keys_of S.inodes) → All (λ e. inode_at S e.0 ≡ Some e.1) S.inodes
+found-at S sorted = All-from_recursion (λ (e : ℕ × Inode). inode_at S e.0 ≡ Some e.1) S.inodes (each-found-by nat_cmp_total S.inodes sorted)
 
 -- what a look-up finds stands under a key that passes
 found-key : {K X : Type 0} (P : K × X → Type 0) (test : K → Bool) (es : List (K × X)) (v : X) → All P es → lookup test es ≡ Some v

@@ -75,7 +75,7 @@ left-there false o after now = cc
 
 results_keep : (S : State) (cred : Caller) → FitsTogether S → is_superuser cred ≡ false → HoldsOfResults (KeepsOwners cred S) S cred
 results_keep S cred fits other = record {
-  created = λ inode dir name own known sound stands absent.
+  created = λ inode dir name own known sound stands absent few.
       let none : inode_at S S.next ≡ None = absent-fresh S.inodes S.next fits.inodes.fresh in
       let keeps : (q : ℕ) (one after : Inode) → inode_at S q ≡ Some one → inode_at (created S inode dir name) q ≡ Some after → Keeps cred one after =
       λ q one after at now. keeps-same S (created S inode dir name) cred q one after at now

@@ -23,5 +23,6 @@ pub mod Replacing
 pub mod Removing
 pub mod GivingBack
 pub mod Linking
+pub mod Bounding
 pub mod Walking
 pub mod Playing

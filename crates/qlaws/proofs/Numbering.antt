@@ -38,7 +38,7 @@ kept S = record { next = omega arith; numbers = all-stood S }
 
 results_go_on : (S : State) (cred : Caller) → FitsTogether S → HoldsOfResults (GoesOn S) S cred
 results_go_on S cred fits = record {
-  created = λ inode dir name own known sound stands absent. record {
+  created = λ inode dir name own known sound stands absent few. record {
     next = omega arith;
     numbers = All-insert_new (λ e. stood S e.0 ≡ true) nat_cmp S.inodes S.next inode (absent-fresh S.inodes S.next fits.inodes.fresh) (all-stood S)
         (or_right (is_some (inode_at S S.next)) (S.next == S.next) (grind (arith, tests)));

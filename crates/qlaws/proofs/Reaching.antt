@@ -247,7 +247,7 @@ walks-same S holders graces all =
 
 results_reach : (S : State) (cred : Caller) → FitsTogether S → AllReached S → HoldsOfResults AllReached S cred
 results_reach S cred fits all = record {
-  created = λ inode dir name own known sound stands absent. created_reached S inode dir name fits stands absent all;
+  created = λ inode dir name own known sound stands absent few. created_reached S inode dir name fits stands absent all;
   changed = λ number inode after there follows may. changed_reached S number inode after there follows.dir all;
   removed = λ dir name number inode led there file may. removed_reached S dir name number inode fits led there file all;
   limited = λ kind id limits may. walks-same S (with_limits_of S kind id limits).holders S.graces all;

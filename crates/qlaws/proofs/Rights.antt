@@ -13,6 +13,7 @@ use Rattle.qplain.specs.Names.{created, swept, without_name}
 use Rattle.qlaws.specs.Laws.{FitsTogether, LeavesToOthers, RightsHold, is_of_others}
 use Rattle.qlaws.proofs.Becoming.{HoldsOfResults, step-becomes}
 use Rattle.qlaws.proofs.Fitting.{created_fits}
+use Rattle.qlaws.proofs.Results.{few-created}
 use Rattle.qlaws.proofs.Sweeping.{has_name-there, inode_at-swept, key-dir, named-without}
 use Rattle.qlaws.proofs.Linking.{inode_at-created-there, inode_at-with_inode, named-created}
 use Rattle.qlaws.proofs.Tables.{absent-fresh, name_key_total, same-number}
@@ -115,12 +116,13 @@ name-left S cred dir name number fits not_root led may parent q other leads of_d
 
 results_leave : (S : State) (cred : Caller) → FitsTogether S → is_superuser cred ≡ false → HoldsOfResults (LeavesToOthers cred S) S cred
 results_leave S cred fits other = record {
-  created = λ inode dir name own known sound stands absent. record {
+  created = λ inode dir name own known sound stands absent few. record {
     inodes = λ q there at others.
         let still : inode_at (created S inode dir name) q ≡ Some there =
         inode_at-created-there S inode dir name q (absent-fresh S.inodes S.next fits.inodes.fresh) (ap is_some at) ∙ at in
         while-named (created S inode dir name) q there still
-        (has_name-there (created S inode dir name) (created_fits S inode dir name fits stands absent known sound) q (ap is_some still));
+        (has_name-there (created S inode dir name)
+        (created_fits S inode dir name fits stands absent known sound (few-created S inode dir name fits absent few)) q (ap is_some still));
     names = λ parent number name_too leads directory others. named-kept S inode dir name parent number name_too absent leads;
   };
   changed = λ number inode after there follows may. record {

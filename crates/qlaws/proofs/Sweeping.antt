@@ -1,5 +1,5 @@
 -- What a change of the names, and the sweep after it, leave of a state that fits together.
-use Rattle.std.proofs.Common.{◌≡◌, ℕ, ◌+◌, ◌≤◌, ◌==◌, Bool, true, false, ◌&&◌, ◌||◌, nat_le, nat_lt, cond, List, [], ◌∷◌, All, filter, slice_index_or, Option, Some, None, is_some, refl, sym, ap, subst, ◌∙◌, tests, arith}
+use Rattle.std.proofs.Common.{◌≡◌, ℕ, ◌+◌, ◌≤◌, ◌==◌, Bool, true, false, ◌&&◌, ◌||◌, nat_le, nat_lt, cond, List, [], ◌∷◌, All, filter, slice_index_or, count_by, Option, Some, None, is_some, refl, sym, ap, subst, ◌∙◌, tests, arith}
 use Rattle.std.specs.List.{AllByRecursion}
 use Rattle.std.specs.List.Sorted.{IsStrictlySortedBy}
 use Rattle.std.specs.Map.{keys_of, lookup, remove_entry, values_of}
@@ -14,15 +14,15 @@ use Rattle.std.proofs.lemmas.Map.Entries.{lookup-filter-keys}
 use Rattle.std.proofs.lemmas.Map.Keys.{IsDistinct-from_sorted}
 use Rattle.std.proofs.lemmas.Bool.{and_parts}
 use Rattle.std.proofs.lemmas.List.Elements.{All-cons, All-filter, All-head, All-tail, filter_passes}
-use Rattle.std.proofs.lemmas.List.Sums.{get_or-le-sum_by}
-use Rattle.qplain.specs.declared.bounds.TheConstants.{ROOT}
+use Rattle.std.proofs.lemmas.List.Sums.{get_or-le-sum_by, sum_by-le-sum_by}
+use Rattle.qplain.specs.declared.bounds.TheConstants.{MAX_LINKS, ROOT}
 use Rattle.qplain.specs.State.{Inode, NameKey, State, inode_at, is_dir, is_directory, name_key_cmp, named}
-use Rattle.qplain.specs.Use.{has_name, names_to}
+use Rattle.qplain.specs.Use.{has_name, has_too_many_links, links_of, names_to}
 use Rattle.qplain.specs.Names.{swept, without_name}
 use Rattle.qlaws.specs.Laws.{FitsTogether, IsSound, has_known_owners, has_right_names, leads}
-use Rattle.qlaws.proofs.Orders.{All-remove, sorted-remove, sum-remove}
+use Rattle.qlaws.proofs.Orders.{All-remove, sorted-remove, sum-remove, sum-remove-le}
 use Rattle.qlaws.proofs.Tables.{name_key_total, same-number}
-use Rattle.qlaws.proofs.Fitting.{not_both, right, some-is_dir}
+use Rattle.qlaws.proofs.Fitting.{few-links, none-too_many, not_both, right, some-is_dir}
 
 -- ---- filtered tables
 
@@ -123,8 +123,9 @@ module _ (S : State) (names : List (NameKey × ℕ)) where
   -- where no directory in which a name stands is swept, and names are few, what is left fits together
   pub swept_fits : FitsTogether S → IsStrictlySortedBy name_key_cmp (keys_of names) → All (λ e. leads S e ≡ true) names
       → All (λ e. has_few (e.0 == ROOT) e.1.dir (names_to T e.0) ≡ true) S.inodes → All (λ e. has_name T e.0.0 ≡ true) names
-      → FitsTogether (swept T)
-  swept_fits fits sorted lead few placed = record {
+      → has_too_many_links (swept T) ≡ false → FitsTogether (swept T)
+  swept_fits fits sorted lead few placed links = record {
+    links = links;
     holders = fits.holders;
     inodes = record {
       in_order = sorted-filter (λ (e : ℕ × Inode). has_name T e.0) nat_cmp S.inodes fits.inodes.in_order;
@@ -201,6 +202,43 @@ module _ (S : State) (dir : ℕ) (name : List ℕ) (number : ℕ) (led : named S
   pub has_name-without : (q : ℕ) → (number == q) ≡ false → has_name (without_name S dir name) q ≡ has_name S q
   has_name-without q apart = ap (λ n. q == ROOT || nat_lt 0 n) (same-apart q apart)
 
+  -- a directory has as many subdirectories as before, or fewer
+  subdirectory : (a : Bool) (q : ℕ) → cond (a && is_directory (swept (without_name S dir name)) q) 1 0 ≤ cond (a && is_directory S q) 1 0
+  subdirectory false q = omega arith
+  subdirectory true q =
+      let is : is_directory (swept (without_name S dir name)) q ≡ is_dir (cond (has_name (without_name S dir name) q) (inode_at S q) None) =
+      ap is_dir (inode_at-swept S rest q) in
+      let l : cond (is_dir (cond (has_name (without_name S dir name) q) (inode_at S q) None)) 1 0 ≤ cond (is_dir (inode_at S q)) 1 0 =
+      by (has_name (without_name S dir name) q) (inode_at S q) in
+      subst (λ b. cond b 1 0 ≤ cond (is_directory S q) 1 0) (sym is) l
+    where
+      by : (b : Bool) (o : Option Inode) → cond (is_dir (cond b o None)) 1 0 ≤ cond (is_dir o) 1 0
+      by true o = omega arith
+      by false o = omega arith
+
+  links-fewer : (n : ℕ) (b : Bool) → links_of (swept (without_name S dir name)) n b ≤ links_of S n b
+  links-fewer n false = fewer n
+  links-fewer n true =
+      let less : count_by (λ e. e.0.0 == n && is_directory (swept (without_name S dir name)) e.1) rest ≤ count_by (λ e. e.0.0 == n && is_directory S e.1) rest =
+      sum_by-le-sum_by (λ (e : NameKey × ℕ). cond (e.0.0 == n && is_directory (swept (without_name S dir name)) e.1) 1 0)
+      (λ e. cond (e.0.0 == n && is_directory S e.1) 1 0) rest (λ e. subdirectory (e.0.0 == n) e.1) in
+      let fewer_names : count_by (λ e. e.0.0 == n && is_directory S e.1) rest ≤ count_by (λ e. e.0.0 == n && is_directory S e.1) S.names =
+      sum-remove-le (λ (e : NameKey × ℕ). cond (e.0.0 == n && is_directory S e.1) 1 0) (is_at (name_key_cmp (dir, name))) S.names in
+      omega (arith, less, fewer_names)
+
+  -- no inode has more links than before
+  few-without : has_too_many_links S ≡ false → has_too_many_links (swept (without_name S dir name)) ≡ false
+  few-without few =
+      none-too_many (swept (without_name S dir name)) (λ k d below.
+      let e : ℕ × Inode = slice_index_or (swept (without_name S dir name)).inodes k d in
+      let old : nat_lt MAX_LINKS (links_of S e.0 e.1.dir) ≡ false =
+      All-filter (λ (x : ℕ × Inode). has_name (without_name S dir name) x.0) (λ x. nat_lt MAX_LINKS (links_of S x.0 x.1.dir) ≡ false) S.inodes
+      (few-links S few) k d below in
+      below-too (links_of S e.0 e.1.dir) (links_of (swept (without_name S dir name)) e.0 e.1.dir) (links-fewer e.0 e.1.dir) old)
+    where
+      below-too : (n m : ℕ) → m ≤ n → nat_lt MAX_LINKS n ≡ false → nat_lt MAX_LINKS m ≡ false
+      below-too n m l h = grind (arith, tests, l, h)
+
   -- what a name leads to then
   pub named-without : (parent : ℕ) (other : List ℕ) → IsStrictlySortedBy name_key_cmp (keys_of S.names)
       → named (without_name S dir name) parent other ≡ cond (is_at (name_key_cmp (dir, name)) (parent, other)) None (named S parent other)
@@ -225,3 +263,4 @@ module _ (S : State) (dir : ℕ) (name : List ℕ) (number : ℕ) (led : named S
       let apart : (e.0.0 == number) ≡ false = unfilled k d below in
       let other : (number == e.0.0) ≡ false = grind (arith, tests, apart) in
       has_name-without e.0.0 other ∙ has_name-there S fits e.0.0 (some-is_dir (inode_at S e.0.0) stands)))
+      (few-without fits.links)

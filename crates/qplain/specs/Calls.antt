@@ -1,7 +1,7 @@
 -- The tests of each call in their order, and what it would make of the state.
 use Rattle.std.specs.Prelude.{ℕ, Option, Some, None}
 use Rattle.qplain.specs.declared.call.Call.{Call}
-use Rattle.qplain.specs.declared.call.Call.TheVariants.{Create, Write, Truncate, Read, Stat, Unlink, Chown, SetQuota, SetGrace, Quota}
+use Rattle.qplain.specs.declared.call.Call.TheVariants.{Create, Mkdir, Write, Truncate, Read, Stat, Unlink, Chown, SetQuota, SetGrace, Quota}
 use Rattle.qplain.specs.declared.refusal.Refusal.{Refusal}
 use Rattle.qplain.specs.declared.refusal.Refusal.TheVariants.{EEXIST, EISDIR}
 use Rattle.qplain.specs.Caller.{Caller}
@@ -9,13 +9,14 @@ use Rattle.qplain.specs.State.{State}
 use Rattle.qplain.specs.Arguments.{refusal_of_arguments}
 use Rattle.qplain.specs.Attempt.{Attempt, Refuse, at_path, in_place}
 use Rattle.qplain.specs.Files.{read_from, stat_at, truncate_at, write_into}
-use Rattle.qplain.specs.Names.{create_as, unlink_as}
+use Rattle.qplain.specs.Names.{create_as, mkdir_as, unlink_as}
 use Rattle.qplain.specs.Owners.{chown_at}
 use Rattle.qplain.specs.Quotas.{ask_quota, set_grace, set_quota}
 
 -- the tests of a call whose arguments are lawful
 abbrev pub attempt_of : State → Caller → Call → Attempt
 attempt_of S cred (Create path) = in_place S EEXIST (create_as S cred) path
+attempt_of S cred (Mkdir path) = in_place S EEXIST (mkdir_as S cred) path
 attempt_of S cred (Write path off bytes) = at_path S (write_into S cred off bytes) path
 attempt_of S cred (Truncate path size) = at_path S (truncate_at S cred size) path
 attempt_of S cred (Read path off len) = at_path S (read_from off len) path

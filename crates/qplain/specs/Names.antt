@@ -1,12 +1,12 @@
--- Names that come and go, and inodes with them: create and unlink (open(2), unlink(2)).
+-- Names that come and go, and inodes with them: create, mkdir and unlink (open(2), mkdir(2), unlink(2)).
 use Rattle.std.specs.Prelude.{ℕ, ◌+◌, not, if◌then◌else◌, List, filter, is_some}
 use Rattle.std.specs.Ordering.{nat_cmp}
 use Rattle.std.specs.BTreeMap.{is_at, insert_entry}
 use Rattle.std.specs.Map.{remove_entry}
-use Rattle.qplain.specs.declared.refusal.Refusal.TheVariants.{EEXIST, EISDIR, EPERM}
+use Rattle.qplain.specs.declared.refusal.Refusal.TheVariants.{EEXIST, EISDIR, EMLINK, EPERM}
 use Rattle.qplain.specs.Caller.{Caller}
-use Rattle.qplain.specs.State.{Inode, State, named, new_file, name_key_cmp}
-use Rattle.qplain.specs.Use.{has_name}
+use Rattle.qplain.specs.State.{Inode, State, named, new_directory, new_file, name_key_cmp}
+use Rattle.qplain.specs.Use.{has_name, has_too_many_links}
 use Rattle.qplain.specs.Attempt.{Attempt, Refuse, Becomes, at_name}
 use Rattle.qplain.specs.Rights.{may_remove}
 
@@ -23,6 +23,16 @@ abbrev pub create_as : State → Caller → ℕ → List ℕ → Attempt
 create_as S cred dir name =
     if is_some (named S dir name) then Refuse EEXIST
     else Becomes (created S (new_file cred.uid cred.gid) dir name) S.next
+
+-- the plain result, unless an inode has too many links in it
+abbrev pub unless_too_many_links : State → ℕ → Attempt
+unless_too_many_links S number = if has_too_many_links S then Refuse EMLINK else Becomes S number
+
+-- make a directory of the caller's under this name
+abbrev pub mkdir_as : State → Caller → ℕ → List ℕ → Attempt
+mkdir_as S cred dir name =
+    if is_some (named S dir name) then Refuse EEXIST
+    else unless_too_many_links (created S (new_directory cred.uid cred.gid) dir name) S.next
 
 -- the state without this name
 abbrev pub without_name : State → ℕ → List ℕ → State

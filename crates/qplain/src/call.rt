@@ -11,6 +11,11 @@ pub enum Call {
     Create {
         path: Path,
     },
+    /// Makes an empty directory of the caller's, which takes one inode and no block. EEXIST, which the root is too, comes
+    /// before EMLINK of the directory that it stands in, and that before ENOSPC and EDQUOT (mkdir(2)).
+    Mkdir {
+        path: Path,
+    },
     /// Writes the bytes at the offset, all of them or none.
     Write {
         path: Path,
@@ -70,6 +75,7 @@ impl Call {
     {
         match self {
             Call::Create { path } => Ok(Call::Create { path: path.copy()? }),
+            Call::Mkdir { path } => Ok(Call::Mkdir { path: path.copy()? }),
             Call::Write { path, off, bytes } => Ok(Call::Write {
                 path: path.copy()?,
                 off: *off,

@@ -1,0 +1,93 @@
+-- When a plain result has too many links: the one inode of which that has to be asked, for the proofs of stores that count
+-- no table.
+use Rattle.std.proofs.Common.{◌≡◌, ℕ, ◌+◌, ◌==◌, Bool, true, false, ◌||◌, not, nat_lt, List, All, slice_index_or, Some, None, is_some, refl, sym, ap, ◌∙◌, tests, arith}
+use Rattle.std.specs.List.Sorted.{IsStrictlySortedBy}
+use Rattle.std.specs.Map.{keys_of}
+use Rattle.std.specs.Ordering.{nat_cmp}
+use Rattle.std.specs.Cmp.{nat_cmp_total}
+use Rattle.qplain.specs.declared.bounds.TheConstants.{MAX_LINKS}
+use Rattle.qplain.specs.State.{Inode, State, inode_at, is_dir, named}
+use Rattle.qplain.specs.Use.{has_too_many_links, links_of}
+use Rattle.qplain.specs.Names.{created}
+use Rattle.qlaws.specs.Laws.{FitsTogether}
+use Rattle.qlaws.proofs.Tables.{All-insert_new, absent-fresh}
+use Rattle.qlaws.proofs.Orders.{sorted-insert}
+use Rattle.qlaws.proofs.Fitting.{few-links, none-too_many, or_right}
+use Rattle.qlaws.proofs.Finding.{found-at}
+use Rattle.qlaws.proofs.Sweeping.{All-lookup}
+use Rattle.qlaws.proofs.Linking.{inode_at-created-there, links_of-created-elsewhere, links_of-created-files, links_of-created-parent, links_of-new_directory}
+
+-- the inode has no more links than it may have, or is that of this number
+abbrev pub is_few : State → ℕ → ℕ × Inode → Bool
+is_few S number e = number == e.0 || not (nat_lt MAX_LINKS (links_of S e.0 e.1.dir))
+
+-- where all inodes but that of one number have few links, its links alone decide
+pub too_many-one : (S : State) (number : ℕ) (inode : Inode) → IsStrictlySortedBy nat_cmp (keys_of S.inodes) → inode_at S number ≡ Some inode
+    → All (λ e. is_few S number e ≡ true) S.inodes → has_too_many_links S ≡ nat_lt MAX_LINKS (links_of S number inode.dir)
+too_many-one S number inode sorted there few = by (nat_lt MAX_LINKS (links_of S number inode.dir)) refl
+  where
+    some : (b : Bool) → has_too_many_links S ≡ b → nat_lt MAX_LINKS (links_of S number inode.dir) ≡ true → b ≡ true
+    some true h many = refl
+    some false h many =
+        let fewer : nat_lt MAX_LINKS (links_of S number inode.dir) ≡ false =
+        All-lookup (λ e. nat_lt MAX_LINKS (links_of S e.0 e.1.dir) ≡ false) S.inodes number inode (few-links S h) there in
+        cc
+
+    each : (e : ℕ × Inode) (b : Bool) → (number == e.0) ≡ b → (b || not (nat_lt MAX_LINKS (links_of S e.0 e.1.dir))) ≡ true
+        → inode_at S e.0 ≡ Some e.1 → nat_lt MAX_LINKS (links_of S number inode.dir) ≡ false → nat_lt MAX_LINKS (links_of S e.0 e.1.dir) ≡ false
+    each e true same one found own =
+        let equal : number ≡ e.0 = grind (arith, tests, same) in
+        let it : Some inode ≡ Some e.1 = sym there ∙ ap (inode_at S) equal ∙ found in
+        let is : inode ≡ e.1 = cc in
+        (λ i. nat_lt MAX_LINKS (links_of S (sym equal i) (sym is i).dir)) ∙ own
+    each e false other one found own = false-from (nat_lt MAX_LINKS (links_of S e.0 e.1.dir)) one
+      where
+        false-from : (b : Bool) → not b ≡ true → b ≡ false
+        false-from true h = cc
+        false-from false h = refl
+
+    by : (b : Bool) → nat_lt MAX_LINKS (links_of S number inode.dir) ≡ b → has_too_many_links S ≡ b
+    by true many = some (has_too_many_links S) refl many
+    by false own =
+        none-too_many S (λ k d below.
+        let e : ℕ × Inode = slice_index_or S.inodes k d in
+        each e (number == e.0) refl (few k d below) (found-at S sorted k d below) own)
+
+-- an inode that keeps its links has few
+pub few-kept : (S S1 : State) (number : ℕ) (e : ℕ × Inode) → ((number == e.0) ≡ false → links_of S1 e.0 e.1.dir ≡ links_of S e.0 e.1.dir)
+    → nat_lt MAX_LINKS (links_of S e.0 e.1.dir) ≡ false → is_few S1 number e ≡ true
+few-kept S S1 number e keeps few = by (number == e.0) keeps
+  where
+    by : (b : Bool) → (b ≡ false → links_of S1 e.0 e.1.dir ≡ links_of S e.0 e.1.dir) → (b || not (nat_lt MAX_LINKS (links_of S1 e.0 e.1.dir))) ≡ true
+    by true same = refl
+    by false same = ap (λ n. not (nat_lt MAX_LINKS n)) (same refl) ∙ ap not few
+
+-- with a new directory it is the directory that it stands in
+pub too_many-directory : (S : State) (inode parent : Inode) (dir : ℕ) (name : List ℕ) → FitsTogether S → named S dir name ≡ None → inode.dir ≡ true
+    → inode_at S dir ≡ Some parent → parent.dir ≡ true
+    → has_too_many_links (created S inode dir name) ≡ nat_lt MAX_LINKS (links_of S dir true + 1)
+too_many-directory S inode parent dir name fits absent directory there stands =
+    too_many-one S1 dir parent (sorted-insert nat_cmp_total S.inodes S.next inode fits.inodes.in_order)
+    (inode_at-created-there S inode dir name dir none (ap (λ o. is_some o) there) ∙ there)
+    (All-insert_new (λ e. is_few S1 dir e ≡ true) nat_cmp S.inodes S.next inode none
+    (λ k d below.
+    let e : ℕ × Inode = slice_index_or S.inodes k d in
+    few-kept S S1 dir e (keeps e e.1.dir (found-at S fits.inodes.in_order k d below)) (few-links S fits.links k d below))
+    (or_right (dir == S.next) (not (nat_lt MAX_LINKS (links_of S1 S.next inode.dir))) new))
+    ∙ (λ i. nat_lt MAX_LINKS (links_of S1 dir (stands i)))
+    ∙ ap (nat_lt MAX_LINKS) (links_of-created-parent S inode dir name fits absent directory)
+  where
+    S1 : State
+    S1 = created S inode dir name
+
+    none : inode_at S S.next ≡ None
+    none = absent-fresh S.inodes S.next fits.inodes.fresh
+
+    keeps : (e : ℕ × Inode) (b : Bool) → inode_at S e.0 ≡ Some e.1 → (dir == e.0) ≡ false → links_of S1 e.0 b ≡ links_of S e.0 b
+    keeps e true found other = links_of-created-elsewhere S inode dir name fits absent e.0 other
+    keeps e false found other = links_of-created-files S inode dir name fits absent e.0 e.1 found
+
+    new : not (nat_lt MAX_LINKS (links_of S1 S.next inode.dir)) ≡ true
+    new =
+        (λ i. not (nat_lt MAX_LINKS (links_of S1 S.next (directory i))))
+        ∙ ap (λ n. not (nat_lt MAX_LINKS n)) (links_of-new_directory S inode dir name fits absent (ap is_dir there ∙ stands))

@@ -1,0 +1,8 @@
+use Rattle.std.proofs.Common.{refl}
+use Rattle.qlaws.proofs.examples.worked_examples_of_names.Goals as goal
+
+pub returns-clause-new_directories : goal.returns-clause-new_directories
+returns-clause-new_directories c = refl
+
+pub returns-clause-may_make_directories : goal.returns-clause-may_make_directories
+returns-clause-may_make_directories c = refl

@@ -1,0 +1,39 @@
+-- Worked examples of the calls on directories and further names, over the example setup: pairs of a line and its reply.
+use Rattle.std.specs.Prelude.{ℕ, true, [], ◌∷◌, None, codes}
+use Rattle.qrules.specs.declared.kind.Kind.TheVariants.{User}
+use Rattle.qrules.specs.declared.over.Over.TheVariants.{InodeHard}
+use Rattle.qplain.specs.declared.call.Call.TheVariants.{Create, Mkdir, Read, Stat as AskStat, Unlink, SetQuota, Quota as AskQuota}
+use Rattle.qplain.specs.declared.reply.Reply.{Reply}
+use Rattle.qplain.specs.declared.reply.Reply.TheVariants.{Stat as StatReply, Refused}
+use Rattle.qplain.specs.declared.refusal.Refusal.TheVariants.{EINVAL, ENOENT, ENOTDIR, EEXIST, ENOSPC, EDQUOT, EISDIR}
+use Rattle.qlaws.specs.Examples.{ann, bob, create_a, done, free, line, record_of, root_caller}
+use Rattle.qlaws.specs.MoreExamples.{Plays}
+
+-- the directory of this number, with these owners and so many links
+abbrev pub directory : ℕ → ℕ → ℕ → ℕ → Reply
+directory number uid gid links =
+    StatReply (record { ino = number; dir = true; uid = uid; gid = gid; size = 0; blocks = 0; links = links })
+
+-- a directory has two links and takes one inode and no block; its parent has one link more, and a file gives it none
+abbrev pub NewDirectories : Type 0
+NewDirectories = Plays
+    ((line 0 bob (AskStat (codes "/")), directory 1 0 0 2) ∷ (line 0 bob (Mkdir (codes "/d")), done 2 0 1)
+    ∷ (line 0 bob (AskStat (codes "/d")), directory 2 1001 0 2) ∷ (line 0 bob (AskStat (codes "/")), directory 1 0 0 3)
+    ∷ (line 0 ann (Mkdir (codes "/d/e")), done 3 0 1) ∷ (line 0 bob (AskStat (codes "/d/e")), directory 3 1000 100 2)
+    ∷ (line 0 bob (Create (codes "/d/f")), done 4 0 1) ∷ (line 0 bob (AskStat (codes "/d")), directory 2 1001 0 3)
+    ∷ (line 0 bob (AskStat (codes "/")), directory 1 0 0 3)
+    ∷ (line 0 bob (AskQuota User 1001), record_of 0 2 0 0 None) ∷ [])
+
+-- where no directory can be made, and in which order that is refused; a directory is no file
+abbrev pub MayMakeDirectories : Type 0
+MayMakeDirectories = Plays
+    ((line 0 bob (Mkdir (codes "/d/")), Refused EINVAL) ∷ (line 0 bob (Mkdir (codes "/")), Refused EEXIST)
+    ∷ (line 0 bob (Mkdir (codes "/x/y")), Refused ENOENT) ∷ (line 0 bob create_a, done 2 0 1)
+    ∷ (line 0 bob (Mkdir (codes "/a")), Refused EEXIST) ∷ (line 0 bob (Mkdir (codes "/a/d")), Refused ENOTDIR)
+    ∷ (line 0 root_caller (SetQuota User 1001 (record free { inode_hard = 2 })), done 0 0 0)
+    ∷ (line 0 bob (Mkdir (codes "/d")), done 3 0 1) ∷ (line 0 bob (Mkdir (codes "/d")), Refused EEXIST)
+    ∷ (line 0 bob (Mkdir (codes "/e")), Refused (EDQUOT User InodeHard)) ∷ (line 0 bob (Create (codes "/d")), Refused EEXIST)
+    ∷ (line 0 bob (Read (codes "/d") 0 1), Refused EISDIR) ∷ (line 0 ann (Unlink (codes "/d")), Refused EISDIR)
+    ∷ (line 0 ann (Mkdir (codes "/e")), done 4 0 1) ∷ (line 0 ann (Mkdir (codes "/f")), done 5 0 1)
+    ∷ (line 0 ann (Mkdir (codes "/g")), done 6 0 1) ∷ (line 0 ann (Mkdir (codes "/h")), Refused ENOSPC)
+    ∷ (line 0 bob (Mkdir (codes "/h")), Refused ENOSPC) ∷ [])
