@@ -2,6 +2,7 @@
 use Rattle.std.proofs.Common.{◌≡◌, ℕ, ◌+◌, ◌==◌, Bool, true, false, not, ◌&&◌, ◌||◌, nat_lt, cond, ◌-◌, List, length, take, subst, Option, Some, None, is_some, Result, Ok, Err, refl, tests, arith}
 use Rattle.std.specs.List.{find, list_all, list_any}
 use Rattle.std.specs.Option.{unwrap_or}
+use Rattle.std.proofs.lemmas.Bool.{and_left, and_right}
 use Rattle.qrules.specs.declared.kind.Kind.{Kind}
 use Rattle.qrules.specs.declared.kind.Kind.TheVariants.{User, Group}
 use Rattle.qrules.specs.declared.limits.Limits.{Limits}
@@ -9,20 +10,20 @@ use Rattle.qrules.specs.declared.graces.Graces.{Graces}
 use Rattle.qrules.specs.declared.graces.TheConstants.{MAX_MOMENT}
 use Rattle.qblocks.specs.File.{File, after_truncate, after_write, read_at}
 use Rattle.qplain.specs.declared.call.Call.{Call}
-use Rattle.qplain.specs.declared.call.Call.TheVariants.{Create, Mkdir, Write, Truncate, Read, Stat as AskStat, Unlink, Chown, SetQuota, SetGrace, Quota as AskQuota}
+use Rattle.qplain.specs.declared.call.Call.TheVariants.{Create, Mkdir, Write, Truncate, Read, Stat as AskStat, Unlink, Rmdir, Chown, SetQuota, SetGrace, Quota as AskQuota}
 use Rattle.qplain.specs.declared.refusal.Refusal.{Refusal}
-use Rattle.qplain.specs.declared.refusal.Refusal.TheVariants.{EINVAL, ENAMETOOLONG, ENOTDIR, EEXIST, EISDIR, EACCES, EFBIG, EMLINK, EPERM, ESRCH}
+use Rattle.qplain.specs.declared.refusal.Refusal.TheVariants.{EBUSY, EINVAL, ENAMETOOLONG, ENOTDIR, ENOTEMPTY, EEXIST, EISDIR, EACCES, EFBIG, EMLINK, EPERM, ESRCH}
 use Rattle.qplain.specs.declared.reply.Reply.TheVariants.{Bytes, Done}
 use Rattle.qplain.specs.Caller.{Caller, is_superuser}
 use Rattle.qplain.specs.State.{Holder, Inode, State, inode_at, is_directory, named, new_directory, new_file}
-use Rattle.qplain.specs.Use.{has_too_many_links}
+use Rattle.qplain.specs.Use.{has_too_many_links, is_empty}
 use Rattle.qplain.specs.Walk.{as_directory, components, is_well_formed, is_too_long, last_name, led_to, place, walk}
 use Rattle.qplain.specs.Decision.{ends_after, refusal_between}
 use Rattle.qplain.specs.Arguments.{has_bad_number, is_declared, is_holder, is_known, is_undeclared, paths_of, refusal_of_arguments}
 use Rattle.qplain.specs.Attempt.{Attempt, Refuse, Answer, Becomes, at_inode, at_name, at_path, at_reached, in_place, in_reached, no_change, under}
 use Rattle.qplain.specs.Rights.{is_member, is_own, is_owner, may_give, may_remove, may_write}
 use Rattle.qplain.specs.Files.{read_from, stat_at, truncate_at, with_file, with_inode, write_into}
-use Rattle.qplain.specs.Names.{create_as, created, mkdir_as, swept, unless_too_many_links, unlink_as, unlink_at, without_name}
+use Rattle.qplain.specs.Names.{create_as, created, mkdir_as, rmdir_as, rmdir_at, swept, unless_too_many_links, unlink_as, unlink_at, without_name}
 use Rattle.qplain.specs.Owners.{chown_at, with_owners}
 use Rattle.qplain.specs.Quotas.{ask_quota, quota_from, set_quota, set_grace, with_limits_of}
 use Rattle.qplain.specs.Calls.{attempt, attempt_of, unless}
@@ -49,7 +50,7 @@ pub record HoldsOfResults (P : State → Type 0) (S : State) (cred : Caller) : T
   pub changed : (number : ℕ) (inode after : Inode) → inode_at S number ≡ Some inode → MayFollow S inode after
       → may_give cred inode after.uid after.gid ≡ true → P (with_inode S number after)
   pub removed : (dir : ℕ) (name : List ℕ) (number : ℕ) (inode : Inode) → named S dir name ≡ Some number → inode_at S number ≡ Some inode
-      → inode.dir ≡ false → may_remove S cred dir number ≡ true → P (swept (without_name S dir name))
+      → (inode.dir && not (is_empty S number)) ≡ false → may_remove S cred dir number ≡ true → P (swept (without_name S dir name))
   pub limited : (kind : Kind) (id : ℕ) (limits : Limits) → is_superuser cred ≡ true → P (with_limits_of S kind id limits)
   pub graced : (graces : Graces) → is_superuser cred ≡ true → P (record S { graces = graces })
 
@@ -74,7 +75,8 @@ none-from_not_some : (o : Option ℕ) → is_some o ≡ false → o ≡ None
 none-from_not_some None h = refl
 none-from_not_some (Some n) h = cc
 
-true-from_not : (b : Bool) → not b ≡ false → b ≡ true
+-- what is not refused holds
+pub true-from_not : (b : Bool) → not b ≡ false → b ≡ true
 true-from_not true h = refl
 true-from_not false h = cc
 
@@ -104,7 +106,7 @@ known-lawful false true false numbers long h = cc
 known-lawful false true true true long h = cc
 
 -- what a name leads to
-led_to-ok : (o : Option ℕ) (number : ℕ) → led_to o ≡ Ok number → o ≡ Some number
+pub led_to-ok : (o : Option ℕ) (number : ℕ) → led_to o ≡ Ok number → o ≡ Some number
 led_to-ok None number h = cc
 led_to-ok (Some n) number h = cc
 
@@ -210,7 +212,20 @@ module _ (P : State → Type 0) (S : State) (cred : Caller) (holds : HoldsOfResu
       let becomes : Attempt = Becomes (swept (without_name S dir name)) number in
       choice P inode.dir (Refuse EISDIR) (cond (not (may_remove S cred dir number)) (Refuse EPERM) becomes) tt (λ file.
       choice P (not (may_remove S cred dir number)) (Refuse EPERM) becomes tt
-      (λ may. holds.removed dir name number inode led there file (true-from_not (may_remove S cred dir number) may)))
+      (λ may. holds.removed dir name number inode led there (and_left inode.dir (not (is_empty S number)) file)
+      (true-from_not (may_remove S cred dir number) may)))
+
+  rmdir_at-becomes : (dir : ℕ) (name : List ℕ) (number : ℕ) (inode : Inode) → named S dir name ≡ Some number → inode_at S number ≡ Some inode
+      → OnBecomes P (rmdir_at S cred dir name number inode)
+  rmdir_at-becomes dir name number inode led there =
+      let becomes : Attempt = Becomes (swept (without_name S dir name)) number in
+      let empties : Attempt = cond (not (is_empty S number)) (Refuse ENOTEMPTY) becomes in
+      let allowed : Attempt = cond (not (may_remove S cred dir number)) (Refuse EPERM) empties in
+      choice P (not inode.dir) (Refuse ENOTDIR) allowed tt (λ directory.
+      choice P (not (may_remove S cred dir number)) (Refuse EPERM) empties tt (λ may.
+      choice P (not (is_empty S number)) (Refuse ENOTEMPTY) becomes tt (λ empty.
+      holds.removed dir name number inode led there (and_right inode.dir (not (is_empty S number)) empty)
+      (true-from_not (may_remove S cred dir number) may))))
 
   chown_at-becomes : (uid gid : Option ℕ) (number : ℕ) (inode : Inode) → (is_undeclared S User uid || is_undeclared S Group gid) ≡ false
       → inode_at S number ≡ Some inode → OnBecomes P (chown_at S cred uid gid number inode)
@@ -255,6 +270,9 @@ module _ (P : State → Type 0) (S : State) (cred : Caller) (holds : HoldsOfResu
   attempt_of-becomes (Unlink path) known good =
       in_place-becomes EISDIR (unlink_as S cred) path (λ dir name placed stands.
       at_name-becomes (unlink_at S cred dir name) dir name (λ number inode led there. unlink_at-becomes dir name number inode led there))
+  attempt_of-becomes (Rmdir path) known good =
+      in_place-becomes EBUSY (rmdir_as S cred) path (λ dir name placed stands.
+      at_name-becomes (rmdir_at S cred dir name) dir name (λ number inode led there. rmdir_at-becomes dir name number inode led there))
   attempt_of-becomes (Chown path uid gid) known good =
       at_path-becomes (chown_at S cred uid gid) path (λ number inode there. chown_at-becomes uid gid number inode good there)
   attempt_of-becomes (SetQuota kind id limits) known good = set_quota-becomes kind id limits

@@ -1,5 +1,5 @@
--- When a plain result has too many links: the one inode of which that has to be asked, for the proofs of stores that count
--- no table.
+-- When a plain result has too many links: the one inode of which that has to be asked, for the proofs of stores that
+-- count no table.
 use Rattle.std.proofs.Common.{◌≡◌, ℕ, ◌+◌, ◌==◌, Bool, true, false, ◌||◌, not, nat_lt, List, All, slice_index_or, Some, None, is_some, refl, sym, ap, ◌∙◌, tests, arith}
 use Rattle.std.specs.List.Sorted.{IsStrictlySortedBy}
 use Rattle.std.specs.Map.{keys_of}

@@ -93,7 +93,7 @@ results_keep S cred fits other = record {
     user = λ q one then at now. (keeps-changed S cred number inode after other there may q one then at now).user;
     group = λ q one then at now. (keeps-changed S cred number inode after other there may q one then at now).group;
   };
-  removed = λ dir name number inode led there file may.
+  removed = λ dir name number inode led there empty may.
       let was : (q : ℕ) (after : Inode) → inode_at (swept (without_name S dir name)) q ≡ Some after → inode_at S q ≡ Some after =
       λ q after now. left-there (has_name (without_name S dir name) q) (inode_at S q) after
       (sym (inode_at-swept S (without_name S dir name).names q) ∙ now) in

@@ -6,6 +6,7 @@ pub mod Balance
 pub mod Becoming
 pub mod Tables
 pub mod Orders
+pub mod Filtering
 pub mod Sound
 pub mod Fitting
 pub mod Sweeping

@@ -47,7 +47,7 @@ results_go_on S cred fits = record {
     next = omega arith;
     numbers = All-keys-set_value (λ n. stood S n ≡ true) (is_at (nat_cmp number)) S.inodes after (all-stood S);
   };
-  removed = λ dir name number inode led there file may. record {
+  removed = λ dir name number inode led there empty may. record {
     next = omega arith;
     numbers = All-filter (λ (e : ℕ × Inode). has_name (without_name S dir name) e.0) (λ e. stood S e.0 ≡ true) S.inodes (all-stood S);
   };

@@ -1,5 +1,5 @@
 -- Every inode is reached from the root: walks before and after each plain result.
-use Rattle.std.proofs.Common.{◌≡◌, ℕ, ◌==◌, Bool, true, false, ◌||◌, nat_lt, cond, List, [], ◌∷◌, ◌++◌, All, fold, slice_index_or, Option, Some, None, is_some, Result, Ok, Err, refl, sym, ap, subst, ◌∙◌, tests, arith}
+use Rattle.std.proofs.Common.{◌≡◌, ℕ, ◌==◌, Bool, true, false, not, ◌&&◌, ◌||◌, nat_lt, cond, List, [], ◌∷◌, ◌++◌, All, fold, slice_index_or, Option, Some, None, is_some, Result, Ok, Err, refl, sym, ap, subst, ◌∙◌, tests, arith}
 use Rattle.std.specs.List.{AllByRecursion}
 use Rattle.std.specs.List.Sorted.{IsStrictlySortedBy}
 use Rattle.std.specs.Map.{keys_of, lookup}
@@ -12,7 +12,7 @@ use Rattle.qplain.specs.declared.bounds.TheConstants.{ROOT}
 use Rattle.qplain.specs.declared.refusal.Refusal.{Refusal}
 use Rattle.qplain.specs.declared.refusal.Refusal.TheVariants.{ENOTDIR}
 use Rattle.qplain.specs.State.{Holder, Inode, NameKey, State, inode_at, is_dir, is_directory, name_key_cmp, named, root, start}
-use Rattle.qplain.specs.Use.{has_name, names_to}
+use Rattle.qplain.specs.Use.{has_name, is_empty, names_to}
 use Rattle.qplain.specs.Walk.{follow, led_to}
 use Rattle.qplain.specs.Files.{with_inode}
 use Rattle.qplain.specs.Names.{created, swept, without_name}
@@ -21,7 +21,7 @@ use Rattle.qlaws.specs.Laws.{AllReached, AllStayReached, FitsTogether, IsReached
 use Rattle.qlaws.proofs.Tables.{All-insert_new, All-keys-set_value, absent-fresh, lookup-insert_new, name_key_total}
 use Rattle.qlaws.proofs.Orders.{All-remove, sorted-remove}
 use Rattle.qlaws.proofs.Fitting.{directory-same, some-is_dir}
-use Rattle.qlaws.proofs.Sweeping.{All-lookup, has_name-there, has_name-without, stays-swept, unfilled-file}
+use Rattle.qlaws.proofs.Sweeping.{All-lookup, has_name-there, has_name-without, stays-swept, unfilled}
 use Rattle.qlaws.proofs.Linking.{inode_at-created-there}
 use Rattle.qlaws.proofs.Walking.{walk-fault}
 use Rattle.qlaws.proofs.Becoming.{HoldsOfResults, step-becomes}
@@ -178,14 +178,14 @@ named-reached S names q sorted lead has each = by (q == ROOT) refl has
         reached-further S1 one.0.0.0 one.0.0.1 q dir.0 dir.1 led
 
 module _ (S : State) (dir : ℕ) (name : List ℕ) (number : ℕ) (inode : Inode) (fits : FitsTogether S) (led : named S dir name ≡ Some number)
-    (there : inode_at S number ≡ Some inode) (is_file : inode.dir ≡ false) (all : AllReached S) where
+    (there : inode_at S number ≡ Some inode) (empty : (inode.dir && not (is_empty S number)) ≡ false) (all : AllReached S) where
   abbrev R1 : State
   R1 = swept (without_name S dir name)
 
   -- no name stands in the inode
   not-in : (d : ℕ) (nm : List ℕ) (m : ℕ) → named S d nm ≡ Some m → (number == d) ≡ false
   not-in d nm m is =
-      let apart : (d == number) ≡ false = holds-of-dir S (λ n. (n == number) ≡ false) (unfilled-file S fits number inode there is_file) d nm m is in
+      let apart : (d == number) ≡ false = holds-of-dir S (λ n. (n == number) ≡ false) (unfilled S fits number inode there empty) d nm m is in
       grind (arith, tests, apart)
 
   directory-left : (d : ℕ) → is_directory S d ≡ true → (number == d) ≡ false → is_directory R1 d ≡ true
@@ -232,7 +232,7 @@ module _ (S : State) (dir : ℕ) (name : List ℕ) (number : ℕ) (inode : Inode
               let apart : (d == number) ≡ false =
               holds-of-dir (without_name S dir name) (λ n. (n == number) ≡ false)
               (All-remove (λ e. (e.0.0 == number) ≡ false) (is_at (name_key_cmp (dir, name))) S.names
-              (unfilled-file S fits number inode there is_file)) d nm m is in
+              (unfilled S fits number inode there empty)) d nm m is in
               grind (arith, tests, apart)
 
 -- ---- other holders and graces
@@ -249,7 +249,7 @@ results_reach : (S : State) (cred : Caller) → FitsTogether S → AllReached S 
 results_reach S cred fits all = record {
   created = λ inode dir name own known sound stands absent few. created_reached S inode dir name fits stands absent all;
   changed = λ number inode after there follows may. changed_reached S number inode after there follows.dir all;
-  removed = λ dir name number inode led there file may. removed_reached S dir name number inode fits led there file all;
+  removed = λ dir name number inode led there empty may. removed_reached S dir name number inode fits led there empty all;
   limited = λ kind id limits may. walks-same S (with_limits_of S kind id limits).holders S.graces all;
   graced = λ graces may. walks-same S S.holders graces all;
 }

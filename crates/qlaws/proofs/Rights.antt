@@ -132,7 +132,7 @@ results_leave S cred fits other = record {
         (has_name-there S fits q (ap is_some at));
     names = λ dir n name leads directory others. leads;
   };
-  removed = λ dir name number inode led there file may. record {
+  removed = λ dir name number inode led there empty may. record {
     inodes = λ q one at others.
         inode_at-swept S (without_name S dir name).names q ∙ ap (λ o. cond (has_name (without_name S dir name) q) o None) at;
     names = λ parent q name_too leads directory others. name-left S cred dir name number fits other led may parent q name_too leads directory others;

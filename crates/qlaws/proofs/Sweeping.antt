@@ -1,6 +1,6 @@
 -- What a change of the names, and the sweep after it, leave of a state that fits together.
-use Rattle.std.proofs.Common.{◌≡◌, ℕ, ◌+◌, ◌≤◌, ◌==◌, Bool, true, false, ◌&&◌, ◌||◌, nat_le, nat_lt, cond, List, [], ◌∷◌, All, filter, slice_index_or, count_by, Option, Some, None, is_some, refl, sym, ap, subst, ◌∙◌, tests, arith}
-use Rattle.std.specs.List.{AllByRecursion}
+use Rattle.std.proofs.Common.{◌≡◌, ℕ, ◌+◌, ◌≤◌, ◌==◌, Bool, true, false, not, ◌&&◌, ◌||◌, nat_le, nat_lt, cond, List, [], ◌∷◌, All, filter, slice_index_or, count_by, Option, Some, None, is_some, refl, sym, ap, subst, ◌∙◌, tests, arith}
+use Rattle.std.specs.List.{AllByRecursion, list_any}
 use Rattle.std.specs.List.Sorted.{IsStrictlySortedBy}
 use Rattle.std.specs.Map.{keys_of, lookup, remove_entry, values_of}
 use Rattle.std.specs.declared.cmp.Ordering.{Ordering}
@@ -13,16 +13,16 @@ use Rattle.std.proofs.lemmas.Map.{lookup-remove_entry}
 use Rattle.std.proofs.lemmas.Map.Entries.{lookup-filter-keys}
 use Rattle.std.proofs.lemmas.Map.Keys.{IsDistinct-from_sorted}
 use Rattle.std.proofs.lemmas.Bool.{and_parts}
-use Rattle.std.proofs.lemmas.List.Elements.{All-cons, All-filter, All-head, All-tail, filter_passes}
+use Rattle.std.proofs.lemmas.List.Elements.{All-cons, All-filter, All-from_recursion, All-head, All-tail, filter_passes}
 use Rattle.std.proofs.lemmas.List.Sums.{get_or-le-sum_by, sum_by-le-sum_by}
 use Rattle.qplain.specs.declared.bounds.TheConstants.{MAX_LINKS, ROOT}
 use Rattle.qplain.specs.State.{Inode, NameKey, State, inode_at, is_dir, is_directory, name_key_cmp, named}
-use Rattle.qplain.specs.Use.{has_name, has_too_many_links, links_of, names_to}
+use Rattle.qplain.specs.Use.{has_name, has_too_many_links, is_empty, links_of, names_to}
 use Rattle.qplain.specs.Names.{swept, without_name}
 use Rattle.qlaws.specs.Laws.{FitsTogether, IsSound, has_known_owners, has_right_names, leads}
 use Rattle.qlaws.proofs.Orders.{All-remove, sorted-remove, sum-remove, sum-remove-le}
 use Rattle.qlaws.proofs.Tables.{name_key_total, same-number}
-use Rattle.qlaws.proofs.Fitting.{few-links, none-too_many, not_both, right, some-is_dir}
+use Rattle.qlaws.proofs.Fitting.{few-links, none-passes, none-too_many, not_both, right, some-is_dir}
 
 -- ---- filtered tables
 
@@ -160,15 +160,30 @@ module _ (S : State) (fits : FitsTogether S) where
   pub has_name-there : (q : ℕ) → is_some (inode_at S q) ≡ true → has_name S q ≡ true
   has_name-there q some = there-right q (inode_at S q) refl some
 
-  -- no name stands in a file
-  pub unfilled-file : (number : ℕ) (inode : Inode) → inode_at S number ≡ Some inode → inode.dir ≡ false → All (λ e. (e.0.0 == number) ≡ false) S.names
-  unfilled-file number inode there is_file = λ k d below.
-      let e : NameKey × ℕ = slice_index_or S.names k d in
-      let stands : is_directory S e.0.0 ≡ true = (and_parts (is_directory S e.0.0) (is_some (inode_at S e.1)) (fits.names.lead k d below)).0 in
-      not_both (e.0.0 == number) (λ same.
-      let equal : e.0.0 ≡ number = grind (arith, tests, same) in
-      let no_dir : is_directory S e.0.0 ≡ false = ap (λ n. is_directory S n) equal ∙ ap is_dir there ∙ is_file in
-      cc)
+  -- no name stands in a directory that is empty
+  pub unfilled-empty : (number : ℕ) → not (is_empty S number) ≡ false → All (λ e. (e.0.0 == number) ≡ false) S.names
+  unfilled-empty number empty =
+      All-from_recursion (λ (e : NameKey × ℕ). (e.0.0 == number) ≡ false) S.names
+      (none-passes (λ (e : NameKey × ℕ). e.0.0 == number) S.names (not_not (list_any (λ e. e.0.0 == number) S.names) empty))
+    where
+      not_not : (b : Bool) → not (not b) ≡ false → b ≡ false
+      not_not true h = cc
+      not_not false h = refl
+
+  -- nor in a file
+  pub unfilled : (number : ℕ) (inode : Inode) → inode_at S number ≡ Some inode → (inode.dir && not (is_empty S number)) ≡ false
+      → All (λ e. (e.0.0 == number) ≡ false) S.names
+  unfilled number inode there empty = by inode.dir refl empty
+    where
+      by : (b : Bool) → inode.dir ≡ b → (b && not (is_empty S number)) ≡ false → All (λ e. (e.0.0 == number) ≡ false) S.names
+      by true is_directory_too h = unfilled-empty number h
+      by false is_file h = λ k d below.
+          let e : NameKey × ℕ = slice_index_or S.names k d in
+          let stands : is_directory S e.0.0 ≡ true = (and_parts (is_directory S e.0.0) (is_some (inode_at S e.1)) (fits.names.lead k d below)).0 in
+          not_both (e.0.0 == number) (λ same.
+          let equal : e.0.0 ≡ number = grind (arith, tests, same) in
+          let no_dir : is_directory S e.0.0 ≡ false = ap (λ n. is_directory S n) equal ∙ ap is_dir there ∙ is_file in
+          cc)
 
 -- ---- a name less
 

@@ -1,13 +1,13 @@
 -- Worked examples of the calls on directories and further names, over the example setup: pairs of a line and its reply.
-use Rattle.std.specs.Prelude.{ℕ, true, [], ◌∷◌, None, codes}
+use Rattle.std.specs.Prelude.{ℕ, true, [], ◌∷◌, Some, None, codes}
 use Rattle.qrules.specs.declared.kind.Kind.TheVariants.{User}
 use Rattle.qrules.specs.declared.over.Over.TheVariants.{InodeHard}
-use Rattle.qplain.specs.declared.call.Call.TheVariants.{Create, Mkdir, Read, Stat as AskStat, Unlink, SetQuota, Quota as AskQuota}
+use Rattle.qplain.specs.declared.call.Call.TheVariants.{Create, Mkdir, Read, Stat as AskStat, Unlink, Rmdir, Chown, SetQuota, Quota as AskQuota}
 use Rattle.qplain.specs.declared.reply.Reply.{Reply}
 use Rattle.qplain.specs.declared.reply.Reply.TheVariants.{Stat as StatReply, Refused}
-use Rattle.qplain.specs.declared.refusal.Refusal.TheVariants.{EINVAL, ENOENT, ENOTDIR, EEXIST, ENOSPC, EDQUOT, EISDIR}
+use Rattle.qplain.specs.declared.refusal.Refusal.TheVariants.{EBUSY, EINVAL, ENOENT, ENOTDIR, ENOTEMPTY, EEXIST, ENOSPC, EDQUOT, EISDIR, EPERM}
 use Rattle.qlaws.specs.Examples.{ann, bob, create_a, done, free, line, record_of, root_caller}
-use Rattle.qlaws.specs.MoreExamples.{Plays}
+use Rattle.qlaws.specs.MoreExamples.{Plays, less}
 
 -- the directory of this number, with these owners and so many links
 abbrev pub directory : ℕ → ℕ → ℕ → ℕ → Reply
@@ -32,8 +32,37 @@ MayMakeDirectories = Plays
     ∷ (line 0 bob (Mkdir (codes "/a")), Refused EEXIST) ∷ (line 0 bob (Mkdir (codes "/a/d")), Refused ENOTDIR)
     ∷ (line 0 root_caller (SetQuota User 1001 (record free { inode_hard = 2 })), done 0 0 0)
     ∷ (line 0 bob (Mkdir (codes "/d")), done 3 0 1) ∷ (line 0 bob (Mkdir (codes "/d")), Refused EEXIST)
-    ∷ (line 0 bob (Mkdir (codes "/e")), Refused (EDQUOT User InodeHard)) ∷ (line 0 bob (Create (codes "/d")), Refused EEXIST)
+    ∷ (line 0 bob (Mkdir (codes "/e")), Refused (EDQUOT User InodeHard))
+    ∷ (line 0 bob (Create (codes "/d")), Refused EEXIST)
     ∷ (line 0 bob (Read (codes "/d") 0 1), Refused EISDIR) ∷ (line 0 ann (Unlink (codes "/d")), Refused EISDIR)
     ∷ (line 0 ann (Mkdir (codes "/e")), done 4 0 1) ∷ (line 0 ann (Mkdir (codes "/f")), done 5 0 1)
     ∷ (line 0 ann (Mkdir (codes "/g")), done 6 0 1) ∷ (line 0 ann (Mkdir (codes "/h")), Refused ENOSPC)
     ∷ (line 0 bob (Mkdir (codes "/h")), Refused ENOSPC) ∷ [])
+
+-- a directory goes when nothing stands in it, with its inode, its owner's charge and its parent's link; its number stays
+-- given
+abbrev pub DirectoriesGo : Type 0
+DirectoriesGo = Plays
+    ((line 0 bob (Mkdir (codes "/d")), done 2 0 1) ∷ (line 0 bob (Create (codes "/d/f")), done 3 0 1)
+    ∷ (line 0 bob (Rmdir (codes "/d")), Refused ENOTEMPTY) ∷ (line 0 bob (Unlink (codes "/d/f")), less 3 0 1)
+    ∷ (line 0 bob (Mkdir (codes "/d/e")), done 4 0 1) ∷ (line 0 bob (Rmdir (codes "/d")), Refused ENOTEMPTY)
+    ∷ (line 0 bob (AskStat (codes "/d")), directory 2 1001 0 3)
+    ∷ (line 0 bob (Rmdir (codes "/d/e")), less 4 0 1)
+    ∷ (line 0 bob (AskStat (codes "/d")), directory 2 1001 0 2) ∷ (line 0 bob (Rmdir (codes "/d")), less 2 0 1)
+    ∷ (line 0 bob (AskStat (codes "/d")), Refused ENOENT) ∷ (line 0 bob (AskStat (codes "/")), directory 1 0 0 2)
+    ∷ (line 0 bob (AskQuota User 1001), record_of 0 0 0 0 None) ∷ (line 0 bob (Mkdir (codes "/d")), done 5 0 1) ∷ [])
+
+-- who may remove a directory, and in which order that is refused: what is no directory, then the right, then what is not
+-- empty
+abbrev pub MayRemoveDirectories : Type 0
+MayRemoveDirectories = Plays
+    ((line 0 ann (Rmdir (codes "/d/")), Refused EINVAL) ∷ (line 0 root_caller (Rmdir (codes "/")), Refused EBUSY)
+    ∷ (line 0 ann (Rmdir (codes "/d")), Refused ENOENT) ∷ (line 0 ann (Rmdir (codes "/d/e")), Refused ENOENT)
+    ∷ (line 0 bob create_a, done 2 0 1) ∷ (line 0 ann (Rmdir (codes "/a")), Refused ENOTDIR)
+    ∷ (line 0 ann (Rmdir (codes "/a/d")), Refused ENOTDIR) ∷ (line 0 bob (Mkdir (codes "/d")), done 3 0 1)
+    ∷ (line 0 ann (Mkdir (codes "/d/e")), done 4 0 1) ∷ (line 0 ann (Rmdir (codes "/d")), Refused EPERM)
+    ∷ (line 0 bob (Rmdir (codes "/d")), Refused ENOTEMPTY) ∷ (line 0 bob (Rmdir (codes "/d/e")), less 4 0 1)
+    ∷ (line 0 ann (Rmdir (codes "/d")), Refused EPERM)
+    ∷ (line 0 root_caller (Chown (codes "/") (Some 1000) None), done 1 0 0)
+    ∷ (line 0 ann (Rmdir (codes "/d")), less 3 0 1)
+    ∷ (line 0 bob (Mkdir (codes "/d")), done 5 0 1) ∷ (line 0 root_caller (Rmdir (codes "/d")), less 5 0 1) ∷ [])

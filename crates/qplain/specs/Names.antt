@@ -1,12 +1,13 @@
--- Names that come and go, and inodes with them: create, mkdir and unlink (open(2), mkdir(2), unlink(2)).
+-- Names that come and go, and inodes with them: create, mkdir, unlink and rmdir (open(2), mkdir(2), unlink(2),
+-- rmdir(2)).
 use Rattle.std.specs.Prelude.{ℕ, ◌+◌, not, if◌then◌else◌, List, filter, is_some}
 use Rattle.std.specs.Ordering.{nat_cmp}
 use Rattle.std.specs.BTreeMap.{is_at, insert_entry}
 use Rattle.std.specs.Map.{remove_entry}
-use Rattle.qplain.specs.declared.refusal.Refusal.TheVariants.{EEXIST, EISDIR, EMLINK, EPERM}
+use Rattle.qplain.specs.declared.refusal.Refusal.TheVariants.{EEXIST, EISDIR, EMLINK, ENOTDIR, ENOTEMPTY, EPERM}
 use Rattle.qplain.specs.Caller.{Caller}
 use Rattle.qplain.specs.State.{Inode, State, named, new_directory, new_file, name_key_cmp}
-use Rattle.qplain.specs.Use.{has_name, has_too_many_links}
+use Rattle.qplain.specs.Use.{has_name, has_too_many_links, is_empty}
 use Rattle.qplain.specs.Attempt.{Attempt, Refuse, Becomes, at_name}
 use Rattle.qplain.specs.Rights.{may_remove}
 
@@ -52,3 +53,15 @@ unlink_at S cred dir name number inode =
 -- unlink what has this name
 abbrev pub unlink_as : State → Caller → ℕ → List ℕ → Attempt
 unlink_as S cred dir name = at_name S (unlink_at S cred dir name) dir name
+
+-- remove a directory, which has this name
+abbrev pub rmdir_at : State → Caller → ℕ → List ℕ → ℕ → Inode → Attempt
+rmdir_at S cred dir name number inode =
+    if not inode.dir then Refuse ENOTDIR
+    else if not (may_remove S cred dir number) then Refuse EPERM
+    else if not (is_empty S number) then Refuse ENOTEMPTY
+    else Becomes (swept (without_name S dir name)) number
+
+-- remove the directory that has this name
+abbrev pub rmdir_as : State → Caller → ℕ → List ℕ → Attempt
+rmdir_as S cred dir name = at_name S (rmdir_at S cred dir name) dir name

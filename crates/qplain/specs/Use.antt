@@ -1,5 +1,5 @@
 -- What is counted, each time afresh over all inodes and names (quotacheck(8)).
-use Rattle.std.specs.Prelude.{ℕ, ◌+◌, Bool, true, false, ◌&&◌, ◌||◌, ◌==◌, nat_lt, if◌then◌else◌, length, sum_by, count_by}
+use Rattle.std.specs.Prelude.{ℕ, ◌+◌, Bool, true, false, not, ◌&&◌, ◌||◌, ◌==◌, nat_lt, if◌then◌else◌, length, sum_by, count_by}
 use Rattle.std.specs.List.{list_any}
 use Rattle.std.specs.Map.{values_of}
 use Rattle.qrules.specs.declared.kind.Kind.{Kind}
@@ -38,6 +38,10 @@ names_to S number = count_by (λ e. e.1 == number) S.names
 -- the inode of this number is the root, or some name leads to it
 abbrev pub has_name : State → ℕ → Bool
 has_name S number = number == ROOT || nat_lt 0 (names_to S number)
+
+-- no name stands in the directory of this number
+abbrev pub is_empty : State → ℕ → Bool
+is_empty S number = not (list_any (λ e. e.0.0 == number) S.names)
 
 -- the links of an inode, told whether it is a directory: of a file its names, of a directory 2 and the names in it that
 -- lead to directories (profile)

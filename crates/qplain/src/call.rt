@@ -44,6 +44,11 @@ pub enum Call {
     Unlink {
         path: Path,
     },
+    /// Takes an empty directory away. EBUSY of the root comes before ENOENT, and ENOTDIR, EPERM and ENOTEMPTY come after it
+    /// in this order (rmdir(2)).
+    Rmdir {
+        path: Path,
+    },
     /// Gives an inode another user or group, or both; what is None stays. An id that is not declared is EINVAL, before
     /// the path is looked up, and EPERM comes before EDQUOT (chown(2)).
     Chown {
@@ -92,6 +97,7 @@ impl Call {
             }),
             Call::Stat { path } => Ok(Call::Stat { path: path.copy()? }),
             Call::Unlink { path } => Ok(Call::Unlink { path: path.copy()? }),
+            Call::Rmdir { path } => Ok(Call::Rmdir { path: path.copy()? }),
             Call::Chown { path, uid, gid } => Ok(Call::Chown {
                 path: path.copy()?,
                 uid: *uid,

@@ -6,3 +6,9 @@ returns-clause-new_directories c = refl
 
 pub returns-clause-may_make_directories : goal.returns-clause-may_make_directories
 returns-clause-may_make_directories c = refl
+
+pub returns-clause-directories_go : goal.returns-clause-directories_go
+returns-clause-directories_go c = refl
+
+pub returns-clause-may_remove_directories : goal.returns-clause-may_remove_directories
+returns-clause-may_remove_directories c = refl
