@@ -10,7 +10,7 @@ use Rattle.qrules.specs.declared.graces.Graces.{Graces}
 use Rattle.qrules.specs.declared.graces.TheConstants.{MAX_MOMENT}
 use Rattle.qblocks.specs.File.{File, after_truncate, after_write, read_at}
 use Rattle.qplain.specs.declared.call.Call.{Call}
-use Rattle.qplain.specs.declared.call.Call.TheVariants.{Create, Mkdir, Write, Truncate, Read, Stat as AskStat, Unlink, Rmdir, Chown, SetQuota, SetGrace, Quota as AskQuota}
+use Rattle.qplain.specs.declared.call.Call.TheVariants.{Create, Mkdir, Write, Truncate, Read, Stat as AskStat, Link, Unlink, Rmdir, Chown, SetQuota, SetGrace, Quota as AskQuota}
 use Rattle.qplain.specs.declared.refusal.Refusal.{Refusal}
 use Rattle.qplain.specs.declared.refusal.Refusal.TheVariants.{EBUSY, EINVAL, ENAMETOOLONG, ENOTDIR, ENOTEMPTY, EEXIST, EISDIR, EACCES, EFBIG, EMLINK, EPERM, ESRCH}
 use Rattle.qplain.specs.declared.reply.Reply.TheVariants.{Bytes, Done}
@@ -23,7 +23,7 @@ use Rattle.qplain.specs.Arguments.{has_bad_number, is_declared, is_holder, is_kn
 use Rattle.qplain.specs.Attempt.{Attempt, Refuse, Answer, Becomes, at_inode, at_name, at_path, at_reached, in_place, in_reached, no_change, under}
 use Rattle.qplain.specs.Rights.{is_member, is_own, is_owner, may_give, may_remove, may_write}
 use Rattle.qplain.specs.Files.{read_from, stat_at, truncate_at, with_file, with_inode, write_into}
-use Rattle.qplain.specs.Names.{create_as, created, mkdir_as, rmdir_as, rmdir_at, swept, unless_too_many_links, unlink_as, unlink_at, without_name}
+use Rattle.qplain.specs.Names.{create_as, created, link_as, link_to, mkdir_as, rmdir_as, rmdir_at, swept, unless_too_many_links, unlink_as, unlink_at, with_name, without_name}
 use Rattle.qplain.specs.Owners.{chown_at, with_owners}
 use Rattle.qplain.specs.Quotas.{ask_quota, quota_from, set_quota, set_grace, with_limits_of}
 use Rattle.qplain.specs.Calls.{attempt, attempt_of, unless}
@@ -51,6 +51,8 @@ pub record HoldsOfResults (P : State → Type 0) (S : State) (cred : Caller) : T
       → may_give cred inode after.uid after.gid ≡ true → P (with_inode S number after)
   pub removed : (dir : ℕ) (name : List ℕ) (number : ℕ) (inode : Inode) → named S dir name ≡ Some number → inode_at S number ≡ Some inode
       → (inode.dir && not (is_empty S number)) ≡ false → may_remove S cred dir number ≡ true → P (swept (without_name S dir name))
+  pub linked : (number : ℕ) (inode : Inode) (dir : ℕ) (name : List ℕ) → inode_at S number ≡ Some inode → inode.dir ≡ false
+      → is_directory S dir ≡ true → named S dir name ≡ None → has_too_many_links (with_name S dir name number) ≡ false → P (with_name S dir name number)
   pub limited : (kind : Kind) (id : ℕ) (limits : Limits) → is_superuser cred ≡ true → P (with_limits_of S kind id limits)
   pub graced : (graces : Graces) → is_superuser cred ≡ true → P (record S { graces = graces })
 
@@ -227,6 +229,15 @@ module _ (P : State → Type 0) (S : State) (cred : Caller) (holds : HoldsOfResu
       holds.removed dir name number inode led there (and_right inode.dir (not (is_empty S number)) empty)
       (true-from_not (may_remove S cred dir number) may))))
 
+  link_as-becomes : (number : ℕ) (inode : Inode) (dir : ℕ) (name : List ℕ) → inode_at S number ≡ Some inode → is_directory S dir ≡ true
+      → OnBecomes P (link_as S number inode dir name)
+  link_as-becomes number inode dir name there stands =
+      let becomes : Attempt = unless_too_many_links (with_name S dir name number) number in
+      choice P inode.dir (Refuse EPERM) (cond (is_some (named S dir name)) (Refuse EEXIST) becomes) tt (λ file.
+      choice P (is_some (named S dir name)) (Refuse EEXIST) becomes tt (λ absent.
+      unless_too_many_links-becomes (with_name S dir name number) number
+      (λ few. holds.linked number inode dir name there file stands (none-from_not_some (named S dir name) absent) few)))
+
   chown_at-becomes : (uid gid : Option ℕ) (number : ℕ) (inode : Inode) → (is_undeclared S User uid || is_undeclared S Group gid) ≡ false
       → inode_at S number ≡ Some inode → OnBecomes P (chown_at S cred uid gid number inode)
   chown_at-becomes uid gid number inode declared there =
@@ -267,6 +278,9 @@ module _ (P : State → Type 0) (S : State) (cred : Caller) (holds : HoldsOfResu
       at_path-becomes (truncate_at S cred size) path (λ number inode there. truncate_at-becomes size number inode there)
   attempt_of-becomes (Read path off len) known good = at_path-becomes (read_from off len) path (λ number inode there. read_from-becomes off len number inode)
   attempt_of-becomes (AskStat path) known good = at_path-becomes (stat_at S) path (λ number inode there. tt)
+  attempt_of-becomes (Link from to) known good =
+      at_path-becomes (link_to S to) from (λ number inode there.
+      in_place-becomes EEXIST (link_as S number inode) to (λ dir name placed stands. link_as-becomes number inode dir name there stands))
   attempt_of-becomes (Unlink path) known good =
       in_place-becomes EISDIR (unlink_as S cred) path (λ dir name placed stands.
       at_name-becomes (unlink_at S cred dir name) dir name (λ number inode led there. unlink_at-becomes dir name number inode led there))

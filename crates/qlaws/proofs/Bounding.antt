@@ -6,15 +6,16 @@ use Rattle.std.specs.Map.{keys_of}
 use Rattle.std.specs.Ordering.{nat_cmp}
 use Rattle.std.specs.Cmp.{nat_cmp_total}
 use Rattle.qplain.specs.declared.bounds.TheConstants.{MAX_LINKS}
-use Rattle.qplain.specs.State.{Inode, State, inode_at, is_dir, named}
+use Rattle.qplain.specs.State.{Inode, State, inode_at, is_dir, is_directory, named}
 use Rattle.qplain.specs.Use.{has_too_many_links, links_of}
-use Rattle.qplain.specs.Names.{created}
+use Rattle.qplain.specs.Names.{created, with_name}
 use Rattle.qlaws.specs.Laws.{FitsTogether}
 use Rattle.qlaws.proofs.Tables.{All-insert_new, absent-fresh}
 use Rattle.qlaws.proofs.Orders.{sorted-insert}
 use Rattle.qlaws.proofs.Fitting.{few-links, none-too_many, or_right}
 use Rattle.qlaws.proofs.Finding.{found-at}
 use Rattle.qlaws.proofs.Sweeping.{All-lookup}
+use Rattle.qlaws.proofs.Naming.{links_of-linked, links_of-linked-others}
 use Rattle.qlaws.proofs.Linking.{inode_at-created-there, links_of-created-elsewhere, links_of-created-files, links_of-created-parent, links_of-new_directory}
 
 -- the inode has no more links than it may have, or is that of this number
@@ -91,3 +92,17 @@ too_many-directory S inode parent dir name fits absent directory there stands =
     new =
         (λ i. not (nat_lt MAX_LINKS (links_of S1 S.next (directory i))))
         ∙ ap (λ n. not (nat_lt MAX_LINKS n)) (links_of-new_directory S inode dir name fits absent (ap is_dir there ∙ stands))
+
+-- with a further name it is the file that has it
+pub too_many-linked : (S : State) (number : ℕ) (inode : Inode) (dir : ℕ) (name : List ℕ) → FitsTogether S → inode_at S number ≡ Some inode
+    → inode.dir ≡ false → is_directory S dir ≡ true → named S dir name ≡ None
+    → has_too_many_links (with_name S dir name number) ≡ nat_lt MAX_LINKS (links_of S number false + 1)
+too_many-linked S number inode dir name fits there is_file stands absent =
+    too_many-one (with_name S dir name number) number inode fits.inodes.in_order there
+    (λ k d below.
+    let e : ℕ × Inode = slice_index_or S.inodes k d in
+    few-kept S (with_name S dir name number) number e
+    (λ other. links_of-linked-others S number inode dir name fits there is_file stands absent e.0 e.1.dir (or_right e.1.dir (not (number == e.0)) (ap not other)))
+    (few-links S fits.links k d below))
+    ∙ (λ i. nat_lt MAX_LINKS (links_of (with_name S dir name number) number (is_file i)))
+    ∙ ap (nat_lt MAX_LINKS) (links_of-linked S number inode dir name fits there is_file stands absent)

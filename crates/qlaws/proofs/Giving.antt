@@ -102,6 +102,11 @@ results_keep S cred fits other = record {
         user = λ q one after at now. (keeps-itself cred one after (sym at ∙ was q after now)).user;
         group = λ q one after at now. (keeps-itself cred one after (sym at ∙ was q after now)).group;
       };
+  linked = λ number inode dir name there file stands absent few. record {
+    made = λ q after none now. let clash : Some after ≡ None = sym now ∙ none in cc;
+    user = λ q one after at now. (keeps-itself cred one after (sym at ∙ now)).user;
+    group = λ q one after at now. (keeps-itself cred one after (sym at ∙ now)).group;
+  };
   limited = λ kind id limits may. cc;
   graced = λ graces may. cc;
 }

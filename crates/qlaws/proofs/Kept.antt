@@ -24,6 +24,7 @@ results_keep S cred = record {
   created = λ inode dir name own known sound stands absent few. record { size = refl; most_inodes = refl; file_limit = refl; holders = refl };
   changed = λ number inode after there follows may. record { size = refl; most_inodes = refl; file_limit = refl; holders = refl };
   removed = λ dir name number inode led there empty may. record { size = refl; most_inodes = refl; file_limit = refl; holders = refl };
+  linked = λ number inode dir name there file stands absent few. record { size = refl; most_inodes = refl; file_limit = refl; holders = refl };
   limited = λ kind id limits may. record {
     size = refl;
     most_inodes = refl;
@@ -50,6 +51,7 @@ results_keep_limits S cred other = record {
   created = λ inode dir name own known sound stands absent few. record { graces = refl; limits = refl };
   changed = λ number inode after there follows may. record { graces = refl; limits = refl };
   removed = λ dir name number inode led there empty may. record { graces = refl; limits = refl };
+  linked = λ number inode dir name there file stands absent few. record { graces = refl; limits = refl };
   limited = λ kind id limits may. cc;
   graced = λ graces may. cc;
 }

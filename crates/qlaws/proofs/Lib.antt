@@ -11,6 +11,7 @@ pub mod Sound
 pub mod Fitting
 pub mod Sweeping
 pub mod Results
+pub mod Naming
 pub mod Lawful
 pub mod Start
 pub mod Ends

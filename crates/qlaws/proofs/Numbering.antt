@@ -51,6 +51,7 @@ results_go_on S cred fits = record {
     next = omega arith;
     numbers = All-filter (λ (e : ℕ × Inode). has_name (without_name S dir name) e.0) (λ e. stood S e.0 ≡ true) S.inodes (all-stood S);
   };
+  linked = λ number inode dir name there file stands absent few. record { next = omega arith; numbers = all-stood S };
   limited = λ kind id limits may. record { next = omega arith; numbers = all-stood S };
   graced = λ graces may. record { next = omega arith; numbers = all-stood S };
 }

@@ -15,7 +15,7 @@ use Rattle.qplain.specs.State.{Holder, Inode, NameKey, State, inode_at, is_dir, 
 use Rattle.qplain.specs.Use.{has_name, is_empty, names_to}
 use Rattle.qplain.specs.Walk.{follow, led_to}
 use Rattle.qplain.specs.Files.{with_inode}
-use Rattle.qplain.specs.Names.{created, swept, without_name}
+use Rattle.qplain.specs.Names.{created, swept, with_name, without_name}
 use Rattle.qplain.specs.Quotas.{with_limits_of}
 use Rattle.qlaws.specs.Laws.{AllReached, AllStayReached, FitsTogether, IsReached, StartIsReached, leads}
 use Rattle.qlaws.proofs.Tables.{All-insert_new, All-keys-set_value, absent-fresh, lookup-insert_new, name_key_total}
@@ -94,7 +94,7 @@ reached-there S q (Some inode) all there some = All-lookup (λ e. IsReached S e.
 pub reached-at : (S : State) (q : ℕ) → AllReached S → is_some (inode_at S q) ≡ true → IsReached S q
 reached-at S q all some = reached-there S q (inode_at S q) all refl some
 
--- ---- a new inode, a changed one
+-- ---- a new inode, a changed one, a further name
 
 none-bad : ℕ → Bool
 none-bad n = false
@@ -135,6 +135,15 @@ changed_reached S number inode after there same all =
     keeps d nm m h good =
         let parts = follow-parts S d nm m h in
         follow-from (with_inode S number after) d nm m (directory-same S number inode after there same d ∙ parts.0) parts.1
+
+pub linked_reached : (S : State) (dir : ℕ) (name : List ℕ) (number : ℕ) → named S dir name ≡ None → AllReached S → AllReached (with_name S dir name number)
+linked_reached S dir name number absent all =
+    (λ k d below. reached-kept S (with_name S dir name number) (λ n. false) keeps (λ m x y e. absurd (cc)) (slice_index_or S.inodes k d).0 (all k d below) refl)
+  where
+    keeps : (d : ℕ) (nm : List ℕ) (m : ℕ) → follow S (Ok d) nm ≡ Ok m → false ≡ false → follow (with_name S dir name number) (Ok d) nm ≡ Ok m
+    keeps d nm m h good =
+        let parts = follow-parts S d nm m h in
+        follow-from (with_name S dir name number) d nm m parts.0 (more-kept S.names (dir, name) number absent (d, nm) m parts.1)
 
 -- ---- a name less
 
@@ -250,6 +259,7 @@ results_reach S cred fits all = record {
   created = λ inode dir name own known sound stands absent few. created_reached S inode dir name fits stands absent all;
   changed = λ number inode after there follows may. changed_reached S number inode after there follows.dir all;
   removed = λ dir name number inode led there empty may. removed_reached S dir name number inode fits led there empty all;
+  linked = λ number inode dir name there file stands absent few. linked_reached S dir name number absent all;
   limited = λ kind id limits may. walks-same S (with_limits_of S kind id limits).holders S.graces all;
   graced = λ graces may. walks-same S S.holders graces all;
 }

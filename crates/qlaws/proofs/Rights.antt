@@ -9,11 +9,13 @@ use Rattle.qplain.specs.State.{Inode, State, inode_at, name_key_cmp, named}
 use Rattle.qplain.specs.Use.{has_name}
 use Rattle.qplain.specs.Rights.{is_member, is_owner, may_give, may_remove, owns}
 use Rattle.qplain.specs.Files.{with_inode}
-use Rattle.qplain.specs.Names.{created, swept, without_name}
+use Rattle.qplain.specs.Names.{created, swept, with_name, without_name}
 use Rattle.qlaws.specs.Laws.{FitsTogether, LeavesToOthers, RightsHold, is_of_others}
 use Rattle.qlaws.proofs.Becoming.{HoldsOfResults, step-becomes}
 use Rattle.qlaws.proofs.Fitting.{created_fits}
 use Rattle.qlaws.proofs.Results.{few-created}
+use Rattle.qlaws.proofs.Finding.{more-kept}
+use Rattle.qlaws.proofs.Naming.{has_name-with}
 use Rattle.qlaws.proofs.Sweeping.{has_name-there, inode_at-swept, key-dir, named-without}
 use Rattle.qlaws.proofs.Linking.{inode_at-created-there, inode_at-with_inode, named-created}
 use Rattle.qlaws.proofs.Tables.{absent-fresh, name_key_total, same-number}
@@ -136,6 +138,12 @@ results_leave S cred fits other = record {
     inodes = λ q one at others.
         inode_at-swept S (without_name S dir name).names q ∙ ap (λ o. cond (has_name (without_name S dir name) q) o None) at;
     names = λ parent q name_too leads directory others. name-left S cred dir name number fits other led may parent q name_too leads directory others;
+  };
+  linked = λ number inode dir name there file stands absent few. record {
+    inodes = λ q one at others.
+        while-named (with_name S dir name number) q one at
+        (has_name-with S number inode dir name fits there file stands absent q (has_name-there S fits q (ap is_some at)));
+    names = λ parent q name_too leads directory others. more-kept S.names (dir, name) number absent (parent, name_too) q leads;
   };
   limited = λ kind id limits may. cc;
   graced = λ graces may. cc;

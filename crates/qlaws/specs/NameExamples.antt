@@ -1,18 +1,23 @@
 -- Worked examples of the calls on directories and further names, over the example setup: pairs of a line and its reply.
-use Rattle.std.specs.Prelude.{ℕ, true, [], ◌∷◌, Some, None, codes}
+use Rattle.std.specs.Prelude.{ℕ, true, false, [], ◌∷◌, Some, None, codes}
 use Rattle.qrules.specs.declared.kind.Kind.TheVariants.{User}
 use Rattle.qrules.specs.declared.over.Over.TheVariants.{InodeHard}
-use Rattle.qplain.specs.declared.call.Call.TheVariants.{Create, Mkdir, Read, Stat as AskStat, Unlink, Rmdir, Chown, SetQuota, Quota as AskQuota}
+use Rattle.qplain.specs.declared.call.Call.TheVariants.{Create, Mkdir, Read, Stat as AskStat, Link, Unlink, Rmdir, Chown, SetQuota, Quota as AskQuota}
 use Rattle.qplain.specs.declared.reply.Reply.{Reply}
 use Rattle.qplain.specs.declared.reply.Reply.TheVariants.{Stat as StatReply, Refused}
 use Rattle.qplain.specs.declared.refusal.Refusal.TheVariants.{EBUSY, EINVAL, ENOENT, ENOTDIR, ENOTEMPTY, EEXIST, ENOSPC, EDQUOT, EISDIR, EPERM}
-use Rattle.qlaws.specs.Examples.{ann, bob, create_a, done, free, line, record_of, root_caller}
+use Rattle.qlaws.specs.Examples.{ann, bob, create_a, done, fill_a, free, line, record_of, root_caller}
 use Rattle.qlaws.specs.MoreExamples.{Plays, less}
 
 -- the directory of this number, with these owners and so many links
 abbrev pub directory : ℕ → ℕ → ℕ → ℕ → Reply
 directory number uid gid links =
     StatReply (record { ino = number; dir = true; uid = uid; gid = gid; size = 0; blocks = 0; links = links })
+
+-- a file of bob's and the group 0
+abbrev pub file_with : ℕ → ℕ → ℕ → ℕ → Reply
+file_with number size blocks links =
+    StatReply (record { ino = number; dir = false; uid = 1001; gid = 0; size = size; blocks = blocks; links = links })
 
 -- a directory has two links and takes one inode and no block; its parent has one link more, and a file gives it none
 abbrev pub NewDirectories : Type 0
@@ -66,3 +71,35 @@ MayRemoveDirectories = Plays
     ∷ (line 0 root_caller (Chown (codes "/") (Some 1000) None), done 1 0 0)
     ∷ (line 0 ann (Rmdir (codes "/d")), less 3 0 1)
     ∷ (line 0 bob (Mkdir (codes "/d")), done 5 0 1) ∷ (line 0 root_caller (Rmdir (codes "/d")), less 5 0 1) ∷ [])
+
+-- a further name takes nothing, whoever gives it; the file goes with the last of its names, whichever that is
+abbrev pub FurtherNames : Type 0
+FurtherNames = Plays
+    ((line 0 bob create_a, done 2 0 1) ∷ (line 0 bob (fill_a 0 1), done 2 1 0)
+    ∷ (line 0 bob (Link (codes "/a") (codes "/b")), done 2 0 0) ∷ (line 0 bob (AskStat (codes "/b")), file_with 2 1 1 2)
+    ∷ (line 0 ann (Link (codes "/b") (codes "/c")), done 2 0 0) ∷ (line 0 bob (AskStat (codes "/a")), file_with 2 1 1 3)
+    ∷ (line 0 bob (AskQuota User 1001), record_of 1 1 0 0 None) ∷ (line 0 bob (AskStat (codes "/")), directory 1 0 0 2)
+    ∷ (line 0 bob (Unlink (codes "/a")), done 2 0 0) ∷ (line 0 ann (Unlink (codes "/c")), Refused EPERM)
+    ∷ (line 0 bob (Unlink (codes "/c")), done 2 0 0) ∷ (line 0 bob (AskStat (codes "/b")), file_with 2 1 1 1)
+    ∷ (line 0 bob (Unlink (codes "/b")), less 2 1 1) ∷ (line 0 bob (AskStat (codes "/b")), Refused ENOENT) ∷ [])
+
+-- in which order a further name is refused: both paths as they are written, the walk of the first, the place of the
+-- second, a directory, the name that is there
+abbrev pub MayLink : Type 0
+MayLink = Plays
+    ((line 0 bob (Link (codes "/") (codes "b")), Refused EINVAL)
+    ∷ (line 0 bob (Link (codes "/x") (codes "/y/z")), Refused ENOENT)
+    ∷ (line 0 bob create_a, done 2 0 1) ∷ (line 0 bob (Link (codes "/a/x") (codes "/")), Refused ENOTDIR)
+    ∷ (line 0 bob (Link (codes "/x") (codes "/a/z")), Refused ENOENT)
+    ∷ (line 0 bob (Link (codes "/a") (codes "/x/z")), Refused ENOENT)
+    ∷ (line 0 bob (Link (codes "/a") (codes "/a/z")), Refused ENOTDIR)
+    ∷ (line 0 bob (Link (codes "/a") (codes "/")), Refused EEXIST)
+    ∷ (line 0 bob (Link (codes "/a") (codes "/a")), Refused EEXIST)
+    ∷ (line 0 bob (Link (codes "/") (codes "/")), Refused EEXIST)
+    ∷ (line 0 bob (Link (codes "/") (codes "/x")), Refused EPERM)
+    ∷ (line 0 bob (Link (codes "/") (codes "/a")), Refused EPERM)
+    ∷ (line 0 bob (Mkdir (codes "/d")), done 3 0 1) ∷ (line 0 bob (Link (codes "/d") (codes "/a")), Refused EPERM)
+    ∷ (line 0 bob (Link (codes "/d") (codes "/d/e")), Refused EPERM)
+    ∷ (line 0 bob (Link (codes "/a") (codes "/d")), Refused EEXIST)
+    ∷ (line 0 ann (Link (codes "/a") (codes "/d/a")), done 2 0 0)
+    ∷ (line 0 bob (AskStat (codes "/d")), directory 3 1001 0 2) ∷ [])

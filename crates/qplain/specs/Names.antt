@@ -1,5 +1,5 @@
--- Names that come and go, and inodes with them: create, mkdir, unlink and rmdir (open(2), mkdir(2), unlink(2),
--- rmdir(2)).
+-- Names that come and go, and inodes with them: create, mkdir, link, unlink and rmdir (open(2), mkdir(2), link(2),
+-- unlink(2), rmdir(2)).
 use Rattle.std.specs.Prelude.{ℕ, ◌+◌, not, if◌then◌else◌, List, filter, is_some}
 use Rattle.std.specs.Ordering.{nat_cmp}
 use Rattle.std.specs.BTreeMap.{is_at, insert_entry}
@@ -8,7 +8,7 @@ use Rattle.qplain.specs.declared.refusal.Refusal.TheVariants.{EEXIST, EISDIR, EM
 use Rattle.qplain.specs.Caller.{Caller}
 use Rattle.qplain.specs.State.{Inode, State, named, new_directory, new_file, name_key_cmp}
 use Rattle.qplain.specs.Use.{has_name, has_too_many_links, is_empty}
-use Rattle.qplain.specs.Attempt.{Attempt, Refuse, Becomes, at_name}
+use Rattle.qplain.specs.Attempt.{Attempt, Refuse, Becomes, at_name, in_place}
 use Rattle.qplain.specs.Rights.{may_remove}
 
 -- the state with this inode under the next number and this name
@@ -34,6 +34,21 @@ abbrev pub mkdir_as : State → Caller → ℕ → List ℕ → Attempt
 mkdir_as S cred dir name =
     if is_some (named S dir name) then Refuse EEXIST
     else unless_too_many_links (created S (new_directory cred.uid cred.gid) dir name) S.next
+
+-- the state in which this name leads to the inode of this number
+abbrev pub with_name : State → ℕ → List ℕ → ℕ → State
+with_name S dir name number = record S { names = insert_entry name_key_cmp S.names (dir, name) number }
+
+-- link an inode under this name
+abbrev pub link_as : State → ℕ → Inode → ℕ → List ℕ → Attempt
+link_as S number inode dir name =
+    if inode.dir then Refuse EPERM
+    else if is_some (named S dir name) then Refuse EEXIST
+    else unless_too_many_links (with_name S dir name number) number
+
+-- link an inode under the last name of the path in its place
+abbrev pub link_to : State → List ℕ → ℕ → Inode → Attempt
+link_to S to number inode = in_place S EEXIST (link_as S number inode) to
 
 -- the state without this name
 abbrev pub without_name : State → ℕ → List ℕ → State

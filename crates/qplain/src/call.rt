@@ -39,6 +39,12 @@ pub enum Call {
     Stat {
         path: Path,
     },
+    /// Gives a file a further name, which takes nothing. `from` is walked before `to`; EPERM of a directory comes before
+    /// EEXIST of the new name, which the root has before all, and that before EMLINK (link(2)).
+    Link {
+        from: Path,
+        to: Path,
+    },
     /// Takes a file's name away, and with its last name the file and all that it takes. ENOENT comes before EISDIR, which
     /// the root is too, and that before EPERM (unlink(2)).
     Unlink {
@@ -96,6 +102,10 @@ impl Call {
                 len: *len,
             }),
             Call::Stat { path } => Ok(Call::Stat { path: path.copy()? }),
+            Call::Link { from, to } => Ok(Call::Link {
+                from: from.copy()?,
+                to: to.copy()?,
+            }),
             Call::Unlink { path } => Ok(Call::Unlink { path: path.copy()? }),
             Call::Rmdir { path } => Ok(Call::Rmdir { path: path.copy()? }),
             Call::Chown { path, uid, gid } => Ok(Call::Chown {

@@ -1,4 +1,5 @@
 use Rattle.std.proofs.Common.{refl}
+use Rattle.qblocks.specs.File.{after_write, written, resized, with_touched, with_index}
 use Rattle.qlaws.proofs.examples.worked_examples_of_names.Goals as goal
 
 pub returns-clause-new_directories : goal.returns-clause-new_directories
@@ -12,3 +13,10 @@ returns-clause-directories_go c = refl
 
 pub returns-clause-may_remove_directories : goal.returns-clause-may_remove_directories
 returns-clause-may_remove_directories c = refl
+
+pub returns-clause-further_names : goal.returns-clause-further_names
+unfolding after_write written resized with_touched with_index
+returns-clause-further_names c = refl
+
+pub returns-clause-may_link : goal.returns-clause-may_link
+returns-clause-may_link c = refl
