@@ -10,7 +10,7 @@ use Rattle.qrules.specs.declared.graces.Graces.{Graces}
 use Rattle.qrules.specs.declared.graces.TheConstants.{MAX_MOMENT}
 use Rattle.qblocks.specs.File.{File, after_truncate, after_write, read_at}
 use Rattle.qplain.specs.declared.call.Call.{Call}
-use Rattle.qplain.specs.declared.call.Call.TheVariants.{Create, Mkdir, Write, Truncate, Read, Stat as AskStat, Link, Unlink, Rmdir, Chown, SetQuota, SetGrace, Quota as AskQuota}
+use Rattle.qplain.specs.declared.call.Call.TheVariants.{Create, Mkdir, Write, Truncate, Read, Stat as AskStat, Link, Unlink, Rmdir, Rename, Chown, SetQuota, SetGrace, Quota as AskQuota}
 use Rattle.qplain.specs.declared.refusal.Refusal.{Refusal}
 use Rattle.qplain.specs.declared.refusal.Refusal.TheVariants.{EBUSY, EINVAL, ENAMETOOLONG, ENOTDIR, ENOTEMPTY, EEXIST, EISDIR, EACCES, EFBIG, EMLINK, EPERM, ESRCH}
 use Rattle.qplain.specs.declared.reply.Reply.TheVariants.{Bytes, Done}
@@ -24,6 +24,7 @@ use Rattle.qplain.specs.Attempt.{Attempt, Refuse, Answer, Becomes, at_inode, at_
 use Rattle.qplain.specs.Rights.{is_member, is_own, is_owner, may_give, may_remove, may_write}
 use Rattle.qplain.specs.Files.{read_from, stat_at, truncate_at, with_file, with_inode, write_into}
 use Rattle.qplain.specs.Names.{create_as, created, link_as, link_to, mkdir_as, rmdir_as, rmdir_at, swept, unless_too_many_links, unlink_as, unlink_at, with_name, without_name}
+use Rattle.qplain.specs.Renames.{meets, passes, rename_as, rename_from, rename_over, rename_to, renamed}
 use Rattle.qplain.specs.Owners.{chown_at, with_owners}
 use Rattle.qplain.specs.Quotas.{ask_quota, quota_from, set_quota, set_grace, with_limits_of}
 use Rattle.qplain.specs.Calls.{attempt, attempt_of, unless}
@@ -53,6 +54,12 @@ pub record HoldsOfResults (P : State → Type 0) (S : State) (cred : Caller) : T
       → (inode.dir && not (is_empty S number)) ≡ false → may_remove S cred dir number ≡ true → P (swept (without_name S dir name))
   pub linked : (number : ℕ) (inode : Inode) (dir : ℕ) (name : List ℕ) → inode_at S number ≡ Some inode → inode.dir ≡ false
       → is_directory S dir ≡ true → named S dir name ≡ None → has_too_many_links (with_name S dir name number) ≡ false → P (with_name S dir name number)
+  pub renamed : (to : List (List ℕ)) (dir : ℕ) (name : List ℕ) (number : ℕ) (inode : Inode) (to_dir : ℕ) (to_name : List ℕ)
+      → place S to ≡ Ok to_dir → (inode.dir && meets S to number) ≡ false → named S dir name ≡ Some number → inode_at S number ≡ Some inode
+      → is_directory S to_dir ≡ true → passes (λ n. n == number) (named S to_dir to_name) ≡ false
+      → passes (λ n. not (is_empty S n)) (named S to_dir to_name) ≡ false → may_remove S cred dir number ≡ true
+      → passes (λ n. not (may_remove S cred to_dir n)) (named S to_dir to_name) ≡ false
+      → has_too_many_links (renamed S dir name to_dir to_name number) ≡ false → P (renamed S dir name to_dir to_name number)
   pub limited : (kind : Kind) (id : ℕ) (limits : Limits) → is_superuser cred ≡ true → P (with_limits_of S kind id limits)
   pub graced : (graces : Graces) → is_superuser cred ≡ true → P (record S { graces = graces })
 
@@ -238,6 +245,29 @@ module _ (P : State → Type 0) (S : State) (cred : Caller) (holds : HoldsOfResu
       unless_too_many_links-becomes (with_name S dir name number) number
       (λ few. holds.linked number inode dir name there file stands (none-from_not_some (named S dir name) absent) few)))
 
+  rename_over-becomes : (to : List (List ℕ)) (dir : ℕ) (name : List ℕ) (number : ℕ) (inode : Inode) (to_dir : ℕ) (to_name : List ℕ)
+      → place S to ≡ Ok to_dir → named S dir name ≡ Some number → inode_at S number ≡ Some inode → is_directory S to_dir ≡ true
+      → OnBecomes P (rename_over S cred to dir name number inode to_dir to_name (named S to_dir to_name))
+  rename_over-becomes to dir name number inode to_dir to_name placed led there stands =
+      let target : Option ℕ = named S to_dir to_name in
+      let becomes : Attempt = unless_too_many_links (renamed S dir name to_dir to_name number) number in
+      let empties : Attempt = cond (passes (λ n. not (is_empty S n)) target) (Refuse ENOTEMPTY) becomes in
+      let replaces : Attempt = cond (passes (λ n. not (may_remove S cred to_dir n)) target) (Refuse EPERM) empties in
+      let moves : Attempt = cond (not (may_remove S cred dir number)) (Refuse EPERM) replaces in
+      let file_too : Attempt = cond (not inode.dir && passes (λ n. is_directory S n) target) (Refuse EISDIR) moves in
+      let dir_too : Attempt = cond (inode.dir && passes (λ n. not (is_directory S n)) target) (Refuse ENOTDIR) file_too in
+      let apart : Attempt = cond (inode.dir && meets S to number) (Refuse EINVAL) dir_too in
+      choice P (passes (λ n. n == number) target) (Answer (Done number no_change)) apart tt (λ other.
+      choice P (inode.dir && meets S to number) (Refuse EINVAL) dir_too tt (λ outside.
+      choice P (inode.dir && passes (λ n. not (is_directory S n)) target) (Refuse ENOTDIR) file_too tt (λ a.
+      choice P (not inode.dir && passes (λ n. is_directory S n) target) (Refuse EISDIR) moves tt (λ b.
+      choice P (not (may_remove S cred dir number)) (Refuse EPERM) replaces tt (λ may.
+      choice P (passes (λ n. not (may_remove S cred to_dir n)) target) (Refuse EPERM) empties tt (λ may_too.
+      choice P (passes (λ n. not (is_empty S n)) target) (Refuse ENOTEMPTY) becomes tt (λ empty.
+      unless_too_many_links-becomes (renamed S dir name to_dir to_name number) number
+      (λ few. holds.renamed to dir name number inode to_dir to_name placed outside led there stands other empty
+      (true-from_not (may_remove S cred dir number) may) may_too few))))))))
+
   chown_at-becomes : (uid gid : Option ℕ) (number : ℕ) (inode : Inode) → (is_undeclared S User uid || is_undeclared S Group gid) ≡ false
       → inode_at S number ≡ Some inode → OnBecomes P (chown_at S cred uid gid number inode)
   chown_at-becomes uid gid number inode declared there =
@@ -287,6 +317,11 @@ module _ (P : State → Type 0) (S : State) (cred : Caller) (holds : HoldsOfResu
   attempt_of-becomes (Rmdir path) known good =
       in_place-becomes EBUSY (rmdir_as S cred) path (λ dir name placed stands.
       at_name-becomes (rmdir_at S cred dir name) dir name (λ number inode led there. rmdir_at-becomes dir name number inode led there))
+  attempt_of-becomes (Rename from to) known good =
+      in_place-becomes EBUSY (rename_from S cred to) from (λ dir name from_placed from_stands.
+      at_name-becomes (rename_to S cred to dir name) dir name (λ number inode led there.
+      in_place-becomes EBUSY (rename_as S cred to dir name number inode) to (λ to_dir to_name placed stands.
+      rename_over-becomes (components to) dir name number inode to_dir to_name placed led there stands)))
   attempt_of-becomes (Chown path uid gid) known good =
       at_path-becomes (chown_at S cred uid gid) path (λ number inode there. chown_at-becomes uid gid number inode good there)
   attempt_of-becomes (SetQuota kind id limits) known good = set_quota-becomes kind id limits

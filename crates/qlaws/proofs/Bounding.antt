@@ -102,7 +102,8 @@ too_many-linked S number inode dir name fits there is_file stands absent =
     (λ k d below.
     let e : ℕ × Inode = slice_index_or S.inodes k d in
     few-kept S (with_name S dir name number) number e
-    (λ other. links_of-linked-others S number inode dir name fits there is_file stands absent e.0 e.1.dir (or_right e.1.dir (not (number == e.0)) (ap not other)))
+    (λ other. links_of-linked-others S number inode dir name fits there is_file stands absent e.0 e.1.dir
+    (or_right e.1.dir (not (number == e.0)) (ap not other)))
     (few-links S fits.links k d below))
     ∙ (λ i. nat_lt MAX_LINKS (links_of (with_name S dir name number) number (is_file i)))
     ∙ ap (nat_lt MAX_LINKS) (links_of-linked S number inode dir name fits there is_file stands absent)

@@ -64,7 +64,7 @@ pub found-at : (S : State) → IsStrictlySortedBy nat_cmp (keys_of S.inodes) →
 found-at S sorted = All-from_recursion (λ (e : ℕ × Inode). inode_at S e.0 ≡ Some e.1) S.inodes (each-found-by nat_cmp_total S.inodes sorted)
 
 -- what a look-up finds stands under a key that passes
-found-key : {K X : Type 0} (P : K × X → Type 0) (test : K → Bool) (es : List (K × X)) (v : X) → All P es → lookup test es ≡ Some v
+pub found-key : {K X : Type 0} (P : K × X → Type 0) (test : K → Bool) (es : List (K × X)) (v : X) → All P es → lookup test es ≡ Some v
     → (k : K) × (test k ≡ true) × P (k, v)
 found-key P test [] v all there = cc
 found-key {K} {X} P test (e ∷ es) v all there =
@@ -74,7 +74,7 @@ found-key {K} {X} P test (e ∷ es) v all there =
     ] refl there
 
 -- keys that are equal find the same
-same-key : {K X : Type 0} {eq : K → K → Bool} → IsEquivalence eq → (k q : K) → eq k q ≡ true → (es : List (K × X)) → lookup (eq q) es ≡ lookup (eq k) es
+pub same-key : {K X : Type 0} {eq : K → K → Bool} → IsEquivalence eq → (k q : K) → eq k q ≡ true → (es : List (K × X)) → lookup (eq q) es ≡ lookup (eq k) es
 same-key laws k q e [] = refl
 same-key laws k q e (x ∷ es) = λ i. cond (sym (laws.congr k q x.0 e) i) (Some x.1) (same-key laws k q e es i)
 

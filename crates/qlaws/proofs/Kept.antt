@@ -25,6 +25,8 @@ results_keep S cred = record {
   changed = λ number inode after there follows may. record { size = refl; most_inodes = refl; file_limit = refl; holders = refl };
   removed = λ dir name number inode led there empty may. record { size = refl; most_inodes = refl; file_limit = refl; holders = refl };
   linked = λ number inode dir name there file stands absent few. record { size = refl; most_inodes = refl; file_limit = refl; holders = refl };
+  renamed = λ to dir name number inode to_dir to_name placed outside led there stands other empty may may_too few.
+      record { size = refl; most_inodes = refl; file_limit = refl; holders = refl };
   limited = λ kind id limits may. record {
     size = refl;
     most_inodes = refl;
@@ -52,6 +54,7 @@ results_keep_limits S cred other = record {
   changed = λ number inode after there follows may. record { graces = refl; limits = refl };
   removed = λ dir name number inode led there empty may. record { graces = refl; limits = refl };
   linked = λ number inode dir name there file stands absent few. record { graces = refl; limits = refl };
+  renamed = λ to dir name number inode to_dir to_name placed outside led there stands other empty may may_too few. record { graces = refl; limits = refl };
   limited = λ kind id limits may. cc;
   graced = λ graces may. cc;
 }

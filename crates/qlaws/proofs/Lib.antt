@@ -12,6 +12,8 @@ pub mod Fitting
 pub mod Sweeping
 pub mod Results
 pub mod Naming
+pub mod Renaming
+pub mod Moving
 pub mod Lawful
 pub mod Start
 pub mod Ends
@@ -21,7 +23,9 @@ pub mod Rights
 pub mod Giving
 pub mod Finding
 pub mod Reaching
+pub mod Reached
 pub mod Replacing
+pub mod Losing
 pub mod Removing
 pub mod GivingBack
 pub mod Linking

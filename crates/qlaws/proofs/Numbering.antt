@@ -7,7 +7,7 @@ use Rattle.std.proofs.lemmas.List.Elements.{All-cons, All-filter, All-nil}
 use Rattle.qplain.specs.Caller.{Caller}
 use Rattle.qplain.specs.State.{Inode, State, inode_at}
 use Rattle.qplain.specs.Use.{has_name}
-use Rattle.qplain.specs.Names.{without_name}
+use Rattle.qplain.specs.Names.{with_name, without_name}
 use Rattle.qlaws.specs.Laws.{FitsTogether, GoesOn, NumbersGoOn}
 use Rattle.qlaws.proofs.Becoming.{HoldsOfResults, step-becomes}
 use Rattle.qlaws.proofs.Fitting.{or_right}
@@ -52,6 +52,11 @@ results_go_on S cred fits = record {
     numbers = All-filter (λ (e : ℕ × Inode). has_name (without_name S dir name) e.0) (λ e. stood S e.0 ≡ true) S.inodes (all-stood S);
   };
   linked = λ number inode dir name there file stands absent few. record { next = omega arith; numbers = all-stood S };
+  renamed = λ to dir name number inode to_dir to_name placed outside led there stands other empty may may_too few. record {
+    next = omega arith;
+    numbers = All-filter (λ (e : ℕ × Inode). has_name (with_name (without_name (without_name S dir name) to_dir to_name) to_dir to_name number) e.0)
+        (λ e. stood S e.0 ≡ true) S.inodes (all-stood S);
+  };
   limited = λ kind id limits may. record { next = omega arith; numbers = all-stood S };
   graced = λ graces may. record { next = omega arith; numbers = all-stood S };
 }

@@ -1,4 +1,4 @@
--- Every inode is reached from the root: walks before and after each plain result.
+-- Every inode is reached from the root after each plain result but that of rename: walks before and after.
 use Rattle.std.proofs.Common.{◌≡◌, ℕ, ◌==◌, Bool, true, false, not, ◌&&◌, ◌||◌, nat_lt, cond, List, [], ◌∷◌, ◌++◌, All, fold, slice_index_or, Option, Some, None, is_some, Result, Ok, Err, refl, sym, ap, subst, ◌∙◌, tests, arith}
 use Rattle.std.specs.List.{AllByRecursion}
 use Rattle.std.specs.List.Sorted.{IsStrictlySortedBy}
@@ -6,28 +6,24 @@ use Rattle.std.specs.Map.{keys_of, lookup}
 use Rattle.std.specs.Ordering.{nat_cmp}
 use Rattle.std.specs.BTreeMap.{is_at}
 use Rattle.std.proofs.lemmas.Bool.{and_parts, cond-true}
-use Rattle.std.proofs.lemmas.List.Elements.{All-cons, All-filter, All-from_recursion, All-nil, filter_passes, recursion_from_All}
+use Rattle.std.proofs.lemmas.List.Elements.{All-filter, All-from_recursion, filter_passes, recursion_from_All}
 use Rattle.std.proofs.lemmas.List.Sums.{fold-append}
 use Rattle.qplain.specs.declared.bounds.TheConstants.{ROOT}
 use Rattle.qplain.specs.declared.refusal.Refusal.{Refusal}
 use Rattle.qplain.specs.declared.refusal.Refusal.TheVariants.{ENOTDIR}
-use Rattle.qplain.specs.State.{Holder, Inode, NameKey, State, inode_at, is_dir, is_directory, name_key_cmp, named, root, start}
+use Rattle.qplain.specs.State.{Holder, Inode, NameKey, State, inode_at, is_dir, is_directory, name_key_cmp, named}
 use Rattle.qplain.specs.Use.{has_name, is_empty, names_to}
 use Rattle.qplain.specs.Walk.{follow, led_to}
 use Rattle.qplain.specs.Files.{with_inode}
 use Rattle.qplain.specs.Names.{created, swept, with_name, without_name}
-use Rattle.qplain.specs.Quotas.{with_limits_of}
-use Rattle.qlaws.specs.Laws.{AllReached, AllStayReached, FitsTogether, IsReached, StartIsReached, leads}
+use Rattle.qlaws.specs.Laws.{AllReached, FitsTogether, IsReached, leads}
 use Rattle.qlaws.proofs.Tables.{All-insert_new, All-keys-set_value, absent-fresh, lookup-insert_new, name_key_total}
 use Rattle.qlaws.proofs.Orders.{All-remove, sorted-remove}
 use Rattle.qlaws.proofs.Fitting.{directory-same, some-is_dir}
 use Rattle.qlaws.proofs.Sweeping.{All-lookup, has_name-there, has_name-without, stays-swept, unfilled}
 use Rattle.qlaws.proofs.Linking.{inode_at-created-there}
 use Rattle.qlaws.proofs.Walking.{walk-fault}
-use Rattle.qlaws.proofs.Becoming.{HoldsOfResults, step-becomes}
 use Rattle.qrules.specs.declared.graces.Graces.{Graces}
-use Rattle.qplain.specs.Caller.{Caller}
-use Rattle.qplain.specs.Decision.{ends_after}
 use Rattle.qlaws.proofs.Finding.{each-found-by, holds-of-dir, less-kept, more-kept, name-laws, some-named}
 
 -- ---- one step of a walk
@@ -53,7 +49,7 @@ reached-further S d name m reached at led =
 -- ---- walks that are kept
 
 -- a walk to a dead end ends there
-ends-there : (S : State) (bad : ℕ → Bool) → ((m : ℕ) (name : List ℕ) (x : ℕ) → bad m ≡ true → follow S (Ok m) name ≡ Ok x → ⊥)
+pub ends-there : (S : State) (bad : ℕ → Bool) → ((m : ℕ) (name : List ℕ) (x : ℕ) → bad m ≡ true → follow S (Ok m) name ≡ Ok x → ⊥)
     → (m : ℕ) (names : List (List ℕ)) (q : ℕ) → bad m ≡ true → fold (follow S) (Ok m) names ≡ Ok q → m ≡ q
 ends-there S bad dead m [] q is_bad h = cc
 ends-there S bad dead m (name ∷ rest) q is_bad h = by (follow S (Ok m) name) refl h
@@ -165,7 +161,7 @@ all-left S names sorted lead =
     })
 
 -- what is reached otherwise, is reached under each of its names
-named-reached : (S : State) (names : List (NameKey × ℕ)) (q : ℕ) → IsStrictlySortedBy name_key_cmp (keys_of names) → All (λ e. leads S e ≡ true) names
+pub named-reached : (S : State) (names : List (NameKey × ℕ)) (q : ℕ) → IsStrictlySortedBy name_key_cmp (keys_of names) → All (λ e. leads S e ≡ true) names
     → has_name (record S { names = names }) q ≡ true
     → ((d : ℕ) (nm : List ℕ) → is_directory S d ≡ true → lookup (is_at (name_key_cmp (d, nm))) names ≡ Some q
     → IsReached (swept (record S { names = names })) d × (is_directory (swept (record S { names = names })) d ≡ true))
@@ -247,27 +243,7 @@ module _ (S : State) (dir : ℕ) (name : List ℕ) (number : ℕ) (inode : Inode
 -- ---- other holders and graces
 
 -- holders and graces lead nowhere
-walks-same : (S : State) (holders : List Holder) (graces : Graces) → AllReached S → AllReached (record S { holders = holders; graces = graces })
+pub walks-same : (S : State) (holders : List Holder) (graces : Graces) → AllReached S → AllReached (record S { holders = holders; graces = graces })
 walks-same S holders graces all =
     (λ k d below. reached-kept S (record S { holders = holders; graces = graces }) (λ n. false) (λ e nm m h good. h) (λ m x y e. absurd (cc))
     (slice_index_or S.inodes k d).0 (all k d below) refl)
-
--- ---- the law
-
-results_reach : (S : State) (cred : Caller) → FitsTogether S → AllReached S → HoldsOfResults AllReached S cred
-results_reach S cred fits all = record {
-  created = λ inode dir name own known sound stands absent few. created_reached S inode dir name fits stands absent all;
-  changed = λ number inode after there follows may. changed_reached S number inode after there follows.dir all;
-  removed = λ dir name number inode led there empty may. removed_reached S dir name number inode fits led there empty all;
-  linked = λ number inode dir name there file stands absent few. linked_reached S dir name number absent all;
-  limited = λ kind id limits may. walks-same S (with_limits_of S kind id limits).holders S.graces all;
-  graced = λ graces may. walks-same S S.holders graces all;
-}
-
-pub all_stay_reached : AllStayReached
-all_stay_reached S cred moment call lawful all =
-    step-becomes AllReached S cred (results_reach S cred lawful.parts all) AllReached moment call all
-    (λ new reached granted. walks-same new (ends_after new moment).holders new.graces reached)
-
-pub start_is_reached : StartIsReached
-start_is_reached s = All-cons (λ e. IsReached (start s) e.0) (ROOT, root) [] ([], refl) (All-nil (λ e. IsReached (start s) e.0))

@@ -17,6 +17,7 @@ use Rattle.qlaws.proofs.Finding.{found-at}
 use Rattle.qlaws.proofs.Linking.{links_of-created-others, links_of-new_file}
 use Rattle.qlaws.proofs.Tables.{All-insert_new, absent-fresh}
 use Rattle.qlaws.proofs.Naming.{linked_fits}
+use Rattle.qlaws.proofs.Renaming.{renamed_fits}
 use Rattle.qlaws.proofs.Sweeping.{removed_fits, unfilled}
 
 -- new graces touch no part
@@ -66,6 +67,8 @@ results_fit S cred fits = record {
   removed = λ dir name number inode led there empty may.
       removed_fits S dir name number led fits (unfilled S fits number inode there empty);
   linked = λ number inode dir name there file stands absent few. linked_fits S number inode dir name fits there file stands absent few;
+  renamed = λ to dir name number inode to_dir to_name placed outside led there stands other empty may may_too few.
+      renamed_fits S dir name number inode to_dir to_name fits led there stands other empty few;
   limited = λ kind id limits may.
       fits-map S (λ h. cond (is_holder kind id h) (relimited limits h) h)
       (λ h. (relimited_keeps (is_holder kind id h) limits h).0, λ h. (relimited_keeps (is_holder kind id h) limits h).1) fits;

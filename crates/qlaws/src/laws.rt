@@ -56,8 +56,8 @@ pub fn inodes_stay_reached()
 {}
 
 /// From a lawful state no call of anybody but the superuser changes an inode of others, what it holds or whose it is, but
-/// for an inode whose last name goes; or takes away a name that leads to an inode of others from a directory of others.
-/// Nor does one make an inode another user's, or that of a group that is not the caller's.
+/// for an inode whose last name goes; or takes away, moves or replaces a name that leads to an inode of others in a
+/// directory of others. Nor does one make an inode another user's, or that of a group that is not the caller's.
 pub fn rights_hold()
     ensures others { RightsHold }
     ensures owners { OwnersHold }

@@ -11,8 +11,8 @@ pub enum Call {
     Create {
         path: Path,
     },
-    /// Makes an empty directory of the caller's, which takes one inode and no block. EEXIST, which the root is too, comes
-    /// before EMLINK of the directory that it stands in, and that before ENOSPC and EDQUOT (mkdir(2)).
+    /// Makes an empty directory of the caller's, which takes one inode and no block. EEXIST, which the root is too,
+    /// comes before EMLINK of the directory that it stands in, and that before ENOSPC and EDQUOT (mkdir(2)).
     Mkdir {
         path: Path,
     },
@@ -39,8 +39,8 @@ pub enum Call {
     Stat {
         path: Path,
     },
-    /// Gives a file a further name, which takes nothing. `from` is walked before `to`; EPERM of a directory comes before
-    /// EEXIST of the new name, which the root has before all, and that before EMLINK (link(2)).
+    /// Gives a file a further name, which takes nothing. `from` is walked before `to`; EPERM of a directory comes
+    /// before EEXIST of the new name, which the root has before all, and that before EMLINK (link(2)).
     Link {
         from: Path,
         to: Path,
@@ -50,10 +50,18 @@ pub enum Call {
     Unlink {
         path: Path,
     },
-    /// Takes an empty directory away. EBUSY of the root comes before ENOENT, and ENOTDIR, EPERM and ENOTEMPTY come after it
-    /// in this order (rmdir(2)).
+    /// Takes an empty directory away. EBUSY of the root comes before ENOENT, and ENOTDIR, EPERM and ENOTEMPTY come
+    /// after it in this order (rmdir(2)).
     Rmdir {
         path: Path,
+    },
+    /// Gives what has the name `from` the name `to`, in place of what had that, which goes as by unlink or rmdir.
+    /// `from` is walked before `to`, and EBUSY of the root and ENOENT come with each walk. Two names of one inode are
+    /// done, and stay. Then come EINVAL of a directory into itself, ENOTDIR, EISDIR, EPERM for `from`, EPERM for what
+    /// is replaced, ENOTEMPTY and EMLINK (rename(2)).
+    Rename {
+        from: Path,
+        to: Path,
     },
     /// Gives an inode another user or group, or both; what is None stays. An id that is not declared is EINVAL, before
     /// the path is looked up, and EPERM comes before EDQUOT (chown(2)).
@@ -108,6 +116,10 @@ impl Call {
             }),
             Call::Unlink { path } => Ok(Call::Unlink { path: path.copy()? }),
             Call::Rmdir { path } => Ok(Call::Rmdir { path: path.copy()? }),
+            Call::Rename { from, to } => Ok(Call::Rename {
+                from: from.copy()?,
+                to: to.copy()?,
+            }),
             Call::Chown { path, uid, gid } => Ok(Call::Chown {
                 path: path.copy()?,
                 uid: *uid,
