@@ -29,6 +29,7 @@ pub mod Losing
 pub mod Removing
 pub mod GivingBack
 pub mod Linking
+pub mod Relinking
 pub mod Bounding
 pub mod Walking
 pub mod Playing
