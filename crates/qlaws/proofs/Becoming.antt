@@ -1,5 +1,5 @@
 -- What a step may become, call by call: the cases that a fact about every plain result has to be shown for.
-use Rattle.std.proofs.Common.{◌≡◌, ℕ, ◌+◌, ◌==◌, Bool, true, false, not, ◌&&◌, ◌||◌, nat_lt, cond, ◌-◌, List, length, take, subst, Option, Some, None, is_some, Result, Ok, Err, refl, tests, arith}
+use Rattle.std.proofs.Common.{◌≡◌, ℕ, ◌+◌, ◌==◌, Bool, true, false, not, ◌&&◌, ◌||◌, nat_lt, cond, List, length, Option, Some, None, is_some, Ok, refl, tests, arith}
 use Rattle.std.specs.List.{find, list_all, list_any}
 use Rattle.std.specs.Option.{unwrap_or}
 use Rattle.std.proofs.lemmas.Bool.{and_left, and_right}
@@ -17,26 +17,21 @@ use Rattle.qplain.specs.declared.reply.Reply.TheVariants.{Bytes, Done}
 use Rattle.qplain.specs.Caller.{Caller, is_superuser}
 use Rattle.qplain.specs.State.{Holder, Inode, State, inode_at, is_directory, named, new_directory, new_file}
 use Rattle.qplain.specs.Use.{has_too_many_links, is_empty}
-use Rattle.qplain.specs.Walk.{as_directory, components, is_well_formed, is_too_long, last_name, led_to, place, walk}
+use Rattle.qplain.specs.Walk.{components, is_well_formed, is_too_long, place}
 use Rattle.qplain.specs.Decision.{ends_after, refusal_between}
 use Rattle.qplain.specs.Arguments.{has_bad_number, is_declared, is_holder, is_known, is_undeclared, paths_of, refusal_of_arguments}
-use Rattle.qplain.specs.Attempt.{Attempt, Refuse, Answer, Becomes, at_inode, at_name, at_path, at_reached, in_place, in_reached, no_change, under}
+use Rattle.qplain.specs.Attempt.{Attempt, Refuse, Answer, Becomes, no_change}
 use Rattle.qplain.specs.Rights.{is_member, is_own, is_owner, may_give, may_remove, may_write}
 use Rattle.qplain.specs.Files.{read_from, stat_at, truncate_at, with_file, with_inode, write_into}
 use Rattle.qplain.specs.Names.{create_as, created, link_as, link_to, mkdir_as, rmdir_as, rmdir_at, swept, unless_too_many_links, unlink_as, unlink_at, with_name, without_name}
 use Rattle.qplain.specs.Renames.{meets, passes, rename_as, rename_from, rename_over, rename_to, renamed}
 use Rattle.qplain.specs.Owners.{chown_at, with_owners}
 use Rattle.qplain.specs.Quotas.{ask_quota, quota_from, set_quota, set_grace, with_limits_of}
-use Rattle.qplain.specs.Calls.{attempt, attempt_of, unless}
+use Rattle.qplain.specs.Calls.{attempt, attempt_of}
 use Rattle.qlaws.specs.Laws.{IsSound, has_known_owners}
 use Rattle.qplain.specs.Step.{settle, settled, step}
+use Rattle.qlaws.proofs.Trying.{OnBecomes, at_name-becomes, at_path-becomes, choice, in_place-becomes, none-from_not_some, true-from_not, unless-becomes}
 use Rattle.qlaws.proofs.Sound.{MayFollow, empty-sound, known-caller, owned-follows, truncated-follows, written-follows}
-
--- the fact holds of the plain result, if there is one
-abbrev pub OnBecomes : (State → Type 0) → Attempt → Type 0
-OnBecomes P (Refuse r) = Unit {0}
-OnBecomes P (Answer reply) = Unit {0}
-OnBecomes P (Becomes S number) = P S
 
 -- the inode is the caller's, and its group the caller's first
 pub record IsOwn (cred : Caller) (inode : Inode) : Type 0 where
@@ -63,32 +58,6 @@ pub record HoldsOfResults (P : State → Type 0) (S : State) (cred : Caller) : T
   pub limited : (kind : Kind) (id : ℕ) (limits : Limits) → is_superuser cred ≡ true → P (with_limits_of S kind id limits)
   pub graced : (graces : Graces) → is_superuser cred ≡ true → P (record S { graces = graces })
 
--- of two attempts, each of which the fact allows, either
-choice : (P : State → Type 0) (b : Bool) (x y : Attempt) → OnBecomes P x → (b ≡ false → OnBecomes P y) → OnBecomes P (cond b x y)
-choice P true x y p q = p
-choice P false x y p q = q refl
-
-ok_parts : (b : Bool) (d dir : ℕ) → cond b (Ok d) (Err ENOTDIR) ≡ Ok dir → (b ≡ true) × (d ≡ dir)
-ok_parts true d dir h = (refl, cc)
-ok_parts false d dir h = cc
-
--- a number reached as a directory is one
-as_directory-ok : (S : State) (r : Result ℕ Refusal) (dir : ℕ) → as_directory S r ≡ Ok dir → is_directory S dir ≡ true
-as_directory-ok S (Err e) dir h = cc
-as_directory-ok S (Ok d) dir h =
-    let parts : (is_directory S d ≡ true) × (d ≡ dir) = ok_parts (is_directory S d) d dir h in
-    let at : ℕ → Type 0 = λ n. is_directory S n ≡ true in
-    subst at parts.1 parts.0
-
-none-from_not_some : (o : Option ℕ) → is_some o ≡ false → o ≡ None
-none-from_not_some None h = refl
-none-from_not_some (Some n) h = cc
-
--- what is not refused holds
-pub true-from_not : (b : Bool) → not b ≡ false → b ≡ true
-true-from_not true h = refl
-true-from_not false h = cc
-
 -- who may write into an inode may leave it to its owners
 owners-kept : (cred : Caller) (inode : Inode) → may_write cred inode ≡ true → may_give cred inode inode.uid inode.gid ≡ true
 owners-kept cred inode may =
@@ -114,60 +83,11 @@ known-lawful false false formed numbers long h = cc
 known-lawful false true false numbers long h = cc
 known-lawful false true true true long h = cc
 
--- what a name leads to
-pub led_to-ok : (o : Option ℕ) (number : ℕ) → led_to o ≡ Ok number → o ≡ Some number
-led_to-ok None number h = cc
-led_to-ok (Some n) number h = cc
-
 neither : (a b : Bool) → (a || b) ≡ false → (a ≡ false) × (b ≡ false)
 neither true b h = cc
 neither false b h = (refl, h)
 
-unless-becomes : (P : State → Type 0) (o : Option Refusal) (a : Attempt) → (o ≡ None → OnBecomes P a) → OnBecomes P (unless o a)
-unless-becomes P None a holds = holds refl
-unless-becomes P (Some r) a holds = tt
-
 module _ (P : State → Type 0) (S : State) (cred : Caller) (holds : HoldsOfResults P S cred) where
-  at_inode-becomes : (try : ℕ → Inode → Attempt) (number : ℕ) (o : Option Inode)
-      → ((inode : Inode) → o ≡ Some inode → OnBecomes P (try number inode)) → OnBecomes P (at_inode try number o)
-  at_inode-becomes try number None each = tt
-  at_inode-becomes try number (Some inode) each = each inode refl
-
-  at_reached-becomes : (try : ℕ → Inode → Attempt) (r : Result ℕ Refusal)
-      → ((number : ℕ) (inode : Inode) → r ≡ Ok number → inode_at S number ≡ Some inode → OnBecomes P (try number inode)) → OnBecomes P (at_reached S try r)
-  at_reached-becomes try (Err e) each = tt
-  at_reached-becomes try (Ok number) each = at_inode-becomes try number (inode_at S number) (λ inode there. each number inode refl there)
-
-  -- what holds of the attempt at each inode that is there holds of that at a path's
-  at_path-becomes : (try : ℕ → Inode → Attempt) (path : List ℕ)
-      → ((number : ℕ) (inode : Inode) → inode_at S number ≡ Some inode → OnBecomes P (try number inode)) → OnBecomes P (at_path S try path)
-  at_path-becomes try path each = at_reached-becomes try (walk S (components path)) (λ number inode reached there. each number inode there)
-
-  -- and of that at a name's
-  at_name-becomes : (try : ℕ → Inode → Attempt) (dir : ℕ) (name : List ℕ)
-      → ((number : ℕ) (inode : Inode) → named S dir name ≡ Some number → inode_at S number ≡ Some inode → OnBecomes P (try number inode))
-      → OnBecomes P (at_name S try dir name)
-  at_name-becomes try dir name each =
-      at_reached-becomes try (led_to (named S dir name)) (λ number inode led there. each number inode (led_to-ok (named S dir name) number led) there)
-
-  in_reached-becomes : (try : ℕ → List ℕ → Attempt) (name : List ℕ) (r : Result ℕ Refusal)
-      → ((dir : ℕ) → r ≡ Ok dir → OnBecomes P (try dir name)) → OnBecomes P (in_reached try name r)
-  in_reached-becomes try name (Err e) each = tt
-  in_reached-becomes try name (Ok dir) each = each dir refl
-
-  under-becomes : (of_root : Refusal) (try : ℕ → List ℕ → Attempt) (names : List (List ℕ)) (o : Option (List ℕ))
-      → ((dir : ℕ) (name : List ℕ) → place S names ≡ Ok dir → is_directory S dir ≡ true → OnBecomes P (try dir name))
-      → OnBecomes P (under S of_root try names o)
-  under-becomes of_root try names None each = tt
-  under-becomes of_root try names (Some name) each =
-      in_reached-becomes try name (place S names) (λ dir h. each dir name h (as_directory-ok S (walk S (take (length names - 1) names)) dir h))
-
-  -- what holds of the attempt at each name in a directory holds of that in a path's place
-  in_place-becomes : (of_root : Refusal) (try : ℕ → List ℕ → Attempt) (path : List ℕ)
-      → ((dir : ℕ) (name : List ℕ) → place S (components path) ≡ Ok dir → is_directory S dir ≡ true → OnBecomes P (try dir name))
-      → OnBecomes P (in_place S of_root try path)
-  in_place-becomes of_root try path each = under-becomes of_root try (components path) (last_name (components path)) each
-
   create_as-becomes : (dir : ℕ) (name : List ℕ) → is_known S cred ≡ true → is_directory S dir ≡ true → OnBecomes P (create_as S cred dir name)
   create_as-becomes dir name known stands =
       choice P (is_some (named S dir name)) (Refuse EEXIST) (Becomes (created S (new_file cred.uid cred.gid) dir name) S.next) tt
@@ -299,31 +219,31 @@ module _ (P : State → Type 0) (S : State) (cred : Caller) (holds : HoldsOfResu
 
   attempt_of-becomes : (call : Call) → is_known S cred ≡ true → has_bad_number S call ≡ false → OnBecomes P (attempt_of S cred call)
   attempt_of-becomes (Create path) known good =
-      in_place-becomes EEXIST (create_as S cred) path (λ dir name placed stands. create_as-becomes dir name known stands)
+      in_place-becomes P S EEXIST (create_as S cred) path (λ dir name placed stands. create_as-becomes dir name known stands)
   attempt_of-becomes (Mkdir path) known good =
-      in_place-becomes EEXIST (mkdir_as S cred) path (λ dir name placed stands. mkdir_as-becomes dir name known stands)
+      in_place-becomes P S EEXIST (mkdir_as S cred) path (λ dir name placed stands. mkdir_as-becomes dir name known stands)
   attempt_of-becomes (Write path off bytes) known good =
-      at_path-becomes (write_into S cred off bytes) path (λ number inode there. write_into-becomes off bytes number inode there)
+      at_path-becomes P S (write_into S cred off bytes) path (λ number inode there. write_into-becomes off bytes number inode there)
   attempt_of-becomes (Truncate path size) known good =
-      at_path-becomes (truncate_at S cred size) path (λ number inode there. truncate_at-becomes size number inode there)
-  attempt_of-becomes (Read path off len) known good = at_path-becomes (read_from off len) path (λ number inode there. read_from-becomes off len number inode)
-  attempt_of-becomes (AskStat path) known good = at_path-becomes (stat_at S) path (λ number inode there. tt)
+      at_path-becomes P S (truncate_at S cred size) path (λ number inode there. truncate_at-becomes size number inode there)
+  attempt_of-becomes (Read path off len) known good = at_path-becomes P S (read_from off len) path (λ number inode there. read_from-becomes off len number inode)
+  attempt_of-becomes (AskStat path) known good = at_path-becomes P S (stat_at S) path (λ number inode there. tt)
   attempt_of-becomes (Link from to) known good =
-      at_path-becomes (link_to S to) from (λ number inode there.
-      in_place-becomes EEXIST (link_as S number inode) to (λ dir name placed stands. link_as-becomes number inode dir name there stands))
+      at_path-becomes P S (link_to S to) from (λ number inode there.
+      in_place-becomes P S EEXIST (link_as S number inode) to (λ dir name placed stands. link_as-becomes number inode dir name there stands))
   attempt_of-becomes (Unlink path) known good =
-      in_place-becomes EISDIR (unlink_as S cred) path (λ dir name placed stands.
-      at_name-becomes (unlink_at S cred dir name) dir name (λ number inode led there. unlink_at-becomes dir name number inode led there))
+      in_place-becomes P S EISDIR (unlink_as S cred) path (λ dir name placed stands.
+      at_name-becomes P S (unlink_at S cred dir name) dir name (λ number inode led there. unlink_at-becomes dir name number inode led there))
   attempt_of-becomes (Rmdir path) known good =
-      in_place-becomes EBUSY (rmdir_as S cred) path (λ dir name placed stands.
-      at_name-becomes (rmdir_at S cred dir name) dir name (λ number inode led there. rmdir_at-becomes dir name number inode led there))
+      in_place-becomes P S EBUSY (rmdir_as S cred) path (λ dir name placed stands.
+      at_name-becomes P S (rmdir_at S cred dir name) dir name (λ number inode led there. rmdir_at-becomes dir name number inode led there))
   attempt_of-becomes (Rename from to) known good =
-      in_place-becomes EBUSY (rename_from S cred to) from (λ dir name from_placed from_stands.
-      at_name-becomes (rename_to S cred to dir name) dir name (λ number inode led there.
-      in_place-becomes EBUSY (rename_as S cred to dir name number inode) to (λ to_dir to_name placed stands.
+      in_place-becomes P S EBUSY (rename_from S cred to) from (λ dir name from_placed from_stands.
+      at_name-becomes P S (rename_to S cred to dir name) dir name (λ number inode led there.
+      in_place-becomes P S EBUSY (rename_as S cred to dir name number inode) to (λ to_dir to_name placed stands.
       rename_over-becomes (components to) dir name number inode to_dir to_name placed led there stands)))
   attempt_of-becomes (Chown path uid gid) known good =
-      at_path-becomes (chown_at S cred uid gid) path (λ number inode there. chown_at-becomes uid gid number inode good there)
+      at_path-becomes P S (chown_at S cred uid gid) path (λ number inode there. chown_at-becomes uid gid number inode good there)
   attempt_of-becomes (SetQuota kind id limits) known good = set_quota-becomes kind id limits
   attempt_of-becomes (SetGrace graces) known good = set_grace-becomes graces
   attempt_of-becomes (AskQuota kind id) known good = ask_quota-becomes kind id

@@ -15,9 +15,11 @@ use Rattle.qplain.specs.Renames.{passes, renamed}
 use Rattle.qlaws.specs.Laws.{FitsTogether}
 use Rattle.qlaws.proofs.Tables.{All-insert_new, absent-fresh}
 use Rattle.qlaws.proofs.Orders.{sorted-insert}
-use Rattle.qlaws.proofs.Fitting.{few-links, none-too_many, or_right}
+use Rattle.qlaws.proofs.Fitting.{or_right}
+use Rattle.qlaws.proofs.FewLinks.{few-links, none-too_many}
 use Rattle.qlaws.proofs.Finding.{found-at}
-use Rattle.qlaws.proofs.Sweeping.{All-lookup, has_name-there, sorted-filter, stays-swept}
+use Rattle.qlaws.proofs.Sweeping.{has_name-there, stays-swept}
+use Rattle.qlaws.proofs.Filtering.{All-lookup, sorted-filter}
 use Rattle.qlaws.proofs.Renaming.{has_name-renamed, outside}
 use Rattle.qlaws.proofs.Relinking.{links_of-renamed-directory, links_of-renamed-file}
 use Rattle.qlaws.proofs.Naming.{links_of-linked, links_of-linked-others}

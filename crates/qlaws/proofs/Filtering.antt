@@ -4,11 +4,12 @@ use Rattle.std.specs.List.{AllByRecursion}
 use Rattle.std.specs.List.Sorted.{IsStrictlySortedBy}
 use Rattle.std.specs.Map.{keys_of, lookup, remove_entry, values_of}
 use Rattle.std.specs.Option.{option_map, unwrap_or}
+use Rattle.std.specs.declared.cmp.Ordering.{Ordering}
 use Rattle.std.specs.declared.cmp.Ordering.TheVariants.{Less}
 use Rattle.std.specs.Ordering.{is_eq, nat_cmp}
 use Rattle.std.specs.Cmp.{unsigned_ties}
 use Rattle.std.specs.BTreeMap.{is_at}
-use Rattle.std.proofs.lemmas.List.Elements.{All-head, All-tail}
+use Rattle.std.proofs.lemmas.List.Elements.{All-cons, All-head, All-tail}
 use Rattle.std.proofs.lemmas.List.Sums.{sum_by-cons}
 use Rattle.std.proofs.lemmas.Map.Entries.{sum_by-remove_entry}
 use Rattle.qlaws.proofs.Tables.{same-number}
@@ -87,3 +88,44 @@ sum-remove-entry {K} {X} f test (e ∷ es) v there =
           let later = sum-remove-entry f test es v h in
           (later.0, later.1, let sum = later.2 in omega (arith, sum_by-cons f e es, sum_by-cons f e (remove_entry test es), sum))
     ] refl there
+
+module _ {K X : Type 0} (test : K × X → Bool) where
+  each-filter : (P : K → Type 0) (es : List (K × X)) → AllByRecursion P (keys_of es) → AllByRecursion P (keys_of (filter test es))
+  each-filter P [] all = tt
+  each-filter P (e ∷ es) all =
+      elim (test e) as (λ b. AllByRecursion P (keys_of (cond b (e ∷ filter test es) (filter test es)))) [
+        | true ↦ (all.0, each-filter P es all.1)
+        | false ↦ each-filter P es all.1
+      ]
+
+  -- what passes a test stays in order
+  pub sorted-filter : (R : K → K → Ordering) (es : List (K × X)) → IsStrictlySortedBy R (keys_of es) → IsStrictlySortedBy R (keys_of (filter test es))
+  unfolding IsStrictlySortedBy
+  sorted-filter R [] sorted = tt
+  sorted-filter R (e ∷ es) sorted =
+      elim (test e) as (λ b. IsStrictlySortedBy R (keys_of (cond b (e ∷ filter test es) (filter test es)))) [
+        | true ↦ (each-filter (λ y. R e.0 y ≡ Less) es sorted.0, sorted-filter R es sorted.1)
+        | false ↦ sorted-filter R es sorted.1
+      ]
+
+  -- what holds of all values holds of those that pass
+  pub All-values-filter : (P : X → Type 0) (es : List (K × X)) → All P (values_of es) → All P (values_of (filter test es))
+  All-values-filter P [] all = all
+  All-values-filter P (e ∷ es) all =
+      elim (test e) as (λ b. All P (values_of (cond b (e ∷ filter test es) (filter test es)))) [
+        | true ↦ All-cons P e.1 (values_of (filter test es)) (All-head P e.1 (values_of es) all) (All-values-filter P es (All-tail P e.1 (values_of es) all))
+        | false ↦ All-values-filter P es (All-tail P e.1 (values_of es) all)
+      ]
+
+module _ {X : Type 0} where
+  -- what holds of all entries holds of what a look-up finds
+  pub All-lookup : (P : ℕ × X → Type 0) (es : List (ℕ × X)) (q : ℕ) (v : X) → All P es → lookup (is_at (nat_cmp q)) es ≡ Some v → P (q, v)
+  All-lookup P [] q v all there = cc
+  All-lookup P (e ∷ es) q v all there =
+      elim (is_at (nat_cmp q) e.0) as (λ b. is_at (nat_cmp q) e.0 ≡ b → cond b (Some e.1) (lookup (is_at (nat_cmp q)) es) ≡ Some v → P (q, v)) [
+        | true ↦ λ s h. let here : P e = All-head P e es all in
+            let value : e.1 ≡ v = cc in
+            let key : q ≡ e.0 = same-number q e.0 s in
+            subst (λ (x : X). P (q, x)) value (subst (λ (n : ℕ). P (n, e.1)) (sym key) here)
+        | false ↦ λ s h. All-lookup P es q v (All-tail P e es all) h
+      ] refl there

@@ -7,14 +7,10 @@ use Rattle.std.specs.declared.cmp.Ordering.TheVariants.{Less}
 use Rattle.std.specs.Ordering.{nat_cmp, ordering_then}
 use Rattle.std.specs.BTreeMap.{is_at}
 use Rattle.std.specs.Cmp.{nat_cmp_total}
-use Rattle.std.proofs.lemmas.Bool.{or_parts}
-use Rattle.std.proofs.lemmas.List.Elements.{All-from_recursion}
-use Rattle.std.proofs.lemmas.List.Folds.{list_any_none}
 use Rattle.std.proofs.lemmas.Map.{keys-set_value}
 use Rattle.std.proofs.lemmas.Map.Views.{All-values-insert_entry, All-values-set_value, IfSome-lookup_from_All}
 use Rattle.qrules.specs.declared.kind.Kind.{Kind}
 use Rattle.qrules.specs.declared.kind.Kind.TheVariants.{User, Group}
-use Rattle.qrules.specs.declared.graces.Graces.{Graces}
 use Rattle.qplain.specs.declared.bounds.TheConstants.{MAX_LINKS, ROOT}
 use Rattle.qplain.specs.State.{Holder, Inode, NameKey, State, holder_cmp, inode_at, is_dir, is_directory, name_key_cmp, named, rank_of}
 use Rattle.qplain.specs.Use.{has_too_many_links, links_of, names_to}
@@ -22,6 +18,7 @@ use Rattle.qplain.specs.Arguments.{is_holder, is_same_kind}
 use Rattle.qplain.specs.Files.{with_inode}
 use Rattle.qplain.specs.Names.{created}
 use Rattle.qlaws.specs.Laws.{FitsTogether, IsSound, has_known_owners, has_right_names, leads}
+use Rattle.qlaws.proofs.FewLinks.{few-links, none-too_many, too_many-same}
 use Rattle.qlaws.proofs.Sound.{MayFollow}
 use Rattle.qlaws.proofs.Orders.{All-changed, sorted-insert}
 use Rattle.qlaws.proofs.Tables.{All-insert_new, All-keys-set_value, lookup-insert_new, absent-fresh, at-itself, count_by-agree, count_by-none, name_key_total, same-number, seen-set_value, sum_by-insert_new}
@@ -53,33 +50,6 @@ sorted-map : (f : Holder → Holder) → KeepsHolders f → (hs : List Holder) �
 unfolding IsStrictlySortedBy
 sorted-map f keeps [] sorted = tt
 sorted-map f keeps (h ∷ hs) sorted = (each-apart-map f keeps h hs sorted.0, sorted-map f keeps hs sorted.1)
-
--- ---- links within their bound
-
-links-same : (S : State) (holders : List Holder) (graces : Graces) (n : ℕ) (b : Bool)
-    → links_of (record S { holders = holders; graces = graces }) n b ≡ links_of S n b
-links-same S holders graces n false = refl
-links-same S holders graces n true = refl
-
--- the links are those of the names and the inodes
-pub too_many-same : (S : State) (holders : List Holder) (graces : Graces)
-    → has_too_many_links (record S { holders = holders; graces = graces }) ≡ has_too_many_links S
-too_many-same S holders graces = λ i. list_any (λ (e : ℕ × Inode). nat_lt MAX_LINKS (links-same S holders graces e.0 e.1.dir i)) S.inodes
-
--- no inode has too many where each has few enough
-pub none-too_many : (S : State) → All (λ e. nat_lt MAX_LINKS (links_of S e.0 e.1.dir) ≡ false) S.inodes → has_too_many_links S ≡ false
-none-too_many S few = list_any_none (λ (e : ℕ × Inode). nat_lt MAX_LINKS (links_of S e.0 e.1.dir)) S.inodes few
-
--- where none passes, each fails
-pub none-passes : {X : Type 0} (p : X → Bool) (xs : List X) → list_any p xs ≡ false → AllByRecursion (λ x. p x ≡ false) xs
-none-passes p [] h = tt
-none-passes p (x ∷ xs) h = let parts = or_parts (p x) (list_any p xs) h in (parts.0, none-passes p xs parts.1)
-
--- and the converse
-pub few-links : (S : State) → has_too_many_links S ≡ false → All (λ e. nat_lt MAX_LINKS (links_of S e.0 e.1.dir) ≡ false) S.inodes
-few-links S h =
-    All-from_recursion (λ (e : ℕ × Inode). nat_lt MAX_LINKS (links_of S e.0 e.1.dir) ≡ false) S.inodes
-    (none-passes (λ (e : ℕ × Inode). nat_lt MAX_LINKS (links_of S e.0 e.1.dir)) S.inodes h)
 
 -- a state whose holders alone were changed, and kept who they are, still fits together
 pub fits-map : (S : State) (f : Holder → Holder) → KeepsHolders f → FitsTogether S → FitsTogether (record S { holders = map f S.holders })

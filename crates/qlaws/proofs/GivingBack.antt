@@ -27,7 +27,7 @@ use Rattle.qplain.specs.Calls.{attempt, attempt_of, unless}
 use Rattle.qplain.specs.Step.{settle, settled}
 use Rattle.qlaws.specs.Laws.{FitsTogether, GivingBackIsGranted, IsLawful, RefusesForNoLimit, is_for_limits}
 use Rattle.qlaws.specs.Replaces.{Replaces, charge_of, weight_of}
-use Rattle.qlaws.proofs.Becoming.{led_to-ok, true-from_not}
+use Rattle.qlaws.proofs.Trying.{led_to-ok, true-from_not}
 use Rattle.qlaws.proofs.Removing.{Replaces-last, Replaces-more, links_of-unlinked, one_name}
 use Rattle.qlaws.proofs.Replacing.{Replaces-changed, fault_of-fewer, not_full-after}
 

@@ -13,9 +13,9 @@ use Rattle.qplain.specs.Use.{charge_to, has_name, names_to, weight}
 use Rattle.qplain.specs.Names.{swept}
 use Rattle.qlaws.specs.Laws.{FitsTogether, has_right_names}
 use Rattle.qlaws.specs.Replaces.{Replaces}
-use Rattle.qlaws.proofs.Filtering.{filter-all, filter-other, sum-less}
+use Rattle.qlaws.proofs.Filtering.{All-lookup, filter-all, filter-other, sum-less}
 use Rattle.qlaws.proofs.Fitting.{not_both}
-use Rattle.qlaws.proofs.Sweeping.{All-lookup, named-from_right}
+use Rattle.qlaws.proofs.Sweeping.{named-from_right}
 
 -- as many names are a name as before
 pub same-has_name : (S T : State) (q : ℕ) → names_to T q ≡ names_to S q → has_name T q ≡ has_name S q

@@ -1,7 +1,6 @@
--- Every inode is reached from the root after a name in place of another: what a rename may not come past, and the walks
--- that it moves.
-use Rattle.std.proofs.Common.{◌≡◌, ℕ, zero, suc, ◌+◌, ◌==◌, Bool, true, false, not, ◌&&◌, ◌||◌, cond, List, [], ◌∷◌, ◌++◌, length, take, All, fold, slice_index_or, Some, None, Result, Ok, Err, refl, sym, ap, subst, ◌∙◌, tests, arith, ◌⊎◌, inl, inr, ⊎_elim}
-use Rattle.std.specs.List.{list_any, range_with_len}
+-- Every inode is reached from the root after a name in place of another: the walks that are kept, and
+-- those that it moves.
+use Rattle.std.proofs.Common.{◌≡◌, ℕ, ◌==◌, Bool, true, false, not, ◌&&◌, cond, List, [], ◌∷◌, ◌++◌, All, fold, slice_index_or, Some, None, Result, Ok, Err, refl, sym, ap, subst, ◌∙◌, tests, arith, ◌⊎◌, inl, inr, ⊎_elim}
 use Rattle.std.specs.Map.{lookup}
 use Rattle.std.specs.BTreeMap.{is_at}
 use Rattle.std.proofs.lemmas.Bool.{and_left, and_right, cond-true, or_parts}
@@ -12,7 +11,7 @@ use Rattle.qplain.specs.declared.refusal.Refusal.{Refusal}
 use Rattle.qplain.specs.declared.refusal.Refusal.TheVariants.{ENOTDIR}
 use Rattle.qplain.specs.State.{Inode, State, inode_at, is_dir, is_directory, name_key_cmp, named}
 use Rattle.qplain.specs.Use.{has_name, is_empty}
-use Rattle.qplain.specs.Walk.{as_directory, follow, place, walk}
+use Rattle.qplain.specs.Walk.{as_directory, follow, place}
 use Rattle.qplain.specs.Names.{swept, with_name, without_name}
 use Rattle.qplain.specs.Renames.{is_reached, meets, passes, renamed}
 use Rattle.qlaws.specs.Laws.{AllReached, FitsTogether, IsReached}
@@ -22,6 +21,7 @@ use Rattle.qlaws.proofs.Finding.{holds-of-dir, less-kept, more-kept, name-laws}
 use Rattle.qlaws.proofs.Sweeping.{has_name-there, stays-swept}
 use Rattle.qlaws.proofs.Walking.{place-from_root, place_from, place_from-fault, walk-fault}
 use Rattle.qlaws.proofs.Renaming.{All-renamed, has_name-renamed, lead-W, named-U, named-V, outside, sorted-U, sorted-W, unfilled-target}
+use Rattle.qlaws.proofs.Meeting.{meets_from, meets_from-first}
 use Rattle.qlaws.proofs.Reaching.{ends-there, follow-from, follow-parts, named-reached, reached-at, reached-further}
 
 -- where a step to one number is not kept, walks that come past it go on from there
@@ -51,55 +51,6 @@ module _ (S S1 : State) (bad : ℕ → Bool) (jump : ℕ)
               ⊎_elim (λ p. inr (subst (λ n. Leads n q) same p)) (λ p. inr p) (later m g)
           step false false not_bad apart =
               ⊎_elim (λ p. inl (name ∷ p.0, ap (λ r. fold (follow S1) r p.0) (keeps d name m s not_bad apart) ∙ p.1)) (λ p. inr p) (later m g)
-
--- ---- what a walk meets
-
--- a walk from what was reached meets the number before its last name
-abbrev pub meets_from : State → ℕ → Result ℕ Refusal → List (List ℕ) → Bool
-meets_from S number r names = list_any (λ n. is_reached number (fold (follow S) r (take n names))) (range_with_len 0 (length names))
-
-range-shift : (f : ℕ → Bool) (a n : ℕ) → list_any f (range_with_len (a + 1) n) ≡ list_any (λ k. f (k + 1)) (range_with_len a n)
-range-shift f a zero = refl
-range-shift f a (suc n) = ap (λ b. f (a + 1) || b) (range-shift f (a + 1) n)
-
--- where it begins, or behind its first name
-meets_from-first : (S : State) (number : ℕ) (r : Result ℕ Refusal) (name : List ℕ) (rest : List (List ℕ))
-    → meets_from S number r (name ∷ rest) ≡ (is_reached number r || meets_from S number (follow S r name) rest)
-meets_from-first S number r name rest =
-    ap (λ b. is_reached number r || b) (range-shift here 0 (length rest)
-    ∙ (λ i. list_any (λ k. is_reached number (fold (follow S) r (take (one-more k i) (name ∷ rest)))) (range_with_len 0 (length rest))))
-  where
-    here : ℕ → Bool
-    here n = is_reached number (fold (follow S) r (take n (name ∷ rest)))
-
-    one-more : (k : ℕ) → k + 1 ≡ suc k
-    one-more k = omega arith
-
-or-assoc : (a b c : Bool) → (a || (b || c)) ≡ ((a || b) || c)
-or-assoc true b c = refl
-or-assoc false b c = refl
-
-or-false : (a : Bool) → (a || false) ≡ a
-or-false true = refl
-or-false false = refl
-
-meets_from-last : (S : State) (number : ℕ) (r : Result ℕ Refusal) (names : List (List ℕ)) (name : List ℕ)
-    → meets_from S number r (names ++ name ∷ []) ≡ (meets_from S number r names || is_reached number (fold (follow S) r names))
-meets_from-last S number r [] name = meets_from-first S number r name [] ∙ or-false (is_reached number r)
-meets_from-last S number r (first ∷ rest) name =
-    meets_from-first S number r first (rest ++ name ∷ [])
-    ∙ ap (λ b. is_reached number r || b) (meets_from-last S number (follow S r first) rest name)
-    ∙ or-assoc (is_reached number r) (meets_from S number (follow S r first) rest) (is_reached number (fold (follow S) (follow S r first) rest))
-    ∙ ap (λ b. b || is_reached number (fold (follow S) (follow S r first) rest)) (sym (meets_from-first S number r first rest))
-
--- no walk to the place of the root meets anything
-pub meets-none : (S : State) (number : ℕ) → meets S [] number ≡ false
-meets-none S number = refl
-
--- with one name more the walk to the place meets what it met, and what the walk of the names before led to
-pub meets-last : (S : State) (names : List (List ℕ)) (name : List ℕ) (number : ℕ)
-    → meets S (names ++ name ∷ []) number ≡ (meets S names number || is_reached number (walk S names))
-meets-last S names name number = meets_from-last S number (Ok ROOT) names name
 
 -- ---- a name in place of another
 

@@ -20,7 +20,8 @@ use Rattle.qlaws.specs.Laws.{AllReached, FitsTogether, IsReached, leads}
 use Rattle.qlaws.proofs.Tables.{All-insert_new, All-keys-set_value, absent-fresh, lookup-insert_new, name_key_total}
 use Rattle.qlaws.proofs.Orders.{All-remove, sorted-remove}
 use Rattle.qlaws.proofs.Fitting.{directory-same, some-is_dir}
-use Rattle.qlaws.proofs.Sweeping.{All-lookup, has_name-there, has_name-without, stays-swept, unfilled}
+use Rattle.qlaws.proofs.Sweeping.{has_name-there, has_name-without, stays-swept, unfilled}
+use Rattle.qlaws.proofs.Filtering.{All-lookup}
 use Rattle.qlaws.proofs.Linking.{inode_at-created-there}
 use Rattle.qlaws.proofs.Walking.{walk-fault}
 use Rattle.qrules.specs.declared.graces.Graces.{Graces}

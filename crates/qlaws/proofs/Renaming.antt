@@ -20,7 +20,7 @@ use Rattle.qlaws.proofs.Filtering.{filter-all}
 use Rattle.qlaws.proofs.Fitting.{not_both, some-is_dir}
 use Rattle.qlaws.proofs.Finding.{found-key, name-laws, same-key}
 use Rattle.qlaws.proofs.Sweeping.{few-from_right, has_name-there, key-dir, named-from_right, names_to-without, swept_fits, unfilled-empty}
-use Rattle.qlaws.proofs.Losing.{Replaces-held, Replaces-lost, inodes-held, inodes-lost, same-has_name}
+use Rattle.qlaws.proofs.Losing.{Replaces-held, Replaces-lost, inode_at-lost, inodes-held, inodes-lost, one_name-lost, same-has_name}
 
 -- without a key that is not there, all stay
 pub remove-none : {K X : Type 0} (test : K → Bool) (es : List (K × X)) → lookup test es ≡ None → remove_entry test es ≡ es
@@ -185,6 +185,16 @@ module _ (S : State) (dir : ℕ) (name : List ℕ) (number : ℕ) (inode : Inode
     pub inodes-replaced : names_to S t ≡ 1 → (renamed S dir name to_dir to_name number).inodes ≡ remove_entry (is_at (nat_cmp t)) S.inodes
     inodes-replaced last = inodes-lost S W.names t replaced fits there_too names_to-target others-keep last
 
+    -- what stands at a number then
+    pub inode_at-replaced : names_to S t ≡ 1 → (q : ℕ)
+        → inode_at (renamed S dir name to_dir to_name number) q ≡ cond (is_at (nat_cmp t) q) None (inode_at S q)
+    inode_at-replaced last q = inode_at-lost S W.names t replaced fits there_too names_to-target others-keep last q
+
+    -- a directory that is replaced has one name
+    pub one_name-replaced : replaced.dir ≡ true → names_to S t ≡ 1
+    one_name-replaced directory = one_name-lost S W.names t replaced fits there_too names_to-target others-keep directory
+
+    -- then no inode stands where it stood
     pub Replaces-replaced : names_to S t ≡ 1 → Replaces S (renamed S dir name to_dir to_name number) (Some replaced) None
     Replaces-replaced last =
         let r = Replaces-lost S W.names t replaced fits there_too names_to-target others-keep last in
@@ -194,6 +204,7 @@ module _ (S : State) (dir : ℕ) (name : List ℕ) (number : ℕ) (inode : Inode
     pub inodes-held_on : 1 < names_to S t → (renamed S dir name to_dir to_name number).inodes ≡ S.inodes
     inodes-held_on more = inodes-held S W.names t replaced fits there_too names_to-target others-keep more
 
+    -- and it stands where it stood
     pub Replaces-held_on : 1 < names_to S t → Replaces S (renamed S dir name to_dir to_name number) (Some replaced) (Some replaced)
     Replaces-held_on more =
         let r = Replaces-held S W.names t replaced fits there_too names_to-target others-keep more in

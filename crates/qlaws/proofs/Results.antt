@@ -12,7 +12,8 @@ use Rattle.qplain.specs.Names.{created}
 use Rattle.qplain.specs.Quotas.{relimited}
 use Rattle.qlaws.specs.Laws.{FitsTogether}
 use Rattle.qlaws.proofs.Becoming.{HoldsOfResults}
-use Rattle.qlaws.proofs.Fitting.{changed_fits, created_fits, few-links, fits-map, none-too_many, too_many-same}
+use Rattle.qlaws.proofs.Fitting.{changed_fits, created_fits, fits-map}
+use Rattle.qlaws.proofs.FewLinks.{few-links, none-too_many, too_many-same}
 use Rattle.qlaws.proofs.Finding.{found-at}
 use Rattle.qlaws.proofs.Linking.{links_of-created-others, links_of-new_file}
 use Rattle.qlaws.proofs.Tables.{All-insert_new, absent-fresh}

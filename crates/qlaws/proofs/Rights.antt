@@ -12,7 +12,8 @@ use Rattle.qplain.specs.Files.{with_inode}
 use Rattle.qplain.specs.Renames.{passes, renamed}
 use Rattle.qplain.specs.Names.{created, swept, with_name, without_name}
 use Rattle.qlaws.specs.Laws.{FitsTogether, LeavesToOthers, RightsHold, is_of_others}
-use Rattle.qlaws.proofs.Becoming.{HoldsOfResults, step-becomes, true-from_not}
+use Rattle.qlaws.proofs.Becoming.{HoldsOfResults, step-becomes}
+use Rattle.qlaws.proofs.Trying.{true-from_not}
 use Rattle.qlaws.proofs.Fitting.{created_fits}
 use Rattle.qlaws.proofs.Results.{few-created}
 use Rattle.qlaws.proofs.Finding.{more-kept}

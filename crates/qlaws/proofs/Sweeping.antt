@@ -1,8 +1,8 @@
 -- What a change of the names, and the sweep after it, leave of a state that fits together.
-use Rattle.std.proofs.Common.{◌≡◌, ℕ, ◌+◌, ◌≤◌, ◌==◌, Bool, true, false, not, ◌&&◌, ◌||◌, nat_le, nat_lt, cond, List, [], ◌∷◌, All, filter, slice_index_or, count_by, Option, Some, None, is_some, refl, sym, ap, subst, ◌∙◌, tests, arith}
-use Rattle.std.specs.List.{AllByRecursion, list_any}
+use Rattle.std.proofs.Common.{◌≡◌, ℕ, ◌+◌, ◌≤◌, ◌==◌, Bool, true, false, not, ◌&&◌, ◌||◌, nat_le, nat_lt, cond, List, All, filter, slice_index_or, count_by, Option, Some, None, is_some, refl, sym, ap, subst, ◌∙◌, tests, arith}
+use Rattle.std.specs.List.{list_any}
 use Rattle.std.specs.List.Sorted.{IsStrictlySortedBy}
-use Rattle.std.specs.Map.{keys_of, lookup, remove_entry, values_of}
+use Rattle.std.specs.Map.{keys_of, remove_entry}
 use Rattle.std.specs.declared.cmp.Ordering.{Ordering}
 use Rattle.std.specs.declared.cmp.Ordering.TheVariants.{Less, Equal, Greater}
 use Rattle.std.specs.Ordering.{is_eq, nat_cmp, ordering_then}
@@ -13,59 +13,18 @@ use Rattle.std.proofs.lemmas.Map.{lookup-remove_entry}
 use Rattle.std.proofs.lemmas.Map.Entries.{lookup-filter-keys}
 use Rattle.std.proofs.lemmas.Map.Keys.{IsDistinct-from_sorted}
 use Rattle.std.proofs.lemmas.Bool.{and_parts}
-use Rattle.std.proofs.lemmas.List.Elements.{All-cons, All-filter, All-from_recursion, All-head, All-tail, filter_passes}
+use Rattle.std.proofs.lemmas.List.Elements.{All-filter, All-from_recursion, filter_passes}
 use Rattle.std.proofs.lemmas.List.Sums.{get_or-le-sum_by, sum_by-le-sum_by}
 use Rattle.qplain.specs.declared.bounds.TheConstants.{MAX_LINKS, ROOT}
 use Rattle.qplain.specs.State.{Inode, NameKey, State, inode_at, is_dir, is_directory, name_key_cmp, named}
 use Rattle.qplain.specs.Use.{has_name, has_too_many_links, is_empty, links_of, names_to}
 use Rattle.qplain.specs.Names.{swept, without_name}
 use Rattle.qlaws.specs.Laws.{FitsTogether, IsSound, has_known_owners, has_right_names, leads}
+use Rattle.qlaws.proofs.Filtering.{All-lookup, All-values-filter, sorted-filter}
 use Rattle.qlaws.proofs.Orders.{All-remove, sorted-remove, sum-remove, sum-remove-le}
 use Rattle.qlaws.proofs.Tables.{name_key_total, same-number}
-use Rattle.qlaws.proofs.Fitting.{few-links, none-passes, none-too_many, not_both, right, some-is_dir}
-
--- ---- filtered tables
-
-module _ {K X : Type 0} (test : K × X → Bool) where
-  each-filter : (P : K → Type 0) (es : List (K × X)) → AllByRecursion P (keys_of es) → AllByRecursion P (keys_of (filter test es))
-  each-filter P [] all = tt
-  each-filter P (e ∷ es) all =
-      elim (test e) as (λ b. AllByRecursion P (keys_of (cond b (e ∷ filter test es) (filter test es)))) [
-        | true ↦ (all.0, each-filter P es all.1)
-        | false ↦ each-filter P es all.1
-      ]
-
-  -- what passes a test stays in order
-  pub sorted-filter : (R : K → K → Ordering) (es : List (K × X)) → IsStrictlySortedBy R (keys_of es) → IsStrictlySortedBy R (keys_of (filter test es))
-  unfolding IsStrictlySortedBy
-  sorted-filter R [] sorted = tt
-  sorted-filter R (e ∷ es) sorted =
-      elim (test e) as (λ b. IsStrictlySortedBy R (keys_of (cond b (e ∷ filter test es) (filter test es)))) [
-        | true ↦ (each-filter (λ y. R e.0 y ≡ Less) es sorted.0, sorted-filter R es sorted.1)
-        | false ↦ sorted-filter R es sorted.1
-      ]
-
-  -- what holds of all values holds of those that pass
-  pub All-values-filter : (P : X → Type 0) (es : List (K × X)) → All P (values_of es) → All P (values_of (filter test es))
-  All-values-filter P [] all = all
-  All-values-filter P (e ∷ es) all =
-      elim (test e) as (λ b. All P (values_of (cond b (e ∷ filter test es) (filter test es)))) [
-        | true ↦ All-cons P e.1 (values_of (filter test es)) (All-head P e.1 (values_of es) all) (All-values-filter P es (All-tail P e.1 (values_of es) all))
-        | false ↦ All-values-filter P es (All-tail P e.1 (values_of es) all)
-      ]
-
-module _ {X : Type 0} where
-  -- what holds of all entries holds of what a look-up finds
-  pub All-lookup : (P : ℕ × X → Type 0) (es : List (ℕ × X)) (q : ℕ) (v : X) → All P es → lookup (is_at (nat_cmp q)) es ≡ Some v → P (q, v)
-  All-lookup P [] q v all there = cc
-  All-lookup P (e ∷ es) q v all there =
-      elim (is_at (nat_cmp q) e.0) as (λ b. is_at (nat_cmp q) e.0 ≡ b → cond b (Some e.1) (lookup (is_at (nat_cmp q)) es) ≡ Some v → P (q, v)) [
-        | true ↦ λ s h. let here : P e = All-head P e es all in
-            let value : e.1 ≡ v = cc in
-            let key : q ≡ e.0 = same-number q e.0 s in
-            subst (λ (x : X). P (q, x)) value (subst (λ (n : ℕ). P (n, e.1)) (sym key) here)
-        | false ↦ λ s h. All-lookup P es q v (All-tail P e es all) h
-      ] refl there
+use Rattle.qlaws.proofs.Fitting.{not_both, right, some-is_dir}
+use Rattle.qlaws.proofs.FewLinks.{few-links, none-passes, none-too_many}
 
 -- ---- as many names as may be, or fewer
 
