@@ -10,7 +10,7 @@ use Rattle.qrules.specs.declared.graces.Graces.{Graces}
 use Rattle.qrules.specs.declared.graces.TheConstants.{MAX_MOMENT}
 use Rattle.qblocks.specs.File.{File, after_truncate, after_write, read_at}
 use Rattle.qplain.specs.declared.call.Call.{Call}
-use Rattle.qplain.specs.declared.call.Call.TheVariants.{Create, Mkdir, Write, Truncate, Read, Stat as AskStat, Link, Unlink, Rmdir, Rename, Chown, SetQuota, SetGrace, Quota as AskQuota}
+use Rattle.qplain.specs.declared.call.Call.TheVariants.{Create, Mkdir, Write, Truncate, Read, Stat as AskStat, Link, Unlink, Rmdir, Chown, SetQuota, SetGrace, Quota as AskQuota}
 use Rattle.qplain.specs.declared.refusal.Refusal.{Refusal}
 use Rattle.qplain.specs.declared.refusal.Refusal.TheVariants.{EBUSY, EINVAL, ENAMETOOLONG, ENOTDIR, ENOTEMPTY, EEXIST, EISDIR, EACCES, EFBIG, EMLINK, EPERM, ESRCH}
 use Rattle.qplain.specs.declared.reply.Reply.TheVariants.{Bytes, Done}
@@ -237,11 +237,6 @@ module _ (P : State → Type 0) (S : State) (cred : Caller) (holds : HoldsOfResu
   attempt_of-becomes (Rmdir path) known good =
       in_place-becomes P S EBUSY (rmdir_as S cred) path (λ dir name placed stands.
       at_name-becomes P S (rmdir_at S cred dir name) dir name (λ number inode led there. rmdir_at-becomes dir name number inode led there))
-  attempt_of-becomes (Rename from to) known good =
-      in_place-becomes P S EBUSY (rename_from S cred to) from (λ dir name from_placed from_stands.
-      at_name-becomes P S (rename_to S cred to dir name) dir name (λ number inode led there.
-      in_place-becomes P S EBUSY (rename_as S cred to dir name number inode) to (λ to_dir to_name placed stands.
-      rename_over-becomes (components to) dir name number inode to_dir to_name placed led there stands)))
   attempt_of-becomes (Chown path uid gid) known good =
       at_path-becomes P S (chown_at S cred uid gid) path (λ number inode there. chown_at-becomes uid gid number inode good there)
   attempt_of-becomes (SetQuota kind id limits) known good = set_quota-becomes kind id limits

@@ -184,8 +184,7 @@ fn call_of<'a>(
             | Verb::Stat
             | Verb::Link
             | Verb::Unlink
-            | Verb::Rmdir
-            | Verb::Rename,
+            | Verb::Rmdir,
             _,
         ) => path_call_of(alloc, paths, verb, arguments),
         _ => Err(ReadFault::Fault(TextKind::WordCount)),
