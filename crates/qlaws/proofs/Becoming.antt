@@ -1,7 +1,8 @@
 -- What a step may become, call by call: the cases that a fact about every plain result has to be shown for.
-use Rattle.std.proofs.Common.{◌≡◌, ℕ, ◌+◌, ◌==◌, Bool, true, false, not, ◌&&◌, ◌||◌, nat_lt, cond, ◌-◌, List, length, take, subst, Option, Some, None, is_some, Result, Ok, Err, refl, tests, arith}
+use Rattle.std.proofs.Common.{◌≡◌, ℕ, ◌+◌, ◌==◌, Bool, true, false, not, ◌&&◌, ◌||◌, nat_lt, cond, List, length, Option, Some, None, is_some, Ok, refl, tests, arith}
 use Rattle.std.specs.List.{find, list_all, list_any}
 use Rattle.std.specs.Option.{unwrap_or}
+use Rattle.std.proofs.lemmas.Bool.{and_left, and_right}
 use Rattle.qrules.specs.declared.kind.Kind.{Kind}
 use Rattle.qrules.specs.declared.kind.Kind.TheVariants.{User, Group}
 use Rattle.qrules.specs.declared.limits.Limits.{Limits}
@@ -9,31 +10,28 @@ use Rattle.qrules.specs.declared.graces.Graces.{Graces}
 use Rattle.qrules.specs.declared.graces.TheConstants.{MAX_MOMENT}
 use Rattle.qblocks.specs.File.{File, after_truncate, after_write, read_at}
 use Rattle.qplain.specs.declared.call.Call.{Call}
-use Rattle.qplain.specs.declared.call.Call.TheVariants.{Create, Write, Truncate, Read, Stat as AskStat, Unlink, Chown, SetQuota, SetGrace, Quota as AskQuota}
+use Rattle.qplain.specs.declared.call.Call.TheVariants.{Create, Mkdir, Write, Truncate, Read, Stat as AskStat, Link, Unlink, Rmdir, Rename, Chown, SetQuota, SetGrace, Quota as AskQuota}
 use Rattle.qplain.specs.declared.refusal.Refusal.{Refusal}
-use Rattle.qplain.specs.declared.refusal.Refusal.TheVariants.{EINVAL, ENAMETOOLONG, ENOTDIR, EEXIST, EISDIR, EACCES, EFBIG, EPERM, ESRCH}
+use Rattle.qplain.specs.declared.refusal.Refusal.TheVariants.{EBUSY, EINVAL, ENAMETOOLONG, ENOTDIR, ENOTEMPTY, EEXIST, EISDIR, EACCES, EFBIG, EMLINK, EPERM, ESRCH}
 use Rattle.qplain.specs.declared.reply.Reply.TheVariants.{Bytes, Done}
 use Rattle.qplain.specs.Caller.{Caller, is_superuser}
-use Rattle.qplain.specs.State.{Holder, Inode, State, inode_at, is_directory, named, new_file}
-use Rattle.qplain.specs.Walk.{as_directory, components, is_well_formed, is_too_long, last_name, led_to, place, walk}
+use Rattle.qplain.specs.State.{Holder, Inode, State, inode_at, is_directory, named, new_directory, new_file}
+use Rattle.qplain.specs.Use.{has_too_many_links, is_empty}
+use Rattle.qplain.specs.Walk.{components, is_well_formed, is_too_long, place}
 use Rattle.qplain.specs.Decision.{ends_after, refusal_between}
 use Rattle.qplain.specs.Arguments.{has_bad_number, is_declared, is_holder, is_known, is_undeclared, paths_of, refusal_of_arguments}
-use Rattle.qplain.specs.Attempt.{Attempt, Refuse, Answer, Becomes, at_inode, at_name, at_path, at_reached, in_place, in_reached, no_change, under}
+use Rattle.qplain.specs.Attempt.{Attempt, Refuse, Answer, Becomes, no_change}
 use Rattle.qplain.specs.Rights.{is_member, is_own, is_owner, may_give, may_remove, may_write}
 use Rattle.qplain.specs.Files.{read_from, stat_at, truncate_at, with_file, with_inode, write_into}
-use Rattle.qplain.specs.Names.{create_as, created, swept, unlink_as, unlink_at, without_name}
+use Rattle.qplain.specs.Names.{create_as, created, link_as, link_to, mkdir_as, rmdir_as, rmdir_at, swept, unless_too_many_links, unlink_as, unlink_at, with_name, without_name}
+use Rattle.qplain.specs.Renames.{meets, passes, rename_as, rename_from, rename_over, rename_to, renamed}
 use Rattle.qplain.specs.Owners.{chown_at, with_owners}
 use Rattle.qplain.specs.Quotas.{ask_quota, quota_from, set_quota, set_grace, with_limits_of}
-use Rattle.qplain.specs.Calls.{attempt, attempt_of, unless}
+use Rattle.qplain.specs.Calls.{attempt, attempt_of}
 use Rattle.qlaws.specs.Laws.{IsSound, has_known_owners}
 use Rattle.qplain.specs.Step.{settle, settled, step}
+use Rattle.qlaws.proofs.Trying.{OnBecomes, at_name-becomes, at_path-becomes, choice, in_place-becomes, none-from_not_some, true-from_not, unless-becomes}
 use Rattle.qlaws.proofs.Sound.{MayFollow, empty-sound, known-caller, owned-follows, truncated-follows, written-follows}
-
--- the fact holds of the plain result, if there is one
-abbrev pub OnBecomes : (State → Type 0) → Attempt → Type 0
-OnBecomes P (Refuse r) = Unit {0}
-OnBecomes P (Answer reply) = Unit {0}
-OnBecomes P (Becomes S number) = P S
 
 -- the inode is the caller's, and its group the caller's first
 pub record IsOwn (cred : Caller) (inode : Inode) : Type 0 where
@@ -43,38 +41,22 @@ pub record IsOwn (cred : Caller) (inode : Inode) : Type 0 where
 -- the plain results that the calls of a caller may have
 pub record HoldsOfResults (P : State → Type 0) (S : State) (cred : Caller) : Type 0 where
   pub created : (inode : Inode) (dir : ℕ) (name : List ℕ) → IsOwn cred inode → has_known_owners S inode ≡ true → IsSound inode
-      → is_directory S dir ≡ true → named S dir name ≡ None → P (created S inode dir name)
+      → is_directory S dir ≡ true → named S dir name ≡ None → (inode.dir && has_too_many_links (created S inode dir name)) ≡ false
+      → P (created S inode dir name)
   pub changed : (number : ℕ) (inode after : Inode) → inode_at S number ≡ Some inode → MayFollow S inode after
       → may_give cred inode after.uid after.gid ≡ true → P (with_inode S number after)
   pub removed : (dir : ℕ) (name : List ℕ) (number : ℕ) (inode : Inode) → named S dir name ≡ Some number → inode_at S number ≡ Some inode
-      → inode.dir ≡ false → may_remove S cred dir number ≡ true → P (swept (without_name S dir name))
+      → (inode.dir && not (is_empty S number)) ≡ false → may_remove S cred dir number ≡ true → P (swept (without_name S dir name))
+  pub linked : (number : ℕ) (inode : Inode) (dir : ℕ) (name : List ℕ) → inode_at S number ≡ Some inode → inode.dir ≡ false
+      → is_directory S dir ≡ true → named S dir name ≡ None → has_too_many_links (with_name S dir name number) ≡ false → P (with_name S dir name number)
+  pub renamed : (to : List (List ℕ)) (dir : ℕ) (name : List ℕ) (number : ℕ) (inode : Inode) (to_dir : ℕ) (to_name : List ℕ)
+      → place S to ≡ Ok to_dir → (inode.dir && meets S to number) ≡ false → named S dir name ≡ Some number → inode_at S number ≡ Some inode
+      → is_directory S to_dir ≡ true → passes (λ n. n == number) (named S to_dir to_name) ≡ false
+      → passes (λ n. not (is_empty S n)) (named S to_dir to_name) ≡ false → may_remove S cred dir number ≡ true
+      → passes (λ n. not (may_remove S cred to_dir n)) (named S to_dir to_name) ≡ false
+      → has_too_many_links (renamed S dir name to_dir to_name number) ≡ false → P (renamed S dir name to_dir to_name number)
   pub limited : (kind : Kind) (id : ℕ) (limits : Limits) → is_superuser cred ≡ true → P (with_limits_of S kind id limits)
   pub graced : (graces : Graces) → is_superuser cred ≡ true → P (record S { graces = graces })
-
--- of two attempts, each of which the fact allows, either
-choice : (P : State → Type 0) (b : Bool) (x y : Attempt) → OnBecomes P x → (b ≡ false → OnBecomes P y) → OnBecomes P (cond b x y)
-choice P true x y p q = p
-choice P false x y p q = q refl
-
-ok_parts : (b : Bool) (d dir : ℕ) → cond b (Ok d) (Err ENOTDIR) ≡ Ok dir → (b ≡ true) × (d ≡ dir)
-ok_parts true d dir h = (refl, cc)
-ok_parts false d dir h = cc
-
--- a number reached as a directory is one
-as_directory-ok : (S : State) (r : Result ℕ Refusal) (dir : ℕ) → as_directory S r ≡ Ok dir → is_directory S dir ≡ true
-as_directory-ok S (Err e) dir h = cc
-as_directory-ok S (Ok d) dir h =
-    let parts : (is_directory S d ≡ true) × (d ≡ dir) = ok_parts (is_directory S d) d dir h in
-    let at : ℕ → Type 0 = λ n. is_directory S n ≡ true in
-    subst at parts.1 parts.0
-
-none-from_not_some : (o : Option ℕ) → is_some o ≡ false → o ≡ None
-none-from_not_some None h = refl
-none-from_not_some (Some n) h = cc
-
-true-from_not : (b : Bool) → not b ≡ false → b ≡ true
-true-from_not true h = refl
-true-from_not false h = cc
 
 -- who may write into an inode may leave it to its owners
 owners-kept : (cred : Caller) (inode : Inode) → may_write cred inode ≡ true → may_give cred inode inode.uid inode.gid ≡ true
@@ -101,65 +83,27 @@ known-lawful false false formed numbers long h = cc
 known-lawful false true false numbers long h = cc
 known-lawful false true true true long h = cc
 
--- what a name leads to
-led_to-ok : (o : Option ℕ) (number : ℕ) → led_to o ≡ Ok number → o ≡ Some number
-led_to-ok None number h = cc
-led_to-ok (Some n) number h = cc
-
 neither : (a b : Bool) → (a || b) ≡ false → (a ≡ false) × (b ≡ false)
 neither true b h = cc
 neither false b h = (refl, h)
 
-unless-becomes : (P : State → Type 0) (o : Option Refusal) (a : Attempt) → (o ≡ None → OnBecomes P a) → OnBecomes P (unless o a)
-unless-becomes P None a holds = holds refl
-unless-becomes P (Some r) a holds = tt
-
 module _ (P : State → Type 0) (S : State) (cred : Caller) (holds : HoldsOfResults P S cred) where
-  at_inode-becomes : (try : ℕ → Inode → Attempt) (number : ℕ) (o : Option Inode)
-      → ((inode : Inode) → o ≡ Some inode → OnBecomes P (try number inode)) → OnBecomes P (at_inode try number o)
-  at_inode-becomes try number None each = tt
-  at_inode-becomes try number (Some inode) each = each inode refl
-
-  at_reached-becomes : (try : ℕ → Inode → Attempt) (r : Result ℕ Refusal)
-      → ((number : ℕ) (inode : Inode) → r ≡ Ok number → inode_at S number ≡ Some inode → OnBecomes P (try number inode)) → OnBecomes P (at_reached S try r)
-  at_reached-becomes try (Err e) each = tt
-  at_reached-becomes try (Ok number) each = at_inode-becomes try number (inode_at S number) (λ inode there. each number inode refl there)
-
-  -- what holds of the attempt at each inode that is there holds of that at a path's
-  at_path-becomes : (try : ℕ → Inode → Attempt) (path : List ℕ)
-      → ((number : ℕ) (inode : Inode) → inode_at S number ≡ Some inode → OnBecomes P (try number inode)) → OnBecomes P (at_path S try path)
-  at_path-becomes try path each = at_reached-becomes try (walk S (components path)) (λ number inode reached there. each number inode there)
-
-  -- and of that at a name's
-  at_name-becomes : (try : ℕ → Inode → Attempt) (dir : ℕ) (name : List ℕ)
-      → ((number : ℕ) (inode : Inode) → named S dir name ≡ Some number → inode_at S number ≡ Some inode → OnBecomes P (try number inode))
-      → OnBecomes P (at_name S try dir name)
-  at_name-becomes try dir name each =
-      at_reached-becomes try (led_to (named S dir name)) (λ number inode led there. each number inode (led_to-ok (named S dir name) number led) there)
-
-  in_reached-becomes : (try : ℕ → List ℕ → Attempt) (name : List ℕ) (r : Result ℕ Refusal)
-      → ((dir : ℕ) → r ≡ Ok dir → OnBecomes P (try dir name)) → OnBecomes P (in_reached try name r)
-  in_reached-becomes try name (Err e) each = tt
-  in_reached-becomes try name (Ok dir) each = each dir refl
-
-  under-becomes : (of_root : Refusal) (try : ℕ → List ℕ → Attempt) (names : List (List ℕ)) (o : Option (List ℕ))
-      → ((dir : ℕ) (name : List ℕ) → place S names ≡ Ok dir → is_directory S dir ≡ true → OnBecomes P (try dir name))
-      → OnBecomes P (under S of_root try names o)
-  under-becomes of_root try names None each = tt
-  under-becomes of_root try names (Some name) each =
-      in_reached-becomes try name (place S names) (λ dir h. each dir name h (as_directory-ok S (walk S (take (length names - 1) names)) dir h))
-
-  -- what holds of the attempt at each name in a directory holds of that in a path's place
-  in_place-becomes : (of_root : Refusal) (try : ℕ → List ℕ → Attempt) (path : List ℕ)
-      → ((dir : ℕ) (name : List ℕ) → place S (components path) ≡ Ok dir → is_directory S dir ≡ true → OnBecomes P (try dir name))
-      → OnBecomes P (in_place S of_root try path)
-  in_place-becomes of_root try path each = under-becomes of_root try (components path) (last_name (components path)) each
-
   create_as-becomes : (dir : ℕ) (name : List ℕ) → is_known S cred ≡ true → is_directory S dir ≡ true → OnBecomes P (create_as S cred dir name)
   create_as-becomes dir name known stands =
       choice P (is_some (named S dir name)) (Refuse EEXIST) (Becomes (created S (new_file cred.uid cred.gid) dir name) S.next) tt
       (λ absent. holds.created (new_file cred.uid cred.gid) dir name (record { user = refl; group = refl }) (known-caller S cred known)
-      (empty-sound (new_file cred.uid cred.gid) refl) stands (none-from_not_some (named S dir name) absent))
+      (empty-sound (new_file cred.uid cred.gid) refl) stands (none-from_not_some (named S dir name) absent) refl)
+
+  unless_too_many_links-becomes : (new : State) (number : ℕ) → (has_too_many_links new ≡ false → P new) → OnBecomes P (unless_too_many_links new number)
+  unless_too_many_links-becomes new number p = choice P (has_too_many_links new) (Refuse EMLINK) (Becomes new number) tt p
+
+  mkdir_as-becomes : (dir : ℕ) (name : List ℕ) → is_known S cred ≡ true → is_directory S dir ≡ true → OnBecomes P (mkdir_as S cred dir name)
+  mkdir_as-becomes dir name known stands =
+      let inode : Inode = new_directory cred.uid cred.gid in
+      choice P (is_some (named S dir name)) (Refuse EEXIST) (unless_too_many_links (created S inode dir name) S.next) tt
+      (λ absent. unless_too_many_links-becomes (created S inode dir name) S.next
+      (λ few. holds.created inode dir name (record { user = refl; group = refl }) (known-caller S cred known)
+      (empty-sound inode refl) stands (none-from_not_some (named S dir name) absent) few))
 
   write_into-becomes : (off : ℕ) (bytes : List ℕ) (number : ℕ) (inode : Inode) → inode_at S number ≡ Some inode
       → OnBecomes P (write_into S cred off bytes number inode)
@@ -197,7 +141,52 @@ module _ (P : State → Type 0) (S : State) (cred : Caller) (holds : HoldsOfResu
       let becomes : Attempt = Becomes (swept (without_name S dir name)) number in
       choice P inode.dir (Refuse EISDIR) (cond (not (may_remove S cred dir number)) (Refuse EPERM) becomes) tt (λ file.
       choice P (not (may_remove S cred dir number)) (Refuse EPERM) becomes tt
-      (λ may. holds.removed dir name number inode led there file (true-from_not (may_remove S cred dir number) may)))
+      (λ may. holds.removed dir name number inode led there (and_left inode.dir (not (is_empty S number)) file)
+      (true-from_not (may_remove S cred dir number) may)))
+
+  rmdir_at-becomes : (dir : ℕ) (name : List ℕ) (number : ℕ) (inode : Inode) → named S dir name ≡ Some number → inode_at S number ≡ Some inode
+      → OnBecomes P (rmdir_at S cred dir name number inode)
+  rmdir_at-becomes dir name number inode led there =
+      let becomes : Attempt = Becomes (swept (without_name S dir name)) number in
+      let empties : Attempt = cond (not (is_empty S number)) (Refuse ENOTEMPTY) becomes in
+      let allowed : Attempt = cond (not (may_remove S cred dir number)) (Refuse EPERM) empties in
+      choice P (not inode.dir) (Refuse ENOTDIR) allowed tt (λ directory.
+      choice P (not (may_remove S cred dir number)) (Refuse EPERM) empties tt (λ may.
+      choice P (not (is_empty S number)) (Refuse ENOTEMPTY) becomes tt (λ empty.
+      holds.removed dir name number inode led there (and_right inode.dir (not (is_empty S number)) empty)
+      (true-from_not (may_remove S cred dir number) may))))
+
+  link_as-becomes : (number : ℕ) (inode : Inode) (dir : ℕ) (name : List ℕ) → inode_at S number ≡ Some inode → is_directory S dir ≡ true
+      → OnBecomes P (link_as S number inode dir name)
+  link_as-becomes number inode dir name there stands =
+      let becomes : Attempt = unless_too_many_links (with_name S dir name number) number in
+      choice P inode.dir (Refuse EPERM) (cond (is_some (named S dir name)) (Refuse EEXIST) becomes) tt (λ file.
+      choice P (is_some (named S dir name)) (Refuse EEXIST) becomes tt (λ absent.
+      unless_too_many_links-becomes (with_name S dir name number) number
+      (λ few. holds.linked number inode dir name there file stands (none-from_not_some (named S dir name) absent) few)))
+
+  rename_over-becomes : (to : List (List ℕ)) (dir : ℕ) (name : List ℕ) (number : ℕ) (inode : Inode) (to_dir : ℕ) (to_name : List ℕ)
+      → place S to ≡ Ok to_dir → named S dir name ≡ Some number → inode_at S number ≡ Some inode → is_directory S to_dir ≡ true
+      → OnBecomes P (rename_over S cred to dir name number inode to_dir to_name (named S to_dir to_name))
+  rename_over-becomes to dir name number inode to_dir to_name placed led there stands =
+      let target : Option ℕ = named S to_dir to_name in
+      let becomes : Attempt = unless_too_many_links (renamed S dir name to_dir to_name number) number in
+      let empties : Attempt = cond (passes (λ n. not (is_empty S n)) target) (Refuse ENOTEMPTY) becomes in
+      let replaces : Attempt = cond (passes (λ n. not (may_remove S cred to_dir n)) target) (Refuse EPERM) empties in
+      let moves : Attempt = cond (not (may_remove S cred dir number)) (Refuse EPERM) replaces in
+      let file_too : Attempt = cond (not inode.dir && passes (λ n. is_directory S n) target) (Refuse EISDIR) moves in
+      let dir_too : Attempt = cond (inode.dir && passes (λ n. not (is_directory S n)) target) (Refuse ENOTDIR) file_too in
+      let apart : Attempt = cond (inode.dir && meets S to number) (Refuse EINVAL) dir_too in
+      choice P (passes (λ n. n == number) target) (Answer (Done number no_change)) apart tt (λ other.
+      choice P (inode.dir && meets S to number) (Refuse EINVAL) dir_too tt (λ outside.
+      choice P (inode.dir && passes (λ n. not (is_directory S n)) target) (Refuse ENOTDIR) file_too tt (λ a.
+      choice P (not inode.dir && passes (λ n. is_directory S n) target) (Refuse EISDIR) moves tt (λ b.
+      choice P (not (may_remove S cred dir number)) (Refuse EPERM) replaces tt (λ may.
+      choice P (passes (λ n. not (may_remove S cred to_dir n)) target) (Refuse EPERM) empties tt (λ may_too.
+      choice P (passes (λ n. not (is_empty S n)) target) (Refuse ENOTEMPTY) becomes tt (λ empty.
+      unless_too_many_links-becomes (renamed S dir name to_dir to_name number) number
+      (λ few. holds.renamed to dir name number inode to_dir to_name placed outside led there stands other empty
+      (true-from_not (may_remove S cred dir number) may) may_too few))))))))
 
   chown_at-becomes : (uid gid : Option ℕ) (number : ℕ) (inode : Inode) → (is_undeclared S User uid || is_undeclared S Group gid) ≡ false
       → inode_at S number ≡ Some inode → OnBecomes P (chown_at S cred uid gid number inode)
@@ -230,18 +219,31 @@ module _ (P : State → Type 0) (S : State) (cred : Caller) (holds : HoldsOfResu
 
   attempt_of-becomes : (call : Call) → is_known S cred ≡ true → has_bad_number S call ≡ false → OnBecomes P (attempt_of S cred call)
   attempt_of-becomes (Create path) known good =
-      in_place-becomes EEXIST (create_as S cred) path (λ dir name placed stands. create_as-becomes dir name known stands)
+      in_place-becomes P S EEXIST (create_as S cred) path (λ dir name placed stands. create_as-becomes dir name known stands)
+  attempt_of-becomes (Mkdir path) known good =
+      in_place-becomes P S EEXIST (mkdir_as S cred) path (λ dir name placed stands. mkdir_as-becomes dir name known stands)
   attempt_of-becomes (Write path off bytes) known good =
-      at_path-becomes (write_into S cred off bytes) path (λ number inode there. write_into-becomes off bytes number inode there)
+      at_path-becomes P S (write_into S cred off bytes) path (λ number inode there. write_into-becomes off bytes number inode there)
   attempt_of-becomes (Truncate path size) known good =
-      at_path-becomes (truncate_at S cred size) path (λ number inode there. truncate_at-becomes size number inode there)
-  attempt_of-becomes (Read path off len) known good = at_path-becomes (read_from off len) path (λ number inode there. read_from-becomes off len number inode)
-  attempt_of-becomes (AskStat path) known good = at_path-becomes (stat_at S) path (λ number inode there. tt)
+      at_path-becomes P S (truncate_at S cred size) path (λ number inode there. truncate_at-becomes size number inode there)
+  attempt_of-becomes (Read path off len) known good = at_path-becomes P S (read_from off len) path (λ number inode there. read_from-becomes off len number inode)
+  attempt_of-becomes (AskStat path) known good = at_path-becomes P S (stat_at S) path (λ number inode there. tt)
+  attempt_of-becomes (Link from to) known good =
+      at_path-becomes P S (link_to S to) from (λ number inode there.
+      in_place-becomes P S EEXIST (link_as S number inode) to (λ dir name placed stands. link_as-becomes number inode dir name there stands))
   attempt_of-becomes (Unlink path) known good =
-      in_place-becomes EISDIR (unlink_as S cred) path (λ dir name placed stands.
-      at_name-becomes (unlink_at S cred dir name) dir name (λ number inode led there. unlink_at-becomes dir name number inode led there))
+      in_place-becomes P S EISDIR (unlink_as S cred) path (λ dir name placed stands.
+      at_name-becomes P S (unlink_at S cred dir name) dir name (λ number inode led there. unlink_at-becomes dir name number inode led there))
+  attempt_of-becomes (Rmdir path) known good =
+      in_place-becomes P S EBUSY (rmdir_as S cred) path (λ dir name placed stands.
+      at_name-becomes P S (rmdir_at S cred dir name) dir name (λ number inode led there. rmdir_at-becomes dir name number inode led there))
+  attempt_of-becomes (Rename from to) known good =
+      in_place-becomes P S EBUSY (rename_from S cred to) from (λ dir name from_placed from_stands.
+      at_name-becomes P S (rename_to S cred to dir name) dir name (λ number inode led there.
+      in_place-becomes P S EBUSY (rename_as S cred to dir name number inode) to (λ to_dir to_name placed stands.
+      rename_over-becomes (components to) dir name number inode to_dir to_name placed led there stands)))
   attempt_of-becomes (Chown path uid gid) known good =
-      at_path-becomes (chown_at S cred uid gid) path (λ number inode there. chown_at-becomes uid gid number inode good there)
+      at_path-becomes P S (chown_at S cred uid gid) path (λ number inode there. chown_at-becomes uid gid number inode good there)
   attempt_of-becomes (SetQuota kind id limits) known good = set_quota-becomes kind id limits
   attempt_of-becomes (SetGrace graces) known good = set_grace-becomes graces
   attempt_of-becomes (AskQuota kind id) known good = ask_quota-becomes kind id

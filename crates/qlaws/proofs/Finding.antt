@@ -5,15 +5,15 @@ use Rattle.std.specs.List.Sorted.{IsStrictlySortedBy}
 use Rattle.std.specs.Map.{keys_of, lookup, remove_entry}
 use Rattle.std.specs.declared.cmp.Ordering.{Ordering}
 use Rattle.std.specs.declared.cmp.Ordering.TheVariants.{Less, Equal, Greater}
-use Rattle.std.specs.Ordering.{eq_by_cmp, is_eq, ordering_reverse}
+use Rattle.std.specs.Ordering.{eq_by_cmp, is_eq, nat_cmp, ordering_reverse}
 use Rattle.std.specs.BTreeMap.{insert_entry, is_at}
-use Rattle.std.specs.Cmp.{IsEquivalence, IsTotalOrder, eq_by_cmp_equiv}
+use Rattle.std.specs.Cmp.{IsEquivalence, IsTotalOrder, eq_by_cmp_equiv, nat_cmp_total}
 use Rattle.std.proofs.lemmas.Bool.{cond-false, cond-true}
-use Rattle.std.proofs.lemmas.List.Elements.{All-head, All-tail}
+use Rattle.std.proofs.lemmas.List.Elements.{All-from_recursion, All-head, All-tail}
 use Rattle.std.proofs.lemmas.List.Sums.{sum_by-cons}
 use Rattle.std.proofs.lemmas.Map.{lookup-remove_entry}
 use Rattle.std.proofs.lemmas.Map.Keys.{IsDistinct-from_sorted}
-use Rattle.qplain.specs.State.{NameKey, State, name_key_cmp, named}
+use Rattle.qplain.specs.State.{Inode, NameKey, State, inode_at, name_key_cmp, named}
 use Rattle.qlaws.proofs.Tables.{lookup-insert_new, name_key_total}
 use Rattle.qlaws.proofs.Fitting.{not_both}
 use Rattle.qlaws.proofs.Sweeping.{key-dir}
@@ -59,8 +59,12 @@ each-found-by {R = R} o (e ∷ es) sorted = (
   found-later o e es es sorted.0 (each-found-by o es sorted.1),
 )
 
+-- so each inode is found under its number
+pub found-at : (S : State) → IsStrictlySortedBy nat_cmp (keys_of S.inodes) → All (λ e. inode_at S e.0 ≡ Some e.1) S.inodes
+found-at S sorted = All-from_recursion (λ (e : ℕ × Inode). inode_at S e.0 ≡ Some e.1) S.inodes (each-found-by nat_cmp_total S.inodes sorted)
+
 -- what a look-up finds stands under a key that passes
-found-key : {K X : Type 0} (P : K × X → Type 0) (test : K → Bool) (es : List (K × X)) (v : X) → All P es → lookup test es ≡ Some v
+pub found-key : {K X : Type 0} (P : K × X → Type 0) (test : K → Bool) (es : List (K × X)) (v : X) → All P es → lookup test es ≡ Some v
     → (k : K) × (test k ≡ true) × P (k, v)
 found-key P test [] v all there = cc
 found-key {K} {X} P test (e ∷ es) v all there =
@@ -70,7 +74,7 @@ found-key {K} {X} P test (e ∷ es) v all there =
     ] refl there
 
 -- keys that are equal find the same
-same-key : {K X : Type 0} {eq : K → K → Bool} → IsEquivalence eq → (k q : K) → eq k q ≡ true → (es : List (K × X)) → lookup (eq q) es ≡ lookup (eq k) es
+pub same-key : {K X : Type 0} {eq : K → K → Bool} → IsEquivalence eq → (k q : K) → eq k q ≡ true → (es : List (K × X)) → lookup (eq q) es ≡ lookup (eq k) es
 same-key laws k q e [] = refl
 same-key laws k q e (x ∷ es) = λ i. cond (sym (laws.congr k q x.0 e) i) (Some x.1) (same-key laws k q e es i)
 

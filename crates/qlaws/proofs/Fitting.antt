@@ -1,5 +1,5 @@
 -- What every plain result keeps of a lawful state, before its bounds and ends are looked at.
-use Rattle.std.proofs.Common.{◌≡◌, ℕ, ◌+◌, ◌==◌, Bool, true, false, ◌&&◌, ◌||◌, nat_lt, cond, List, [], ◌∷◌, map, IfSome, slice_index_or, Option, Some, None, is_some, refl, sym, ap, subst, ◌∙◌, tests, arith}
+use Rattle.std.proofs.Common.{◌≡◌, ℕ, ◌+◌, ◌==◌, Bool, true, false, ◌&&◌, ◌||◌, nat_lt, cond, List, [], ◌∷◌, All, map, IfSome, slice_index_or, Option, Some, None, is_some, refl, sym, ap, subst, ◌∙◌, tests, arith}
 use Rattle.std.specs.List.{AllByRecursion, list_any}
 use Rattle.std.specs.List.Sorted.{IsStrictlySortedBy}
 use Rattle.std.specs.Map.{values_of}
@@ -11,13 +11,14 @@ use Rattle.std.proofs.lemmas.Map.{keys-set_value}
 use Rattle.std.proofs.lemmas.Map.Views.{All-values-insert_entry, All-values-set_value, IfSome-lookup_from_All}
 use Rattle.qrules.specs.declared.kind.Kind.{Kind}
 use Rattle.qrules.specs.declared.kind.Kind.TheVariants.{User, Group}
-use Rattle.qplain.specs.declared.bounds.TheConstants.{ROOT}
+use Rattle.qplain.specs.declared.bounds.TheConstants.{MAX_LINKS, ROOT}
 use Rattle.qplain.specs.State.{Holder, Inode, NameKey, State, holder_cmp, inode_at, is_dir, is_directory, name_key_cmp, named, rank_of}
-use Rattle.qplain.specs.Use.{links_of, names_to}
+use Rattle.qplain.specs.Use.{has_too_many_links, links_of, names_to}
 use Rattle.qplain.specs.Arguments.{is_holder, is_same_kind}
 use Rattle.qplain.specs.Files.{with_inode}
 use Rattle.qplain.specs.Names.{created}
 use Rattle.qlaws.specs.Laws.{FitsTogether, IsSound, has_known_owners, has_right_names, leads}
+use Rattle.qlaws.proofs.FewLinks.{few-links, none-too_many, too_many-same}
 use Rattle.qlaws.proofs.Sound.{MayFollow}
 use Rattle.qlaws.proofs.Orders.{All-changed, sorted-insert}
 use Rattle.qlaws.proofs.Tables.{All-insert_new, All-keys-set_value, lookup-insert_new, absent-fresh, at-itself, count_by-agree, count_by-none, name_key_total, same-number, seen-set_value, sum_by-insert_new}
@@ -53,6 +54,7 @@ sorted-map f keeps (h ∷ hs) sorted = (each-apart-map f keeps h hs sorted.0, so
 -- a state whose holders alone were changed, and kept who they are, still fits together
 pub fits-map : (S : State) (f : Holder → Holder) → KeepsHolders f → FitsTogether S → FitsTogether (record S { holders = map f S.holders })
 fits-map S f keeps fits = record {
+  links = too_many-same S (map f S.holders) S.graces ∙ fits.links;
   holders = sorted-map f keeps S.holders fits.holders;
   inodes = record {
     in_order = fits.inodes.in_order;
@@ -178,8 +180,10 @@ module _ (S : State) (inode : Inode) (dir : ℕ) (name : List ℕ) (fits : FitsT
       grind (arith, tests, differ)
 
   -- a sound inode of known owners leaves parts that fit together
-  pub created_fits : has_known_owners S inode ≡ true → IsSound inode → FitsTogether (created S inode dir name)
-  created_fits known sound = record {
+  pub created_fits : has_known_owners S inode ≡ true → IsSound inode → has_too_many_links (created S inode dir name) ≡ false
+      → FitsTogether (created S inode dir name)
+  created_fits known sound few = record {
+    links = few;
     holders = fits.holders;
     inodes = record {
       in_order = sorted-insert nat_cmp_total S.inodes S.next inode fits.inodes.in_order;
@@ -236,10 +240,21 @@ module _ (S : State) (number : ℕ) (inode changed : Inode) (there : inode_at S 
       (λ e. e.0.0 == n && is_directory S e.1) S.names
       (λ k d below. ap (λ b. (slice_index_or S.names k d).0.0 == n && b) (directory-same (slice_index_or S.names k d).1)))
 
+  -- so none has too many links then
+  pub few-changed : has_too_many_links S ≡ false → has_too_many_links (with_inode S number changed) ≡ false
+  few-changed few =
+      let all : All (λ e. nat_lt MAX_LINKS (links_of S e.0 e.1.dir) ≡ false) (with_inode S number changed).inodes =
+      All-changed (λ e. nat_lt MAX_LINKS (links_of S e.0 e.1.dir) ≡ false) (is_at (nat_cmp number)) S.inodes inode changed there
+      (λ n h. ap (λ b. nat_lt MAX_LINKS (links_of S n b)) same ∙ h) (few-links S few) in
+      none-too_many (with_inode S number changed) (λ k d below.
+      let e : ℕ × Inode = slice_index_or (with_inode S number changed).inodes k d in
+      ap (nat_lt MAX_LINKS) (links_of-changed e.0 e.1.dir) ∙ all k d below)
+
 -- an inode that may follow leaves parts that fit together
 pub changed_fits : (S : State) (number : ℕ) (inode changed : Inode) → inode_at S number ≡ Some inode → MayFollow S inode changed
     → FitsTogether S → FitsTogether (with_inode S number changed)
 changed_fits S number inode changed there follows fits = record {
+  links = few-changed S number inode changed there follows.dir fits.links;
   holders = fits.holders;
   inodes = record {
     in_order = subst (IsStrictlySortedBy nat_cmp) (sym (keys-set_value (is_at (nat_cmp number)) S.inodes changed)) fits.inodes.in_order;

@@ -1,14 +1,14 @@
 -- No caller but the superuser makes another user, or a group that is not its own, own an inode.
-use Rattle.std.proofs.Common.{◌≡◌, ℕ, Bool, true, false, cond, ◌||◌, ◌==◌, ◌∷◌, Option, None, Some, is_some, refl, sym, ap, subst, ◌∙◌, tests, arith}
+use Rattle.std.proofs.Common.{◌≡◌, ℕ, Bool, true, false, cond, ◌||◌, ◌==◌, List, ◌∷◌, Option, None, Some, is_some, refl, sym, ap, subst, ◌∙◌, tests, arith}
 use Rattle.std.specs.List.{list_any}
 use Rattle.std.specs.Ordering.{nat_cmp}
 use Rattle.std.specs.BTreeMap.{is_at}
 use Rattle.qplain.specs.Caller.{Caller, is_superuser}
-use Rattle.qplain.specs.State.{Inode, State, inode_at}
+use Rattle.qplain.specs.State.{Inode, NameKey, State, inode_at}
 use Rattle.qplain.specs.Use.{has_name}
 use Rattle.qplain.specs.Rights.{may_give}
 use Rattle.qplain.specs.Files.{with_inode}
-use Rattle.qplain.specs.Names.{created, swept, without_name}
+use Rattle.qplain.specs.Names.{created, swept, with_name, without_name}
 use Rattle.qlaws.specs.Laws.{FitsTogether, KeepsOwners, OwnersHold}
 use Rattle.qlaws.proofs.Becoming.{HoldsOfResults, IsOwn, step-becomes}
 use Rattle.std.proofs.lemmas.Bool.{or_left}
@@ -73,9 +73,20 @@ left-there : (b : Bool) (o : Option Inode) (after : Inode) → cond b o None ≡
 left-there true o after now = now
 left-there false o after now = cc
 
+-- a change of the names, and the sweep, make no inode and change none
+results_swept : (S : State) (cred : Caller) (names : List (NameKey × ℕ)) → KeepsOwners cred S (swept (record S { names = names }))
+results_swept S cred names =
+    let was : (q : ℕ) (after : Inode) → inode_at (swept (record S { names = names })) q ≡ Some after → inode_at S q ≡ Some after =
+    λ q after now. left-there (has_name (record S { names = names }) q) (inode_at S q) after (sym (inode_at-swept S names q) ∙ now) in
+    record {
+      made = λ q after none now. let clash : Some after ≡ None = sym (was q after now) ∙ none in cc;
+      user = λ q one after at now. (keeps-itself cred one after (sym at ∙ was q after now)).user;
+      group = λ q one after at now. (keeps-itself cred one after (sym at ∙ was q after now)).group;
+    }
+
 results_keep : (S : State) (cred : Caller) → FitsTogether S → is_superuser cred ≡ false → HoldsOfResults (KeepsOwners cred S) S cred
 results_keep S cred fits other = record {
-  created = λ inode dir name own known sound stands absent.
+  created = λ inode dir name own known sound stands absent few.
       let none : inode_at S S.next ≡ None = absent-fresh S.inodes S.next fits.inodes.fresh in
       let keeps : (q : ℕ) (one after : Inode) → inode_at S q ≡ Some one → inode_at (created S inode dir name) q ≡ Some after → Keeps cred one after =
       λ q one after at now. keeps-same S (created S inode dir name) cred q one after at now
@@ -93,15 +104,14 @@ results_keep S cred fits other = record {
     user = λ q one then at now. (keeps-changed S cred number inode after other there may q one then at now).user;
     group = λ q one then at now. (keeps-changed S cred number inode after other there may q one then at now).group;
   };
-  removed = λ dir name number inode led there file may.
-      let was : (q : ℕ) (after : Inode) → inode_at (swept (without_name S dir name)) q ≡ Some after → inode_at S q ≡ Some after =
-      λ q after now. left-there (has_name (without_name S dir name) q) (inode_at S q) after
-      (sym (inode_at-swept S (without_name S dir name).names q) ∙ now) in
-      record {
-        made = λ q after none now. let clash : Some after ≡ None = sym (was q after now) ∙ none in cc;
-        user = λ q one after at now. (keeps-itself cred one after (sym at ∙ was q after now)).user;
-        group = λ q one after at now. (keeps-itself cred one after (sym at ∙ was q after now)).group;
-      };
+  removed = λ dir name number inode led there empty may. results_swept S cred (without_name S dir name).names;
+  linked = λ number inode dir name there file stands absent few. record {
+    made = λ q after none now. let clash : Some after ≡ None = sym now ∙ none in cc;
+    user = λ q one after at now. (keeps-itself cred one after (sym at ∙ now)).user;
+    group = λ q one after at now. (keeps-itself cred one after (sym at ∙ now)).group;
+  };
+  renamed = λ to dir name number inode to_dir to_name placed outside led there stands other empty may may_too few.
+      results_swept S cred (with_name (without_name (without_name S dir name) to_dir to_name) to_dir to_name number).names;
   limited = λ kind id limits may. cc;
   graced = λ graces may. cc;
 }

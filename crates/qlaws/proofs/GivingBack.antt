@@ -1,4 +1,4 @@
--- Whoever is over a limit may give back: no truncation and no unlink is refused for want of space or of quota.
+-- Whoever is over a limit may give back: no truncation, unlink or rmdir is refused for want of space or of quota.
 use Rattle.std.proofs.Common.{◌≡◌, ℕ, ◌+◌, ◌-◌, ◌≤◌, ◌==◌, ◌<◌, Bool, true, false, not, nat_le, nat_lt, cond, List, [], ◌∷◌, length, take, filter, fold, Option, Some, None, Result, Ok, Err, refl, sym, ap, subst, ◌∙◌, tests, arith}
 use Rattle.std.specs.List.{list_any}
 use Rattle.std.specs.Option.{option_or, option_map}
@@ -8,26 +8,27 @@ use Rattle.qrules.specs.declared.kind.Kind.TheVariants.{User, Group}
 use Rattle.qrules.specs.Sort.{Sort, Inodes, Blocks}
 use Rattle.qblocks.specs.File.{File, after_truncate, begins_below, size_of}
 use Rattle.qplain.specs.declared.call.Call.{Call}
-use Rattle.qplain.specs.declared.call.Call.TheVariants.{Truncate, Unlink}
+use Rattle.qplain.specs.declared.call.Call.TheVariants.{Truncate, Unlink, Rmdir}
 use Rattle.qplain.specs.declared.bounds.TheConstants.{ROOT}
 use Rattle.qplain.specs.declared.refusal.Refusal.{Refusal}
-use Rattle.qplain.specs.declared.refusal.Refusal.TheVariants.{EINVAL, ENAMETOOLONG, ENOTDIR, ENOSPC, EDQUOT, EISDIR, EACCES, EFBIG, EPERM}
+use Rattle.qplain.specs.declared.refusal.Refusal.TheVariants.{EBUSY, EINVAL, ENAMETOOLONG, ENOTDIR, ENOTEMPTY, ENOSPC, EDQUOT, EISDIR, EACCES, EFBIG, EPERM}
 use Rattle.qplain.specs.declared.reply.Reply.TheVariants.{Refused}
 use Rattle.qplain.specs.Caller.{Caller, is_superuser}
 use Rattle.qplain.specs.State.{Holder, Inode, State, inode_at, is_directory, named}
-use Rattle.qplain.specs.Use.{account_of, names_to, use_of, weight}
+use Rattle.qplain.specs.Use.{account_of, is_empty, names_to, use_of, weight}
 use Rattle.qplain.specs.Walk.{as_directory, components, follow, is_too_long, last_name, led_to, place, walk}
 use Rattle.qplain.specs.Decision.{fault_of_holder, first_refusal, is_too_full, refusal_between}
 use Rattle.qplain.specs.Arguments.{is_invalid, paths_of}
-use Rattle.qplain.specs.Attempt.{Attempt, Refuse, Answer, Becomes, at_inode, at_path, at_reached, in_reached, under}
+use Rattle.qplain.specs.Attempt.{Attempt, Refuse, Answer, Becomes, at_inode, at_name, at_path, at_reached, in_reached, under}
 use Rattle.qplain.specs.Rights.{may_remove, may_write}
 use Rattle.qplain.specs.Files.{truncate_at, with_file}
-use Rattle.qplain.specs.Names.{swept, unlink_as, unlink_at, without_name}
+use Rattle.qplain.specs.Names.{rmdir_as, rmdir_at, swept, unlink_as, unlink_at, without_name}
 use Rattle.qplain.specs.Calls.{attempt, attempt_of, unless}
 use Rattle.qplain.specs.Step.{settle, settled}
 use Rattle.qlaws.specs.Laws.{FitsTogether, GivingBackIsGranted, IsLawful, RefusesForNoLimit, is_for_limits}
 use Rattle.qlaws.specs.Replaces.{Replaces, charge_of, weight_of}
-use Rattle.qlaws.proofs.Removing.{Replaces-last, Replaces-more, links_of-unlinked}
+use Rattle.qlaws.proofs.Trying.{led_to-ok, true-from_not}
+use Rattle.qlaws.proofs.Removing.{Replaces-last, Replaces-more, links_of-unlinked, one_name}
 use Rattle.qlaws.proofs.Replacing.{Replaces-changed, fault_of-fewer, not_full-after}
 
 -- ---- where nothing that is counted rises
@@ -105,13 +106,21 @@ module _ (S : State) (cred : Caller) (moment : ℕ) (lawful : IsLawful S) where
       by true more =
           let l : 1 < names_to S number = grind (arith, tests, more) in
           granted-fewer S (swept (without_name S dir name)) (Some inode) (Some inode) cred moment lawful
-          (Replaces-more S dir name number inode fits led there file l) refl (λ sort. omega arith) (λ kind id sort. omega arith)
+          (Replaces-more S dir name number inode fits led there l) refl (λ sort. omega arith) (λ kind id sort. omega arith)
       by false last =
           let sum : names_to (swept (without_name S dir name)) number + 1 ≡ names_to S number =
           links_of-unlinked S dir name number inode fits led there file in
           let one : names_to S number ≡ 1 = grind (arith, tests, sum, last) in
           granted-fewer S (swept (without_name S dir name)) (Some inode) None cred moment lawful
-          (Replaces-last S dir name number inode fits led there file one) refl (λ sort. omega arith) (λ kind id sort. omega arith)
+          (Replaces-last S dir name number inode fits led there one) refl (λ sort. omega arith) (λ kind id sort. omega arith)
+
+  -- nor is an rmdir
+  granted-rmdir : (dir : ℕ) (name : List ℕ) (number : ℕ) (inode : Inode) → named S dir name ≡ Some number → inode_at S number ≡ Some inode
+      → inode.dir ≡ true → refusal_between S (swept (without_name S dir name)) cred moment ≡ None
+  granted-rmdir dir name number inode led there directory =
+      granted-fewer S (swept (without_name S dir name)) (Some inode) None cred moment lawful
+      (Replaces-last S dir name number inode lawful.parts led there (one_name S dir name number inode lawful.parts led there directory))
+      refl (λ sort. omega arith) (λ kind id sort. omega arith)
 
   -- ---- what an attempt is refused for
 
@@ -167,7 +176,7 @@ module _ (S : State) (cred : Caller) (moment : ℕ) (lawful : IsLawful S) where
   at_reached-no_limit try (Err e) plain each = plain
   at_reached-no_limit try (Ok number) plain each = at_inode-no_limit try number (inode_at S number) (λ inode there. each number inode refl there)
 
-  -- ---- the two calls
+  -- ---- the three calls
 
   truncate-no_limit : (path : List ℕ) (size : ℕ) → NoLimit (at_path S (truncate_at S cred size) path)
   truncate-no_limit path size =
@@ -178,26 +187,42 @@ module _ (S : State) (cred : Caller) (moment : ℕ) (lawful : IsLawful S) where
       choose (not (may_write cred inode)) (Refuse EACCES) fits refl (λ may.
       choose (nat_lt S.file_limit size) (Refuse EFBIG) becomes refl (λ below. granted-truncate number inode size there))))
 
+  -- what is tried of a name's inode, where it is there
+  at_name-no_limit : (try : ℕ → Inode → Attempt) (dir : ℕ) (name : List ℕ)
+      → ((number : ℕ) (inode : Inode) → named S dir name ≡ Some number → inode_at S number ≡ Some inode → NoLimit (try number inode))
+      → NoLimit (at_name S try dir name)
+  at_name-no_limit try dir name each =
+      at_reached-no_limit try (led_to (named S dir name)) (led_to-plain (named S dir name))
+      (λ number inode reached there. each number inode (led_to-ok (named S dir name) number reached) there)
+
   unlink-no_limit : (dir : ℕ) (name : List ℕ) → NoLimit (unlink_as S cred dir name)
   unlink-no_limit dir name =
-      at_reached-no_limit (unlink_at S cred dir name) (led_to (named S dir name)) (led_to-plain (named S dir name)) (λ number inode reached there.
+      at_name-no_limit (unlink_at S cred dir name) dir name (λ number inode led there.
       let becomes : Attempt = Becomes (swept (without_name S dir name)) number in
       choose inode.dir (Refuse EISDIR) (cond (not (may_remove S cred dir number)) (Refuse EPERM) becomes) refl (λ file.
       choose (not (may_remove S cred dir number)) (Refuse EPERM) becomes refl (λ may.
-      granted-unlink dir name number inode (led_to-ok (named S dir name) number reached) there file)))
-    where
-      led_to-ok : (o : Option ℕ) (number : ℕ) → led_to o ≡ Ok number → o ≡ Some number
-      led_to-ok None number h = cc
-      led_to-ok (Some n) number h = cc
+      granted-unlink dir name number inode led there file)))
 
-  in_reached-no_limit : (name : List ℕ) (r : Result ℕ Refusal) → Plain r → NoLimit (in_reached (unlink_as S cred) name r)
-  in_reached-no_limit name (Err e) plain = plain
-  in_reached-no_limit name (Ok dir) plain = unlink-no_limit dir name
+  rmdir-no_limit : (dir : ℕ) (name : List ℕ) → NoLimit (rmdir_as S cred dir name)
+  rmdir-no_limit dir name =
+      at_name-no_limit (rmdir_at S cred dir name) dir name (λ number inode led there.
+      let becomes : Attempt = Becomes (swept (without_name S dir name)) number in
+      let empties : Attempt = cond (not (is_empty S number)) (Refuse ENOTEMPTY) becomes in
+      choose (not inode.dir) (Refuse ENOTDIR) (cond (not (may_remove S cred dir number)) (Refuse EPERM) empties) refl (λ directory.
+      choose (not (may_remove S cred dir number)) (Refuse EPERM) empties refl (λ may.
+      choose (not (is_empty S number)) (Refuse ENOTEMPTY) becomes refl (λ empty.
+      granted-rmdir dir name number inode led there (true-from_not inode.dir directory)))))
 
-  under-no_limit : (names : List (List ℕ)) (o : Option (List ℕ)) → NoLimit (under S EISDIR (unlink_as S cred) names o)
-  under-no_limit names None = refl
-  under-no_limit names (Some name) =
-      in_reached-no_limit name (place S names)
+  in_reached-no_limit : (try : ℕ → List ℕ → Attempt) → ((dir : ℕ) (name : List ℕ) → NoLimit (try dir name)) → (name : List ℕ) (r : Result ℕ Refusal)
+      → Plain r → NoLimit (in_reached try name r)
+  in_reached-no_limit try each name (Err e) plain = plain
+  in_reached-no_limit try each name (Ok dir) plain = each dir name
+
+  under-no_limit : (of_root : Refusal) (try : ℕ → List ℕ → Attempt) → is_for_limits of_root ≡ false → ((dir : ℕ) (name : List ℕ) → NoLimit (try dir name))
+      → (names : List (List ℕ)) (o : Option (List ℕ)) → NoLimit (under S of_root try names o)
+  under-no_limit of_root try plain each names None = plain
+  under-no_limit of_root try plain each names (Some name) =
+      in_reached-no_limit try each name (place S names)
       (as_directory-plain (walk S (take (length names - 1) names)) (walk-plain (Ok ROOT) (take (length names - 1) names) tt))
 
   -- what is wrong with a call as it is written is no limit
@@ -215,5 +240,10 @@ module _ (S : State) (cred : Caller) (moment : ℕ) (lawful : IsLawful S) where
 pub giving_back_is_granted : GivingBackIsGranted
 giving_back_is_granted S cred moment path lawful = (
   (λ size. no_limit S cred moment lawful (Truncate path size) (truncate-no_limit S cred moment lawful path size)),
-  no_limit S cred moment lawful (Unlink path) (under-no_limit S cred moment lawful (components path) (last_name (components path))),
+  no_limit S cred moment lawful (Unlink path)
+      (under-no_limit S cred moment lawful EISDIR (unlink_as S cred) refl (unlink-no_limit S cred moment lawful) (components path)
+      (last_name (components path))),
+  no_limit S cred moment lawful (Rmdir path)
+      (under-no_limit S cred moment lawful EBUSY (rmdir_as S cred) refl (rmdir-no_limit S cred moment lawful) (components path)
+      (last_name (components path))),
 )

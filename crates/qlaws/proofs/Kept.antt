@@ -21,9 +21,12 @@ relimited-identity false limits h = refl
 -- every plain result keeps the setup
 results_keep : (S : State) (cred : Caller) → HoldsOfResults (KeepsSetup S) S cred
 results_keep S cred = record {
-  created = λ inode dir name own known sound stands absent. record { size = refl; most_inodes = refl; file_limit = refl; holders = refl };
+  created = λ inode dir name own known sound stands absent few. record { size = refl; most_inodes = refl; file_limit = refl; holders = refl };
   changed = λ number inode after there follows may. record { size = refl; most_inodes = refl; file_limit = refl; holders = refl };
-  removed = λ dir name number inode led there file may. record { size = refl; most_inodes = refl; file_limit = refl; holders = refl };
+  removed = λ dir name number inode led there empty may. record { size = refl; most_inodes = refl; file_limit = refl; holders = refl };
+  linked = λ number inode dir name there file stands absent few. record { size = refl; most_inodes = refl; file_limit = refl; holders = refl };
+  renamed = λ to dir name number inode to_dir to_name placed outside led there stands other empty may may_too few.
+      record { size = refl; most_inodes = refl; file_limit = refl; holders = refl };
   limited = λ kind id limits may. record {
     size = refl;
     most_inodes = refl;
@@ -47,9 +50,11 @@ setups_stay S cred moment call =
 -- every plain result of a call that is not the superuser's keeps limits and graces
 results_keep_limits : (S : State) (cred : Caller) → is_superuser cred ≡ false → HoldsOfResults (KeepsLimits S) S cred
 results_keep_limits S cred other = record {
-  created = λ inode dir name own known sound stands absent. record { graces = refl; limits = refl };
+  created = λ inode dir name own known sound stands absent few. record { graces = refl; limits = refl };
   changed = λ number inode after there follows may. record { graces = refl; limits = refl };
-  removed = λ dir name number inode led there file may. record { graces = refl; limits = refl };
+  removed = λ dir name number inode led there empty may. record { graces = refl; limits = refl };
+  linked = λ number inode dir name there file stands absent few. record { graces = refl; limits = refl };
+  renamed = λ to dir name number inode to_dir to_name placed outside led there stands other empty may may_too few. record { graces = refl; limits = refl };
   limited = λ kind id limits may. cc;
   graced = λ graces may. cc;
 }

@@ -7,7 +7,7 @@ use Rattle.std.proofs.lemmas.List.Elements.{All-cons, All-filter, All-nil}
 use Rattle.qplain.specs.Caller.{Caller}
 use Rattle.qplain.specs.State.{Inode, State, inode_at}
 use Rattle.qplain.specs.Use.{has_name}
-use Rattle.qplain.specs.Names.{without_name}
+use Rattle.qplain.specs.Names.{with_name, without_name}
 use Rattle.qlaws.specs.Laws.{FitsTogether, GoesOn, NumbersGoOn}
 use Rattle.qlaws.proofs.Becoming.{HoldsOfResults, step-becomes}
 use Rattle.qlaws.proofs.Fitting.{or_right}
@@ -38,7 +38,7 @@ kept S = record { next = omega arith; numbers = all-stood S }
 
 results_go_on : (S : State) (cred : Caller) → FitsTogether S → HoldsOfResults (GoesOn S) S cred
 results_go_on S cred fits = record {
-  created = λ inode dir name own known sound stands absent. record {
+  created = λ inode dir name own known sound stands absent few. record {
     next = omega arith;
     numbers = All-insert_new (λ e. stood S e.0 ≡ true) nat_cmp S.inodes S.next inode (absent-fresh S.inodes S.next fits.inodes.fresh) (all-stood S)
         (or_right (is_some (inode_at S S.next)) (S.next == S.next) (grind (arith, tests)));
@@ -47,9 +47,15 @@ results_go_on S cred fits = record {
     next = omega arith;
     numbers = All-keys-set_value (λ n. stood S n ≡ true) (is_at (nat_cmp number)) S.inodes after (all-stood S);
   };
-  removed = λ dir name number inode led there file may. record {
+  removed = λ dir name number inode led there empty may. record {
     next = omega arith;
     numbers = All-filter (λ (e : ℕ × Inode). has_name (without_name S dir name) e.0) (λ e. stood S e.0 ≡ true) S.inodes (all-stood S);
+  };
+  linked = λ number inode dir name there file stands absent few. record { next = omega arith; numbers = all-stood S };
+  renamed = λ to dir name number inode to_dir to_name placed outside led there stands other empty may may_too few. record {
+    next = omega arith;
+    numbers = All-filter (λ (e : ℕ × Inode). has_name (with_name (without_name (without_name S dir name) to_dir to_name) to_dir to_name number) e.0)
+        (λ e. stood S e.0 ≡ true) S.inodes (all-stood S);
   };
   limited = λ kind id limits may. record { next = omega arith; numbers = all-stood S };
   graced = λ graces may. record { next = omega arith; numbers = all-stood S };

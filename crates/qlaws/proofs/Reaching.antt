@@ -1,33 +1,30 @@
--- Every inode is reached from the root: walks before and after each plain result.
-use Rattle.std.proofs.Common.{◌≡◌, ℕ, ◌==◌, Bool, true, false, ◌||◌, nat_lt, cond, List, [], ◌∷◌, ◌++◌, All, fold, slice_index_or, Option, Some, None, is_some, Result, Ok, Err, refl, sym, ap, subst, ◌∙◌, tests, arith}
+-- Every inode is reached from the root after each plain result but that of rename: walks before and after.
+use Rattle.std.proofs.Common.{◌≡◌, ℕ, ◌==◌, Bool, true, false, not, ◌&&◌, ◌||◌, nat_lt, cond, List, [], ◌∷◌, ◌++◌, All, fold, slice_index_or, Option, Some, None, is_some, Result, Ok, Err, refl, sym, ap, subst, ◌∙◌, tests, arith}
 use Rattle.std.specs.List.{AllByRecursion}
 use Rattle.std.specs.List.Sorted.{IsStrictlySortedBy}
 use Rattle.std.specs.Map.{keys_of, lookup}
 use Rattle.std.specs.Ordering.{nat_cmp}
 use Rattle.std.specs.BTreeMap.{is_at}
 use Rattle.std.proofs.lemmas.Bool.{and_parts, cond-true}
-use Rattle.std.proofs.lemmas.List.Elements.{All-cons, All-filter, All-from_recursion, All-nil, filter_passes, recursion_from_All}
+use Rattle.std.proofs.lemmas.List.Elements.{All-filter, All-from_recursion, filter_passes, recursion_from_All}
 use Rattle.std.proofs.lemmas.List.Sums.{fold-append}
 use Rattle.qplain.specs.declared.bounds.TheConstants.{ROOT}
 use Rattle.qplain.specs.declared.refusal.Refusal.{Refusal}
 use Rattle.qplain.specs.declared.refusal.Refusal.TheVariants.{ENOTDIR}
-use Rattle.qplain.specs.State.{Holder, Inode, NameKey, State, inode_at, is_dir, is_directory, name_key_cmp, named, root, start}
-use Rattle.qplain.specs.Use.{has_name, names_to}
+use Rattle.qplain.specs.State.{Holder, Inode, NameKey, State, inode_at, is_dir, is_directory, name_key_cmp, named}
+use Rattle.qplain.specs.Use.{has_name, is_empty, names_to}
 use Rattle.qplain.specs.Walk.{follow, led_to}
 use Rattle.qplain.specs.Files.{with_inode}
-use Rattle.qplain.specs.Names.{created, swept, without_name}
-use Rattle.qplain.specs.Quotas.{with_limits_of}
-use Rattle.qlaws.specs.Laws.{AllReached, AllStayReached, FitsTogether, IsReached, StartIsReached, leads}
+use Rattle.qplain.specs.Names.{created, swept, with_name, without_name}
+use Rattle.qlaws.specs.Laws.{AllReached, FitsTogether, IsReached, leads}
 use Rattle.qlaws.proofs.Tables.{All-insert_new, All-keys-set_value, absent-fresh, lookup-insert_new, name_key_total}
 use Rattle.qlaws.proofs.Orders.{All-remove, sorted-remove}
 use Rattle.qlaws.proofs.Fitting.{directory-same, some-is_dir}
-use Rattle.qlaws.proofs.Sweeping.{All-lookup, has_name-there, has_name-without, stays-swept, unfilled-file}
+use Rattle.qlaws.proofs.Sweeping.{has_name-there, has_name-without, stays-swept, unfilled}
+use Rattle.qlaws.proofs.Filtering.{All-lookup}
 use Rattle.qlaws.proofs.Linking.{inode_at-created-there}
 use Rattle.qlaws.proofs.Walking.{walk-fault}
-use Rattle.qlaws.proofs.Becoming.{HoldsOfResults, step-becomes}
 use Rattle.qrules.specs.declared.graces.Graces.{Graces}
-use Rattle.qplain.specs.Caller.{Caller}
-use Rattle.qplain.specs.Decision.{ends_after}
 use Rattle.qlaws.proofs.Finding.{each-found-by, holds-of-dir, less-kept, more-kept, name-laws, some-named}
 
 -- ---- one step of a walk
@@ -53,7 +50,7 @@ reached-further S d name m reached at led =
 -- ---- walks that are kept
 
 -- a walk to a dead end ends there
-ends-there : (S : State) (bad : ℕ → Bool) → ((m : ℕ) (name : List ℕ) (x : ℕ) → bad m ≡ true → follow S (Ok m) name ≡ Ok x → ⊥)
+pub ends-there : (S : State) (bad : ℕ → Bool) → ((m : ℕ) (name : List ℕ) (x : ℕ) → bad m ≡ true → follow S (Ok m) name ≡ Ok x → ⊥)
     → (m : ℕ) (names : List (List ℕ)) (q : ℕ) → bad m ≡ true → fold (follow S) (Ok m) names ≡ Ok q → m ≡ q
 ends-there S bad dead m [] q is_bad h = cc
 ends-there S bad dead m (name ∷ rest) q is_bad h = by (follow S (Ok m) name) refl h
@@ -94,7 +91,7 @@ reached-there S q (Some inode) all there some = All-lookup (λ e. IsReached S e.
 pub reached-at : (S : State) (q : ℕ) → AllReached S → is_some (inode_at S q) ≡ true → IsReached S q
 reached-at S q all some = reached-there S q (inode_at S q) all refl some
 
--- ---- a new inode, a changed one
+-- ---- a new inode, a changed one, a further name
 
 none-bad : ℕ → Bool
 none-bad n = false
@@ -136,6 +133,15 @@ changed_reached S number inode after there same all =
         let parts = follow-parts S d nm m h in
         follow-from (with_inode S number after) d nm m (directory-same S number inode after there same d ∙ parts.0) parts.1
 
+pub linked_reached : (S : State) (dir : ℕ) (name : List ℕ) (number : ℕ) → named S dir name ≡ None → AllReached S → AllReached (with_name S dir name number)
+linked_reached S dir name number absent all =
+    (λ k d below. reached-kept S (with_name S dir name number) (λ n. false) keeps (λ m x y e. absurd (cc)) (slice_index_or S.inodes k d).0 (all k d below) refl)
+  where
+    keeps : (d : ℕ) (nm : List ℕ) (m : ℕ) → follow S (Ok d) nm ≡ Ok m → false ≡ false → follow (with_name S dir name number) (Ok d) nm ≡ Ok m
+    keeps d nm m h good =
+        let parts = follow-parts S d nm m h in
+        follow-from (with_name S dir name number) d nm m parts.0 (more-kept S.names (dir, name) number absent (d, nm) m parts.1)
+
 -- ---- a name less
 
 -- what is known of each name that is left
@@ -156,7 +162,7 @@ all-left S names sorted lead =
     })
 
 -- what is reached otherwise, is reached under each of its names
-named-reached : (S : State) (names : List (NameKey × ℕ)) (q : ℕ) → IsStrictlySortedBy name_key_cmp (keys_of names) → All (λ e. leads S e ≡ true) names
+pub named-reached : (S : State) (names : List (NameKey × ℕ)) (q : ℕ) → IsStrictlySortedBy name_key_cmp (keys_of names) → All (λ e. leads S e ≡ true) names
     → has_name (record S { names = names }) q ≡ true
     → ((d : ℕ) (nm : List ℕ) → is_directory S d ≡ true → lookup (is_at (name_key_cmp (d, nm))) names ≡ Some q
     → IsReached (swept (record S { names = names })) d × (is_directory (swept (record S { names = names })) d ≡ true))
@@ -178,14 +184,14 @@ named-reached S names q sorted lead has each = by (q == ROOT) refl has
         reached-further S1 one.0.0.0 one.0.0.1 q dir.0 dir.1 led
 
 module _ (S : State) (dir : ℕ) (name : List ℕ) (number : ℕ) (inode : Inode) (fits : FitsTogether S) (led : named S dir name ≡ Some number)
-    (there : inode_at S number ≡ Some inode) (is_file : inode.dir ≡ false) (all : AllReached S) where
+    (there : inode_at S number ≡ Some inode) (empty : (inode.dir && not (is_empty S number)) ≡ false) (all : AllReached S) where
   abbrev R1 : State
   R1 = swept (without_name S dir name)
 
   -- no name stands in the inode
   not-in : (d : ℕ) (nm : List ℕ) (m : ℕ) → named S d nm ≡ Some m → (number == d) ≡ false
   not-in d nm m is =
-      let apart : (d == number) ≡ false = holds-of-dir S (λ n. (n == number) ≡ false) (unfilled-file S fits number inode there is_file) d nm m is in
+      let apart : (d == number) ≡ false = holds-of-dir S (λ n. (n == number) ≡ false) (unfilled S fits number inode there empty) d nm m is in
       grind (arith, tests, apart)
 
   directory-left : (d : ℕ) → is_directory S d ≡ true → (number == d) ≡ false → is_directory R1 d ≡ true
@@ -232,32 +238,13 @@ module _ (S : State) (dir : ℕ) (name : List ℕ) (number : ℕ) (inode : Inode
               let apart : (d == number) ≡ false =
               holds-of-dir (without_name S dir name) (λ n. (n == number) ≡ false)
               (All-remove (λ e. (e.0.0 == number) ≡ false) (is_at (name_key_cmp (dir, name))) S.names
-              (unfilled-file S fits number inode there is_file)) d nm m is in
+              (unfilled S fits number inode there empty)) d nm m is in
               grind (arith, tests, apart)
 
 -- ---- other holders and graces
 
 -- holders and graces lead nowhere
-walks-same : (S : State) (holders : List Holder) (graces : Graces) → AllReached S → AllReached (record S { holders = holders; graces = graces })
+pub walks-same : (S : State) (holders : List Holder) (graces : Graces) → AllReached S → AllReached (record S { holders = holders; graces = graces })
 walks-same S holders graces all =
     (λ k d below. reached-kept S (record S { holders = holders; graces = graces }) (λ n. false) (λ e nm m h good. h) (λ m x y e. absurd (cc))
     (slice_index_or S.inodes k d).0 (all k d below) refl)
-
--- ---- the law
-
-results_reach : (S : State) (cred : Caller) → FitsTogether S → AllReached S → HoldsOfResults AllReached S cred
-results_reach S cred fits all = record {
-  created = λ inode dir name own known sound stands absent. created_reached S inode dir name fits stands absent all;
-  changed = λ number inode after there follows may. changed_reached S number inode after there follows.dir all;
-  removed = λ dir name number inode led there file may. removed_reached S dir name number inode fits led there file all;
-  limited = λ kind id limits may. walks-same S (with_limits_of S kind id limits).holders S.graces all;
-  graced = λ graces may. walks-same S S.holders graces all;
-}
-
-pub all_stay_reached : AllStayReached
-all_stay_reached S cred moment call lawful all =
-    step-becomes AllReached S cred (results_reach S cred lawful.parts all) AllReached moment call all
-    (λ new reached granted. walks-same new (ends_after new moment).holders new.graces reached)
-
-pub start_is_reached : StartIsReached
-start_is_reached s = All-cons (λ e. IsReached (start s) e.0) (ROOT, root) [] ([], refl) (All-nil (λ e. IsReached (start s) e.0))

@@ -5,14 +5,20 @@ use Rattle.std.specs.BTreeMap.{is_at}
 use Rattle.std.specs.Map.{lookup}
 use Rattle.std.specs.Cmp.{eq_by_cmp_equiv}
 use Rattle.qplain.specs.Caller.{Caller, is_superuser}
-use Rattle.qplain.specs.State.{Inode, State, inode_at, name_key_cmp, named}
-use Rattle.qplain.specs.Use.{has_name}
+use Rattle.qplain.specs.State.{Inode, State, inode_at, is_directory, name_key_cmp, named}
+use Rattle.qplain.specs.Use.{has_name, is_empty}
 use Rattle.qplain.specs.Rights.{is_member, is_owner, may_give, may_remove, owns}
 use Rattle.qplain.specs.Files.{with_inode}
-use Rattle.qplain.specs.Names.{created, swept, without_name}
+use Rattle.qplain.specs.Renames.{passes, renamed}
+use Rattle.qplain.specs.Names.{created, swept, with_name, without_name}
 use Rattle.qlaws.specs.Laws.{FitsTogether, LeavesToOthers, RightsHold, is_of_others}
 use Rattle.qlaws.proofs.Becoming.{HoldsOfResults, step-becomes}
+use Rattle.qlaws.proofs.Trying.{true-from_not}
 use Rattle.qlaws.proofs.Fitting.{created_fits}
+use Rattle.qlaws.proofs.Results.{few-created}
+use Rattle.qlaws.proofs.Finding.{more-kept}
+use Rattle.qlaws.proofs.Naming.{has_name-with}
+use Rattle.qlaws.proofs.Renaming.{named-U, named-V, remove-none, sorted-U}
 use Rattle.qlaws.proofs.Sweeping.{has_name-there, inode_at-swept, key-dir, named-without}
 use Rattle.qlaws.proofs.Linking.{inode_at-created-there, inode_at-with_inode, named-created}
 use Rattle.qlaws.proofs.Tables.{absent-fresh, name_key_total, same-number}
@@ -111,16 +117,60 @@ name-left S cred dir name number fits not_root led may parent q other leads of_d
         cc
     elsewhere false here = leads
 
+-- nor is it one that the caller replaced
+name-stays : (S : State) (cred : Caller) (dir : ℕ) (name : List ℕ) (number : ℕ) (inode : Inode) (to_dir : ℕ) (to_name : List ℕ)
+    → FitsTogether S → named S dir name ≡ Some number → inode_at S number ≡ Some inode → is_directory S to_dir ≡ true
+    → passes (λ n. n == number) (named S to_dir to_name) ≡ false → passes (λ n. not (is_empty S n)) (named S to_dir to_name) ≡ false
+    → is_superuser cred ≡ false → may_remove S cred dir number ≡ true → passes (λ n. not (may_remove S cred to_dir n)) (named S to_dir to_name) ≡ false
+    → (parent q : ℕ) (other : List ℕ) → named S parent other ≡ Some q → is_of_others cred (inode_at S parent) ≡ true
+    → is_of_others cred (inode_at S q) ≡ true → named (renamed S dir name to_dir to_name number) parent other ≡ Some q
+name-stays S cred dir name number inode to_dir to_name fits led there stands elsewhere empty not_root may may_too parent q other leads of_dir of_inode =
+    more-kept V.names (to_dir, to_name) number (named-V S dir name number inode to_dir to_name fits led there stands elsewhere empty) (parent, other) q
+    (named-without-target (named S to_dir to_name) refl may_too)
+  where
+    U : State
+    U = without_name S dir name
+
+    V : State
+    V = without_name U to_dir to_name
+
+    in-U : named U parent other ≡ Some q
+    in-U = name-left S cred dir name number fits not_root led may parent q other leads of_dir of_inode
+
+    target : named U to_dir to_name ≡ named S to_dir to_name
+    target = named-U S dir name number inode to_dir to_name fits led there stands elsewhere empty
+
+    named-without-target : (o : Option ℕ) → named S to_dir to_name ≡ o → passes (λ n. not (may_remove S cred to_dir n)) o ≡ false
+        → named V parent other ≡ Some q
+    named-without-target None none h =
+        ap (λ names. named (record U { names = names }) parent other)
+        (remove-none (is_at (name_key_cmp (to_dir, to_name))) U.names (target ∙ none)) ∙ in-U
+    named-without-target (Some t) found h =
+        named-without U to_dir to_name t (target ∙ found) parent other
+        (sorted-U S dir name number inode to_dir to_name fits led there stands elsewhere empty)
+        ∙ apart (is_at (name_key_cmp (to_dir, to_name)) (parent, other)) refl
+      where
+        apart : (b : Bool) → is_at (name_key_cmp (to_dir, to_name)) (parent, other) ≡ b → cond b None (named U parent other) ≡ Some q
+        apart true here =
+            let same : to_dir ≡ parent = key-dir to_dir to_name (parent, other) here in
+            let to : Some t ≡ Some q = sym found ∙ named-same S parent to_dir other to_name here ∙ leads in
+            let equal : t ≡ q = cc in
+            let clash : true ≡ false = removes-own S cred to_dir t not_root (true-from_not (may_remove S cred to_dir t) h)
+            (ap (λ n. is_of_others cred (inode_at S n)) same ∙ of_dir) (ap (λ n. is_of_others cred (inode_at S n)) equal ∙ of_inode) in
+            cc
+        apart false here = in-U
+
 -- ---- the law
 
 results_leave : (S : State) (cred : Caller) → FitsTogether S → is_superuser cred ≡ false → HoldsOfResults (LeavesToOthers cred S) S cred
 results_leave S cred fits other = record {
-  created = λ inode dir name own known sound stands absent. record {
+  created = λ inode dir name own known sound stands absent few. record {
     inodes = λ q there at others.
         let still : inode_at (created S inode dir name) q ≡ Some there =
         inode_at-created-there S inode dir name q (absent-fresh S.inodes S.next fits.inodes.fresh) (ap is_some at) ∙ at in
         while-named (created S inode dir name) q there still
-        (has_name-there (created S inode dir name) (created_fits S inode dir name fits stands absent known sound) q (ap is_some still));
+        (has_name-there (created S inode dir name)
+        (created_fits S inode dir name fits stands absent known sound (few-created S inode dir name fits absent few)) q (ap is_some still));
     names = λ parent number name_too leads directory others. named-kept S inode dir name parent number name_too absent leads;
   };
   changed = λ number inode after there follows may. record {
@@ -130,10 +180,23 @@ results_leave S cred fits other = record {
         (has_name-there S fits q (ap is_some at));
     names = λ dir n name leads directory others. leads;
   };
-  removed = λ dir name number inode led there file may. record {
+  removed = λ dir name number inode led there empty may. record {
     inodes = λ q one at others.
         inode_at-swept S (without_name S dir name).names q ∙ ap (λ o. cond (has_name (without_name S dir name) q) o None) at;
     names = λ parent q name_too leads directory others. name-left S cred dir name number fits other led may parent q name_too leads directory others;
+  };
+  linked = λ number inode dir name there file stands absent few. record {
+    inodes = λ q one at others.
+        while-named (with_name S dir name number) q one at
+        (has_name-with S number inode dir name fits there file stands absent q (has_name-there S fits q (ap is_some at)));
+    names = λ parent q name_too leads directory others. more-kept S.names (dir, name) number absent (parent, name_too) q leads;
+  };
+  renamed = λ to dir name number inode to_dir to_name placed outside led there stands elsewhere empty may may_too few. record {
+    inodes = λ q one at others.
+        let W : State = with_name (without_name (without_name S dir name) to_dir to_name) to_dir to_name number in
+        inode_at-swept S W.names q ∙ ap (λ o. cond (has_name W q) o None) at;
+    names = λ parent q name_too leads directory others.
+        name-stays S cred dir name number inode to_dir to_name fits led there stands elsewhere empty other may may_too parent q name_too leads directory others;
   };
   limited = λ kind id limits may. cc;
   graced = λ graces may. cc;

@@ -145,6 +145,7 @@ start_is_lawful s setup =
           (All-map stands (holder_of Group) s.groups (λ k d below. ends-start s Group (slice_index_or s.groups k d)));
       next_fits = omega arith;
       parts = record {
+        links = refl;
         holders = sorted-append s.users s.groups (sorted-holders User s.users setup.users_sorted parts.users)
             (sorted-holders Group s.groups setup.groups_sorted parts.groups);
         inodes = record {

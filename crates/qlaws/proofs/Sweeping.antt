@@ -1,8 +1,8 @@
 -- What a change of the names, and the sweep after it, leave of a state that fits together.
-use Rattle.std.proofs.Common.{◌≡◌, ℕ, ◌+◌, ◌≤◌, ◌==◌, Bool, true, false, ◌&&◌, ◌||◌, nat_le, nat_lt, cond, List, [], ◌∷◌, All, filter, slice_index_or, Option, Some, None, is_some, refl, sym, ap, subst, ◌∙◌, tests, arith}
-use Rattle.std.specs.List.{AllByRecursion}
+use Rattle.std.proofs.Common.{◌≡◌, ℕ, ◌+◌, ◌≤◌, ◌==◌, Bool, true, false, not, ◌&&◌, ◌||◌, nat_le, nat_lt, cond, List, All, filter, slice_index_or, count_by, Option, Some, None, is_some, refl, sym, ap, subst, ◌∙◌, tests, arith}
+use Rattle.std.specs.List.{list_any}
 use Rattle.std.specs.List.Sorted.{IsStrictlySortedBy}
-use Rattle.std.specs.Map.{keys_of, lookup, remove_entry, values_of}
+use Rattle.std.specs.Map.{keys_of, remove_entry}
 use Rattle.std.specs.declared.cmp.Ordering.{Ordering}
 use Rattle.std.specs.declared.cmp.Ordering.TheVariants.{Less, Equal, Greater}
 use Rattle.std.specs.Ordering.{is_eq, nat_cmp, ordering_then}
@@ -13,59 +13,18 @@ use Rattle.std.proofs.lemmas.Map.{lookup-remove_entry}
 use Rattle.std.proofs.lemmas.Map.Entries.{lookup-filter-keys}
 use Rattle.std.proofs.lemmas.Map.Keys.{IsDistinct-from_sorted}
 use Rattle.std.proofs.lemmas.Bool.{and_parts}
-use Rattle.std.proofs.lemmas.List.Elements.{All-cons, All-filter, All-head, All-tail, filter_passes}
-use Rattle.std.proofs.lemmas.List.Sums.{get_or-le-sum_by}
-use Rattle.qplain.specs.declared.bounds.TheConstants.{ROOT}
+use Rattle.std.proofs.lemmas.List.Elements.{All-filter, All-from_recursion, filter_passes}
+use Rattle.std.proofs.lemmas.List.Sums.{get_or-le-sum_by, sum_by-le-sum_by}
+use Rattle.qplain.specs.declared.bounds.TheConstants.{MAX_LINKS, ROOT}
 use Rattle.qplain.specs.State.{Inode, NameKey, State, inode_at, is_dir, is_directory, name_key_cmp, named}
-use Rattle.qplain.specs.Use.{has_name, names_to}
+use Rattle.qplain.specs.Use.{has_name, has_too_many_links, is_empty, links_of, names_to}
 use Rattle.qplain.specs.Names.{swept, without_name}
 use Rattle.qlaws.specs.Laws.{FitsTogether, IsSound, has_known_owners, has_right_names, leads}
-use Rattle.qlaws.proofs.Orders.{All-remove, sorted-remove, sum-remove}
+use Rattle.qlaws.proofs.Filtering.{All-lookup, All-values-filter, sorted-filter}
+use Rattle.qlaws.proofs.Orders.{All-remove, sorted-remove, sum-remove, sum-remove-le}
 use Rattle.qlaws.proofs.Tables.{name_key_total, same-number}
 use Rattle.qlaws.proofs.Fitting.{not_both, right, some-is_dir}
-
--- ---- filtered tables
-
-module _ {K X : Type 0} (test : K × X → Bool) where
-  each-filter : (P : K → Type 0) (es : List (K × X)) → AllByRecursion P (keys_of es) → AllByRecursion P (keys_of (filter test es))
-  each-filter P [] all = tt
-  each-filter P (e ∷ es) all =
-      elim (test e) as (λ b. AllByRecursion P (keys_of (cond b (e ∷ filter test es) (filter test es)))) [
-        | true ↦ (all.0, each-filter P es all.1)
-        | false ↦ each-filter P es all.1
-      ]
-
-  -- what passes a test stays in order
-  pub sorted-filter : (R : K → K → Ordering) (es : List (K × X)) → IsStrictlySortedBy R (keys_of es) → IsStrictlySortedBy R (keys_of (filter test es))
-  unfolding IsStrictlySortedBy
-  sorted-filter R [] sorted = tt
-  sorted-filter R (e ∷ es) sorted =
-      elim (test e) as (λ b. IsStrictlySortedBy R (keys_of (cond b (e ∷ filter test es) (filter test es)))) [
-        | true ↦ (each-filter (λ y. R e.0 y ≡ Less) es sorted.0, sorted-filter R es sorted.1)
-        | false ↦ sorted-filter R es sorted.1
-      ]
-
-  -- what holds of all values holds of those that pass
-  pub All-values-filter : (P : X → Type 0) (es : List (K × X)) → All P (values_of es) → All P (values_of (filter test es))
-  All-values-filter P [] all = all
-  All-values-filter P (e ∷ es) all =
-      elim (test e) as (λ b. All P (values_of (cond b (e ∷ filter test es) (filter test es)))) [
-        | true ↦ All-cons P e.1 (values_of (filter test es)) (All-head P e.1 (values_of es) all) (All-values-filter P es (All-tail P e.1 (values_of es) all))
-        | false ↦ All-values-filter P es (All-tail P e.1 (values_of es) all)
-      ]
-
-module _ {X : Type 0} where
-  -- what holds of all entries holds of what a look-up finds
-  pub All-lookup : (P : ℕ × X → Type 0) (es : List (ℕ × X)) (q : ℕ) (v : X) → All P es → lookup (is_at (nat_cmp q)) es ≡ Some v → P (q, v)
-  All-lookup P [] q v all there = cc
-  All-lookup P (e ∷ es) q v all there =
-      elim (is_at (nat_cmp q) e.0) as (λ b. is_at (nat_cmp q) e.0 ≡ b → cond b (Some e.1) (lookup (is_at (nat_cmp q)) es) ≡ Some v → P (q, v)) [
-        | true ↦ λ s h. let here : P e = All-head P e es all in
-            let value : e.1 ≡ v = cc in
-            let key : q ≡ e.0 = same-number q e.0 s in
-            subst (λ (x : X). P (q, x)) value (subst (λ (n : ℕ). P (n, e.1)) (sym key) here)
-        | false ↦ λ s h. All-lookup P es q v (All-tail P e es all) h
-      ] refl there
+use Rattle.qlaws.proofs.FewLinks.{few-links, none-passes, none-too_many}
 
 -- ---- as many names as may be, or fewer
 
@@ -123,8 +82,9 @@ module _ (S : State) (names : List (NameKey × ℕ)) where
   -- where no directory in which a name stands is swept, and names are few, what is left fits together
   pub swept_fits : FitsTogether S → IsStrictlySortedBy name_key_cmp (keys_of names) → All (λ e. leads S e ≡ true) names
       → All (λ e. has_few (e.0 == ROOT) e.1.dir (names_to T e.0) ≡ true) S.inodes → All (λ e. has_name T e.0.0 ≡ true) names
-      → FitsTogether (swept T)
-  swept_fits fits sorted lead few placed = record {
+      → has_too_many_links (swept T) ≡ false → FitsTogether (swept T)
+  swept_fits fits sorted lead few placed links = record {
+    links = links;
     holders = fits.holders;
     inodes = record {
       in_order = sorted-filter (λ (e : ℕ × Inode). has_name T e.0) nat_cmp S.inodes fits.inodes.in_order;
@@ -159,15 +119,30 @@ module _ (S : State) (fits : FitsTogether S) where
   pub has_name-there : (q : ℕ) → is_some (inode_at S q) ≡ true → has_name S q ≡ true
   has_name-there q some = there-right q (inode_at S q) refl some
 
-  -- no name stands in a file
-  pub unfilled-file : (number : ℕ) (inode : Inode) → inode_at S number ≡ Some inode → inode.dir ≡ false → All (λ e. (e.0.0 == number) ≡ false) S.names
-  unfilled-file number inode there is_file = λ k d below.
-      let e : NameKey × ℕ = slice_index_or S.names k d in
-      let stands : is_directory S e.0.0 ≡ true = (and_parts (is_directory S e.0.0) (is_some (inode_at S e.1)) (fits.names.lead k d below)).0 in
-      not_both (e.0.0 == number) (λ same.
-      let equal : e.0.0 ≡ number = grind (arith, tests, same) in
-      let no_dir : is_directory S e.0.0 ≡ false = ap (λ n. is_directory S n) equal ∙ ap is_dir there ∙ is_file in
-      cc)
+  -- no name stands in a directory that is empty
+  pub unfilled-empty : (number : ℕ) → not (is_empty S number) ≡ false → All (λ e. (e.0.0 == number) ≡ false) S.names
+  unfilled-empty number empty =
+      All-from_recursion (λ (e : NameKey × ℕ). (e.0.0 == number) ≡ false) S.names
+      (none-passes (λ (e : NameKey × ℕ). e.0.0 == number) S.names (not_not (list_any (λ e. e.0.0 == number) S.names) empty))
+    where
+      not_not : (b : Bool) → not (not b) ≡ false → b ≡ false
+      not_not true h = cc
+      not_not false h = refl
+
+  -- nor in a file
+  pub unfilled : (number : ℕ) (inode : Inode) → inode_at S number ≡ Some inode → (inode.dir && not (is_empty S number)) ≡ false
+      → All (λ e. (e.0.0 == number) ≡ false) S.names
+  unfilled number inode there empty = by inode.dir refl empty
+    where
+      by : (b : Bool) → inode.dir ≡ b → (b && not (is_empty S number)) ≡ false → All (λ e. (e.0.0 == number) ≡ false) S.names
+      by true is_directory_too h = unfilled-empty number h
+      by false is_file h = λ k d below.
+          let e : NameKey × ℕ = slice_index_or S.names k d in
+          let stands : is_directory S e.0.0 ≡ true = (and_parts (is_directory S e.0.0) (is_some (inode_at S e.1)) (fits.names.lead k d below)).0 in
+          not_both (e.0.0 == number) (λ same.
+          let equal : e.0.0 ≡ number = grind (arith, tests, same) in
+          let no_dir : is_directory S e.0.0 ≡ false = ap (λ n. is_directory S n) equal ∙ ap is_dir there ∙ is_file in
+          cc)
 
 -- ---- a name less
 
@@ -201,6 +176,43 @@ module _ (S : State) (dir : ℕ) (name : List ℕ) (number : ℕ) (led : named S
   pub has_name-without : (q : ℕ) → (number == q) ≡ false → has_name (without_name S dir name) q ≡ has_name S q
   has_name-without q apart = ap (λ n. q == ROOT || nat_lt 0 n) (same-apart q apart)
 
+  -- a directory has as many subdirectories as before, or fewer
+  subdirectory : (a : Bool) (q : ℕ) → cond (a && is_directory (swept (without_name S dir name)) q) 1 0 ≤ cond (a && is_directory S q) 1 0
+  subdirectory false q = omega arith
+  subdirectory true q =
+      let is : is_directory (swept (without_name S dir name)) q ≡ is_dir (cond (has_name (without_name S dir name) q) (inode_at S q) None) =
+      ap is_dir (inode_at-swept S rest q) in
+      let l : cond (is_dir (cond (has_name (without_name S dir name) q) (inode_at S q) None)) 1 0 ≤ cond (is_dir (inode_at S q)) 1 0 =
+      by (has_name (without_name S dir name) q) (inode_at S q) in
+      subst (λ b. cond b 1 0 ≤ cond (is_directory S q) 1 0) (sym is) l
+    where
+      by : (b : Bool) (o : Option Inode) → cond (is_dir (cond b o None)) 1 0 ≤ cond (is_dir o) 1 0
+      by true o = omega arith
+      by false o = omega arith
+
+  links-fewer : (n : ℕ) (b : Bool) → links_of (swept (without_name S dir name)) n b ≤ links_of S n b
+  links-fewer n false = fewer n
+  links-fewer n true =
+      let less : count_by (λ e. e.0.0 == n && is_directory (swept (without_name S dir name)) e.1) rest ≤ count_by (λ e. e.0.0 == n && is_directory S e.1) rest =
+      sum_by-le-sum_by (λ (e : NameKey × ℕ). cond (e.0.0 == n && is_directory (swept (without_name S dir name)) e.1) 1 0)
+      (λ e. cond (e.0.0 == n && is_directory S e.1) 1 0) rest (λ e. subdirectory (e.0.0 == n) e.1) in
+      let fewer_names : count_by (λ e. e.0.0 == n && is_directory S e.1) rest ≤ count_by (λ e. e.0.0 == n && is_directory S e.1) S.names =
+      sum-remove-le (λ (e : NameKey × ℕ). cond (e.0.0 == n && is_directory S e.1) 1 0) (is_at (name_key_cmp (dir, name))) S.names in
+      omega (arith, less, fewer_names)
+
+  -- no inode has more links than before
+  few-without : has_too_many_links S ≡ false → has_too_many_links (swept (without_name S dir name)) ≡ false
+  few-without few =
+      none-too_many (swept (without_name S dir name)) (λ k d below.
+      let e : ℕ × Inode = slice_index_or (swept (without_name S dir name)).inodes k d in
+      let old : nat_lt MAX_LINKS (links_of S e.0 e.1.dir) ≡ false =
+      All-filter (λ (x : ℕ × Inode). has_name (without_name S dir name) x.0) (λ x. nat_lt MAX_LINKS (links_of S x.0 x.1.dir) ≡ false) S.inodes
+      (few-links S few) k d below in
+      below-too (links_of S e.0 e.1.dir) (links_of (swept (without_name S dir name)) e.0 e.1.dir) (links-fewer e.0 e.1.dir) old)
+    where
+      below-too : (n m : ℕ) → m ≤ n → nat_lt MAX_LINKS n ≡ false → nat_lt MAX_LINKS m ≡ false
+      below-too n m l h = grind (arith, tests, l, h)
+
   -- what a name leads to then
   pub named-without : (parent : ℕ) (other : List ℕ) → IsStrictlySortedBy name_key_cmp (keys_of S.names)
       → named (without_name S dir name) parent other ≡ cond (is_at (name_key_cmp (dir, name)) (parent, other)) None (named S parent other)
@@ -225,3 +237,4 @@ module _ (S : State) (dir : ℕ) (name : List ℕ) (number : ℕ) (led : named S
       let apart : (e.0.0 == number) ≡ false = unfilled k d below in
       let other : (number == e.0.0) ≡ false = grind (arith, tests, apart) in
       has_name-without e.0.0 other ∙ has_name-there S fits e.0.0 (some-is_dir (inode_at S e.0.0) stands)))
+      (few-without fits.links)

@@ -13,7 +13,7 @@ use Rattle.qrules.specs.Grace.{with_ends, with_limits}
 use Rattle.qrules.specs.declared.limits.Limits.{Limits}
 use Rattle.qblocks.specs.File.{empty_file}
 use Rattle.qplain.specs.declared.call.Call.{Call}
-use Rattle.qplain.specs.declared.call.Call.TheVariants.{Truncate, Unlink}
+use Rattle.qplain.specs.declared.call.Call.TheVariants.{Truncate, Unlink, Rmdir}
 use Rattle.qplain.specs.declared.refusal.Refusal.{Refusal}
 use Rattle.qplain.specs.declared.refusal.Refusal.TheVariants.{ENOSPC, EDQUOT}
 use Rattle.qplain.specs.declared.reply.Reply.TheVariants.{Refused}
@@ -21,7 +21,7 @@ use Rattle.qplain.specs.declared.bounds.TheConstants.{MAX_NUMBER, ROOT}
 use Rattle.qplain.specs.Caller.{Caller, is_superuser}
 use Rattle.qplain.specs.Setups.{IsLawfulSetup, Setting}
 use Rattle.qplain.specs.State.{Holder, Inode, NameKey, State, holder_cmp, inode_at, is_directory, name_key_cmp, named, start}
-use Rattle.qplain.specs.Use.{account_of, has_name, names_to, total_of, use_of}
+use Rattle.qplain.specs.Use.{account_of, has_name, has_too_many_links, names_to, total_of, use_of}
 use Rattle.qplain.specs.Walk.{walk}
 use Rattle.qplain.specs.Arguments.{is_declared, is_same_kind}
 use Rattle.qplain.specs.Decision.{ends_after, with_ends_of}
@@ -64,8 +64,10 @@ pub record NamesFit (S : State) : Type 0 where
   pub lead : All (λ e. leads S e ≡ true) S.names
   pub counted : All (λ e. has_right_names S e ≡ true) S.inodes
 
--- the parts of a state fit together; holders stand once and in order, users before groups
+-- the parts of a state fit together; no inode has more links than it may have, and holders stand once and in order,
+-- users before groups
 pub record FitsTogether (S : State) : Type 0 where
+  pub links : has_too_many_links S ≡ false
   pub holders : IsStrictlySortedBy holder_cmp S.holders
   pub inodes : InodesFit S
   pub names : NamesFit S
@@ -127,11 +129,11 @@ abbrev pub RefusesForNoLimit : State → Caller → ℕ → Call → Type 0
 RefusesForNoLimit S cred moment call =
     (r : Refusal) → (step S cred moment call).1 ≡ Refused r → is_for_limits r ≡ false
 
--- whoever is over a limit may give back: no truncation and no unlink is refused for a limit
+-- whoever is over a limit may give back: no truncation, no unlink and no rmdir is refused for a limit
 abbrev pub GivingBackIsGranted : Type 0
 GivingBackIsGranted = (S : State) (cred : Caller) (moment : ℕ) (path : List ℕ) → IsLawful S
     → ((size : ℕ) → RefusesForNoLimit S cred moment (Truncate path size))
-    × RefusesForNoLimit S cred moment (Unlink path)
+    × RefusesForNoLimit S cred moment (Unlink path) × RefusesForNoLimit S cred moment (Rmdir path)
 
 -- in a lawful state the users' uses add up to the totals, and so do the groups'
 abbrev pub UsesAddUp : Type 0

@@ -2,4 +2,5 @@
 pub mod Laws
 pub mod Examples
 pub mod MoreExamples
+pub mod NameExamples
 pub mod Replaces

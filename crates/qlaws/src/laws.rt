@@ -3,8 +3,8 @@ ghost use Rattle.qlaws.specs.Laws.{AllStayReached, EndsAreTheRules, EndsStay, Gi
 
 /// Totals and inode numbers stay within the bounds, and a grace end stands exactly where use is over its soft limit.
 /// Principals, inodes and names stand once and in order. Every inode has declared owners and as many names as it may, a
-/// directory holds no bytes and no block, and each name stands in a directory and leads to an inode. So it is in a new
-/// store of a lawful setup, and after every step of a lawful state.
+/// directory holds no bytes and no block, no inode has more than 65,000 links, and each name stands in a directory and
+/// leads to an inode. So it is in a new store of a lawful setup, and after every step of a lawful state.
 pub fn stores_stay_lawful()
     ensures start { StartIsLawful }
     ensures steps { StepsStayLawful }
@@ -20,8 +20,8 @@ pub fn limits_hold()
     ensures { LimitsHold }
 {}
 
-/// From a lawful state no truncation and no unlink is refused for want of space or of quota: whoever is over a limit may
-/// give back.
+/// From a lawful state no truncation, no unlink and no rmdir is refused for want of space or of quota: whoever is over a
+/// limit may give back.
 pub fn giving_back_is_granted()
     ensures { GivingBackIsGranted }
 {}
@@ -56,8 +56,8 @@ pub fn inodes_stay_reached()
 {}
 
 /// From a lawful state no call of anybody but the superuser changes an inode of others, what it holds or whose it is, but
-/// for an inode whose last name goes; or takes away a name that leads to an inode of others from a directory of others.
-/// Nor does one make an inode another user's, or that of a group that is not the caller's.
+/// for an inode whose last name goes; or takes away, moves or replaces a name that leads to an inode of others in a
+/// directory of others. Nor does one make an inode another user's, or that of a group that is not the caller's.
 pub fn rights_hold()
     ensures others { RightsHold }
     ensures owners { OwnersHold }

@@ -1,7 +1,7 @@
 //! The laws of the plain machine, proved over every call, and worked examples of it, over `qplain`.
 #![tactic(auto)]
 
-pub use examples::{more_worked_examples, worked_examples};
+pub use examples::{more_worked_examples, worked_examples, worked_examples_of_names};
 pub use laws::{
     ends_stay, giving_back_is_granted, holders_keep_the_rules, inodes_stay_reached, limits_hold,
     numbers_go_on, refusals_change_nothing, rights_hold, setups_stay, stores_stay_lawful,

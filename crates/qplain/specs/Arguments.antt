@@ -6,7 +6,7 @@ use Rattle.qrules.specs.declared.kind.Kind.TheVariants.{User, Group}
 use Rattle.qrules.specs.declared.graces.TheConstants.{MAX_MOMENT}
 use Rattle.qrules.specs.Range.{are_graces_in_range, are_limits_in_range}
 use Rattle.qplain.specs.declared.call.Call.{Call}
-use Rattle.qplain.specs.declared.call.Call.TheVariants.{Create, Write, Truncate, Read, Stat, Unlink, Chown, SetQuota, SetGrace, Quota}
+use Rattle.qplain.specs.declared.call.Call.TheVariants.{Create, Mkdir, Write, Truncate, Read, Stat, Link, Unlink, Rmdir, Rename, Chown, SetQuota, SetGrace, Quota}
 use Rattle.qplain.specs.declared.refusal.Refusal.{Refusal}
 use Rattle.qplain.specs.declared.refusal.Refusal.TheVariants.{EINVAL, ENAMETOOLONG}
 use Rattle.qplain.specs.declared.bounds.TheConstants.{MAX_DATA}
@@ -36,11 +36,15 @@ is_known S cred = is_declared S User cred.uid && list_all (is_declared S Group) 
 -- the paths of a call
 abbrev pub paths_of : Call → List (List ℕ)
 paths_of (Create path) = path ∷ []
+paths_of (Mkdir path) = path ∷ []
 paths_of (Write path off bytes) = path ∷ []
 paths_of (Truncate path size) = path ∷ []
 paths_of (Read path off len) = path ∷ []
 paths_of (Stat path) = path ∷ []
+paths_of (Link from to) = from ∷ to ∷ []
 paths_of (Unlink path) = path ∷ []
+paths_of (Rmdir path) = path ∷ []
+paths_of (Rename from to) = from ∷ to ∷ []
 paths_of (Chown path uid gid) = path ∷ []
 paths_of (SetQuota kind id limits) = []
 paths_of (SetGrace graces) = []

@@ -14,6 +14,7 @@ pub mod Attempt
 pub mod Rights
 pub mod Files
 pub mod Names
+pub mod Renames
 pub mod Owners
 pub mod Quotas
 pub mod Calls

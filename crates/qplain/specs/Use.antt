@@ -1,11 +1,12 @@
 -- What is counted, each time afresh over all inodes and names (quotacheck(8)).
-use Rattle.std.specs.Prelude.{ℕ, ◌+◌, Bool, true, false, ◌&&◌, ◌||◌, ◌==◌, nat_lt, if◌then◌else◌, length, sum_by, count_by}
+use Rattle.std.specs.Prelude.{ℕ, ◌+◌, Bool, true, false, not, ◌&&◌, ◌||◌, ◌==◌, nat_lt, if◌then◌else◌, length, sum_by, count_by}
+use Rattle.std.specs.List.{list_any}
 use Rattle.std.specs.Map.{values_of}
 use Rattle.qrules.specs.declared.kind.Kind.{Kind}
 use Rattle.qrules.specs.declared.kind.Kind.TheVariants.{User, Group}
 use Rattle.qrules.specs.Sort.{Sort, Inodes, Blocks}
 use Rattle.qrules.specs.Account.{Account}
-use Rattle.qplain.specs.declared.bounds.TheConstants.{ROOT}
+use Rattle.qplain.specs.declared.bounds.TheConstants.{MAX_LINKS, ROOT}
 use Rattle.qplain.specs.State.{Holder, Inode, State, is_directory}
 
 -- what an inode takes of each sort: one inode, and its allocated blocks
@@ -38,11 +39,19 @@ names_to S number = count_by (λ e. e.1 == number) S.names
 abbrev pub has_name : State → ℕ → Bool
 has_name S number = number == ROOT || nat_lt 0 (names_to S number)
 
+-- no name stands in the directory of this number
+abbrev pub is_empty : State → ℕ → Bool
+is_empty S number = not (list_any (λ e. e.0.0 == number) S.names)
+
 -- the links of an inode, told whether it is a directory: of a file its names, of a directory 2 and the names in it that
 -- lead to directories (profile)
 abbrev pub links_of : State → ℕ → Bool → ℕ
 links_of S number false = names_to S number
 links_of S number true = 2 + count_by (λ e. e.0.0 == number && is_directory S e.1) S.names
+
+-- some inode has more links than an inode may have (profile)
+abbrev pub has_too_many_links : State → Bool
+has_too_many_links S = list_any (λ e. nat_lt MAX_LINKS (links_of S e.0 e.1.dir)) S.inodes
 
 -- a holder's quota record: its recounted use beside its limits and its ends
 abbrev pub account_of : State → Holder → Account

@@ -11,6 +11,11 @@ pub enum Call {
     Create {
         path: Path,
     },
+    /// Makes an empty directory of the caller's, which takes one inode and no block. EEXIST, which the root is too,
+    /// comes before EMLINK of the directory that it stands in, and that before ENOSPC and EDQUOT (mkdir(2)).
+    Mkdir {
+        path: Path,
+    },
     /// Writes the bytes at the offset, all of them or none.
     Write {
         path: Path,
@@ -34,10 +39,29 @@ pub enum Call {
     Stat {
         path: Path,
     },
+    /// Gives a file a further name, which takes nothing. `from` is walked before `to`; EPERM of a directory comes
+    /// before EEXIST of the new name, which the root has before all, and that before EMLINK (link(2)).
+    Link {
+        from: Path,
+        to: Path,
+    },
     /// Takes a file's name away, and with its last name the file and all that it takes. ENOENT comes before EISDIR, which
     /// the root is too, and that before EPERM (unlink(2)).
     Unlink {
         path: Path,
+    },
+    /// Takes an empty directory away. EBUSY of the root comes before ENOENT, and ENOTDIR, EPERM and ENOTEMPTY come
+    /// after it in this order (rmdir(2)).
+    Rmdir {
+        path: Path,
+    },
+    /// Gives what has the name `from` the name `to`, in place of what had that, which goes as by unlink or rmdir.
+    /// `from` is walked before `to`, and EBUSY of the root and ENOENT come with each walk. Two names of one inode are
+    /// done, and stay. Then come EINVAL of a directory into itself, ENOTDIR, EISDIR, EPERM for `from`, EPERM for what
+    /// is replaced, ENOTEMPTY and EMLINK (rename(2)).
+    Rename {
+        from: Path,
+        to: Path,
     },
     /// Gives an inode another user or group, or both; what is None stays. An id that is not declared is EINVAL, before
     /// the path is looked up, and EPERM comes before EDQUOT (chown(2)).
@@ -70,6 +94,7 @@ impl Call {
     {
         match self {
             Call::Create { path } => Ok(Call::Create { path: path.copy()? }),
+            Call::Mkdir { path } => Ok(Call::Mkdir { path: path.copy()? }),
             Call::Write { path, off, bytes } => Ok(Call::Write {
                 path: path.copy()?,
                 off: *off,
@@ -85,7 +110,16 @@ impl Call {
                 len: *len,
             }),
             Call::Stat { path } => Ok(Call::Stat { path: path.copy()? }),
+            Call::Link { from, to } => Ok(Call::Link {
+                from: from.copy()?,
+                to: to.copy()?,
+            }),
             Call::Unlink { path } => Ok(Call::Unlink { path: path.copy()? }),
+            Call::Rmdir { path } => Ok(Call::Rmdir { path: path.copy()? }),
+            Call::Rename { from, to } => Ok(Call::Rename {
+                from: from.copy()?,
+                to: to.copy()?,
+            }),
             Call::Chown { path, uid, gid } => Ok(Call::Chown {
                 path: path.copy()?,
                 uid: *uid,

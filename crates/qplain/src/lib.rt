@@ -2,7 +2,7 @@
 #![tactic(auto)]
 
 pub use board::Board;
-pub use bounds::{FILE_LIMIT, MAX_DATA, MAX_NAME, MAX_NUMBER, MAX_PATH, ROOT};
+pub use bounds::{FILE_LIMIT, MAX_DATA, MAX_LINKS, MAX_NAME, MAX_NUMBER, MAX_PATH, ROOT};
 pub use call::Call;
 pub use call_fault::CallFault;
 pub use change::{Change, NO_CHANGE, ONE_INODE};

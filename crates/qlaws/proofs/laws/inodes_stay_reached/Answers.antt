@@ -1,4 +1,4 @@
-use Rattle.qlaws.proofs.Reaching.{all_stay_reached, start_is_reached}
+use Rattle.qlaws.proofs.Reached.{all_stay_reached, start_is_reached}
 use Rattle.qlaws.proofs.laws.inodes_stay_reached.Goals as goal
 
 pub returns-clause-start : goal.returns-clause-start
