@@ -84,6 +84,10 @@ root = record { dir = true; uid = 0; gid = 0; file = empty_file }
 abbrev pub new_file : ℕ → ℕ → Inode
 new_file uid gid = record { dir = false; uid = uid; gid = gid; file = empty_file }
 
+-- an empty directory of these owners
+abbrev pub new_directory : ℕ → ℕ → Inode
+new_directory uid gid = record { dir = true; uid = uid; gid = gid; file = empty_file }
+
 -- a declared principal, for whom no grace runs
 abbrev pub holder_of : Kind → Principal → Holder
 holder_of kind p = record {
