@@ -52,7 +52,7 @@ impl Names {
     }
 
     /// No name is here. O(1).
-    pub fn is_empty(&self) -> bool
+    pub(crate) fn is_empty(&self) -> bool
         ensures { result ≡ (length self.now.entries == 0) }
     {
         self.table.is_empty()
