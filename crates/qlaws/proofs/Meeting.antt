@@ -1,4 +1,4 @@
--- What the walk to the place of a path meets, one name after the other, for the proofs of stores that remember the walk.
+-- What the walk to the place of a path meets, one name after the other, for the proofs of stores that remember walks.
 use Rattle.std.proofs.Common.{◌≡◌, ℕ, zero, suc, ◌+◌, Bool, true, false, ◌||◌, List, [], ◌∷◌, ◌++◌, length, take, fold, Result, Ok, refl, sym, ap, ◌∙◌, arith}
 use Rattle.std.specs.List.{list_any, range_with_len}
 use Rattle.qplain.specs.declared.bounds.TheConstants.{ROOT}

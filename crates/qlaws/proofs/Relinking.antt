@@ -146,7 +146,8 @@ module _ (S : State) (dir : ℕ) (name : List ℕ) (number : ℕ) (inode : Inode
       let is : is_directory S number ≡ true = ap is_dir there ∙ directory in
       let a = no-term (dir == to_dir && is_directory S number) (and_left (dir == to_dir) (is_directory S number) apart) in
       let b : ◌≡◌ {A = ℕ} (cond (to_dir == to_dir && passes (λ n. is_directory S n) (named S to_dir to_name)) 1 0)
-      (cond (passes (λ n. is_directory S n) (named S to_dir to_name)) 1 0) = (λ i. cond (itself i && passes (λ n. is_directory S n) (named S to_dir to_name)) 1 0) in
+      (cond (passes (λ n. is_directory S n) (named S to_dir to_name)) 1 0) =
+      (λ i. cond (itself i && passes (λ n. is_directory S n) (named S to_dir to_name)) 1 0) in
       let c = one-term (to_dir == to_dir && is_directory S number) (λ i. itself i && is i) in
       omega (arith, sum, a, b, c)
 
@@ -161,6 +162,7 @@ module _ (S : State) (dir : ℕ) (name : List ℕ) (number : ℕ) (inode : Inode
       let is : is_directory S number ≡ true = ap is_dir there ∙ directory in
       let a = one-term (dir == to_dir && is_directory S number) (λ i. here i && is i) in
       let b : ◌≡◌ {A = ℕ} (cond (to_dir == to_dir && passes (λ n. is_directory S n) (named S to_dir to_name)) 1 0)
-      (cond (passes (λ n. is_directory S n) (named S to_dir to_name)) 1 0) = (λ i. cond (itself i && passes (λ n. is_directory S n) (named S to_dir to_name)) 1 0) in
+      (cond (passes (λ n. is_directory S n) (named S to_dir to_name)) 1 0) =
+      (λ i. cond (itself i && passes (λ n. is_directory S n) (named S to_dir to_name)) 1 0) in
       let c = one-term (to_dir == to_dir && is_directory S number) (λ i. itself i && is i) in
       omega (arith, sum, a, b, c)

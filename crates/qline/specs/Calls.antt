@@ -2,7 +2,7 @@
 use Rattle.std.specs.Prelude.{ℕ, List, [], ◌∷◌, Result, Ok, Err, replicate}
 use Rattle.qrules.specs.declared.limits.Limits.{Limits}
 use Rattle.qplain.specs.declared.call.Call.{Call}
-use Rattle.qplain.specs.declared.call.Call.TheVariants.{Create, Write, Truncate, Read, Stat, Unlink, Chown, SetQuota, SetGrace, Quota}
+use Rattle.qplain.specs.declared.call.Call.TheVariants.{Create, Mkdir, Write, Truncate, Read, Stat, Link, Unlink, Rmdir, Rename, Chown, SetQuota, SetGrace, Quota}
 use Rattle.qtext.specs.declared.text_fault.TextKind.{TextKind}
 use Rattle.qtext.specs.declared.text_fault.TextKind.TheVariants.{BadNumber, BadVerb, WordCount}
 use Rattle.qline.specs.declared.call.TheConstants.{MAX_FILL}
@@ -19,6 +19,12 @@ unfoldable pub create_of : List ℕ → Result Call TextKind
 create_of p = do
   path ← path_of p
   Ok (Create path)
+
+-- mkdir PATH
+unfoldable pub mkdir_of : List ℕ → Result Call TextKind
+mkdir_of p = do
+  path ← path_of p
+  Ok (Mkdir path)
 
 -- write PATH OFF DATA
 unfoldable pub write_of : List ℕ → List ℕ → List ℕ → Result Call TextKind
@@ -58,11 +64,31 @@ stat_of p = do
   path ← path_of p
   Ok (Stat path)
 
+-- link FROM TO
+unfoldable pub link_of : List ℕ → List ℕ → Result Call TextKind
+link_of f t = do
+  from ← path_of f
+  to ← path_of t
+  Ok (Link from to)
+
 -- unlink PATH
 unfoldable pub unlink_of : List ℕ → Result Call TextKind
 unlink_of p = do
   path ← path_of p
   Ok (Unlink path)
+
+-- rmdir PATH
+unfoldable pub rmdir_of : List ℕ → Result Call TextKind
+rmdir_of p = do
+  path ← path_of p
+  Ok (Rmdir path)
+
+-- rename FROM TO
+unfoldable pub rename_of : List ℕ → List ℕ → Result Call TextKind
+rename_of f t = do
+  from ← path_of f
+  to ← path_of t
+  Ok (Rename from to)
 
 -- chown PATH UID GID
 unfoldable pub chown_of : List ℕ → List ℕ → List ℕ → Result Call TextKind
@@ -103,19 +129,34 @@ quota_of k i = do
   id ← id_of BadNumber i
   Ok (Quota kind id)
 
+-- of a verb that takes paths alone, as many as it takes
+unfoldable pub path_call_of : Verb → List (List ℕ) → Result Call TextKind
+path_call_of verb.Create (p ∷ []) = create_of p
+path_call_of verb.Mkdir (p ∷ []) = mkdir_of p
+path_call_of verb.Stat (p ∷ []) = stat_of p
+path_call_of verb.Link (f ∷ t ∷ []) = link_of f t
+path_call_of verb.Unlink (p ∷ []) = unlink_of p
+path_call_of verb.Rmdir (p ∷ []) = rmdir_of p
+path_call_of verb.Rename (f ∷ t ∷ []) = rename_of f t
+path_call_of _ _ = Err WordCount
+
 -- as many arguments as the verb takes, each in its place
 unfoldable pub call_of : Verb → List (List ℕ) → Result Call TextKind
-call_of verb.Create (p ∷ []) = create_of p
 call_of verb.Write (p ∷ o ∷ d ∷ []) = write_of p o d
 call_of verb.Fill (p ∷ o ∷ c ∷ b ∷ []) = fill_of p o c b
 call_of verb.Truncate (p ∷ s ∷ []) = truncate_of p s
 call_of verb.Read (p ∷ o ∷ l ∷ []) = read_of p o l
-call_of verb.Stat (p ∷ []) = stat_of p
-call_of verb.Unlink (p ∷ []) = unlink_of p
 call_of verb.Chown (p ∷ u ∷ g ∷ []) = chown_of p u g
 call_of verb.SetQuota (k ∷ i ∷ bs ∷ bh ∷ is ∷ ih ∷ []) = setquota_of k i bs bh is ih
 call_of verb.SetGrace (b ∷ i ∷ []) = setgrace_of b i
 call_of verb.Quota (k ∷ i ∷ []) = quota_of k i
+call_of verb.Create paths = path_call_of verb.Create paths
+call_of verb.Mkdir paths = path_call_of verb.Mkdir paths
+call_of verb.Stat paths = path_call_of verb.Stat paths
+call_of verb.Link paths = path_call_of verb.Link paths
+call_of verb.Unlink paths = path_call_of verb.Unlink paths
+call_of verb.Rmdir paths = path_call_of verb.Rmdir paths
+call_of verb.Rename paths = path_call_of verb.Rename paths
 call_of _ _ = Err WordCount
 
 -- the call that words spell, the first of them its verb

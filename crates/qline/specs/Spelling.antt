@@ -7,7 +7,7 @@ use Rattle.qplain.specs.Caller.{Caller}
 use Rattle.qplain.specs.Paths.{ArePathBytes}
 use Rattle.qplain.specs.declared.cred.TheConstants.{MAX_MORE_GROUPS}
 use Rattle.qplain.specs.declared.call.Call.{Call}
-use Rattle.qplain.specs.declared.call.Call.TheVariants.{Create, Write, Truncate, Read, Stat, Unlink, Chown, SetQuota, SetGrace, Quota}
+use Rattle.qplain.specs.declared.call.Call.TheVariants.{Create, Mkdir, Write, Truncate, Read, Stat, Link, Unlink, Rmdir, Rename, Chown, SetQuota, SetGrace, Quota}
 use Rattle.qtext.specs.Pieces.{data_text}
 use Rattle.qtext.specs.RuleWords.{kind_text}
 
@@ -31,11 +31,15 @@ limits_words l = decimal l.block_soft ∷ decimal l.block_hard ∷ decimal l.ino
 -- a verb and its arguments
 abbrev pub call_words : Call → List (List ℕ)
 call_words (Create path) = codes "create" ∷ path ∷ []
+call_words (Mkdir path) = codes "mkdir" ∷ path ∷ []
 call_words (Write path off bytes) = codes "write" ∷ path ∷ decimal off ∷ data_text bytes ∷ []
 call_words (Truncate path size) = codes "truncate" ∷ path ∷ decimal size ∷ []
 call_words (Read path off len) = codes "read" ∷ path ∷ decimal off ∷ decimal len ∷ []
 call_words (Stat path) = codes "stat" ∷ path ∷ []
+call_words (Link from to) = codes "link" ∷ from ∷ to ∷ []
 call_words (Unlink path) = codes "unlink" ∷ path ∷ []
+call_words (Rmdir path) = codes "rmdir" ∷ path ∷ []
+call_words (Rename from to) = codes "rename" ∷ from ∷ to ∷ []
 call_words (Chown path uid gid) = codes "chown" ∷ path ∷ owner_text uid ∷ owner_text gid ∷ []
 call_words (SetQuota kind id limits) = codes "setquota" ∷ kind_text kind ∷ decimal id ∷ limits_words limits
 call_words (SetGrace graces) = codes "setgrace" ∷ decimal graces.block ∷ decimal graces.inode ∷ []
@@ -63,11 +67,15 @@ pub record AreLimits (l : Limits) : Type 0 where
 -- the parts of a call are what their types can hold
 abbrev pub IsCall : Call → Type 0
 IsCall (Create path) = ArePathBytes path
+IsCall (Mkdir path) = ArePathBytes path
 IsCall (Write path off bytes) = ArePathBytes path × (off < 2 ^ 64) × IsBytes bytes
 IsCall (Truncate path size) = ArePathBytes path × (size < 2 ^ 64)
 IsCall (Read path off len) = ArePathBytes path × (off < 2 ^ 64) × (len < 2 ^ 64)
 IsCall (Stat path) = ArePathBytes path
+IsCall (Link from to) = ArePathBytes from × ArePathBytes to
 IsCall (Unlink path) = ArePathBytes path
+IsCall (Rmdir path) = ArePathBytes path
+IsCall (Rename from to) = ArePathBytes from × ArePathBytes to
 IsCall (Chown path uid gid) = ArePathBytes path × IsOwner uid × IsOwner gid
 IsCall (SetQuota kind id limits) = (id < 2 ^ 32) × AreLimits limits
 IsCall (SetGrace graces) = (graces.block < 2 ^ 64) × (graces.inode < 2 ^ 64)

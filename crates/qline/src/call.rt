@@ -1,9 +1,10 @@
 //! Calls as words.
 ghost use Rattle.std.specs.Prelude.{map};
 ghost use Rattle.qtext.specs.Gives.{Gives};
-ghost use Rattle.qline.specs.Calls.{create_of, write_of, fill_of, truncate_of, read_of, stat_of, unlink_of, chown_of, limits_of, setquota_of, setgrace_of, quota_of, call_of, call_in};
+ghost use Rattle.qline.specs.Calls.{write_of, fill_of, truncate_of, read_of, chown_of, limits_of, setquota_of, setgrace_of, quota_of, call_of, call_in};
 
 use crate::argument::{data_of, kind_of, owner_of};
+use crate::path_call::path_call_of;
 use crate::paths::Paths;
 use crate::verb::{Verb, verb_of};
 use qplain::{Call, Data};
@@ -13,14 +14,6 @@ use std::alloc::Global;
 
 /// The most bytes that `fill` may ask for.
 pub const MAX_FILL: u64 = 131_072;
-
-#[tactic(auto, unfolding(crate::specs::Calls::create_of))]
-fn create_of<'a>(alloc: Global, paths: &mut Paths<'a>, path: &'a [u8]) -> Result<Call, ReadFault>
-    ensures { Gives result (create_of path.now) }
-{
-    let path = paths.read(alloc, path)?;
-    Ok(Call::Create { path })
-}
 
 #[tactic(auto, unfolding(crate::specs::Calls::write_of))]
 fn write_of<'a>(
@@ -88,22 +81,6 @@ fn read_of<'a>(
     let off = number(off)?;
     let len = number(len)?;
     Ok(Call::Read { path, off, len })
-}
-
-#[tactic(auto, unfolding(crate::specs::Calls::stat_of))]
-fn stat_of<'a>(alloc: Global, paths: &mut Paths<'a>, path: &'a [u8]) -> Result<Call, ReadFault>
-    ensures { Gives result (stat_of path.now) }
-{
-    let path = paths.read(alloc, path)?;
-    Ok(Call::Stat { path })
-}
-
-#[tactic(auto, unfolding(crate::specs::Calls::unlink_of))]
-fn unlink_of<'a>(alloc: Global, paths: &mut Paths<'a>, path: &'a [u8]) -> Result<Call, ReadFault>
-    ensures { Gives result (unlink_of path.now) }
-{
-    let path = paths.read(alloc, path)?;
-    Ok(Call::Unlink { path })
 }
 
 #[tactic(auto, unfolding(crate::specs::Calls::chown_of))]
@@ -191,19 +168,26 @@ fn call_of<'a>(
     ensures { Gives result (call_of verb (map (λ word. word.now) arguments.now)) }
 {
     match (verb, arguments) {
-        (Verb::Create, [path]) => create_of(alloc, paths, path),
         (Verb::Write, [path, off, data]) => write_of(alloc, paths, path, off, data),
         (Verb::Fill, [path, off, count, byte]) => fill_of(alloc, paths, path, off, count, byte),
         (Verb::Truncate, [path, size]) => truncate_of(alloc, paths, path, size),
         (Verb::Read, [path, off, len]) => read_of(alloc, paths, path, off, len),
-        (Verb::Stat, [path]) => stat_of(alloc, paths, path),
-        (Verb::Unlink, [path]) => unlink_of(alloc, paths, path),
         (Verb::Chown, [path, uid, gid]) => chown_of(alloc, paths, path, uid, gid),
         (Verb::SetQuota, [kind, id, block_soft, block_hard, inode_soft, inode_hard]) => {
             setquota_of(kind, id, block_soft, block_hard, inode_soft, inode_hard)
         }
         (Verb::SetGrace, [block, inode]) => setgrace_of(block, inode),
         (Verb::Quota, [kind, id]) => quota_of(kind, id),
+        (
+            Verb::Create
+            | Verb::Mkdir
+            | Verb::Stat
+            | Verb::Link
+            | Verb::Unlink
+            | Verb::Rmdir
+            | Verb::Rename,
+            _,
+        ) => path_call_of(alloc, paths, verb, arguments),
         _ => Err(ReadFault::Fault(TextKind::WordCount)),
     }
 }

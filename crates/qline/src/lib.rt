@@ -9,6 +9,7 @@ pub use reply_text::{REPLY_PLACE, put_reply};
 mod argument;
 mod call;
 mod caller;
+mod path_call;
 mod paths;
 mod reply_text;
 mod verb;

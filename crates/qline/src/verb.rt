@@ -7,12 +7,16 @@ use qtext::{ReadFault, TextKind};
 #[derive(Clone, Copy, Debug, PartialEq, Eq)]
 pub(crate) enum Verb {
     Create,
+    Mkdir,
     Write,
     Fill,
     Truncate,
     Read,
     Stat,
+    Link,
     Unlink,
+    Rmdir,
+    Rename,
     Chown,
     SetQuota,
     SetGrace,
@@ -26,6 +30,9 @@ pub(crate) fn verb_of(word: &[u8]) -> Result<Verb, ReadFault>
 {
     if word == b"create".as_slice() {
         return Ok(Verb::Create);
+    }
+    if word == b"mkdir".as_slice() {
+        return Ok(Verb::Mkdir);
     }
     if word == b"write".as_slice() {
         return Ok(Verb::Write);
@@ -42,8 +49,17 @@ pub(crate) fn verb_of(word: &[u8]) -> Result<Verb, ReadFault>
     if word == b"stat".as_slice() {
         return Ok(Verb::Stat);
     }
+    if word == b"link".as_slice() {
+        return Ok(Verb::Link);
+    }
     if word == b"unlink".as_slice() {
         return Ok(Verb::Unlink);
+    }
+    if word == b"rmdir".as_slice() {
+        return Ok(Verb::Rmdir);
+    }
+    if word == b"rename".as_slice() {
+        return Ok(Verb::Rename);
     }
     if word == b"chown".as_slice() {
         return Ok(Verb::Chown);
