@@ -58,12 +58,15 @@ module _ (nodes : List (ℕ × Node)) (spare : ℕ) (tree : RoomyTree) (seen : t
       let both : Some (inode_of node) ≡ Some inode = ap (option_map inode_of) found ∙ sym (inode_seen k) ∙ is in
       cc
 
-  -- the link count that is kept is that of the node that was found
+  -- the link count that is kept
+  pub links_seen : (k : ℕ) → lookup (is_at (nat_cmp k)) tree.links ≡ option_map (λ n. n.links) (lookup (nat_eq k) nodes)
+  links_seen k = ap (λ t. lookup (is_at (nat_cmp k)) t.links) (sym seen) ∙ seen-get (λ n. n.links) nodes k
+
+  -- it is that of the node that was found
   pub links_are : (k : ℕ) (node : Node) (links : ℕ) → Some node ≡ lookup (nat_eq k) nodes
       → lookup (is_at (nat_cmp k)) tree.links ≡ Some links → node.links ≡ links
   links_are k node links found is =
-      let there = ap (λ t. lookup (is_at (nat_cmp k)) t.links) (sym seen) ∙ seen-get (λ n. n.links) nodes k in
-      let both : Some node.links ≡ Some links = ap (option_map (λ n. n.links)) found ∙ sym there ∙ is in
+      let both : Some node.links ≡ Some links = ap (option_map (λ n. n.links)) found ∙ sym (links_seen k) ∙ is in
       cc
 
   -- what a name in it leads to

@@ -1,12 +1,11 @@
 use Rattle.std.proofs.Common.{◌≡◌, ◌+◌, None, Some, ap, arith, refl, sym, ◌∙◌}
 use Rattle.std.specs.BTreeMap.{is_at}
-use Rattle.std.specs.Map.{lookup, set_value}
+use Rattle.std.specs.Map.{set_value}
 use Rattle.std.specs.Option.{option_map}
 use Rattle.std.specs.Ordering.{nat_cmp}
 use Rattle.qtree.specs.declared.node.Node.{Node}
 use Rattle.qtree.proofs.Changed.{IsChanged, inodes-kept, links-set, names-kept, room-kept}
-use Rattle.qtree.proofs.Numbered.{seen-get}
-use Rattle.qtree.proofs.TreeChanges.{links_are}
+use Rattle.qtree.proofs.TreeChanges.{links_are, links_seen}
 use Rattle.qtree.proofs.tree.Tree.add_link.Goals as goal
 
 pub overflow_add-node : goal.overflow_add-node
@@ -17,7 +16,7 @@ overflow_add-node c =
 
 pub unreachable-requires : goal.unreachable-requires
 unreachable-requires c =
-    let there = ap (λ t. lookup (is_at (nat_cmp c.args.number)) t.links) (sym c.self.view_is) ∙ seen-get (λ n. n.links) c.self.inside.nodes.entries c.args.number in
+    let there = links_seen c.self.inside.nodes.entries _ c.args.self.now c.self.view_is c.args.number in
     let no : None ≡ Some c.requires.0 = ap (option_map (λ (n : Node). n.links)) c.in-None.ensures.value ∙ sym there ∙ c.requires.1 in
     cc
 

@@ -1,12 +1,11 @@
 use Rattle.std.proofs.Common.{◌≡◌, ◌-◌, None, Some, ap, arith, refl, sym, ◌∙◌}
 use Rattle.std.specs.BTreeMap.{is_at}
-use Rattle.std.specs.Map.{lookup, set_value}
+use Rattle.std.specs.Map.{set_value}
 use Rattle.std.specs.Option.{option_map}
 use Rattle.std.specs.Ordering.{nat_cmp}
 use Rattle.qtree.specs.declared.node.Node.{Node}
 use Rattle.qtree.proofs.Changed.{IsChanged, inodes-kept, links-set, names-kept, room-kept}
-use Rattle.qtree.proofs.Numbered.{seen-get}
-use Rattle.qtree.proofs.TreeChanges.{links_are}
+use Rattle.qtree.proofs.TreeChanges.{links_are, links_seen}
 use Rattle.qtree.proofs.tree.Tree.take_link.Goals as goal
 
 pub overflow_sub-node : goal.overflow_sub-node
@@ -17,7 +16,7 @@ overflow_sub-node c =
 
 pub unreachable-requires : goal.unreachable-requires
 unreachable-requires c =
-    let there = ap (λ t. lookup (is_at (nat_cmp c.args.number)) t.links) (sym c.self.view_is) ∙ seen-get (λ n. n.links) c.self.inside.nodes.entries c.args.number in
+    let there = links_seen c.self.inside.nodes.entries _ c.args.self.now c.self.view_is c.args.number in
     let no : None ≡ Some c.requires.0 = ap (option_map (λ (n : Node). n.links)) c.in-None.ensures.value ∙ sym there ∙ c.requires.1 in
     cc
 
@@ -42,7 +41,9 @@ returns-clause-links c = λ links is.
     (links_are c.self.inside.nodes.entries _ c.args.self.now c.self.view_is c.args.number c.in-Some.node.now links c.in-Some.ensures.value is)
 
 pub returns-clause-left : goal.returns-clause-left
-returns-clause-left c = λ links is. ap (λ n. n - 1) (links_are c.self.inside.nodes.entries _ c.args.self.now c.self.view_is c.args.number c.in-Some.node.now links c.in-Some.ensures.value is)
+returns-clause-left c = λ links is.
+    ap (λ n. n - 1)
+    (links_are c.self.inside.nodes.entries _ c.args.self.now c.self.view_is c.args.number c.in-Some.node.now links c.in-Some.ensures.value is)
 
 pub returns-clause-room : goal.returns-clause-room
 returns-clause-room c = room-kept (changed c) refl refl

@@ -21,7 +21,8 @@ returns c = elim c.match-get_mut.branch [
       record {
         inodes = ap (λ a. (seen_of a).inodes) w.self-inside-is ∙ inodes-kept change w.take_name.ensures.inode;
         names = lost;
-        gone = ap (lookup (is_at (name_key_cmp (c.args.dir, c.args.name.now)))) lost ∙ gone_seen c.self.inside.nodes.entries _ c.args.self.now c.self.view_is (c.args.dir, c.args.name.now);
+        gone = ap (lookup (is_at (name_key_cmp (c.args.dir, c.args.name.now)))) lost
+            ∙ gone_seen c.self.inside.nodes.entries _ c.args.self.now c.self.view_is (c.args.dir, c.args.name.now);
         room = subst (λ a. KeepsRoom c.args.self.now.room (seen_of a).room) (sym w.self-inside-is)
             (room-no_less change w.take_name.ensures.room w.take_name.ensures.file);
         links = ap (λ a. (seen_of a).links) w.self-inside-is ∙ links-kept change w.take_name.ensures.links;
@@ -34,7 +35,8 @@ returns c = elim c.match-get_mut.branch [
       record {
         inodes = ap (λ t. t.inodes) same;
         names = lost;
-        gone = ap (lookup (is_at (name_key_cmp (c.args.dir, c.args.name.now)))) lost ∙ gone_seen c.self.inside.nodes.entries _ c.args.self.now c.self.view_is (c.args.dir, c.args.name.now);
+        gone = ap (lookup (is_at (name_key_cmp (c.args.dir, c.args.name.now)))) lost
+            ∙ gone_seen c.self.inside.nodes.entries _ c.args.self.now c.self.view_is (c.args.dir, c.args.name.now);
         room = room-same c.args.self.now (seen_of c.match-get_mut.self-inside) same;
         links = ap (λ t. t.links) same;
       }
