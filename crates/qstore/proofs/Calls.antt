@@ -128,11 +128,11 @@ unlinked-asked s whole dir name number inode led there file claim to links claim
     ⊎_elim
     (λ (many : 1 < links).
     asked-for s whole (Some claim) to 0 S1 (Some inode) (Some inode)
-    (Replaces-more s.state dir name number inode fits led there file (omega (arith, many, same))) (omega arith)
+    (Replaces-more s.state dir name number inode fits led there (omega (arith, many, same))) (omega arith)
     claimed (subst (λ (o : Option Claim). IsClaimed s.books o (Some inode)) (sym (more many)) claimed) few)
     (λ (one : links ≤ 1).
     asked-for s whole (Some claim) to 0 S1 (Some inode) None
-    (Replaces-last s.state dir name number inode fits led there file (omega (arith, one, same, some))) (omega arith)
+    (Replaces-last s.state dir name number inode fits led there (omega (arith, one, same, some))) (omega arith)
     claimed (subst (λ (o : Option Claim). IsClaimed s.books o None) (sym (last one)) (unclaimed s.books)) (omega arith))
     (cases_lt 1 links)
   where
