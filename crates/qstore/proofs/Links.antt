@@ -25,7 +25,7 @@ abbrev pub links_at : State → ℕ → Option Inode → Option ℕ
 links_at S number o = option_map (λ inode. links_of S number inode.dir) o
 
 -- where an inode is not there, no links are kept
-none-kept : (S : State) (links : List (ℕ × ℕ)) (number : ℕ) → AreLinks S links → inode_at S number ≡ None → lookup (is_at (nat_cmp number)) links ≡ None
+pub none-kept : (S : State) (links : List (ℕ × ℕ)) (number : ℕ) → AreLinks S links → inode_at S number ≡ None → lookup (is_at (nat_cmp number)) links ≡ None
 none-kept S links number kept absent = kept number ∙ ap (links_at S number) absent
 
 -- where one is, its links are
@@ -75,7 +75,8 @@ module _ (S : State) (links : List (ℕ × ℕ)) (kept : AreLinks S links) (numb
 other-number : (number q : ℕ) (b : Bool) → is_at (nat_cmp number) q ≡ false → (b || not (number == q)) ≡ true
 other-number number q b other = or_right b (not (number == q)) (ap not (unsigned_ties number q ∙ other))
 
-kept-some : (o : Option ℕ) (n : ℕ) → o ≡ Some n → IsSome o
+-- it is some
+pub kept-some : (o : Option ℕ) (n : ℕ) → o ≡ Some n → IsSome o
 kept-some None n there = cc
 kept-some (Some m) n there = search rules
 

@@ -67,8 +67,8 @@ fn add_directory(
         → CanCreate S tree.old.room dir (string_bytes name)
         → IsTreeOf (created S (new_directory uid gid) dir (string_bytes name)) tree.new }
 {
-    tree.add_directory(next, dir, name, uid, gid, alloc);
     tree.add_link(dir);
+    tree.add_directory(next, dir, name, uid, gid, alloc);
 }
 
 /// Takes the last name of a path out of a directory, and the empty directory that has it, and its link to its parent.
