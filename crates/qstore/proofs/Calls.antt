@@ -25,11 +25,11 @@ use Rattle.qledger.specs.declared.claim.Slots.{Slots}
 use Rattle.qledger.specs.Books.{HasSlots}
 use Rattle.qtree.specs.Tree.{IsSameTree, RoomyTree}
 use Rattle.qstore.specs.declared.store.Store.TheInside.{Inside}
-use Rattle.qstore.specs.declared.store.create.NewInode.{NewInode}
-use Rattle.qstore.specs.declared.store.create.NewInode.TheVariants.{File as AFile, Directory}
+use Rattle.qstore.specs.declared.file_type.FileType.{FileType}
+use Rattle.qstore.specs.declared.file_type.FileType.TheVariants.{File as AFile, Directory}
 use Rattle.qstore.specs.declared.store.write.Target.{Target}
 use Rattle.qstore.specs.Kept.{state_of, stored_of}
-use Rattle.qstore.specs.NewInodes.{inode_new}
+use Rattle.qstore.specs.FileTypes.{inode_new}
 use Rattle.qstore.specs.Targets.{IsTarget}
 use Rattle.qstore.specs.Decided.{IsAsked, IsClaimed, IsWhole}
 use Rattle.qstore.specs.Ready.{altered, altered_at}
@@ -177,7 +177,7 @@ target-asked s whole cred path off bytes target t to is =
     (target.claim.weight.blocks + target.missing) t.claimed is (omega (arith, more, old)) (omega (arith, few, few_missing))
 
 -- a new inode of the caller's
-pub created-asked : (s : Stored) → IsWhole s → (dir : ℕ) (name : List ℕ) (slots : Slots) (uid gid : ℕ) (sort : NewInode)
+pub created-asked : (s : Stored) → IsWhole s → (dir : ℕ) (name : List ℕ) (slots : Slots) (uid gid : ℕ) (sort : FileType)
     → HasSlots s.books slots uid gid → (to : Claim) → to ≡ record { slots = slots; weight = record { blocks = 0; inodes = 1 } }
     → IsAsked s None (Some to) 1 (created s.state (inode_new sort uid gid) dir name)
 created-asked s whole dir name slots uid gid sort has to is =
@@ -185,11 +185,11 @@ created-asked s whole dir name slots uid gid sort has to is =
     (Replaces-created s.state (inode_new sort uid gid) dir name (absent-next s.state whole.sound.lawful)) refl (unclaimed s.books)
     (subst (λ (c : Claim). IsClaimed s.books (Some c) (Some (inode_new sort uid gid))) (sym is) (by sort)) (light sort)
   where
-    by : (k : NewInode) → IsClaimed s.books (Some (record { slots = slots; weight = record { blocks = 0; inodes = 1 } })) (Some (inode_new k uid gid))
+    by : (k : FileType) → IsClaimed s.books (Some (record { slots = slots; weight = record { blocks = 0; inodes = 1 } })) (Some (inode_new k uid gid))
     by AFile = claimed s.books slots uid gid 0 (new_file uid gid) has refl refl refl
     by Directory = claimed s.books slots uid gid 0 (new_directory uid gid) has refl refl refl
 
-    light : (k : NewInode) → weight Blocks (inode_new k uid gid) ≤ 2 ^ 32
+    light : (k : FileType) → weight Blocks (inode_new k uid gid) ≤ 2 ^ 32
     light AFile = omega arith
     light Directory = omega arith
 

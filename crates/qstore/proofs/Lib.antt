@@ -12,3 +12,4 @@ pub mod Listed
 pub mod Deciding
 pub mod Calls
 pub mod Directories
+pub mod ParentLinks

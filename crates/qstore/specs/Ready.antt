@@ -142,6 +142,7 @@ pub record CanUnlink (S : State) (dir number : ℕ) (name : List ℕ) : Type 0 w
 
 -- the name may go, which leads to an empty directory
 pub record CanRmdir (S : State) (dir number : ℕ) (name : List ℕ) : Type 0 where
+  pub directory : is_directory S dir ≡ true
   pub led : named S dir name ≡ Some number
   pub inode : Inode
   pub there : inode_at S number ≡ Some inode

@@ -4,6 +4,7 @@
 pub use ready::Ready;
 pub use store::Store;
 
+mod file_type;
 mod path;
 mod ready;
 mod store;

@@ -77,9 +77,9 @@ fn take_directory(tree: &mut Tree, dir: u64, path: &Path, number: u64)
     ensures { (S : State) → IsTreeOf S tree.old → IsLawful S → CanRmdir S dir number (name_in path.now)
         → IsTreeOf (swept (without_name S dir (name_in path.now))) tree.new }
 {
-    tree.take_name(dir, last_of(path.text()));
-    tree.take_node(number);
     tree.take_link(dir);
+    tree.take_node(number);
+    tree.take_name(dir, last_of(path.text()));
 }
 
 /// Gives a file a further name, and counts it.

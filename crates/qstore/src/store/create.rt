@@ -9,39 +9,31 @@ ghost use Rattle.qplain.specs.Step.{settle};
 ghost use Rattle.qtree.specs.Room.{Room};
 ghost use Rattle.qledger.specs.Books.{HasSlots};
 ghost use Rattle.qstore.specs.Decided.{IsDecided, IsWhole};
-ghost use Rattle.qstore.specs.NewInodes.{inode_new};
+ghost use Rattle.qstore.specs.FileTypes.{inode_new};
 ghost use Rattle.qstore.specs.Ready.{CanChange, CanCreate, IsRefused, changed};
 ghost use Rattle.qstore.specs.Stored.{IsSameStore};
 
+use crate::file_type::FileType;
 use crate::ready::{Decided, TreeChange};
 use crate::store::Store;
 use qledger::{Claim, Slots};
 use qplain::{Cred, NoMemory, Refusal};
 use qrules::MAX_MOMENT;
 
-/// What an inode is to be that comes to stand.
-#[derive(Clone, Copy)]
-pub(super) enum NewInode {
-    /// An empty file.
-    File,
-    /// An empty directory.
-    Directory,
-}
-
-/// The change by which it comes to stand.
-fn creation(sort: NewInode, dir: u64, name: String, uid: u32, gid: u32) -> TreeChange
+/// The change by which a new inode comes to stand.
+fn creation(sort: FileType, dir: u64, name: String, uid: u32, gid: u32) -> TreeChange
     ensures made { (S : State) → changed S result [] ≡ created S (inode_new sort uid gid) dir (string_bytes name) }
     ensures can { (S : State) (room : Room) → CanCreate S room dir (string_bytes name)
         → CanChange S room result [] }
 {
     match sort {
-        NewInode::File => TreeChange::Create {
+        FileType::File => TreeChange::Create {
             dir,
             name,
             uid,
             gid,
         },
-        NewInode::Directory => TreeChange::Mkdir {
+        FileType::Directory => TreeChange::Mkdir {
             dir,
             name,
             uid,
@@ -74,7 +66,7 @@ impl Store {
         };
         match place.leads_to {
             Some(_) => Ok(Decided::refused(Refusal::EEXIST)),
-            None => self.make_inode(cred, callers, moment, place.dir, place.name, NewInode::File),
+            None => self.make_inode(cred, callers, moment, place.dir, place.name, FileType::File),
         }
     }
 
@@ -86,7 +78,7 @@ impl Store {
         moment: u64,
         dir: u64,
         name: &str,
-        sort: NewInode,
+        sort: FileType,
     ) -> Result<Decided, NoMemory>
         requires callers { HasSlots self.old.books callers cred.now.uid cred.now.gid }
         requires whole { IsWhole self.old }

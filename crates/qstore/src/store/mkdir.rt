@@ -12,9 +12,9 @@ ghost use Rattle.qstore.specs.Decided.{IsDecided, IsWhole};
 ghost use Rattle.qstore.specs.Ready.{IsRefused};
 ghost use Rattle.qstore.specs.Stored.{IsSameStore};
 
+use crate::file_type::FileType;
 use crate::ready::Decided;
 use crate::store::Store;
-use crate::store::create::NewInode;
 use qledger::Slots;
 use qplain::{Cred, MAX_LINKS, NoMemory, Refusal};
 use qrules::MAX_MOMENT;
@@ -83,6 +83,6 @@ impl Store {
         if self.has_all_links(dir) {
             return Ok(Decided::refused(Refusal::EMLINK));
         }
-        self.make_inode(cred, callers, moment, dir, name, NewInode::Directory)
+        self.make_inode(cred, callers, moment, dir, name, FileType::Directory)
     }
 }

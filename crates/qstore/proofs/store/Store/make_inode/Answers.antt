@@ -4,7 +4,7 @@ use Rattle.qplain.specs.State.{State, is_directory, named}
 use Rattle.qplain.specs.declared.reply.Reply.TheVariants.{Done}
 use Rattle.qstore.specs.Decided.{IsBilled}
 use Rattle.qstore.specs.Kept.{stored_of}
-use Rattle.qstore.specs.NewInodes.{inode_new}
+use Rattle.qstore.specs.FileTypes.{inode_new}
 use Rattle.qstore.specs.Told.{told}
 use Rattle.qstore.specs.Stored.{Stored}
 use Rattle.qstore.proofs.Calls.{created-asked, same-with_room}

@@ -4,7 +4,7 @@ use Rattle.std.specs.Map.{lookup}
 use Rattle.std.specs.Ordering.{nat_cmp}
 use Rattle.qplain.specs.Use.{links_of}
 use Rattle.qlaws.proofs.Settling.{absent-next}
-use Rattle.qstore.proofs.Directories.{parent-links, tree-directory}
+use Rattle.qstore.proofs.ParentLinks.{parent-links, tree-directory}
 use Rattle.qstore.proofs.store.commit.add_directory.Goals as goal
 
 pub add_link-requires : goal.add_link-requires
