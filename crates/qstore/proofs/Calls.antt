@@ -13,7 +13,7 @@ use Rattle.qplain.specs.Files.{truncate_at, with_file, with_inode, write_into}
 use Rattle.qplain.specs.Names.{created, swept, unlink_as, unlink_at, without_name}
 use Rattle.qplain.specs.Owners.{give, with_owners}
 use Rattle.qplain.specs.Rights.{may_give, may_remove, may_write}
-use Rattle.qplain.specs.State.{Inode, State, inode_at, named, new_file}
+use Rattle.qplain.specs.State.{Inode, State, inode_at, named, new_directory, new_file}
 use Rattle.qplain.specs.Use.{links_of, weight}
 use Rattle.qplain.specs.Walk.{led_to}
 use Rattle.qlaws.specs.Laws.{FitsTogether}
@@ -25,8 +25,11 @@ use Rattle.qledger.specs.declared.claim.Slots.{Slots}
 use Rattle.qledger.specs.Books.{HasSlots}
 use Rattle.qtree.specs.Tree.{IsSameTree, RoomyTree}
 use Rattle.qstore.specs.declared.store.Store.TheInside.{Inside}
+use Rattle.qstore.specs.declared.file_type.FileType.{FileType}
+use Rattle.qstore.specs.declared.file_type.FileType.TheVariants.{File as AFile, Directory}
 use Rattle.qstore.specs.declared.store.write.Target.{Target}
 use Rattle.qstore.specs.Kept.{state_of, stored_of}
+use Rattle.qstore.specs.FileTypes.{inode_new}
 use Rattle.qstore.specs.Targets.{IsTarget}
 use Rattle.qstore.specs.Decided.{IsAsked, IsClaimed, IsWhole}
 use Rattle.qstore.specs.Ready.{altered, altered_at}
@@ -128,11 +131,11 @@ unlinked-asked s whole dir name number inode led there file claim to links claim
     ⊎_elim
     (λ (many : 1 < links).
     asked-for s whole (Some claim) to 0 S1 (Some inode) (Some inode)
-    (Replaces-more s.state dir name number inode fits led there file (omega (arith, many, same))) (omega arith)
+    (Replaces-more s.state dir name number inode fits led there (omega (arith, many, same))) (omega arith)
     claimed (subst (λ (o : Option Claim). IsClaimed s.books o (Some inode)) (sym (more many)) claimed) few)
     (λ (one : links ≤ 1).
     asked-for s whole (Some claim) to 0 S1 (Some inode) None
-    (Replaces-last s.state dir name number inode fits led there file (omega (arith, one, same, some))) (omega arith)
+    (Replaces-last s.state dir name number inode fits led there (omega (arith, one, same, some))) (omega arith)
     claimed (subst (λ (o : Option Claim). IsClaimed s.books o None) (sym (last one)) (unclaimed s.books)) (omega arith))
     (cases_lt 1 links)
   where
@@ -173,15 +176,22 @@ target-asked s whole cred path off bytes target t to is =
     resized-asked s whole target.number t.inode (after_write t.inode.file off bytes) t.there target.claim to
     (target.claim.weight.blocks + target.missing) t.claimed is (omega (arith, more, old)) (omega (arith, few, few_missing))
 
--- a new file of the caller's
-pub created-asked : (s : Stored) → IsWhole s → (dir : ℕ) (name : List ℕ) (slots : Slots) (uid gid : ℕ) → HasSlots s.books slots uid gid
-    → (to : Claim) → to ≡ record { slots = slots; weight = record { blocks = 0; inodes = 1 } }
-    → IsAsked s None (Some to) 1 (created s.state (new_file uid gid) dir name)
-created-asked s whole dir name slots uid gid has to is =
-    asked-for s whole None (Some to) 1 (created s.state (new_file uid gid) dir name) None (Some (new_file uid gid))
-    (Replaces-created s.state (new_file uid gid) dir name (absent-next s.state whole.sound.lawful)) refl (unclaimed s.books)
-    (subst (λ (c : Claim). IsClaimed s.books (Some c) (Some (new_file uid gid))) (sym is)
-    (claimed s.books slots uid gid 0 (new_file uid gid) has refl refl refl)) (omega arith)
+-- a new inode of the caller's
+pub created-asked : (s : Stored) → IsWhole s → (dir : ℕ) (name : List ℕ) (slots : Slots) (uid gid : ℕ) (sort : FileType)
+    → HasSlots s.books slots uid gid → (to : Claim) → to ≡ record { slots = slots; weight = record { blocks = 0; inodes = 1 } }
+    → IsAsked s None (Some to) 1 (created s.state (inode_new sort uid gid) dir name)
+created-asked s whole dir name slots uid gid sort has to is =
+    asked-for s whole None (Some to) 1 (created s.state (inode_new sort uid gid) dir name) None (Some (inode_new sort uid gid))
+    (Replaces-created s.state (inode_new sort uid gid) dir name (absent-next s.state whole.sound.lawful)) refl (unclaimed s.books)
+    (subst (λ (c : Claim). IsClaimed s.books (Some c) (Some (inode_new sort uid gid))) (sym is) (by sort)) (light sort)
+  where
+    by : (k : FileType) → IsClaimed s.books (Some (record { slots = slots; weight = record { blocks = 0; inodes = 1 } })) (Some (inode_new k uid gid))
+    by AFile = claimed s.books slots uid gid 0 (new_file uid gid) has refl refl refl
+    by Directory = claimed s.books slots uid gid 0 (new_directory uid gid) has refl refl refl
+
+    light : (k : FileType) → weight Blocks (inode_new k uid gid) ≤ 2 ^ 32
+    light AFile = omega arith
+    light Directory = omega arith
 
 -- ---- the store in which room is made
 

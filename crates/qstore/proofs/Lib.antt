@@ -9,3 +9,5 @@ pub mod Steps
 pub mod Listed
 pub mod Deciding
 pub mod Calls
+pub mod Directories
+pub mod ParentLinks

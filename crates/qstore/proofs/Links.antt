@@ -25,7 +25,7 @@ abbrev pub links_at : State → ℕ → Option Inode → Option ℕ
 links_at S number o = option_map (λ inode. links_of S number inode.dir) o
 
 -- where an inode is not there, no links are kept
-none-kept : (S : State) (links : List (ℕ × ℕ)) (number : ℕ) → AreLinks S links → inode_at S number ≡ None → lookup (is_at (nat_cmp number)) links ≡ None
+pub none-kept : (S : State) (links : List (ℕ × ℕ)) (number : ℕ) → AreLinks S links → inode_at S number ≡ None → lookup (is_at (nat_cmp number)) links ≡ None
 none-kept S links number kept absent = kept number ∙ ap (links_at S number) absent
 
 -- where one is, its links are
@@ -75,7 +75,8 @@ module _ (S : State) (links : List (ℕ × ℕ)) (kept : AreLinks S links) (numb
 other-number : (number q : ℕ) (b : Bool) → is_at (nat_cmp number) q ≡ false → (b || not (number == q)) ≡ true
 other-number number q b other = or_right b (not (number == q)) (ap not (unsigned_ties number q ∙ other))
 
-kept-some : (o : Option ℕ) (n : ℕ) → o ≡ Some n → IsSome o
+-- it is some
+pub kept-some : (o : Option ℕ) (n : ℕ) → o ≡ Some n → IsSome o
 kept-some None n there = cc
 kept-some (Some m) n there = search rules
 
@@ -100,7 +101,7 @@ module _ (S : State) (links : List (ℕ × ℕ)) (kept : AreLinks S links) (lawf
       let laws = eq_by_cmp_equiv nat_cmp_total in
       lookup-remove_entry laws (is_at (nat_cmp number)) (λ x y e. laws.congr number x y e) q links (IsDistinct-from_sorted nat_cmp (keys_of links) in_order)
       ∙ by (is_at (nat_cmp number) q) refl
-      ∙ ap (links_at T q) (sym (inode_at-last S dir name number inode lawful.parts led there file last q))
+      ∙ ap (links_at T q) (sym (inode_at-last S dir name number inode lawful.parts led there last q))
     where
       by : (b : Bool) → is_at (nat_cmp number) q ≡ b → cond b None (lookup (is_at (nat_cmp q)) links) ≡ links_at T q (cond b None (inode_at S q))
       by true at = refl
@@ -113,7 +114,7 @@ module _ (S : State) (links : List (ℕ × ℕ)) (kept : AreLinks S links) (lawf
       lookup-set_value laws (is_at (nat_cmp number)) (λ x y e. laws.congr number x y e) q (links_of S number false - 1) links
       (kept-some (lookup (is_at (nat_cmp number)) links) (links_of S number inode.dir) (links-there S links number inode kept there))
       ∙ by (is_at (nat_cmp number) q) refl
-      ∙ ap (λ es. links_at T q (lookup (is_at (nat_cmp q)) es)) (sym (inodes-more S dir name number inode lawful.parts led there file more))
+      ∙ ap (λ es. links_at T q (lookup (is_at (nat_cmp q)) es)) (sym (inodes-more S dir name number inode lawful.parts led there more))
     where
       less : links_of S number false - 1 ≡ links_of T number false
       less = let sum = some-links in omega (arith, sum)

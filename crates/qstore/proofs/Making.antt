@@ -69,7 +69,7 @@ tree-unlinked S tree after dir number name lawful can inodes names kept in_order
     (λ (many : 1 < links_of S number false).
     let left = more (links_of S number false) shown many in
     record {
-      inodes = left.0 ∙ inodes ∙ sym (inodes-more S dir name number inode lawful.parts can.led there file many);
+      inodes = left.0 ∙ inodes ∙ sym (inodes-more S dir name number inode lawful.parts can.led there many);
       names = same ∙ names;
       links = subst (AreLinks T) (sym left.1) (links-more S tree.links kept lawful dir name number inode can.led there file many);
       in_order = subst InOrder (sym left.1)
@@ -82,7 +82,7 @@ tree-unlinked S tree after dir number name lawful can inodes names kept in_order
     record {
       inodes =
           left.0 ∙ ap (remove_entry (is_at (nat_cmp number))) inodes
-          ∙ sym (inodes-last S dir name number inode lawful.parts can.led there file one);
+          ∙ sym (inodes-last S dir name number inode lawful.parts can.led there one);
       names = same ∙ names;
       links = subst (AreLinks T) (sym left.1) (links-last S tree.links kept lawful dir name number inode can.led there file in_order one);
       in_order = subst InOrder (sym left.1) (sorted-remove nat_cmp (is_at (nat_cmp number)) tree.links in_order);

@@ -8,7 +8,7 @@ use Rattle.qledger.specs.Books.{AreBooksOf, AreInRange, Books}
 use Rattle.qledger.specs.KeptHolders.{holders_in}
 use Rattle.qledger.proofs.Booked.{in_range-settled}
 use Rattle.qstore.specs.declared.ready.TreeChange.{TreeChange}
-use Rattle.qstore.specs.declared.ready.TreeChange.TheVariants.{Create, Write, Truncate, Unlink, Chown}
+use Rattle.qstore.specs.declared.ready.TreeChange.TheVariants.{Create, Mkdir, Write, Truncate, Unlink, Rmdir, Link, Rename, Chown}
 use Rattle.qstore.specs.declared.store.Store.TheInside.{Inside}
 use Rattle.qstore.specs.Kept.{AreLinks, IsCounted, IsTreeOf, state_of, stored_of}
 use Rattle.qstore.specs.Ready.{CanSettle, altered_at, billed, changed}
@@ -32,9 +32,14 @@ bounds-altered S number change (Some inode) = record { size = refl; most_inodes 
 -- nor does a change
 pub bounds-changed : (S : State) (change : TreeChange) (bytes : List ℕ) → KeepsBounds S (changed S change bytes)
 bounds-changed S (Create dir name uid gid) bytes = record { size = refl; most_inodes = refl; file_limit = refl; graces = refl }
+bounds-changed S (Mkdir dir name uid gid) bytes = record { size = refl; most_inodes = refl; file_limit = refl; graces = refl }
 bounds-changed S (Write number off spare) bytes = bounds-altered S number _ (inode_at S number)
 bounds-changed S (Truncate number size) bytes = bounds-altered S number _ (inode_at S number)
 bounds-changed S (Unlink dir path number) bytes = record { size = refl; most_inodes = refl; file_limit = refl; graces = refl }
+bounds-changed S (Rmdir dir path number) bytes = record { size = refl; most_inodes = refl; file_limit = refl; graces = refl }
+bounds-changed S (Link dir name number) bytes = record { size = refl; most_inodes = refl; file_limit = refl; graces = refl }
+bounds-changed S (Rename dir path to_dir to_name number) bytes =
+    record { size = refl; most_inodes = refl; file_limit = refl; graces = refl }
 bounds-changed S (Chown number uid gid) bytes = bounds-altered S number _ (inode_at S number)
 
 -- ---- links know neither holders nor graces

@@ -6,4 +6,5 @@ pub mod Paths
 pub mod Told
 pub mod Decided
 pub mod Targets
+pub mod FileTypes
 pub mod Kept

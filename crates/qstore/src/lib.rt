@@ -4,5 +4,6 @@
 pub use ready::Ready;
 pub use store::Store;
 
+mod file_type;
 mod ready;
 mod store;

@@ -17,6 +17,13 @@ pub(crate) enum TreeChange {
         uid: u32,
         gid: u32,
     },
+    /// An empty directory is to stand in the directory.
+    Mkdir {
+        dir: u64,
+        name: String,
+        uid: u32,
+        gid: u32,
+    },
     /// The call's bytes are to be written.
     Write {
         number: u64,
@@ -32,6 +39,27 @@ pub(crate) enum TreeChange {
     Unlink {
         dir: u64,
         path: Path,
+        number: u64,
+    },
+    /// The last name of the path is to go out of the directory, and the empty directory that has it.
+    Rmdir {
+        dir: u64,
+        path: Path,
+        number: u64,
+    },
+    /// A file gets a further name.
+    Link {
+        dir: u64,
+        name: String,
+        number: u64,
+    },
+    /// The last name of the path is to go out of the directory, and what has it gets another name, in place of what
+    /// had that.
+    Rename {
+        dir: u64,
+        path: Path,
+        to_dir: u64,
+        to_name: String,
         number: u64,
     },
     /// An inode gets other owners.

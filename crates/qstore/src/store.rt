@@ -27,9 +27,13 @@ mod chown;
 mod claims;
 mod commit;
 mod create;
+mod link;
+mod mkdir;
 mod quota;
 mod read;
+mod rename;
 mod rights;
+mod rmdir;
 mod rows;
 mod set_grace;
 mod set_quota;
@@ -164,6 +168,7 @@ impl Store {
     {
         match call {
             Call::Create { path } => self.decide_create(cred, callers, moment, path.text()),
+            Call::Mkdir { path } => self.decide_mkdir(cred, callers, moment, path.text()),
             Call::Write { path, off, bytes } => {
                 self.decide_write(cred, callers, moment, path.text(), *off, bytes)
             }
@@ -174,7 +179,12 @@ impl Store {
                 Ok(Decided::answer(self.decide_read(path.text(), *off, *len)?))
             }
             Call::Stat { path } => Ok(Decided::answer(self.decide_stat(path.text()))),
+            Call::Link { from, to } => self.decide_link(cred, moment, from.text(), to.text()),
             Call::Unlink { path } => self.decide_unlink(cred, callers, moment, path),
+            Call::Rmdir { path } => self.decide_rmdir(cred, callers, moment, path),
+            Call::Rename { from, to } => {
+                self.decide_rename(cred, callers, moment, from, to.text())
+            }
             Call::Chown { path, uid, gid } => {
                 Ok(self.decide_chown(cred, callers, moment, path.text(), *uid, *gid))
             }

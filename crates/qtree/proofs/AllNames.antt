@@ -18,7 +18,7 @@ use Rattle.qtree.specs.InOrder.{in_order}
 use Rattle.qtree.specs.Nodes.{names_in}
 use Rattle.qtree.specs.Tree.{all_names, keyed}
 use Rattle.qtree.proofs.Bytes.{bytes_tie}
-use Rattle.qtree.proofs.InOrder.{both_of, first_of, less_from, lookup-in_order, same_sorted, second_of, sorted-in_order, sorted-insert, sorted-taken, strictly}
+use Rattle.qtree.proofs.InOrder.{both_of, first_of, less_from, lookup-in_order, lookup-taken, same_sorted, second_of, sorted-in_order, sorted-insert, sorted-taken, strictly}
 use Rattle.qtree.proofs.Numbered.{numbered-get, numbered-sorted}
 use Rattle.qtree.proofs.Read.{first_or_none, first_some, lookup-append, lookup-keyed_by}
 
@@ -41,7 +41,7 @@ lookup_nothing [] = refl
 lookup_nothing (e ∷ es) = lookup_nothing es
 
 -- a number that stands below a list's is not in it
-none_above : {X : Type 0} (d k : ℕ) (es : List (ℕ × X)) → nat_cmp d k ≡ Equal → T (below_all nat_cmp k es) → lookup (eq_by_cmp nat_cmp d) es ≡ None
+pub none_above : {X : Type 0} (d k : ℕ) (es : List (ℕ × X)) → nat_cmp d k ≡ Equal → T (below_all nat_cmp k es) → lookup (eq_by_cmp nat_cmp d) es ≡ None
 none_above d k [] tie h = refl
 none_above d k (e ∷ es) tie h =
     let past : nat_cmp d e.0 ≡ Less = nat_cmp_total.congr d k e.0 tie ∙ less_from _ (first_of _ _ h) in
@@ -171,3 +171,10 @@ named-taken es fs dir name is =
     (λ q. named-get fs q.0 q.1 ∙ is q.0 q.1 ∙ ap (cond (nat_eq dir q.0 && bytes_tie name q.1) None) (sym (named-get es q.0 q.1))
     ∙ ap (λ b. cond b None (lookup (is_at (name_key_cmp q)) (named es)))
     (both_tied _ _ (nat_cmp dir q.0) (slice_cmp nat_cmp name q.1) (unsigned_ties dir q.0) refl))
+
+-- a name that was taken out is not there
+pub named-gone : (nodes : List (ℕ × Node)) (key : NameKey)
+    → lookup (is_at (name_key_cmp key)) (remove_entry (is_at (name_key_cmp key)) (named nodes)) ≡ None
+named-gone nodes key =
+    lookup-taken name_key_total key_exact (named nodes) key key (sorted-all_names (in_order nat_cmp nodes) (numbered-sorted nodes))
+    ∙ ap (λ r. cond (is_eq r) None (lookup (is_at (name_key_cmp key)) (named nodes))) (tied_itself name_key_total key)

@@ -1,26 +1,37 @@
 -- What a contract sees of a tree of which one node was changed through what the table lent, or in which none was.
-use Rattle.std.proofs.Common.{◌≡◌, ℕ, List, Some, None, sym, ap, ◌∙◌, nat_eq}
+use Rattle.std.proofs.Common.{◌≡◌, ◌≤◌, ℕ, Bool, true, false, cond, List, Option, Some, None, refl, sym, ap, ◌∙◌, subst, nat_eq, arith}
 use Rattle.std.specs.Ordering.{nat_cmp}
 use Rattle.std.specs.Cmp.Lexicographic.{slice_cmp}
 use Rattle.std.specs.BTreeMap.{insert_entry, is_at}
 use Rattle.std.specs.HashMap as hash
 use Rattle.std.specs.HashMap.{HashMap, spare}
 use Rattle.std.specs.Map.{lookup, remove_entry, set_value}
-use Rattle.std.specs.Option.{option_map}
+use Rattle.std.specs.Option.{option_map, unwrap_or}
+use Rattle.std.proofs.lemmas.Bool.{eqb-true}
+use Rattle.qblocks.specs.WriteRoom.{RoomyFile}
 use Rattle.qplain.specs.State.{Inode, name_key_cmp}
 use Rattle.qtree.specs.declared.node.Node.{Node}
 use Rattle.qtree.specs.declared.tree.Tree.TheInside.{Inside}
 use Rattle.qtree.specs.Names.{LosesName}
-use Rattle.qtree.specs.Nodes.{inode_of, names_in}
+use Rattle.qtree.specs.Nodes.{inode_of, name_room_in, names_in, roomy_file_in}
+use Rattle.qtree.specs.Room.{KeepsRoom, Room, name_room}
 use Rattle.qtree.specs.Tree.{RoomyTree, tree_of}
 use Rattle.qtree.proofs.AllNames.{name_at}
 use Rattle.qtree.proofs.Numbered.{IsPut, seen-get, seen-kept, seen-set}
 use Rattle.qtree.proofs.Read.{remove_none, set_none}
-use Rattle.qtree.proofs.TreeChanges.{inode_is, inode_seen, name_seen, named-kept, named-lost, named-put, put-writes}
+use Rattle.qtree.proofs.TreeChanges.{inode_is, inode_seen, name_room_seen, name_seen, named-kept, named-lost, named-put, put-writes, put_here}
 
 -- what is seen of a tree's fields
 abbrev pub seen_of : Inside → RoomyTree
 seen_of a = tree_of a.nodes.entries (spare a.nodes)
+
+-- room of these three parts
+abbrev pub the_room : ℕ → List (ℕ × ℕ) → List (ℕ × Option RoomyFile) → Room
+the_room i ns fs = record { inodes = i; names = ns; files = fs }
+
+-- where nothing changed there is no less room
+pub room-same : (old new : RoomyTree) → new ≡ old → KeepsRoom old.room new.room
+room-same old new same = subst (λ (t : RoomyTree). KeepsRoom old.room t.room) (sym same) (record { inodes = refl; names = λ d. omega arith; files = refl })
 
 -- a table m, seen as this tree, has the node u at k, and n is that table with v in its place
 pub record IsChanged {S : Type 0} (tree : RoomyTree) (m n : HashMap ℕ Node S) (k : ℕ) (u v : Node) : Type 0 where
@@ -73,6 +84,58 @@ module _ {S : Type 0} {tree : RoomyTree} {m n : HashMap ℕ Node S} {k : ℕ} {u
       → (tree_of n.entries (spare n)).names ≡ remove_entry (is_at (name_key_cmp (k, name))) tree.names
   names-lost name loses =
       named-lost m.entries n.entries k u v (sym change.found) put name loses ∙ ap (λ t. remove_entry (is_at (name_key_cmp (k, name))) t.names) change.seen
+
+  -- the room for inodes
+  pub inode_room-kept : spare n ≡ tree.room.inodes
+  inode_room-kept = change.writes.6 ∙ ap (λ t. t.room.inodes) change.seen
+
+  -- the room in files
+  pub files-kept : roomy_file_in v.content ≡ roomy_file_in u.content → (tree_of n.entries (spare n)).room.files ≡ tree.room.files
+  files-kept same = seen-kept (λ x. roomy_file_in x.content) m.entries n.entries k u v (sym change.found) same put ∙ ap (λ t. t.room.files) change.seen
+
+  -- all room
+  pub room-kept : name_room_in v.content ≡ name_room_in u.content → roomy_file_in v.content ≡ roomy_file_in u.content
+      → (tree_of n.entries (spare n)).room ≡ tree.room
+  room-kept names files =
+      let for_names = seen-kept (λ x. name_room_in x.content) m.entries n.entries k u v (sym change.found) names put ∙ ap (λ t. t.room.names) change.seen in
+      ap (λ (i : ℕ). the_room i (tree_of n.entries (spare n)).room.names (tree_of n.entries (spare n)).room.files) inode_room-kept
+      ∙ ap (λ (ns : List (ℕ × ℕ)). the_room tree.room.inodes ns (tree_of n.entries (spare n)).room.files) for_names
+      ∙ ap (λ (fs : List (ℕ × Option RoomyFile)). the_room tree.room.inodes tree.room.names fs) (files-kept files)
+
+  -- the room for names in the directory after the change
+  pub name_room-here : name_room (tree_of n.entries (spare n)).room k ≡ name_room_in v.content
+  name_room-here =
+      name_room_seen n.entries (spare n) (tree_of n.entries (spare n)) refl k
+      ∙ ap (λ o. unwrap_or (option_map (λ x. name_room_in x.content) o) 0) (put_here m.entries n.entries k v put)
+
+  room_at : name_room_in u.content ≤ name_room_in v.content → (d : ℕ) (b : Bool) → nat_eq k d ≡ b
+      → name_room tree.room d ≤ name_room (tree_of n.entries (spare n)).room d
+  room_at more d b is =
+      let room : Option Node → ℕ = λ o. unwrap_or (option_map (λ x. name_room_in x.content) o) 0 in
+      let old : name_room tree.room d ≡ room (lookup (nat_eq d) m.entries) = name_room_seen m.entries (spare m) tree change.seen d in
+      let new : name_room (tree_of n.entries (spare n)).room d ≡ room (cond (nat_eq k d) (Some v) (lookup (nat_eq d) m.entries)) =
+      name_room_seen n.entries (spare n) (tree_of n.entries (spare n)) refl d ∙ ap room (put.at d) in
+      elim b as (λ (b : Bool). nat_eq k d ≡ b → name_room tree.room d ≤ name_room (tree_of n.entries (spare n)).room d) [
+        | true ↦ λ is.
+            let before : name_room tree.room d ≡ name_room_in u.content =
+            old ∙ ap (λ x. room (lookup (nat_eq x) m.entries)) (sym (eqb-true k d is)) ∙ ap room (sym change.found) in
+            let after : name_room (tree_of n.entries (spare n)).room d ≡ name_room_in v.content =
+            new ∙ ap (λ b. room (cond b (Some v) (lookup (nat_eq d) m.entries))) is in
+            omega (arith, before, after, more)
+        | false ↦ λ is.
+            let after : name_room (tree_of n.entries (spare n)).room d ≡ room (lookup (nat_eq d) m.entries) =
+            new ∙ ap (λ b. room (cond b (Some v) (lookup (nat_eq d) m.entries))) is in
+            omega (arith, old, after)
+      ] is
+
+  -- a change after which there is no less room in that directory
+  pub room-no_less : name_room_in u.content ≤ name_room_in v.content → roomy_file_in v.content ≡ roomy_file_in u.content
+      → KeepsRoom tree.room (tree_of n.entries (spare n)).room
+  room-no_less more files = record {
+    inodes = inode_room-kept;
+    names = λ d. room_at more d (nat_eq k d) refl;
+    files = files-kept files;
+  }
 
 module _ {S : Type 0} {tree : RoomyTree} {m : HashMap ℕ Node S} {k : ℕ} (here : HasNone tree m k) where
   -- there is no inode

@@ -5,6 +5,7 @@ pub mod PutAll
 pub mod Numbered
 pub mod Bytes
 pub mod AllNames
+pub mod NoNames
 pub mod TreeChanges
 pub mod Changed
 pub mod Pushed

@@ -12,7 +12,7 @@ use Rattle.std.specs.Option.{IfSome, IsSome, is_some, option_map, unwrap_or}
 use Rattle.std.proofs.lemmas.Map.Lookups.{exact_bytes}
 use Rattle.std.proofs.lemmas.Bool.{eqb-true}
 use Rattle.qblocks.specs.File.{Adds}
-use Rattle.qplain.specs.State.{Inode, is_dir, name_key_cmp}
+use Rattle.qplain.specs.State.{Inode, NameKey, is_dir, name_key_cmp}
 use Rattle.qtree.specs.declared.node.Content.{Content}
 use Rattle.qtree.specs.declared.node.Content.TheVariants.{File as AFile, Directory}
 use Rattle.qtree.specs.declared.node.Node.{Node}
@@ -20,10 +20,10 @@ use Rattle.qtree.specs.InOrder.{in_order}
 use Rattle.qtree.specs.Names.{LosesName}
 use Rattle.qtree.specs.Nodes.{IsSameNode, file_in, inode_of, is_dir_content, name_room_in, names_in, roomy_file_in}
 use Rattle.qtree.specs.Tree.{IsSameTree, RoomyTree, file_room, name_room, tree_of}
-use Rattle.qtree.proofs.AllNames.{name_at, named, named-get, named-insert, named-same, named-taken}
+use Rattle.qtree.proofs.AllNames.{name_at, named, named-get, named-gone, named-insert, named-same, named-taken}
 use Rattle.qtree.proofs.Bytes.{bytes_tie}
 use Rattle.qtree.proofs.InOrder.{in_order-sorted}
-use Rattle.qtree.proofs.Numbered.{IsPut, IsTaken, seen-get, seen-kept}
+use Rattle.qtree.proofs.Numbered.{IsPut, IsTaken, seen-get, seen-kept, seen-same}
 use Rattle.qtree.proofs.PutAll.{lookup-insert}
 
 -- ---- from a hash map's clauses
@@ -58,9 +58,25 @@ module _ (nodes : List (ℕ × Node)) (spare : ℕ) (tree : RoomyTree) (seen : t
       let both : Some (inode_of node) ≡ Some inode = ap (option_map inode_of) found ∙ sym (inode_seen k) ∙ is in
       cc
 
+  -- the link count that is kept
+  pub links_seen : (k : ℕ) → lookup (is_at (nat_cmp k)) tree.links ≡ option_map (λ n. n.links) (lookup (nat_eq k) nodes)
+  links_seen k = ap (λ t. lookup (is_at (nat_cmp k)) t.links) (sym seen) ∙ seen-get (λ n. n.links) nodes k
+
+  -- it is that of the node that was found
+  pub links_are : (k : ℕ) (node : Node) (links : ℕ) → Some node ≡ lookup (nat_eq k) nodes
+      → lookup (is_at (nat_cmp k)) tree.links ≡ Some links → node.links ≡ links
+  links_are k node links found is =
+      let both : Some node.links ≡ Some links = ap (option_map (λ n. n.links)) found ∙ sym (links_seen k) ∙ is in
+      cc
+
   -- what a name in it leads to
   pub name_seen : (d : ℕ) (name : List ℕ) → lookup (is_at (name_key_cmp (d, name))) tree.names ≡ name_at name (lookup (nat_eq d) nodes)
   name_seen d name = ap (λ t. lookup (is_at (name_key_cmp (d, name))) t.names) (sym seen) ∙ named-get nodes d name
+
+  -- a name that is taken out is not there
+  pub gone_seen : (key : NameKey) → lookup (is_at (name_key_cmp key)) (remove_entry (is_at (name_key_cmp key)) tree.names) ≡ None
+  gone_seen key =
+      ap (λ t. lookup (is_at (name_key_cmp key)) (remove_entry (is_at (name_key_cmp key)) t.names)) (sym seen) ∙ named-gone nodes key
 
   -- the room for names
   pub name_room_seen : (d : ℕ) → name_room tree.room d ≡ unwrap_or (option_map (λ n. name_room_in n.content) (lookup (nat_eq d) nodes)) 0
@@ -84,6 +100,15 @@ file_is (Directory names) is = cc
 pub adds_in : (content : Content) (off n blocks : ℕ) → Adds (file_in content) off n blocks → IfSome (roomy_file_in content) (λ f. Adds f.file off n blocks)
 adds_in (AFile f) off n blocks adds = adds
 adds_in (Directory names) off n blocks adds = tt
+
+-- other slots and other room are the same tree
+pub same_tree-reordered : (es fs : List (ℕ × Node)) (s t : ℕ) (before now : RoomyTree) → tree_of es s ≡ now → IsSameTree before now
+    → ((q : ℕ) → lookup (nat_eq q) fs ≡ lookup (nat_eq q) es) → IsSameTree before (tree_of fs t)
+same_tree-reordered es fs s t before now seen same is = record {
+  inodes = seen-same inode_of es fs (λ q. ap (option_map inode_of) (is q)) ∙ ap (λ t. t.inodes) seen ∙ same.inodes;
+  names = named-same es fs (λ d name. ap (name_at name) (is d)) ∙ ap (λ t. t.names) seen ∙ same.names;
+  links = seen-same (λ n. n.links) es fs (λ q. ap (option_map (λ n. n.links)) (is q)) ∙ ap (λ t. t.links) seen ∙ same.links;
+}
 
 -- ---- a change of one node
 module _ (es fs : List (ℕ × Node)) (k : ℕ) (u v : Node) (found : lookup (nat_eq k) es ≡ Some u) (put : IsPut es fs k v) where

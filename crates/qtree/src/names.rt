@@ -1,5 +1,5 @@
 //! The names in one directory.
-ghost use Rattle.std.specs.Prelude.{◌≡◌, ◌<◌, ◌++◌, [], map, string_bytes, None, IfOk, OnOk};
+ghost use Rattle.std.specs.Prelude.{◌≡◌, ◌<◌, ◌≤◌, ◌==◌, ◌++◌, [], length, map, string_bytes, None, IfOk, OnOk};
 ghost use Rattle.std.specs.Ordering.{nat_cmp};
 ghost use Rattle.std.specs.Cmp.Lexicographic.{slice_cmp};
 ghost use Rattle.std.specs.BTreeMap.{insert_entry, is_at};
@@ -51,6 +51,13 @@ impl Names {
         self.table.get(name).copied()
     }
 
+    /// No name is here. O(1).
+    pub(crate) fn is_empty(&self) -> bool
+        ensures { result ≡ (length self.now.entries == 0) }
+    {
+        self.table.is_empty()
+    }
+
     /// Makes room for one more name.
     pub(crate) fn make_room(&mut self) -> Result<(), NoMemory>
         ensures same { self.new.entries ≡ self.old.entries }
@@ -71,9 +78,10 @@ impl Names {
         }
     }
 
-    /// Takes this name out, if it is there.
+    /// Takes this name out, if it is there. There is no less room then.
     pub(crate) fn take(&mut self, name: &str)
-        ensures { LosesName name.now self.old.entries self.new.entries }
+        ensures names { LosesName name.now self.old.entries self.new.entries }
+        ensures room { self.old.room ≤ self.new.room }
     {
         self.table.remove(name);
     }

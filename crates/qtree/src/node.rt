@@ -1,12 +1,12 @@
 //! One inode, as a store keeps it.
-ghost use Rattle.std.specs.Prelude.{◌≡◌, ◌+◌, ◌<◌, ◌≤◌, ◌^◌, ◌++◌, [], length, map, string_bytes, None, false, true, is_some, IfOk, IfSome, OnOk};
+ghost use Rattle.std.specs.Prelude.{◌≡◌, ◌+◌, ◌<◌, ◌≤◌, ◌==◌, ◌^◌, ◌++◌, [], length, map, string_bytes, None, false, true, is_some, IfOk, IfSome, OnOk};
 ghost use Rattle.std.specs.Ordering.{nat_cmp};
 ghost use Rattle.std.specs.Cmp.Lexicographic.{slice_cmp};
 ghost use Rattle.std.specs.BTreeMap.{insert_entry, is_at};
 ghost use Rattle.std.specs.Map.{lookup};
 ghost use Rattle.qblocks.specs.File.{Adds, MoreBlocks, after_truncate, after_write};
 ghost use Rattle.qblocks.specs.WriteRoom.{IsReadyToPut};
-ghost use Rattle.qplain.specs.State.{new_file, root};
+ghost use Rattle.qplain.specs.State.{new_directory, new_file};
 ghost use Rattle.qtree.specs.InOrder.{in_order};
 ghost use Rattle.qtree.specs.Names.{LosesName, row_in};
 ghost use Rattle.qtree.specs.Nodes.{IsSameNode, inode_of, is_dir_content, name_room_in, names_in, node_row, roomy_file_in};
@@ -34,15 +34,16 @@ pub struct Node {
 }
 
 impl Node {
-    /// The root directory, with no name in it. It takes no memory.
-    pub(crate) fn new_root(alloc: Global, seed: u64) -> Node
-        ensures inode { inode_of result ≡ root }
+    /// A directory of these owners, with no name in it. It takes no memory. The hashes of its names begin
+    /// at the seed.
+    pub(crate) fn new_directory(alloc: Global, seed: u64, uid: u32, gid: u32) -> Node
+        ensures inode { inode_of result ≡ new_directory uid gid }
         ensures links { result.links ≡ 2 }
         ensures names { names_in result.content ≡ [] }
     {
         Node {
-            uid: 0,
-            gid: 0,
+            uid,
+            gid,
             links: 2,
             content: Content::Directory(Names::new(alloc, seed)),
         }
@@ -90,11 +91,13 @@ impl Node {
         }
     }
 
-    /// Takes this name out, if it is in this directory.
+    /// Takes this name out, if it is in this directory. There is no less room then.
     pub(crate) fn take_name(&mut self, name: &str)
         ensures inode { inode_of self.new ≡ inode_of self.old }
         ensures links { self.new.links ≡ self.old.links }
         ensures names { LosesName name.now (names_in self.old.content) (names_in self.new.content) }
+        ensures room { name_room_in self.old.content ≤ name_room_in self.new.content }
+        ensures file { roomy_file_in self.new.content ≡ roomy_file_in self.old.content }
     {
         match &mut self.content {
             Content::Directory(names) => names.take(name),
@@ -178,6 +181,16 @@ impl Node {
         match &self.content {
             Content::Directory(names) => Some(names),
             Content::File(_) => None,
+        }
+    }
+
+    /// No name stands in this inode; in a file there is none. O(1).
+    pub(crate) fn has_no_names(&self) -> bool
+        ensures { result ≡ (length (names_in self.now.content) == 0) }
+    {
+        match &self.content {
+            Content::Directory(names) => names.is_empty(),
+            Content::File(_) => true,
         }
     }
 

@@ -1,5 +1,6 @@
 //! All inodes of a store, and in its directories the names that lead to them.
-ghost use Rattle.std.specs.Prelude.{◌≡◌, ℕ, [], ◌∷◌, List, None, Some, All, is_some, option_copied, IfOk, IfSome};
+ghost use Rattle.std.specs.Prelude.{◌≡◌, ℕ, [], ◌∷◌, List, None, Some, All, ◌==◌, is_some, not, option_copied, IfOk, IfSome};
+ghost use Rattle.std.specs.List.{list_any};
 ghost use Rattle.std.specs.Option.{option_map};
 ghost use Rattle.std.specs.Ordering.{nat_cmp};
 ghost use Rattle.std.specs.Cmp.Lexicographic.{slice_cmp};
@@ -15,14 +16,18 @@ use std::alloc::Global;
 use std::collections::HashMap;
 use std::marker::Model;
 
+mod links;
 mod put;
 mod rows;
 mod take;
 
-/// The inodes by number. Contracts see inodes, names and link counts in order, and beside them the room.
+/// The inodes by number, and where the hashes of the names in a directory begin.
+///
+/// Contracts see inodes, names and link counts in order, and beside them the room, and nothing of the hashes.
 #[derive(Drop)]
 pub struct Tree {
     nodes: HashMap<u64, Node>,
+    seed: u64,
 }
 
 impl Model for Tree {
@@ -44,8 +49,8 @@ impl Tree {
         ensures links { IfOk result (λ t. t.links ≡ (ROOT, 2) ∷ []) }
     {
         let mut nodes = HashMap::new(alloc);
-        nodes.insert(ROOT, Node::new_root(alloc, seed))?;
-        Ok(Tree { nodes })
+        nodes.insert(ROOT, Node::new_directory(alloc, seed, 0, 0))?;
+        Ok(Tree { nodes, seed })
     }
 
     /// The inode of this number.
@@ -71,6 +76,15 @@ impl Tree {
         match self.nodes.get(&dir) {
             Some(node) => node.names(),
             None => None,
+        }
+    }
+    /// No name stands in the inode of this number; in a file there is none. O(1).
+    pub fn has_no_names(&self, number: u64) -> bool
+        ensures { result ≡ not (list_any (λ e. e.0.0 == number) self.now.names) }
+    {
+        match self.nodes.get(&number) {
+            Some(node) => node.has_no_names(),
+            None => true,
         }
     }
 }

@@ -1,5 +1,5 @@
 //! What is wrong with a call as it is written, and where the caller's records stand.
-ghost use Rattle.std.specs.Prelude.{◌≡◌, not, nat_lt, ◌||◌, ◌&&◌, ◌≤◌, true, false, None, Some, is_some, IfOk, IfErr, IfSome};
+ghost use Rattle.std.specs.Prelude.{◌≡◌, ◌∷◌, [], not, nat_lt, ◌||◌, ◌&&◌, ◌≤◌, true, false, None, Some, is_some, IfOk, IfErr, IfSome};
 ghost use Rattle.std.specs.List.{list_all};
 ghost use Rattle.qrules.specs.declared.kind.Kind.TheVariants.{User, Group};
 ghost use Rattle.qplain.specs.Arguments.{has_bad_number, is_declared, is_undeclared, paths_of, refusal_of_arguments};
@@ -14,18 +14,34 @@ use qpath::fault_of;
 use qplain::{Call, Cred, MAX_DATA, Refusal};
 use qrules::{Kind, MAX_MOMENT};
 
+/// What is wrong with two paths: EINVAL of either comes before ENAMETOOLONG of either.
+fn fault_of_both(from: &str, to: &str) -> Option<Refusal>
+    ensures { result ≡ paths_fault (from.now ∷ to.now ∷ []) }
+{
+    match (fault_of(from), fault_of(to)) {
+        (Some(Refusal::EINVAL), _) | (_, Some(Refusal::EINVAL)) => Some(Refusal::EINVAL),
+        (None, fault) => fault,
+        (fault, _) => fault,
+    }
+}
+
 /// What is wrong with the paths of a call.
 fn paths_fault(call: &Call) -> Option<Refusal>
     ensures { result ≡ paths_fault (paths_of call.now) }
 {
     match call {
         Call::Create { path }
+        | Call::Mkdir { path }
         | Call::Write { path, .. }
         | Call::Truncate { path, .. }
         | Call::Read { path, .. }
         | Call::Stat { path }
         | Call::Unlink { path }
+        | Call::Rmdir { path }
         | Call::Chown { path, .. } => fault_of(path.text()),
+        Call::Link { from, to } | Call::Rename { from, to } => {
+            fault_of_both(from.text(), to.text())
+        }
         Call::SetQuota { .. } | Call::SetGrace { .. } | Call::Quota { .. } => None,
     }
 }
@@ -61,9 +77,13 @@ impl Store {
             Call::SetQuota { limits, .. } => !limits.are_in_range(),
             Call::SetGrace { graces } => !graces.are_in_range(),
             Call::Create { .. }
+            | Call::Mkdir { .. }
             | Call::Truncate { .. }
             | Call::Stat { .. }
+            | Call::Link { .. }
             | Call::Unlink { .. }
+            | Call::Rmdir { .. }
+            | Call::Rename { .. }
             | Call::Quota { .. } => false,
         }
     }

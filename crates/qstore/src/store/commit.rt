@@ -1,13 +1,15 @@
 //! What is decided, done. It takes no memory and always succeeds.
-ghost use Rattle.std.specs.Prelude.{◌≡◌, ℕ, ◌-◌, ◌<◌, false, Some};
+ghost use Rattle.std.specs.Prelude.{◌≡◌, ℕ, ◌-◌, ◌<◌, false, string_bytes, Some};
 ghost use Rattle.std.specs.BTreeMap.{is_at};
 ghost use Rattle.std.specs.Map.{lookup, remove_entry, set_value};
 ghost use Rattle.std.specs.Ordering.{nat_cmp};
-ghost use Rattle.qplain.specs.State.{State, is_dir};
-ghost use Rattle.qplain.specs.Names.{swept, without_name};
+ghost use Rattle.qplain.specs.State.{State, is_dir, new_directory};
+ghost use Rattle.qplain.specs.Names.{created, swept, with_name, without_name};
+ghost use Rattle.qplain.specs.Renames.{renamed};
 ghost use Rattle.qlaws.specs.Laws.{IsLawful};
 ghost use Rattle.qstore.specs.Kept.{IsTreeOf};
-ghost use Rattle.qstore.specs.Ready.{CanCarryOut, CanChange, CanSettle, CanUnlink, billed, changed, effect, name_in};
+ghost use Rattle.qstore.specs.Ready.{CanCarryOut, CanChange, CanCreate, CanLink, CanRename, CanRmdir, CanSettle, CanUnlink};
+ghost use Rattle.qstore.specs.Ready.{billed, changed, effect, name_in};
 ghost use Rattle.qstore.specs.Stored.{IsSound};
 
 use crate::ready::{Plan, TreeChange};
@@ -49,6 +51,59 @@ fn take_name(tree: &mut Tree, dir: u64, path: &Path, number: u64)
     drop_link(tree, number);
 }
 
+/// Puts a new directory, and counts its link to its parent.
+fn add_directory(
+    tree: &mut Tree,
+    next: u64,
+    alloc: Global,
+    dir: u64,
+    name: String,
+    uid: u32,
+    gid: u32,
+)
+    requires { (S : State) × IsTreeOf S tree.old × (S.next ≡ next) × IsLawful S
+        × CanCreate S tree.old.room dir (string_bytes name) }
+    ensures { (S : State) → IsTreeOf S tree.old → S.next ≡ next → IsLawful S
+        → CanCreate S tree.old.room dir (string_bytes name)
+        → IsTreeOf (created S (new_directory uid gid) dir (string_bytes name)) tree.new }
+{
+    tree.add_link(dir);
+    tree.add_directory(next, dir, name, uid, gid, alloc);
+}
+
+/// Takes the last name of a path out of a directory, and the empty directory that has it, and its link to its parent.
+fn take_directory(tree: &mut Tree, dir: u64, path: &Path, number: u64)
+    requires { (S : State) × IsTreeOf S tree.old × IsLawful S × CanRmdir S dir number (name_in path.now) }
+    ensures { (S : State) → IsTreeOf S tree.old → IsLawful S → CanRmdir S dir number (name_in path.now)
+        → IsTreeOf (swept (without_name S dir (name_in path.now))) tree.new }
+{
+    tree.take_link(dir);
+    tree.take_node(number);
+    tree.take_name(dir, last_of(path.text()));
+}
+
+/// Gives a file a further name, and counts it.
+fn add_name(tree: &mut Tree, dir: u64, name: String, number: u64)
+    requires { (S : State) × IsTreeOf S tree.old × IsLawful S
+        × CanLink S tree.old.room dir (string_bytes name) number }
+    ensures { (S : State) → IsTreeOf S tree.old → IsLawful S → CanLink S tree.old.room dir (string_bytes name) number
+        → IsTreeOf (with_name S dir (string_bytes name) number) tree.new }
+{
+    tree.put_name(dir, name, number);
+    tree.add_link(number);
+}
+
+/// Gives what has the last name of the path in the directory another name, in place of what had that.
+fn rename(tree: &mut Tree, dir: u64, path: &Path, to_dir: u64, to_name: String, number: u64)
+    requires { (S : State) × IsTreeOf S tree.old × IsLawful S
+        × CanRename S tree.old.room dir (name_in path.now) to_dir (string_bytes to_name) number }
+    ensures { (S : State) → IsTreeOf S tree.old → IsLawful S
+        → CanRename S tree.old.room dir (name_in path.now) to_dir (string_bytes to_name) number
+        → IsTreeOf (renamed S dir (name_in path.now) to_dir (string_bytes to_name) number) tree.new }
+{
+    unreachable!()
+}
+
 /// Makes a change of inodes and names, and gives the number of the next inode.
 fn make(tree: &mut Tree, next: u64, alloc: Global, change: TreeChange, bytes: &Data) -> u64
     requires can { (S : State) × IsTreeOf S tree.old × (S.next ≡ next) × IsLawful S
@@ -74,7 +129,25 @@ fn make(tree: &mut Tree, next: u64, alloc: Global, change: TreeChange, bytes: &D
         TreeChange::Truncate { number, size } => {
             tree.truncate(number, size);
         }
+        TreeChange::Mkdir {
+            dir,
+            name,
+            uid,
+            gid,
+        } => {
+            add_directory(tree, next, alloc, dir, name, uid, gid);
+            return next + 1;
+        }
         TreeChange::Unlink { dir, path, number } => take_name(tree, dir, &path, number),
+        TreeChange::Rmdir { dir, path, number } => take_directory(tree, dir, &path, number),
+        TreeChange::Link { dir, name, number } => add_name(tree, dir, name, number),
+        TreeChange::Rename {
+            dir,
+            path,
+            to_dir,
+            to_name,
+            number,
+        } => rename(tree, dir, &path, to_dir, to_name, number),
         TreeChange::Chown { number, uid, gid } => tree.set_owners(number, uid, gid),
     }
     next

@@ -1,21 +1,46 @@
 //! To create a file (open(2)).
-ghost use Rattle.std.specs.Prelude.{◌≡◌, ◌≤◌, true, [], None, IfOk};
+ghost use Rattle.std.specs.Prelude.{◌≡◌, ◌≤◌, true, [], None, string_bytes, IfOk};
 ghost use Rattle.std.specs.Result.{IsOk};
 ghost use Rattle.qplain.specs.declared.refusal.Refusal.TheVariants.{EEXIST};
 ghost use Rattle.qplain.specs.Attempt.{Becomes, in_place};
 ghost use Rattle.qplain.specs.Names.{create_as, created};
-ghost use Rattle.qplain.specs.State.{is_directory, named, new_file};
+ghost use Rattle.qplain.specs.State.{State, is_directory, named};
 ghost use Rattle.qplain.specs.Step.{settle};
+ghost use Rattle.qtree.specs.Room.{Room};
 ghost use Rattle.qledger.specs.Books.{HasSlots};
 ghost use Rattle.qstore.specs.Decided.{IsDecided, IsWhole};
-ghost use Rattle.qstore.specs.Ready.{IsRefused};
+ghost use Rattle.qstore.specs.FileTypes.{inode_new};
+ghost use Rattle.qstore.specs.Ready.{CanChange, CanCreate, IsRefused, changed};
 ghost use Rattle.qstore.specs.Stored.{IsSameStore};
 
+use crate::file_type::FileType;
 use crate::ready::{Decided, TreeChange};
 use crate::store::Store;
 use qledger::{Claim, Slots};
 use qplain::{Cred, NoMemory, Refusal};
 use qrules::MAX_MOMENT;
+
+/// The change by which a new inode comes to stand.
+fn creation(sort: FileType, dir: u64, name: String, uid: u32, gid: u32) -> TreeChange
+    ensures made { (S : State) → changed S result [] ≡ created S (inode_new sort uid gid) dir (string_bytes name) }
+    ensures can { (S : State) (room : Room) → CanCreate S room dir (string_bytes name)
+        → CanChange S room result [] }
+{
+    match sort {
+        FileType::File => TreeChange::Create {
+            dir,
+            name,
+            uid,
+            gid,
+        },
+        FileType::Directory => TreeChange::Mkdir {
+            dir,
+            name,
+            uid,
+            gid,
+        },
+    }
+}
 
 impl Store {
     /// Decides the creation of a file, and makes room for it.
@@ -41,18 +66,19 @@ impl Store {
         };
         match place.leads_to {
             Some(_) => Ok(Decided::refused(Refusal::EEXIST)),
-            None => self.make_file(cred, callers, moment, place.dir, place.name),
+            None => self.make_inode(cred, callers, moment, place.dir, place.name, FileType::File),
         }
     }
 
-    /// Makes room for a new file, if it is granted.
-    fn make_file(
+    /// Makes room for a new inode of the caller's, if it is granted.
+    pub(super) fn make_inode(
         &mut self,
         cred: &Cred,
         callers: Slots,
         moment: u64,
         dir: u64,
         name: &str,
+        sort: FileType,
     ) -> Result<Decided, NoMemory>
         requires callers { HasSlots self.old.books callers cred.now.uid cred.now.gid }
         requires whole { IsWhole self.old }
@@ -61,10 +87,10 @@ impl Store {
         requires absent { named self.old.state dir name.now ≡ None }
         ensures same { IsSameStore self.old self.new }
         ensures decided { IfOk result (IsDecided self.old self.new cred.now moment
-            (Becomes (created self.old.state (new_file cred.now.uid cred.now.gid) dir name.now)
+            (Becomes (created self.old.state (inode_new sort cred.now.uid cred.now.gid) dir name.now)
             self.old.state.next) []) }
         ensures refused_first { IsRefused (settle self.old.state cred.now moment (Becomes
-            (created self.old.state (new_file cred.now.uid cred.now.gid) dir name.now) self.old.state.next)).1
+            (created self.old.state (inode_new sort cred.now.uid cred.now.gid) dir name.now) self.old.state.next)).1
             → IsOk result }
     {
         let to = Some(Claim::new(callers, 0));
@@ -74,12 +100,7 @@ impl Store {
         }
         let name = String::from_str(self.alloc, name)?;
         self.tree.make_room(dir)?;
-        let change = TreeChange::Create {
-            dir,
-            name,
-            uid: cred.uid(),
-            gid: cred.gid(),
-        };
+        let change = creation(sort, dir, name, cred.uid(), cred.gid());
         Ok(Decided::granted(self.next, None, to, change))
     }
 }

@@ -4,13 +4,16 @@ ghost use Rattle.std.specs.Result.{IsOk};
 ghost use Rattle.qplain.specs.declared.refusal.Refusal.TheVariants.{EISDIR};
 ghost use Rattle.qplain.specs.Attempt.{Becomes, in_place};
 ghost use Rattle.qplain.specs.Names.{swept, unlink_as, without_name};
-ghost use Rattle.qplain.specs.State.{named};
+ghost use Rattle.qplain.specs.State.{State, named};
 ghost use Rattle.qplain.specs.Step.{settle};
+ghost use Rattle.qtree.specs.Room.{Room};
 ghost use Rattle.qledger.specs.Books.{HasSlots};
 ghost use Rattle.qstore.specs.Decided.{IsAsked, IsDecided, IsWhole};
-ghost use Rattle.qstore.specs.Ready.{CanUnlink, IsRefused, name_in};
+ghost use Rattle.qstore.specs.FileTypes.{CanRemove};
+ghost use Rattle.qstore.specs.Ready.{CanChange, IsRefused, changed, name_in};
 ghost use Rattle.qstore.specs.Stored.{IsSameStore};
 
+use crate::file_type::FileType;
 use crate::ready::{Decided, TreeChange};
 use crate::store::Store;
 use qledger::{Claim, Slots};
@@ -24,6 +27,18 @@ fn left_of(node: &Node, claim: Claim) -> Option<Claim>
     ensures last { node.now.links ≤ 1 → result ≡ None }
 {
     if node.links > 1 { Some(claim) } else { None }
+}
+
+/// The change by which the last name of a path goes, and what it leads to, if that has no other.
+fn removal(sort: FileType, dir: u64, path: Path, number: u64) -> TreeChange
+    ensures made { (S : State) → changed S result [] ≡ swept (without_name S dir (name_in path)) }
+    ensures can { (S : State) (room : Room) → CanRemove sort S dir number (name_in path)
+        → CanChange S room result [] }
+{
+    match sort {
+        FileType::File => TreeChange::Unlink { dir, path, number },
+        FileType::Directory => TreeChange::Rmdir { dir, path, number },
+    }
 }
 
 impl Store {
@@ -89,11 +104,11 @@ impl Store {
         }
         let claim = self.claim_of(cred, callers, number, node);
         let left = left_of(node, claim);
-        self.grant_unlink(cred, moment, path, dir, number, claim, left)
+        self.grant_removal(cred, moment, path, dir, number, claim, left, FileType::File)
     }
 
-    /// Decides the same once it passed its own tests, and shares the path.
-    fn grant_unlink(
+    /// Decides that the last name of the path goes, once all other tests are passed, and shares the path.
+    pub(super) fn grant_removal(
         &mut self,
         cred: &Cred,
         moment: u64,
@@ -102,11 +117,12 @@ impl Store {
         number: u64,
         claim: Claim,
         left: Option<Claim>,
+        sort: FileType,
     ) -> Result<Decided, NoMemory>
         requires moment { moment ≤ MAX_MOMENT }
         requires asked { IsAsked self.old (Some claim) left 0
             (swept (without_name self.old.state dir (name_in path.now))) }
-        requires can { CanUnlink self.old.state dir number (name_in path.now) }
+        requires can { CanRemove sort self.old.state dir number (name_in path.now) }
         ensures same { IsSameStore self.old self.new }
         ensures decided { IfOk result (IsDecided self.old self.new cred.now moment
             (Becomes (swept (without_name self.old.state dir (name_in path.now))) number) []) }
@@ -118,7 +134,7 @@ impl Store {
             Err(refusal) => return Ok(Decided::refused(refusal)),
         }
         let path = path.copy()?;
-        let change = TreeChange::Unlink { dir, path, number };
+        let change = removal(sort, dir, path, number);
         Ok(Decided::granted(number, Some(claim), left, change))
     }
 }

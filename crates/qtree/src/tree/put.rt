@@ -2,10 +2,10 @@
 ghost use Rattle.std.specs.Prelude.{◌≡◌, ◌+◌, ◌<◌, ◌≤◌, ◌^◌, [], false, true, None, Some, length, string_bytes, is_some, IfOk, IfSome, OnOk};
 ghost use Rattle.std.specs.Ordering.{nat_cmp};
 ghost use Rattle.std.specs.BTreeMap.{insert_entry, is_at};
-ghost use Rattle.std.specs.Map.{lookup, set_value};
+ghost use Rattle.std.specs.Map.{lookup, remove_entry, set_value};
 ghost use Rattle.qblocks.specs.File.{Adds, MoreBlocks, after_write};
 ghost use Rattle.qblocks.specs.WriteRoom.{IsReadyToPut};
-ghost use Rattle.qplain.specs.State.{Inode, is_dir, name_key_cmp, new_file};
+ghost use Rattle.qplain.specs.State.{Inode, is_dir, name_key_cmp, new_directory, new_file};
 ghost use Rattle.qtree.specs.Nodes.{inode_of, names_in};
 ghost use Rattle.qtree.specs.Tree.{HasRoomFor, IsSameTree, file_room, name_room};
 
@@ -22,7 +22,17 @@ impl Tree {
         ensures same { IsSameTree self.old self.new }
         ensures room { OnOk result (HasRoomFor self.new dir) }
     {
-        self.nodes.reserve(1)?;
+        self.make_name_room(dir)?;
+        self.nodes.reserve(1)
+    }
+
+    /// Makes room for one more name in this directory. The room for inodes stays.
+    pub fn make_name_room(&mut self, dir: u64) -> Result<(), NoMemory>
+        requires { is_dir (lookup (is_at (nat_cmp dir)) self.old.inodes) ≡ true }
+        ensures same { IsSameTree self.old self.new }
+        ensures room { OnOk result (0 < name_room self.new.room dir) }
+        ensures inode_room { self.new.room.inodes ≡ self.old.room.inodes }
+    {
         match self.nodes.get_mut(&dir) {
             Some(node) => node.make_room(),
             None => unreachable!(),
@@ -84,6 +94,47 @@ impl Tree {
     {
         self.put_name(dir, name, number);
         self.put_node(number, Node::new_file(alloc, uid, gid));
+    }
+
+    /// Puts a new directory under a new number and a new name, for which there is room. The link that it
+    /// gives its parent is not counted yet: `add_link`. It takes no memory and always succeeds.
+    pub fn add_directory(
+        &mut self,
+        number: u64,
+        dir: u64,
+        name: String,
+        uid: u32,
+        gid: u32,
+        alloc: Global,
+    )
+        requires room { HasRoomFor self.old dir }
+        requires absent { lookup (is_at (nat_cmp number)) self.old.inodes ≡ None }
+        requires unnamed { lookup (is_at (name_key_cmp (dir, string_bytes name))) self.old.names ≡ None }
+        ensures inodes { self.new.inodes
+            ≡ insert_entry nat_cmp self.old.inodes number (new_directory uid gid) }
+        ensures names { self.new.names
+            ≡ insert_entry name_key_cmp self.old.names (dir, string_bytes name) number }
+        ensures links { self.new.links ≡ insert_entry nat_cmp self.old.links number 2 }
+    {
+        self.put_name(dir, name, number);
+        self.put_node(number, Node::new_directory(alloc, self.seed, uid, gid));
+    }
+
+    /// Takes a name away, and puts the other for this number, which leads to nothing else then. Where the
+    /// other was there, its room is free again. It takes no memory and always succeeds.
+    pub fn move_name(&mut self, dir: u64, name: &str, to_dir: u64, to_name: String, number: u64)
+        requires { 0 < name_room self.old.room to_dir }
+        ensures inodes { self.new.inodes ≡ self.old.inodes }
+        ensures names { self.new.names ≡ insert_entry name_key_cmp
+            (remove_entry (is_at (name_key_cmp (to_dir, string_bytes to_name)))
+            (remove_entry (is_at (name_key_cmp (dir, name.now))) self.old.names))
+            (to_dir, string_bytes to_name) number }
+        ensures links { self.new.links ≡ self.old.links }
+        ensures inode_room { self.new.room.inodes ≡ self.old.room.inodes }
+    {
+        self.take_name(dir, name);
+        self.take_name(to_dir, &to_name);
+        self.put_name(to_dir, to_name, number);
     }
 
     /// Makes the room of a write for which so many blocks are missing in this file.

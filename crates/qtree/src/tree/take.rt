@@ -5,17 +5,21 @@ ghost use Rattle.std.specs.BTreeMap.{is_at};
 ghost use Rattle.std.specs.Map.{lookup, remove_entry, set_value};
 ghost use Rattle.qblocks.specs.File.{MoreBlocks, after_truncate};
 ghost use Rattle.qplain.specs.State.{Inode, name_key_cmp};
+ghost use Rattle.qtree.specs.Room.{KeepsRoom};
 ghost use Rattle.qtree.specs.Tree.{HasNoNames};
 
 use crate::tree::Tree;
 use qblocks::MAX_SIZE;
 
 impl Tree {
-    /// Takes this name out of the directory, if it is in it. It takes no memory and always succeeds.
+    /// Takes this name out of the directory, if it is in it. There is no less room then. It takes no memory
+    /// and always succeeds.
     pub fn take_name(&mut self, dir: u64, name: &str)
         ensures inodes { self.new.inodes ≡ self.old.inodes }
         ensures names { self.new.names ≡ remove_entry (is_at (name_key_cmp (dir, name.now))) self.old.names }
+        ensures gone { lookup (is_at (name_key_cmp (dir, name.now))) self.new.names ≡ None }
         ensures links { self.new.links ≡ self.old.links }
+        ensures room { KeepsRoom self.old.room self.new.room }
     {
         match self.nodes.get_mut(&dir) {
             Some(node) => node.take_name(name),
@@ -32,18 +36,6 @@ impl Tree {
         ensures links { self.new.links ≡ remove_entry (is_at (nat_cmp number)) self.old.links }
     {
         self.nodes.remove(&number);
-    }
-
-    /// Keeps this link count for the inode, if it is there.
-    pub fn set_links(&mut self, number: u64, links: u64)
-        ensures inodes { self.new.inodes ≡ self.old.inodes }
-        ensures names { self.new.names ≡ self.old.names }
-        ensures links { self.new.links ≡ set_value (is_at (nat_cmp number)) self.old.links links }
-    {
-        match self.nodes.get_mut(&number) {
-            Some(node) => node.links = links,
-            None => {}
-        }
     }
 
     /// Gives an inode to this user and this group.

@@ -11,8 +11,8 @@ use Rattle.qstore.specs.Ready.{CanUnlink, IsRefused}
 use Rattle.qstore.proofs.Calls.{unlink-becomes, unlinked-asked}
 use Rattle.qstore.proofs.store.Store.take_name.Goals as goal
 
-pub grant_unlink-requires-clause-asked : goal.grant_unlink-requires-clause-asked
-grant_unlink-requires-clause-asked c =
+pub grant_removal-requires-clause-asked : goal.grant_removal-requires-clause-asked
+grant_removal-requires-clause-asked c =
     let x = c.args in
     let s = x.self.now in
     let node = c.in-Some.node.now in
@@ -25,8 +25,8 @@ grant_unlink-requires-clause-asked c =
     (unlinked-asked s c.requires.whole x.dir x.name.now x.number (inode_of node) c.requires.led there (ap is_dir_content c.in-File.is)
     c.claim_of-claim.result c.left_of-left.result node.links claim.claimed (omega (arith, blocks, few)) c.in-Some.ensures.links left.more left.last)
 
-pub grant_unlink-requires-clause-can : goal.grant_unlink-requires-clause-can
-grant_unlink-requires-clause-can c =
+pub grant_removal-requires-clause-can : goal.grant_removal-requires-clause-can
+grant_removal-requires-clause-can c =
     let x = c.args in
     let node = c.in-Some.node.now in
     let there : inode_at x.self.now.state x.number ≡ Some (inode_of node) = search rules in
@@ -42,8 +42,8 @@ returns-clause-decided c =
     let may : may_remove S x.cred.now x.dir x.number ≡ true = search rules in
     let becomes = unlink-becomes S x.cred.now x.dir x.name.now x.number inode c.requires.led there (ap is_dir_content c.in-File.is) may
     ∙ ap (λ n. Becomes (swept (without_name S x.dir n)) x.number) (sym c.requires.last) in
-    subst (λ (a : Attempt). IfOk c.grant_unlink.result (IsDecided x.self.now c.grant_unlink.new.self x.cred.now x.moment a [])) (sym becomes)
-    c.grant_unlink.ensures.decided
+    subst (λ (a : Attempt). IfOk c.grant_removal.result (IsDecided x.self.now c.grant_removal.new.self x.cred.now x.moment a [])) (sym becomes)
+    c.grant_removal.ensures.decided
 
 pub returns-clause-refused_first : goal.returns-clause-refused_first
 returns-clause-refused_first c refused =
@@ -54,4 +54,4 @@ returns-clause-refused_first c refused =
     let may : may_remove S x.cred.now x.dir x.number ≡ true = search rules in
     let becomes = unlink-becomes S x.cred.now x.dir x.name.now x.number inode c.requires.led there (ap is_dir_content c.in-File.is) may
     ∙ ap (λ n. Becomes (swept (without_name S x.dir n)) x.number) (sym c.requires.last) in
-    c.grant_unlink.ensures.refused_first (subst (λ (a : Attempt). IsRefused (settle S x.cred.now x.moment a).1) becomes refused)
+    c.grant_removal.ensures.refused_first (subst (λ (a : Attempt). IsRefused (settle S x.cred.now x.moment a).1) becomes refused)

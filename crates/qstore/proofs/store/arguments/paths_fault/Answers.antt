@@ -7,4 +7,4 @@ use Rattle.qstore.proofs.store.arguments.paths_fault.Goals as goal
 pub returns-in-Create : goal.returns-in-Create
 returns-in-Create c =
     let one : paths_of c.args.call.now ≡ c.in-Create.path ∷ [] = search rules in
-    c.fault_of.ensures ∙ ap path_fault c.text.ensures ∙ path_fault-one c.in-Create.path ∙ ap paths_fault (sym one)
+    c.fault_of.ensures ∙ ap path_fault c.text-in-Create.ensures ∙ path_fault-one c.in-Create.path ∙ ap paths_fault (sym one)

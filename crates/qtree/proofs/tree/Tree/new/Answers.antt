@@ -12,23 +12,23 @@ use Rattle.qtree.proofs.Numbered.{IsPut, seen-insert}
 use Rattle.qtree.proofs.tree.Tree.new.Goals as goal
 
 -- the table with the root in it
-put_is : (c : goal.Joined-branch-2) → IsPut c.new-nodes.result.entries c.insert.new.self.entries ROOT c.new_root.result
-put_is c = put-updates c.new-nodes.result c.insert.new.self ROOT c.new_root.result c.in_ok-insert.ensures.updates
+put_is : (c : goal.Joined-branch-2) → IsPut c.new-nodes.result.entries c.insert.new.self.entries ROOT c.new_directory.result
+put_is c = put-updates c.new-nodes.result c.insert.new.self ROOT c.new_directory.result c.in_ok-insert.ensures.updates
 
 pub returns-clause-inodes : goal.returns-clause-inodes
 returns-clause-inodes c =
-    seen-insert inode_of c.new-nodes.result.entries c.insert.new.self.entries ROOT c.new_root.result (put_is c)
-    ∙ ap (λ es. insert_entry nat_cmp (read_by inode_of es) ROOT (inode_of c.new_root.result)) (in_order-none c.new-nodes.ensures.empty)
-    ∙ ap (λ (i : Inode). (ROOT, i) ∷ []) c.new_root.ensures.inode
+    seen-insert inode_of c.new-nodes.result.entries c.insert.new.self.entries ROOT c.new_directory.result (put_is c)
+    ∙ ap (λ es. insert_entry nat_cmp (read_by inode_of es) ROOT (inode_of c.new_directory.result)) (in_order-none c.new-nodes.ensures.empty)
+    ∙ ap (λ (i : Inode). (ROOT, i) ∷ []) c.new_directory.ensures.inode
 
 pub returns-clause-names : goal.returns-clause-names
 returns-clause-names c =
-    named-new c.new-nodes.result.entries c.insert.new.self.entries ROOT c.new_root.result
-    (ap (lookup (nat_eq ROOT)) c.new-nodes.ensures.empty) (put_is c) c.new_root.ensures.names
+    named-new c.new-nodes.result.entries c.insert.new.self.entries ROOT c.new_directory.result
+    (ap (lookup (nat_eq ROOT)) c.new-nodes.ensures.empty) (put_is c) c.new_directory.ensures.names
     ∙ ap all_names (in_order-none c.new-nodes.ensures.empty)
 
 pub returns-clause-links : goal.returns-clause-links
 returns-clause-links c =
-    seen-insert (λ n. n.links) c.new-nodes.result.entries c.insert.new.self.entries ROOT c.new_root.result (put_is c)
-    ∙ ap (λ es. insert_entry nat_cmp (read_by (λ n. n.links) es) ROOT c.new_root.result.links) (in_order-none c.new-nodes.ensures.empty)
-    ∙ ap (λ (n : ℕ). (ROOT, n) ∷ []) c.new_root.ensures.links
+    seen-insert (λ n. n.links) c.new-nodes.result.entries c.insert.new.self.entries ROOT c.new_directory.result (put_is c)
+    ∙ ap (λ es. insert_entry nat_cmp (read_by (λ n. n.links) es) ROOT c.new_directory.result.links) (in_order-none c.new-nodes.ensures.empty)
+    ∙ ap (λ (n : ℕ). (ROOT, n) ∷ []) c.new_directory.ensures.links

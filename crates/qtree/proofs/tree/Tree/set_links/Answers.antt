@@ -2,7 +2,7 @@ use Rattle.std.proofs.Common.{◌≡◌, ap, refl, ◌∙◌}
 use Rattle.std.specs.HashMap.{spare}
 use Rattle.qtree.specs.declared.node.Node.{Node}
 use Rattle.qtree.specs.Tree.{tree_of}
-use Rattle.qtree.proofs.Changed.{HasNone, IsChanged, inodes-kept, links-absent, links-set, names-kept, seen_of}
+use Rattle.qtree.proofs.Changed.{HasNone, IsChanged, inodes-kept, links-absent, links-set, names-kept, room-kept, seen_of}
 use Rattle.qtree.proofs.tree.Tree.set_links.Goals as goal
 use Rattle.qtree.proofs.tree.Tree.set_links.Goals.{in-Some, in-None}
 
@@ -16,6 +16,7 @@ returns c = elim c.match-get_mut.branch [
         inodes = ap (λ a. (seen_of a).inodes) w.self-inside-is ∙ inodes-kept change refl;
         names = ap (λ a. (seen_of a).names) w.self-inside-is ∙ names-kept change refl;
         links = ap (λ a. (seen_of a).links) w.self-inside-is ∙ links-set change;
+        room = ap (λ a. (seen_of a).room) w.self-inside-is ∙ room-kept change refl refl;
       }
   | in-None w ↦
       let same : seen_of c.match-get_mut.self-inside ≡ c.args.self.now =
@@ -25,5 +26,6 @@ returns c = elim c.match-get_mut.branch [
         inodes = ap (λ t. t.inodes) same;
         names = ap (λ t. t.names) same;
         links = ap (λ t. t.links) same ∙ links-absent none c.args.links;
+        room = ap (λ t. t.room) same;
       }
 ]

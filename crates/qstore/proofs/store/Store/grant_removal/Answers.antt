@@ -1,9 +1,10 @@
-use Rattle.std.proofs.Common.{[], refl, ap, subst, sym}
+use Rattle.std.proofs.Common.{[], refl, ap, subst, sym, ◌∙◌}
 use Rattle.qplain.specs.Names.{swept, without_name}
 use Rattle.qplain.specs.State.{State}
-use Rattle.qstore.specs.Ready.{CanUnlink, name_in}
+use Rattle.qstore.specs.FileTypes.{CanRemove}
+use Rattle.qstore.specs.Ready.{name_in}
 use Rattle.qstore.proofs.Deciding.{billed-unrefused, decided-billed, decided-unbilled, same-store}
-use Rattle.qstore.proofs.store.Store.grant_unlink.Goals as goal
+use Rattle.qstore.proofs.store.Store.grant_removal.Goals as goal
 
 pub admit-requires-clause-asked : goal.admit-requires-clause-asked
 admit-requires-clause-asked c = (swept (without_name c.args.self.now.state c.args.dir (name_in c.args.path.now)), c.requires.asked)
@@ -27,7 +28,8 @@ returns-clause-decided c =
     let same = c.admit.ensures.same in
     let name = ap name_in c.in_ok-path.ensures in
     decided-billed s c.admit.new.self same x.cred.now x.moment x.number 0 _ _ _ [] c.requires.asked _ _ c.granted.result refl c.in-Ok.ensures.granted
-    (ap (λ n. swept (without_name s.state x.dir n)) name)
-    (subst (λ (S : State). CanUnlink S x.dir x.number (name_in c.in_ok-path.path)) (sym same.state)
-    (subst (CanUnlink s.state x.dir x.number) (sym name) c.requires.can))
+    (c.removal-change.ensures.made s.state ∙ ap (λ n. swept (without_name s.state x.dir n)) name)
+    (c.removal-change.ensures.can c.admit.new.self.state c.admit.new.self.room
+    (subst (λ (S : State). CanRemove x.sort S x.dir x.number (name_in c.in_ok-path.path)) (sym same.state)
+    (subst (CanRemove x.sort s.state x.dir x.number) (sym name) c.requires.can)))
     c.granted.ensures.reply c.granted.ensures.plan

@@ -1,0 +1,107 @@
+//! To take an empty directory away (rmdir(2)).
+ghost use Rattle.std.specs.Prelude.{◌≡◌, ◌≤◌, true, [], Some, IfOk};
+ghost use Rattle.std.specs.Result.{IsOk};
+ghost use Rattle.qplain.specs.declared.refusal.Refusal.TheVariants.{EBUSY};
+ghost use Rattle.qplain.specs.Attempt.{in_place};
+ghost use Rattle.qplain.specs.Names.{rmdir_as};
+ghost use Rattle.qplain.specs.State.{is_directory, named};
+ghost use Rattle.qplain.specs.Step.{settle};
+ghost use Rattle.qplain.specs.Use.{is_empty};
+ghost use Rattle.qledger.specs.Books.{HasSlots};
+ghost use Rattle.qstore.specs.Decided.{IsDecided, IsWhole};
+ghost use Rattle.qstore.specs.Ready.{IsRefused, name_in};
+ghost use Rattle.qstore.specs.Stored.{IsSameStore};
+
+use crate::file_type::FileType;
+use crate::ready::Decided;
+use crate::store::Store;
+use qledger::Slots;
+use qplain::{Cred, NoMemory, Path, Refusal};
+use qrules::MAX_MOMENT;
+use qtree::Content;
+
+impl Store {
+    /// Decides that a directory goes.
+    pub(super) fn decide_rmdir(
+        &mut self,
+        cred: &Cred,
+        callers: Slots,
+        moment: u64,
+        path: &Path,
+    ) -> Result<Decided, NoMemory>
+        requires callers { HasSlots self.old.books callers cred.now.uid cred.now.gid }
+        requires whole { IsWhole self.old }
+        requires moment { moment ≤ MAX_MOMENT }
+        ensures same { IsSameStore self.old self.new }
+        ensures decided { IfOk result (IsDecided self.old self.new cred.now moment
+            (in_place self.old.state EBUSY (rmdir_as self.old.state cred.now) path.now) []) }
+        ensures refused_first { IsRefused (settle self.old.state cred.now moment
+            (in_place self.old.state EBUSY (rmdir_as self.old.state cred.now) path.now)).1 → IsOk result }
+    {
+        let place = match self.place_of(path.text(), Refusal::EBUSY) {
+            Ok(place) => place,
+            Err(refusal) => return Ok(Decided::refused(refusal)),
+        };
+        match place.leads_to {
+            Some(number) => {
+                self.take_directory(cred, callers, moment, path, place.dir, place.name, number)
+            }
+            None => Ok(Decided::refused(Refusal::ENOENT)),
+        }
+    }
+
+    /// Whether no name stands in the inode of this number.
+    fn is_empty(&self, number: u64) -> bool
+        ensures { result ≡ is_empty self.now.state number }
+    {
+        self.tree.has_no_names(number)
+    }
+
+    /// Decides that the last name of the path goes, which leads to this number.
+    fn take_directory(
+        &mut self,
+        cred: &Cred,
+        callers: Slots,
+        moment: u64,
+        path: &Path,
+        dir: u64,
+        name: &str,
+        number: u64,
+    ) -> Result<Decided, NoMemory>
+        requires callers { HasSlots self.old.books callers cred.now.uid cred.now.gid }
+        requires whole { IsWhole self.old }
+        requires moment { moment ≤ MAX_MOMENT }
+        requires last { name_in path.now ≡ name.now }
+        requires directory { is_directory self.old.state dir ≡ true }
+        requires led { named self.old.state dir name.now ≡ Some number }
+        ensures same { IsSameStore self.old self.new }
+        ensures decided { IfOk result (IsDecided self.old self.new cred.now moment
+            (rmdir_as self.old.state cred.now dir name.now) []) }
+        ensures refused_first { IsRefused (settle self.old.state cred.now moment
+            (rmdir_as self.old.state cred.now dir name.now)).1 → IsOk result }
+    {
+        let Some(node) = self.inode(number) else {
+            return Ok(Decided::refused(Refusal::ENOENT));
+        };
+        let Content::Directory(_) = &node.content else {
+            return Ok(Decided::refused(Refusal::ENOTDIR));
+        };
+        if !self.may_remove(cred, dir, number, node) {
+            return Ok(Decided::refused(Refusal::EPERM));
+        }
+        if !self.is_empty(number) {
+            return Ok(Decided::refused(Refusal::ENOTEMPTY));
+        }
+        let claim = self.claim_of(cred, callers, number, node);
+        self.grant_removal(
+            cred,
+            moment,
+            path,
+            dir,
+            number,
+            claim,
+            None,
+            FileType::Directory,
+        )
+    }
+}
