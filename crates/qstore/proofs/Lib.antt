@@ -11,3 +11,4 @@ pub mod Steps
 pub mod Listed
 pub mod Deciding
 pub mod Calls
+pub mod FurtherNames
