@@ -11,3 +11,4 @@ pub mod Deciding
 pub mod Calls
 pub mod Directories
 pub mod ParentLinks
+pub mod FurtherNames

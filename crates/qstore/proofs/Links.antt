@@ -72,7 +72,7 @@ module _ (S : State) (links : List (ℕ × ℕ)) (kept : AreLinks S links) (numb
       ∙ ap (λ (f : Inode → ℕ). option_map f (inode_at (with_inode S number after) q)) (λ k i. sym (links_of-changed S number inode after there same q i.dir) k)
 
 -- another number is not the same
-other-number : (number q : ℕ) (b : Bool) → is_at (nat_cmp number) q ≡ false → (b || not (number == q)) ≡ true
+pub other-number : (number q : ℕ) (b : Bool) → is_at (nat_cmp number) q ≡ false → (b || not (number == q)) ≡ true
 other-number number q b other = or_right b (not (number == q)) (ap not (unsigned_ties number q ∙ other))
 
 -- it is some

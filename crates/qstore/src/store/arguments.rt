@@ -18,10 +18,13 @@ use qrules::{Kind, MAX_MOMENT};
 fn fault_of_both(from: &str, to: &str) -> Option<Refusal>
     ensures { result ≡ paths_fault (from.now ∷ to.now ∷ []) }
 {
-    match (fault_of(from), fault_of(to)) {
-        (Some(Refusal::EINVAL), _) | (_, Some(Refusal::EINVAL)) => Some(Refusal::EINVAL),
-        (None, fault) => fault,
-        (fault, _) => fault,
+    let first = fault_of(from);
+    if first == Some(Refusal::EINVAL) {
+        return first;
+    }
+    match fault_of(to) {
+        Some(second) => Some(second),
+        None => first,
     }
 }
 

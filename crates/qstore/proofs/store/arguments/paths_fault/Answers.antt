@@ -8,3 +8,8 @@ pub returns-in-Create : goal.returns-in-Create
 returns-in-Create c =
     let one : paths_of c.args.call.now ≡ c.in-Create.path ∷ [] = search rules in
     c.fault_of.ensures ∙ ap path_fault c.text-in-Create.ensures ∙ path_fault-one c.in-Create.path ∙ ap paths_fault (sym one)
+
+pub returns-in-Link : goal.returns-in-Link
+returns-in-Link c =
+    let both : paths_of c.args.call.now ≡ c.in-Link.from ∷ c.in-Link.to ∷ [] = search rules in
+    c.fault_of_both.ensures ∙ (λ i. paths_fault (c.text-in-Link.ensures i ∷ c.text.ensures i ∷ [])) ∙ ap paths_fault (sym both)

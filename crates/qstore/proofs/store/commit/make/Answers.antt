@@ -50,3 +50,10 @@ returns-in-Chown-clause-tree c S is next lawful =
     subst (λ (change : TreeChange). CanChange S x.tree.now.room change x.bytes.now → IsTreeOf (changed S change x.bytes.now) c.set_owners.new.self) (sym m.is)
     (λ can. tree-altered S x.tree.now c.set_owners.new.self m.number can.inode (λ i. with_owners i m.uid m.gid)
     is can.there refl e.inodes e.names e.links)
+
+pub returns-in-Link-clause-tree : goal.returns-in-Link-clause-tree
+returns-in-Link-clause-tree c S is next lawful =
+    let x = c.args in
+    let m = c.in-Link in
+    subst (λ (change : TreeChange). CanChange S x.tree.now.room change x.bytes.now → IsTreeOf (changed S change x.bytes.now) c.add_name.new.tree) (sym m.is)
+    (λ can. c.add_name.ensures S is lawful can)
