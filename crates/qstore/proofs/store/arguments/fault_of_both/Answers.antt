@@ -1,7 +1,7 @@
 use Rattle.std.proofs.Common.{rules, ◌≡◌, Some, ◌∙◌}
-use Rattle.qstore.proofs.Parts.{faults-bad, faults-first, faults-second}
+use Rattle.qpath.proofs.Parts.{faults-bad, faults-first, faults-second}
 use Rattle.qplain.specs.declared.refusal.Refusal.TheVariants.{EINVAL}
-use Rattle.qstore.specs.Paths.{path_fault}
+use Rattle.qpath.specs.Paths.{path_fault}
 use Rattle.qstore.proofs.store.arguments.fault_of_both.Goals as goal
 
 pub returns-then-eq : goal.returns-then-eq
