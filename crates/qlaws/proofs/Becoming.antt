@@ -226,7 +226,8 @@ module _ (P : State → Type 0) (S : State) (cred : Caller) (holds : HoldsOfResu
       at_path-becomes P S (write_into S cred off bytes) path (λ number inode there. write_into-becomes off bytes number inode there)
   attempt_of-becomes (Truncate path size) known good =
       at_path-becomes P S (truncate_at S cred size) path (λ number inode there. truncate_at-becomes size number inode there)
-  attempt_of-becomes (Read path off len) known good = at_path-becomes P S (read_from off len) path (λ number inode there. read_from-becomes off len number inode)
+  attempt_of-becomes (Read path off len) known good =
+      at_path-becomes P S (read_from off len) path (λ number inode there. read_from-becomes off len number inode)
   attempt_of-becomes (AskStat path) known good = at_path-becomes P S (stat_at S) path (λ number inode there. tt)
   attempt_of-becomes (Link from to) known good =
       at_path-becomes P S (link_to S to) from (λ number inode there.

@@ -44,8 +44,8 @@ MayMakeDirectories = Plays
     ∷ (line 0 ann (Mkdir (codes "/g")), done 6 0 1) ∷ (line 0 ann (Mkdir (codes "/h")), Refused ENOSPC)
     ∷ (line 0 bob (Mkdir (codes "/h")), Refused ENOSPC) ∷ [])
 
--- a directory goes when nothing stands in it, with its inode, its owner's charge and its parent's link; its number stays
--- given
+-- a directory goes when nothing stands in it, with its inode, its owner's charge and its parent's link; its number
+-- stays given
 abbrev pub DirectoriesGo : Type 0
 DirectoriesGo = Plays
     ((line 0 bob (Mkdir (codes "/d")), done 2 0 1) ∷ (line 0 bob (Create (codes "/d/f")), done 3 0 1)
@@ -57,8 +57,8 @@ DirectoriesGo = Plays
     ∷ (line 0 bob (AskStat (codes "/d")), Refused ENOENT) ∷ (line 0 bob (AskStat (codes "/")), directory 1 0 0 2)
     ∷ (line 0 bob (AskQuota User 1001), record_of 0 0 0 0 None) ∷ (line 0 bob (Mkdir (codes "/d")), done 5 0 1) ∷ [])
 
--- who may remove a directory, and in which order that is refused: what is no directory, then the right, then what is not
--- empty
+-- who may remove a directory, and in which order that is refused: what is no directory, then the right, then what is
+-- not empty
 abbrev pub MayRemoveDirectories : Type 0
 MayRemoveDirectories = Plays
     ((line 0 ann (Rmdir (codes "/d/")), Refused EINVAL) ∷ (line 0 root_caller (Rmdir (codes "/")), Refused EBUSY)

@@ -7,6 +7,15 @@ use Rattle.qledger.specs.declared.kept_holder.KeptHolder.{KeptHolder}
 use Rattle.qledger.specs.Books.{Books}
 use Rattle.qledger.specs.KeptHolders.{IsSlotOf}
 
+-- the bill of nothing
+abbrev pub no_bill : Bill
+no_bill = record {
+  users = record { from = None; to = None };
+  groups = record { from = None; to = None };
+  blocks = 0;
+  inodes = 0;
+}
+
 -- the kept holder after a posting, which has the record of one id as it will be
 abbrev pub post : Option Posting → KeptHolder → KeptHolder
 post None o = o

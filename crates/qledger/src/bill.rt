@@ -1,5 +1,6 @@
 //! What a granted call makes of the accounts.
 ghost use Rattle.std.specs.Prelude.{◌≡◌, None, Some};
+ghost use Rattle.qledger.specs.Bills.{no_bill};
 
 use qrules::Record;
 
@@ -31,7 +32,9 @@ pub struct Bill {
 
 impl Bill {
     /// A bill of nothing, where one is to be put that is granted.
-    pub fn empty() -> Bill {
+    pub fn empty() -> Bill
+        ensures { result ≡ no_bill }
+    {
         Bill {
             users: Postings::none(),
             groups: Postings::none(),

@@ -57,7 +57,8 @@ limits_again l fits = rw (
 
 -- the call whose words these are
 pub call_again : (k : Call) → IsCall k → call_in (call_words k) ≡ Ok k
-unfolding call_in verb_of call_of path_call_of create_of mkdir_of write_of truncate_of read_of stat_of link_of unlink_of rmdir_of chown_of setquota_of setgrace_of quota_of
+unfolding call_in verb_of call_of path_call_of create_of mkdir_of write_of truncate_of read_of stat_of link_of unlink_of rmdir_of chown_of setquota_of
+    setgrace_of quota_of
 call_again (Create p) k = rw (path_again p k) refl
 call_again (Mkdir p) k = rw (path_again p k) refl
 call_again (Stat p) k = rw (path_again p k) refl

@@ -53,7 +53,8 @@ module _ (S : State) (lawful : IsLawful S) (number : ℕ) (inode : Inode) (there
           → cond b (Some EPERM) (cond (is_some o) (Some EEXIST) (cond m (Some EMLINK) None)) ≡ Some refusal
           → link_as S number inode dir name ≡ Refuse refusal
       by true is_dir o led m too_many fault =
-          (λ i. by_tests (is_dir i) (is_some (named S dir name)) (has_too_many_links (with_name S dir name number))) ∙ (let same : EPERM ≡ refusal = cc in ap Refuse same)
+          (λ i. by_tests (is_dir i) (is_some (named S dir name)) (has_too_many_links (with_name S dir name number)))
+          ∙ (let same : EPERM ≡ refusal = cc in ap Refuse same)
       by false file (Some n) led m too_many fault =
           (λ i. by_tests (file i) (is_some (led i)) (has_too_many_links (with_name S dir name number))) ∙ (let same : EEXIST ≡ refusal = cc in ap Refuse same)
       by false file None led true too_many fault =
@@ -103,7 +104,8 @@ module _ (S : State) (lawful : IsLawful S) (dir : ℕ) (name : List ℕ) (number
           → cond b (Some (links_of S number false + 1)) (lookup (is_at (nat_cmp q)) links) ≡ links_at (with_name S dir name number) q (inode_at S q)
       by true at =
           let same : number ≡ q = same-number number q at in
-          ap Some (sym (links_of-linked S number inode dir name lawful.parts there file stands absent) ∙ ap (λ b. links_of (with_name S dir name number) number b) (sym file))
+          ap Some (sym (links_of-linked S number inode dir name lawful.parts there file stands absent)
+          ∙ ap (λ b. links_of (with_name S dir name number) number b) (sym file))
           ∙ ap (links_at (with_name S dir name number) number) (sym there) ∙ ap (λ n. links_at (with_name S dir name number) n (inode_at S n)) same
       by false other = kept q ∙ others q (inode_at S q) other
 

@@ -12,4 +12,4 @@ returns-in-Create c =
 pub returns-in-Link : goal.returns-in-Link
 returns-in-Link c =
     let both : paths_of c.args.call.now ≡ c.in-Link.from ∷ c.in-Link.to ∷ [] = search rules in
-    c.fault_of_both.ensures ∙ (λ i. paths_fault (c.text-in-Link.ensures i ∷ c.text.ensures i ∷ [])) ∙ ap paths_fault (sym both)
+    c.fault_of_both.ensures ∙ (λ i. paths_fault (c.text.ensures i ∷ c.text-in-Link.ensures i ∷ [])) ∙ ap paths_fault (sym both)
