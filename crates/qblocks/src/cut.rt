@@ -111,7 +111,11 @@ fn next_row(rows: &Rows, from: u64) -> Option<(u64, &Box<Row>)>
     if *last > from {
         return search_row(rows, from);
     }
-    if *last == from { Some((*last, row)) } else { None }
+    if *last == from {
+        Some((*last, row))
+    } else {
+        None
+    }
 }
 
 /// How many blocks begin at `size` or behind.

@@ -1,8 +1,8 @@
 -- Worked examples of the calls on directories and further names, over the example setup: pairs of a line and its reply.
-use Rattle.std.specs.Prelude.{ℕ, true, false, [], ◌∷◌, Some, None, codes, replicate}
+use Rattle.std.specs.Prelude.{ℕ, true, false, [], ◌∷◌, Some, None, codes}
 use Rattle.qrules.specs.declared.kind.Kind.TheVariants.{User}
 use Rattle.qrules.specs.declared.over.Over.TheVariants.{InodeHard}
-use Rattle.qplain.specs.declared.call.Call.TheVariants.{Create, Mkdir, Write, Read, Stat as AskStat, Link, Unlink, Rmdir, Chown, SetQuota, Quota as AskQuota}
+use Rattle.qplain.specs.declared.call.Call.TheVariants.{Create, Mkdir, Read, Stat as AskStat, Link, Unlink, Rmdir, Chown, SetQuota, Quota as AskQuota}
 use Rattle.qplain.specs.declared.reply.Reply.{Reply}
 use Rattle.qplain.specs.declared.reply.Reply.TheVariants.{Stat as StatReply, Refused}
 use Rattle.qplain.specs.declared.refusal.Refusal.TheVariants.{EBUSY, EINVAL, ENOENT, ENOTDIR, ENOTEMPTY, EEXIST, ENOSPC, EDQUOT, EISDIR, EPERM}

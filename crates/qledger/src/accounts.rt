@@ -149,13 +149,7 @@ impl Accounts {
     }
 
     /// Writes the records and totals as they will be. It tests nothing.
-    fn write_bill(
-        &self,
-        moment: u64,
-        from: Option<Claim>,
-        to: Option<Claim>,
-        bill: &mut Bill,
-    )
+    fn write_bill(&self, moment: u64, from: Option<Claim>, to: Option<Claim>, bill: &mut Bill)
         requires moment { moment ≤ MAX_MOMENT }
         requires replacement { (S : State) × (S1 : State) × (f : Option Inode) × (t : Option Inode)
             × IsReplacement self.now from to S S1 f t }

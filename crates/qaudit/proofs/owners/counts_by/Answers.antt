@@ -15,7 +15,7 @@ add_row-requires-clause-blocks c =
 pub add_row-requires-clause-inodes : goal.add_row-requires-clause-inodes
 add_row-requires-clause-inodes c =
     let few = inodes_fit c.args.kind c.args.inodes.now c.loop-row.row-index c.loop-row.counts.entries
-            c.owner_of.result c.loop-row.invariant c.loop-row-test.true in
+    c.owner_of.result c.loop-row.invariant c.loop-row-test.true in
     grind (arith, few)
 
 pub loop-row-preserved : goal.loop-row-preserved
