@@ -1,5 +1,5 @@
 -- A further name of a file: its tests, and what it leaves.
-use Rattle.std.proofs.Common.{◌≡◌, ℕ, ◌+◌, ◌^◌, ◌<◌, ◌≤◌, ◌==◌, Bool, true, false, not, ◌||◌, cond, nat_lt, is_some, List, Option, Some, None, refl, sym, ap, subst, ◌∙◌, arith, tests}
+use Rattle.std.proofs.Common.{◌≡◌, ℕ, ◌+◌, ◌^◌, ◌<◌, ◌≤◌, Bool, true, false, cond, nat_lt, is_some, List, Option, Some, None, refl, sym, ap, subst, ◌∙◌, arith, tests}
 use Rattle.std.specs.Ordering.{nat_cmp}
 use Rattle.std.specs.Cmp.{eq_by_cmp_equiv, nat_cmp_total}
 use Rattle.std.specs.BTreeMap.{insert_entry, is_at}
@@ -10,7 +10,7 @@ use Rattle.qplain.specs.declared.bounds.TheConstants.{MAX_LINKS}
 use Rattle.qplain.specs.declared.refusal.Refusal.{Refusal}
 use Rattle.qplain.specs.declared.refusal.Refusal.TheVariants.{EEXIST, EMLINK, EPERM}
 use Rattle.qplain.specs.Attempt.{Attempt, Becomes, Refuse}
-use Rattle.qplain.specs.Names.{link_as, unless_too_many_links, with_name}
+use Rattle.qplain.specs.Names.{link_as, with_name}
 use Rattle.qplain.specs.State.{Inode, State, inode_at, is_directory, name_key_cmp, named}
 use Rattle.qplain.specs.Use.{has_too_many_links, links_of}
 use Rattle.qlaws.specs.Laws.{IsLawful}

@@ -196,12 +196,13 @@ impl Store {
     ///
     /// `moment` is in seconds; above 2^40 the reply is EINVAL. A refusal is a reply, and wants no memory: EINVAL first,
     /// then ENAMETOOLONG, the call's own tests, ENOSPC, EDQUOT. Err is want of memory alone. It comes after all
-    /// refusals, so only a create, a write, a read or an unlink that would be granted meets it, and it leaves the state as it was,
-    /// too. The bytes of a write are not copied: the call and what is ready share them.
+    /// refusals, so only a create, a mkdir, a write, a read, a link, an unlink or a rmdir that would be granted meets
+    /// it, and it leaves the state as it was, too. The bytes of a write are not copied: the call and what is ready
+    /// share them.
     ///
     /// The `Ready` is for `commit` of this store, before any other `ready`, `apply` or `commit` of it. It may be
-    /// dropped: a create's room serves the next create, a write's blocks go with it, and what is left in its file is
-    /// taken out by that file's next write.
+    /// dropped: the room of a create, a mkdir or a link serves the next of them in its directory, a write's blocks go
+    /// with it, and what is left in its file is taken out by that file's next write.
     pub fn ready(&mut self, cred: &Cred, moment: u64, call: &Call) -> Result<Ready, NoMemory>
         ensures state { self.new.state ≡ self.old.state }
         ensures step { IfOk result (λ r. committed self.new r ≡ step self.old.state cred.now moment call.now) }

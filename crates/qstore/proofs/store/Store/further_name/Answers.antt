@@ -1,8 +1,6 @@
-use Rattle.std.proofs.Common.{rules, ◌≡◌, Some, None, sym, ap, ◌∙◌}
+use Rattle.std.proofs.Common.{rules, ◌∙◌}
 use Rattle.qplain.specs.Names.{link_as, link_to}
-use Rattle.qplain.specs.State.{inode_at}
 use Rattle.qtree.specs.Nodes.{inode_of}
-use Rattle.qstore.specs.Faults.{link_fault}
 use Rattle.qstore.proofs.FurtherNames.{link-becomes, link-refused}
 use Rattle.qstore.proofs.store.Store.further_name.Goals as goal
 
