@@ -20,8 +20,8 @@ pub fn limits_hold()
     ensures { LimitsHold }
 {}
 
-/// From a lawful state no truncation, no unlink and no rmdir is refused for want of space or of quota: whoever is over a
-/// limit may give back.
+/// From a lawful state no truncation, no unlink and no rmdir is refused for want of space or of quota: whoever is over
+/// a limit may give back.
 pub fn giving_back_is_granted()
     ensures { GivingBackIsGranted }
 {}
@@ -36,28 +36,29 @@ pub fn ends_stay()
     ensures { EndsStay }
 {}
 
-/// No call changes the bounds, the file limit or who the holders are, and only the superuser's change limits and graces.
+/// No call changes the bounds, the file limit or who the holders are, and only the superuser's change limits and
+/// graces.
 pub fn setups_stay()
     ensures setup { SetupsStay }
     ensures limits { LimitsStay }
 {}
 
-/// From a lawful state the next number never falls, and an inode that a call makes has the number that was next: none is
-/// given again.
+/// From a lawful state the next number never falls, and an inode that a call makes has the number that was next: none
+/// is given again.
 pub fn numbers_go_on()
     ensures { NumbersGoOn }
 {}
 
-/// Every inode can be walked to from the root: in a new store, and after each step of a lawful state in which every one can
-/// be.
+/// Every inode can be walked to from the root: in a new store, and after each step of a lawful state in which every
+/// one can be.
 pub fn inodes_stay_reached()
     ensures start { StartIsReached }
     ensures steps { AllStayReached }
 {}
 
-/// From a lawful state no call of anybody but the superuser changes an inode of others, what it holds or whose it is, but
-/// for an inode whose last name goes; or takes away, moves or replaces a name that leads to an inode of others in a
-/// directory of others. Nor does one make an inode another user's, or that of a group that is not the caller's.
+/// From a lawful state no call of anybody but the superuser changes an inode of others, what it holds or whose it is,
+/// but for an inode whose last name goes; or takes away, moves or replaces a name that leads to an inode of others in
+/// a directory of others. Nor does one make an inode another user's, or that of a group that is not the caller's.
 pub fn rights_hold()
     ensures others { RightsHold }
     ensures owners { OwnersHold }
