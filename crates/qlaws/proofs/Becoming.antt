@@ -10,21 +10,21 @@ use Rattle.qrules.specs.declared.graces.Graces.{Graces}
 use Rattle.qrules.specs.declared.graces.TheConstants.{MAX_MOMENT}
 use Rattle.qblocks.specs.File.{File, after_truncate, after_write, read_at}
 use Rattle.qplain.specs.declared.call.Call.{Call}
-use Rattle.qplain.specs.declared.call.Call.TheVariants.{Create, Mkdir, Write, Truncate, Read, Stat as AskStat, Link, Unlink, Rmdir, Chown, SetQuota, SetGrace, Quota as AskQuota}
+use Rattle.qplain.specs.declared.call.Call.TheVariants.{Create, Mkdir, Write, Truncate, Read, Stat as AskStat, Link, Unlink, Rmdir, Rename, Chown, SetQuota, SetGrace, Quota as AskQuota}
 use Rattle.qplain.specs.declared.refusal.Refusal.{Refusal}
 use Rattle.qplain.specs.declared.refusal.Refusal.TheVariants.{EBUSY, EINVAL, ENAMETOOLONG, ENOTDIR, ENOTEMPTY, EEXIST, EISDIR, EACCES, EFBIG, EMLINK, EPERM, ESRCH}
 use Rattle.qplain.specs.declared.reply.Reply.TheVariants.{Bytes, Done}
 use Rattle.qplain.specs.Caller.{Caller, is_superuser}
 use Rattle.qplain.specs.State.{Holder, Inode, State, inode_at, is_directory, named, new_directory, new_file}
 use Rattle.qplain.specs.Use.{has_too_many_links, is_empty}
-use Rattle.qplain.specs.Walk.{is_well_formed, is_too_long, place}
+use Rattle.qplain.specs.Walk.{components, is_well_formed, is_too_long, place}
 use Rattle.qplain.specs.Decision.{ends_after, refusal_between}
 use Rattle.qplain.specs.Arguments.{has_bad_number, is_declared, is_holder, is_known, is_undeclared, paths_of, refusal_of_arguments}
 use Rattle.qplain.specs.Attempt.{Attempt, Refuse, Answer, Becomes, no_change}
 use Rattle.qplain.specs.Rights.{is_member, is_own, is_owner, may_give, may_remove, may_write}
 use Rattle.qplain.specs.Files.{read_from, stat_at, truncate_at, with_file, with_inode, write_into}
 use Rattle.qplain.specs.Names.{create_as, created, link_as, link_to, mkdir_as, rmdir_as, rmdir_at, swept, unless_too_many_links, unlink_as, unlink_at, with_name, without_name}
-use Rattle.qplain.specs.Renames.{meets, passes, rename_over, renamed}
+use Rattle.qplain.specs.Renames.{meets, passes, rename_as, rename_from, rename_over, rename_to, renamed}
 use Rattle.qplain.specs.Owners.{chown_at, with_owners}
 use Rattle.qplain.specs.Quotas.{ask_quota, quota_from, set_quota, set_grace, with_limits_of}
 use Rattle.qplain.specs.Calls.{attempt, attempt_of}
@@ -238,6 +238,11 @@ module _ (P : State → Type 0) (S : State) (cred : Caller) (holds : HoldsOfResu
   attempt_of-becomes (Rmdir path) known good =
       in_place-becomes P S EBUSY (rmdir_as S cred) path (λ dir name placed stands.
       at_name-becomes P S (rmdir_at S cred dir name) dir name (λ number inode led there. rmdir_at-becomes dir name number inode led there))
+  attempt_of-becomes (Rename from to) known good =
+      in_place-becomes P S EBUSY (rename_from S cred to) from (λ dir name from_placed from_stands.
+      at_name-becomes P S (rename_to S cred to dir name) dir name (λ number inode led there.
+      in_place-becomes P S EBUSY (rename_as S cred to dir name number inode) to (λ to_dir to_name placed stands.
+      rename_over-becomes (components to) dir name number inode to_dir to_name placed led there stands)))
   attempt_of-becomes (Chown path uid gid) known good =
       at_path-becomes P S (chown_at S cred uid gid) path (λ number inode there. chown_at-becomes uid gid number inode good there)
   attempt_of-becomes (SetQuota kind id limits) known good = set_quota-becomes kind id limits

@@ -1,8 +1,8 @@
 -- Worked examples of the calls on directories and further names, over the example setup: pairs of a line and its reply.
-use Rattle.std.specs.Prelude.{ℕ, true, false, [], ◌∷◌, Some, None, codes}
+use Rattle.std.specs.Prelude.{ℕ, true, false, [], ◌∷◌, Some, None, codes, replicate}
 use Rattle.qrules.specs.declared.kind.Kind.TheVariants.{User}
 use Rattle.qrules.specs.declared.over.Over.TheVariants.{InodeHard}
-use Rattle.qplain.specs.declared.call.Call.TheVariants.{Create, Mkdir, Read, Stat as AskStat, Link, Unlink, Rmdir, Chown, SetQuota, Quota as AskQuota}
+use Rattle.qplain.specs.declared.call.Call.TheVariants.{Create, Mkdir, Write, Read, Stat as AskStat, Link, Unlink, Rmdir, Rename, Chown, SetQuota, Quota as AskQuota}
 use Rattle.qplain.specs.declared.reply.Reply.{Reply}
 use Rattle.qplain.specs.declared.reply.Reply.TheVariants.{Stat as StatReply, Refused}
 use Rattle.qplain.specs.declared.refusal.Refusal.TheVariants.{EBUSY, EINVAL, ENOENT, ENOTDIR, ENOTEMPTY, EEXIST, ENOSPC, EDQUOT, EISDIR, EPERM}
@@ -103,3 +103,71 @@ MayLink = Plays
     ∷ (line 0 bob (Link (codes "/a") (codes "/d")), Refused EEXIST)
     ∷ (line 0 ann (Link (codes "/a") (codes "/d/a")), done 2 0 0)
     ∷ (line 0 bob (AskStat (codes "/d")), directory 3 1001 0 2) ∷ [])
+
+-- two names of one inode both stay; what is replaced goes as by unlink, with its blocks
+abbrev pub NamesMove : Type 0
+NamesMove = Plays
+    ((line 0 bob create_a, done 2 0 1) ∷ (line 0 bob (Link (codes "/a") (codes "/b")), done 2 0 0)
+    ∷ (line 0 bob (Rename (codes "/a") (codes "/b")), done 2 0 0)
+    ∷ (line 0 bob (AskStat (codes "/a")), file_with 2 0 0 2) ∷ (line 0 bob (AskStat (codes "/b")), file_with 2 0 0 2)
+    ∷ (line 0 bob (Create (codes "/c")), done 3 0 1)
+    ∷ (line 0 bob (Write (codes "/c") 0 (replicate 12288 0x61)), done 3 3 0)
+    ∷ (line 0 bob (Rename (codes "/a") (codes "/c")), less 2 3 1)
+    ∷ (line 0 bob (AskStat (codes "/c")), file_with 2 0 0 2)
+    ∷ (line 0 bob (AskStat (codes "/a")), Refused ENOENT) ∷ (line 0 bob (AskQuota User 1001), record_of 0 1 0 0 None)
+    ∷ (line 0 bob (Rename (codes "/c") (codes "/a")), done 2 0 0)
+    ∷ (line 0 bob (AskStat (codes "/a")), file_with 2 0 0 2)
+    ∷ (line 0 bob (AskStat (codes "/c")), Refused ENOENT) ∷ [])
+
+-- a directory takes with it what stands below, and its parents' links; it goes into nothing that stands below it, and
+-- replaces nothing but an empty directory
+abbrev pub DirectoriesMove : Type 0
+DirectoriesMove = Plays
+    ((line 0 bob (Mkdir (codes "/d")), done 2 0 1) ∷ (line 0 bob (Rename (codes "/d") (codes "/d/e")), Refused EINVAL)
+    ∷ (line 0 bob (Rename (codes "/d") (codes "/d/x/e")), Refused ENOENT)
+    ∷ (line 0 bob (Create (codes "/d/f")), done 3 0 1)
+    ∷ (line 0 bob (Rename (codes "/d/f") (codes "/d")), Refused EISDIR)
+    ∷ (line 0 bob (Rename (codes "/d") (codes "/d/f")), Refused EINVAL) ∷ (line 0 bob (Mkdir (codes "/e")), done 4 0 1)
+    ∷ (line 0 bob (Rename (codes "/e") (codes "/d/f")), Refused ENOTDIR)
+    ∷ (line 0 bob (Rename (codes "/e") (codes "/d")), Refused ENOTEMPTY)
+    ∷ (line 0 bob (AskStat (codes "/")), directory 1 0 0 4)
+    ∷ (line 0 bob (Rename (codes "/d") (codes "/e")), less 2 0 1)
+    ∷ (line 0 bob (AskStat (codes "/")), directory 1 0 0 3) ∷ (line 0 bob (AskStat (codes "/e/f")), file_with 3 0 0 1)
+    ∷ (line 0 bob (Mkdir (codes "/e/g")), done 5 0 1) ∷ (line 0 bob (AskStat (codes "/e")), directory 2 1001 0 3)
+    ∷ (line 0 bob (Rename (codes "/e/g") (codes "/g")), done 5 0 0)
+    ∷ (line 0 bob (AskStat (codes "/e")), directory 2 1001 0 2)
+    ∷ (line 0 bob (AskStat (codes "/")), directory 1 0 0 4)
+    ∷ (line 0 bob (Rename (codes "/g") (codes "/h")), done 5 0 0)
+    ∷ (line 0 bob (AskStat (codes "/")), directory 1 0 0 4)
+    ∷ (line 0 bob (Rename (codes "/h") (codes "/e/g")), done 5 0 0)
+    ∷ (line 0 bob (Rename (codes "/e/g") (codes "/e")), Refused ENOTEMPTY)
+    ∷ (line 0 bob (Rename (codes "/e/f") (codes "/f")), done 3 0 0)
+    ∷ (line 0 bob (AskStat (codes "/e")), directory 2 1001 0 3)
+    ∷ (line 0 bob (AskStat (codes "/")), directory 1 0 0 3) ∷ [])
+
+-- in which order a rename is refused: both paths as they are written, the first walk and its name, the second walk; two
+-- names of one inode are done for anybody; then what goes into itself, the kinds, both rights, what is not empty
+abbrev pub MayRename : Type 0
+MayRename = Plays
+    ((line 0 bob (Rename (codes "/") (codes "x")), Refused EINVAL)
+    ∷ (line 0 bob (Rename (codes "/x") (codes "/")), Refused ENOENT)
+    ∷ (line 0 bob (Rename (codes "/") (codes "/x/y")), Refused EBUSY)
+    ∷ (line 0 bob (Rename (codes "/x/y") (codes "/")), Refused ENOENT) ∷ (line 0 bob create_a, done 2 0 1)
+    ∷ (line 0 bob (Rename (codes "/a") (codes "/")), Refused EBUSY)
+    ∷ (line 0 bob (Rename (codes "/a") (codes "/a/b")), Refused ENOTDIR)
+    ∷ (line 0 bob (Rename (codes "/a/b") (codes "/x/y")), Refused ENOTDIR)
+    ∷ (line 0 ann (Rename (codes "/a") (codes "/a")), done 2 0 0)
+    ∷ (line 0 ann (Rename (codes "/a") (codes "/b")), Refused EPERM)
+    ∷ (line 0 ann (Link (codes "/a") (codes "/b")), done 2 0 0)
+    ∷ (line 0 ann (Rename (codes "/a") (codes "/b")), done 2 0 0)
+    ∷ (line 0 ann (Mkdir (codes "/d")), done 3 0 1) ∷ (line 0 ann (Create (codes "/d/c")), done 4 0 1)
+    ∷ (line 0 bob (Mkdir (codes "/d/e")), done 5 0 1)
+    ∷ (line 0 bob (Rename (codes "/d") (codes "/d/e/x")), Refused EINVAL)
+    ∷ (line 0 bob (Rename (codes "/d") (codes "/a")), Refused ENOTDIR)
+    ∷ (line 0 bob (Rename (codes "/a") (codes "/d")), Refused EISDIR)
+    ∷ (line 0 bob (Rename (codes "/a") (codes "/d/c")), Refused EPERM)
+    ∷ (line 0 ann (Rename (codes "/d/c") (codes "/a")), Refused EPERM)
+    ∷ (line 0 bob (Rename (codes "/d/e") (codes "/d")), Refused EPERM)
+    ∷ (line 0 ann (Rename (codes "/d/e") (codes "/d")), Refused ENOTEMPTY)
+    ∷ (line 0 root_caller (Rename (codes "/d/c") (codes "/a")), done 4 0 0)
+    ∷ (line 0 bob (AskStat (codes "/b")), file_with 2 0 0 1) ∷ [])

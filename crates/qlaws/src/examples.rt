@@ -1,7 +1,7 @@
 //! Worked examples of the plain machine: each clause is one, and holds by computation.
 ghost use Rattle.qlaws.specs.Examples.{BoardOfJournal, CreateWriteStat, EmptyWrite, EntriesOfWorker, ExampleIsGranted, GraceHasEnded, GraceRuns, GracesMoveNone, HardLimit, JournalIsLegal, LimitsAnew, Paths, ReadOverAHole, Rights, SixInodes, SpaceBeforeQuota, SuperuserPasses, TallyOfJournal, UnknownCallers, WhoseLimitFirst, WriteOverAnEdge};
 ghost use Rattle.qlaws.specs.MoreExamples.{EndsMove, GrownAgain, InodesGivenBack, LastName, MayGive, MayTruncate, MayUnlink, NoNumberAgain, OnlyWhatRises, OtherGroup, Shorter, ShorterByBytes};
-ghost use Rattle.qlaws.specs.NameExamples.{DirectoriesGo, FurtherNames, MayLink, MayMakeDirectories, MayRemoveDirectories, NewDirectories};
+ghost use Rattle.qlaws.specs.NameExamples.{DirectoriesGo, DirectoriesMove, FurtherNames, MayLink, MayMakeDirectories, MayRemoveDirectories, MayRename, NamesMove, NewDirectories};
 
 /// What the definitions answer on small scripts, counted by hand from the rules. It does nothing when it runs.
 pub fn worked_examples()
@@ -44,7 +44,7 @@ pub fn more_worked_examples()
     ensures ends_move { EndsMove }
 {}
 
-/// What they answer to mkdir, rmdir and link.
+/// What they answer to mkdir, rmdir, link and rename.
 pub fn worked_examples_of_names()
     ensures new_directories { NewDirectories }
     ensures may_make_directories { MayMakeDirectories }
@@ -52,4 +52,7 @@ pub fn worked_examples_of_names()
     ensures may_remove_directories { MayRemoveDirectories }
     ensures further_names { FurtherNames }
     ensures may_link { MayLink }
+    ensures names_move { NamesMove }
+    ensures directories_move { DirectoriesMove }
+    ensures may_rename { MayRename }
 {}

@@ -2,7 +2,7 @@
 use Rattle.std.specs.Prelude.{ℕ, List, [], ◌∷◌, Result, Ok, Err, replicate}
 use Rattle.qrules.specs.declared.limits.Limits.{Limits}
 use Rattle.qplain.specs.declared.call.Call.{Call}
-use Rattle.qplain.specs.declared.call.Call.TheVariants.{Create, Mkdir, Write, Truncate, Read, Stat, Link, Unlink, Rmdir, Chown, SetQuota, SetGrace, Quota}
+use Rattle.qplain.specs.declared.call.Call.TheVariants.{Create, Mkdir, Write, Truncate, Read, Stat, Link, Unlink, Rmdir, Rename, Chown, SetQuota, SetGrace, Quota}
 use Rattle.qtext.specs.declared.text_fault.TextKind.{TextKind}
 use Rattle.qtext.specs.declared.text_fault.TextKind.TheVariants.{BadNumber, BadVerb, WordCount}
 use Rattle.qline.specs.declared.call.TheConstants.{MAX_FILL}
@@ -83,6 +83,13 @@ rmdir_of p = do
   path ← path_of p
   Ok (Rmdir path)
 
+-- rename FROM TO
+unfoldable pub rename_of : List ℕ → List ℕ → Result Call TextKind
+rename_of f t = do
+  from ← path_of f
+  to ← path_of t
+  Ok (Rename from to)
+
 -- chown PATH UID GID
 unfoldable pub chown_of : List ℕ → List ℕ → List ℕ → Result Call TextKind
 chown_of p u g = do
@@ -130,6 +137,7 @@ path_call_of verb.Stat (p ∷ []) = stat_of p
 path_call_of verb.Link (f ∷ t ∷ []) = link_of f t
 path_call_of verb.Unlink (p ∷ []) = unlink_of p
 path_call_of verb.Rmdir (p ∷ []) = rmdir_of p
+path_call_of verb.Rename (f ∷ t ∷ []) = rename_of f t
 path_call_of _ _ = Err WordCount
 
 -- as many arguments as the verb takes, each in its place
@@ -148,6 +156,7 @@ call_of verb.Stat paths = path_call_of verb.Stat paths
 call_of verb.Link paths = path_call_of verb.Link paths
 call_of verb.Unlink paths = path_call_of verb.Unlink paths
 call_of verb.Rmdir paths = path_call_of verb.Rmdir paths
+call_of verb.Rename paths = path_call_of verb.Rename paths
 call_of _ _ = Err WordCount
 
 -- the call that words spell, the first of them its verb

@@ -7,7 +7,7 @@ use Rattle.qplain.specs.Caller.{Caller}
 use Rattle.qplain.specs.Paths.{ArePathBytes}
 use Rattle.qplain.specs.declared.cred.TheConstants.{MAX_MORE_GROUPS}
 use Rattle.qplain.specs.declared.call.Call.{Call}
-use Rattle.qplain.specs.declared.call.Call.TheVariants.{Create, Mkdir, Write, Truncate, Read, Stat, Link, Unlink, Rmdir, Chown, SetQuota, SetGrace, Quota}
+use Rattle.qplain.specs.declared.call.Call.TheVariants.{Create, Mkdir, Write, Truncate, Read, Stat, Link, Unlink, Rmdir, Rename, Chown, SetQuota, SetGrace, Quota}
 use Rattle.qtext.specs.Pieces.{data_text}
 use Rattle.qtext.specs.RuleWords.{kind_text}
 
@@ -39,6 +39,7 @@ call_words (Stat path) = codes "stat" ∷ path ∷ []
 call_words (Link from to) = codes "link" ∷ from ∷ to ∷ []
 call_words (Unlink path) = codes "unlink" ∷ path ∷ []
 call_words (Rmdir path) = codes "rmdir" ∷ path ∷ []
+call_words (Rename from to) = codes "rename" ∷ from ∷ to ∷ []
 call_words (Chown path uid gid) = codes "chown" ∷ path ∷ owner_text uid ∷ owner_text gid ∷ []
 call_words (SetQuota kind id limits) = codes "setquota" ∷ kind_text kind ∷ decimal id ∷ limits_words limits
 call_words (SetGrace graces) = codes "setgrace" ∷ decimal graces.block ∷ decimal graces.inode ∷ []
@@ -74,6 +75,7 @@ IsCall (Stat path) = ArePathBytes path
 IsCall (Link from to) = ArePathBytes from × ArePathBytes to
 IsCall (Unlink path) = ArePathBytes path
 IsCall (Rmdir path) = ArePathBytes path
+IsCall (Rename from to) = ArePathBytes from × ArePathBytes to
 IsCall (Chown path uid gid) = ArePathBytes path × IsOwner uid × IsOwner gid
 IsCall (SetQuota kind id limits) = (id < 2 ^ 32) × AreLimits limits
 IsCall (SetGrace graces) = (graces.block < 2 ^ 64) × (graces.inode < 2 ^ 64)

@@ -4,7 +4,7 @@ use Rattle.std.specs.Str.{bytes_eq}
 use Rattle.qtext.specs.declared.text_fault.TextKind.{TextKind}
 use Rattle.qtext.specs.declared.text_fault.TextKind.TheVariants.{BadVerb}
 use Rattle.qline.specs.declared.verb.Verb.{Verb}
-use Rattle.qline.specs.declared.verb.Verb.TheVariants.{Create, Mkdir, Write, Fill, Truncate, Read, Stat, Link, Unlink, Rmdir, Chown, SetQuota, SetGrace, Quota}
+use Rattle.qline.specs.declared.verb.Verb.TheVariants.{Create, Mkdir, Write, Fill, Truncate, Read, Stat, Link, Unlink, Rmdir, Rename, Chown, SetQuota, SetGrace, Quota}
 
 -- the verb that a word spells
 unfoldable pub verb_of : List ℕ → Result Verb TextKind
@@ -19,6 +19,7 @@ verb_of word =
     else if bytes_eq word (codes "link") then Ok Link
     else if bytes_eq word (codes "unlink") then Ok Unlink
     else if bytes_eq word (codes "rmdir") then Ok Rmdir
+    else if bytes_eq word (codes "rename") then Ok Rename
     else if bytes_eq word (codes "chown") then Ok Chown
     else if bytes_eq word (codes "setquota") then Ok SetQuota
     else if bytes_eq word (codes "setgrace") then Ok SetGrace

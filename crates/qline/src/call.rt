@@ -178,8 +178,16 @@ fn call_of<'a>(
         }
         (Verb::SetGrace, [block, inode]) => setgrace_of(block, inode),
         (Verb::Quota, [kind, id]) => quota_of(kind, id),
-        (Verb::Create | Verb::Mkdir | Verb::Stat | Verb::Link | Verb::Unlink | Verb::Rmdir, _) =>
-            path_call_of(alloc, paths, verb, arguments),
+        (
+            Verb::Create
+            | Verb::Mkdir
+            | Verb::Stat
+            | Verb::Link
+            | Verb::Unlink
+            | Verb::Rmdir
+            | Verb::Rename,
+            _,
+        ) => path_call_of(alloc, paths, verb, arguments),
         _ => Err(ReadFault::Fault(TextKind::WordCount)),
     }
 }

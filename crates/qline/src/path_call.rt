@@ -1,7 +1,7 @@
 //! The calls whose arguments are paths alone.
 ghost use Rattle.std.specs.Prelude.{map};
 ghost use Rattle.qtext.specs.Gives.{Gives};
-ghost use Rattle.qline.specs.Calls.{create_of, mkdir_of, stat_of, link_of, unlink_of, rmdir_of, path_call_of};
+ghost use Rattle.qline.specs.Calls.{create_of, mkdir_of, stat_of, link_of, unlink_of, rmdir_of, rename_of, path_call_of};
 
 use crate::paths::Paths;
 use crate::verb::Verb;
@@ -63,6 +63,20 @@ fn rmdir_of<'a>(alloc: Global, paths: &mut Paths<'a>, path: &'a [u8]) -> Result<
     Ok(Call::Rmdir { path })
 }
 
+#[tactic(auto, unfolding(crate::specs::Calls::rename_of))]
+fn rename_of<'a>(
+    alloc: Global,
+    paths: &mut Paths<'a>,
+    from: &'a [u8],
+    to: &'a [u8],
+) -> Result<Call, ReadFault>
+    ensures { Gives result (rename_of from.now to.now) }
+{
+    let from = paths.read(alloc, from)?;
+    let to = paths.read(alloc, to)?;
+    Ok(Call::Rename { from, to })
+}
+
 /// The call of a verb and its paths, of which there are as many as it takes; of any other verb the count is wrong.
 #[tactic(auto, unfolding(crate::specs::Calls::path_call_of))]
 pub(crate) fn path_call_of<'a>(
@@ -80,6 +94,7 @@ pub(crate) fn path_call_of<'a>(
         (Verb::Link, [from, to]) => link_of(alloc, paths, from, to),
         (Verb::Unlink, [path]) => unlink_of(alloc, paths, path),
         (Verb::Rmdir, [path]) => rmdir_of(alloc, paths, path),
+        (Verb::Rename, [from, to]) => rename_of(alloc, paths, from, to),
         _ => Err(ReadFault::Fault(TextKind::WordCount)),
     }
 }

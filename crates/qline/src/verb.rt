@@ -16,6 +16,7 @@ pub(crate) enum Verb {
     Link,
     Unlink,
     Rmdir,
+    Rename,
     Chown,
     SetQuota,
     SetGrace,
@@ -56,6 +57,9 @@ pub(crate) fn verb_of(word: &[u8]) -> Result<Verb, ReadFault>
     }
     if word == b"rmdir".as_slice() {
         return Ok(Verb::Rmdir);
+    }
+    if word == b"rename".as_slice() {
+        return Ok(Verb::Rename);
     }
     if word == b"chown".as_slice() {
         return Ok(Verb::Chown);

@@ -6,7 +6,7 @@ use Rattle.qrules.specs.declared.kind.Kind.TheVariants.{User, Group}
 use Rattle.qrules.specs.declared.graces.TheConstants.{MAX_MOMENT}
 use Rattle.qrules.specs.Range.{are_graces_in_range, are_limits_in_range}
 use Rattle.qplain.specs.declared.call.Call.{Call}
-use Rattle.qplain.specs.declared.call.Call.TheVariants.{Create, Mkdir, Write, Truncate, Read, Stat, Link, Unlink, Rmdir, Chown, SetQuota, SetGrace, Quota}
+use Rattle.qplain.specs.declared.call.Call.TheVariants.{Create, Mkdir, Write, Truncate, Read, Stat, Link, Unlink, Rmdir, Rename, Chown, SetQuota, SetGrace, Quota}
 use Rattle.qplain.specs.declared.refusal.Refusal.{Refusal}
 use Rattle.qplain.specs.declared.refusal.Refusal.TheVariants.{EINVAL, ENAMETOOLONG}
 use Rattle.qplain.specs.declared.bounds.TheConstants.{MAX_DATA}
@@ -44,6 +44,7 @@ paths_of (Stat path) = path ∷ []
 paths_of (Link from to) = from ∷ to ∷ []
 paths_of (Unlink path) = path ∷ []
 paths_of (Rmdir path) = path ∷ []
+paths_of (Rename from to) = from ∷ to ∷ []
 paths_of (Chown path uid gid) = path ∷ []
 paths_of (SetQuota kind id limits) = []
 paths_of (SetGrace graces) = []

@@ -1,7 +1,7 @@
 -- The tests of each call in their order, and what it would make of the state.
 use Rattle.std.specs.Prelude.{ℕ, Option, Some, None}
 use Rattle.qplain.specs.declared.call.Call.{Call}
-use Rattle.qplain.specs.declared.call.Call.TheVariants.{Create, Mkdir, Write, Truncate, Read, Stat, Link, Unlink, Rmdir, Chown, SetQuota, SetGrace, Quota}
+use Rattle.qplain.specs.declared.call.Call.TheVariants.{Create, Mkdir, Write, Truncate, Read, Stat, Link, Unlink, Rmdir, Rename, Chown, SetQuota, SetGrace, Quota}
 use Rattle.qplain.specs.declared.refusal.Refusal.{Refusal}
 use Rattle.qplain.specs.declared.refusal.Refusal.TheVariants.{EBUSY, EEXIST, EISDIR}
 use Rattle.qplain.specs.Caller.{Caller}
@@ -10,6 +10,7 @@ use Rattle.qplain.specs.Arguments.{refusal_of_arguments}
 use Rattle.qplain.specs.Attempt.{Attempt, Refuse, at_path, in_place}
 use Rattle.qplain.specs.Files.{read_from, stat_at, truncate_at, write_into}
 use Rattle.qplain.specs.Names.{create_as, link_to, mkdir_as, rmdir_as, unlink_as}
+use Rattle.qplain.specs.Renames.{rename_from}
 use Rattle.qplain.specs.Owners.{chown_at}
 use Rattle.qplain.specs.Quotas.{ask_quota, set_grace, set_quota}
 
@@ -24,6 +25,7 @@ attempt_of S cred (Stat path) = at_path S (stat_at S) path
 attempt_of S cred (Link from to) = at_path S (link_to S to) from
 attempt_of S cred (Unlink path) = in_place S EISDIR (unlink_as S cred) path
 attempt_of S cred (Rmdir path) = in_place S EBUSY (rmdir_as S cred) path
+attempt_of S cred (Rename from to) = in_place S EBUSY (rename_from S cred to) from
 attempt_of S cred (Chown path uid gid) = at_path S (chown_at S cred uid gid) path
 attempt_of S cred (SetQuota kind id limits) = set_quota S cred kind id limits
 attempt_of S cred (SetGrace graces) = set_grace S cred graces

@@ -55,6 +55,14 @@ pub enum Call {
     Rmdir {
         path: Path,
     },
+    /// Gives what has the name `from` the name `to`, in place of what had that, which goes as by unlink or rmdir.
+    /// `from` is walked before `to`, and EBUSY of the root and ENOENT come with each walk. Two names of one inode are
+    /// done, and stay. Then come EINVAL of a directory into itself, ENOTDIR, EISDIR, EPERM for `from`, EPERM for what
+    /// is replaced, ENOTEMPTY and EMLINK (rename(2)).
+    Rename {
+        from: Path,
+        to: Path,
+    },
     /// Gives an inode another user or group, or both; what is None stays. An id that is not declared is EINVAL, before
     /// the path is looked up, and EPERM comes before EDQUOT (chown(2)).
     Chown {
@@ -108,6 +116,10 @@ impl Call {
             }),
             Call::Unlink { path } => Ok(Call::Unlink { path: path.copy()? }),
             Call::Rmdir { path } => Ok(Call::Rmdir { path: path.copy()? }),
+            Call::Rename { from, to } => Ok(Call::Rename {
+                from: from.copy()?,
+                to: to.copy()?,
+            }),
             Call::Chown { path, uid, gid } => Ok(Call::Chown {
                 path: path.copy()?,
                 uid: *uid,

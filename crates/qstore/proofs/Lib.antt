@@ -12,3 +12,8 @@ pub mod Calls
 pub mod Directories
 pub mod ParentLinks
 pub mod FurtherNames
+pub mod Renamed
+pub mod Replaced
+pub mod Recounts
+pub mod Renamings
+pub mod RenamedTrees

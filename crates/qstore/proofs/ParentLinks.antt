@@ -42,7 +42,7 @@ parent-links S links dir kept lawful stands =
     within n h = grind (arith, tests, h)
 
 -- with another count kept for one number, that is found there, and elsewhere what was
-lookup-recounted : (links : List (ℕ × ℕ)) (number old new q : ℕ) → lookup (is_at (nat_cmp number)) links ≡ Some old
+pub lookup-recounted : (links : List (ℕ × ℕ)) (number old new q : ℕ) → lookup (is_at (nat_cmp number)) links ≡ Some old
     → lookup (is_at (nat_cmp q)) (set_value (is_at (nat_cmp number)) links new)
     ≡ cond (is_at (nat_cmp number) q) (Some new) (lookup (is_at (nat_cmp q)) links)
 lookup-recounted links number old new q there =
@@ -106,7 +106,7 @@ module _ (S : State) (links : List (ℕ × ℕ)) (kept : AreLinks S links) (lawf
 -- ---- the tree
 
 -- the counts stay in order where one is another
-order-recounted : (links : List (ℕ × ℕ)) (number new : ℕ) → InOrder links → InOrder (set_value (is_at (nat_cmp number)) links new)
+pub order-recounted : (links : List (ℕ × ℕ)) (number new : ℕ) → InOrder links → InOrder (set_value (is_at (nat_cmp number)) links new)
 order-recounted links number new in_order =
     subst (IsStrictlySortedBy nat_cmp) (sym (keys-set_value (is_at (nat_cmp number)) links new)) in_order
 

@@ -8,7 +8,7 @@ use Rattle.qledger.specs.Books.{AreBooksOf, AreInRange, Books}
 use Rattle.qledger.specs.KeptHolders.{holders_in}
 use Rattle.qledger.proofs.Booked.{in_range-settled}
 use Rattle.qstore.specs.declared.ready.TreeChange.{TreeChange}
-use Rattle.qstore.specs.declared.ready.TreeChange.TheVariants.{Create, Mkdir, Write, Truncate, Unlink, Rmdir, Link, Chown}
+use Rattle.qstore.specs.declared.ready.TreeChange.TheVariants.{Create, Mkdir, Write, Truncate, Unlink, Rmdir, Link, Rename, Chown}
 use Rattle.qstore.specs.declared.store.Store.TheInside.{Inside}
 use Rattle.qstore.specs.Kept.{AreLinks, IsCounted, IsTreeOf, state_of, stored_of}
 use Rattle.qstore.specs.Ready.{CanSettle, altered_at, billed, changed}
@@ -38,6 +38,8 @@ bounds-changed S (Truncate number size) bytes = bounds-altered S number _ (inode
 bounds-changed S (Unlink dir path number) bytes = record { size = refl; most_inodes = refl; file_limit = refl; graces = refl }
 bounds-changed S (Rmdir dir path number) bytes = record { size = refl; most_inodes = refl; file_limit = refl; graces = refl }
 bounds-changed S (Link dir name number) bytes = record { size = refl; most_inodes = refl; file_limit = refl; graces = refl }
+bounds-changed S (Rename dir path to_dir to_name number) bytes =
+    record { size = refl; most_inodes = refl; file_limit = refl; graces = refl }
 bounds-changed S (Chown number uid gid) bytes = bounds-altered S number _ (inode_at S number)
 
 -- ---- links know neither holders nor graces

@@ -1,5 +1,5 @@
 -- A walk that is made one name after another.
-use Rattle.std.proofs.Common.{◌≡◌, ℕ, ◌-◌, ◌<◌, Bool, List, [], ◌∷◌, length, take, fold, Option, Some, None, is_some, true, Result, Ok, Err, refl, ap, ◌∙◌, arith}
+use Rattle.std.proofs.Common.{◌≡◌, ℕ, ◌-◌, ◌<◌, ◌==◌, ◌||◌, Bool, false, List, [], ◌∷◌, length, take, fold, Option, Some, None, is_some, true, Result, Ok, Err, refl, ap, ◌∙◌, arith}
 use Rattle.std.specs.List.{slice_split}
 use Rattle.std.proofs.lemmas.List.Splits.{length-slice_split}
 use Rattle.qplain.specs.declared.refusal.Refusal.{Refusal}
@@ -7,6 +7,7 @@ use Rattle.qplain.specs.declared.bounds.TheConstants.{ROOT}
 use Rattle.qplain.specs.State.{State}
 use Rattle.qplain.specs.Walk.{as_directory, follow, last_name}
 use Rattle.qplain.specs.Attempt.{Attempt, Refuse, in_reached, under}
+use Rattle.qlaws.proofs.Meeting.{meets_from, meets_from-first}
 use Rattle.qstore.specs.Paths.{parent}
 
 -- what is reached from here, where one name waits and the last of all is not followed
@@ -59,3 +60,30 @@ pub place-fault : (S : State) (of_root : Refusal) (try : ℕ → List ℕ → At
 place-fault S of_root try p bytes refusal fault =
     let some : 0 < length (slice_split p bytes) = omega (arith, length-slice_split p bytes) in
     under-fault S of_root try (slice_split p bytes) refusal (last_name (slice_split p bytes)) (some-last (slice_split p bytes) some) fault
+
+-- ---- what the walk to the place of a path meets
+
+-- behind a fault it meets nothing
+meets_from-fault : (S : State) (number : ℕ) (refusal : Refusal) (names : List (List ℕ)) → meets_from S number (Err refusal) names ≡ false
+meets_from-fault S number refusal [] = refl
+meets_from-fault S number refusal (name ∷ rest) = meets_from-first S number (Err refusal) name rest ∙ meets_from-fault S number refusal rest
+
+module _ (S : State) (number reached : ℕ) (names : List (List ℕ)) (name : List ℕ) (rest : List (List ℕ)) (parts : names ≡ name ∷ rest) where
+  first : meets_from S number (Ok reached) names ≡ (reached == number || meets_from S number (follow S (Ok reached) name) rest)
+  first = ap (meets_from S number (Ok reached)) parts ∙ meets_from-first S number (Ok reached) name rest
+
+  -- what is reached is met
+  pub meets_from-here : (reached == number) ≡ true → meets_from S number (Ok reached) names ≡ true
+  meets_from-here here = first ∙ ap (λ b. b || meets_from S number (follow S (Ok reached) name) rest) here
+
+  -- else what is met behind it is
+  pub meets_from-on : (next : ℕ) → (reached == number) ≡ false → follow S (Ok reached) name ≡ Ok next
+      → meets_from S number (Ok reached) names ≡ meets_from S number (Ok next) rest
+  meets_from-on next other step =
+      first ∙ (λ i. other i || meets_from S number (step i) rest)
+
+  -- and nothing where the walk ends in a fault
+  pub meets_from-stops : (refusal : Refusal) → (reached == number) ≡ false → follow S (Ok reached) name ≡ Err refusal
+      → meets_from S number (Ok reached) names ≡ false
+  meets_from-stops refusal other fault =
+      first ∙ (λ i. other i || meets_from S number (fault i) rest) ∙ meets_from-fault S number refusal rest

@@ -9,3 +9,4 @@ pub mod Decided
 pub mod Targets
 pub mod FileTypes
 pub mod Kept
+pub mod Moves

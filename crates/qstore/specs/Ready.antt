@@ -1,11 +1,11 @@
 -- What a call that is ready will do, and when it may.
-use Rattle.std.specs.Prelude.{◌≡◌, ℕ, ◌+◌, ◌<◌, ◌≤◌, Bool, true, false, List, [], length, string_bytes, is_some, Option, Some, None, IfSome}
+use Rattle.std.specs.Prelude.{◌≡◌, ℕ, ◌+◌, ◌<◌, ◌≤◌, ◌==◌, ◌&&◌, not, Bool, true, false, List, [], length, string_bytes, is_some, Option, Some, None, IfSome}
 use Rattle.qrules.specs.Range.{are_graces_in_range}
 use Rattle.qblocks.specs.declared.file.TheConstants.{MAX_SIZE}
 use Rattle.qblocks.specs.File.{after_truncate, after_write}
 use Rattle.qblocks.specs.WriteRoom.{IsReadyToPut}
 use Rattle.qplain.specs.declared.call.Call.{Call}
-use Rattle.qplain.specs.declared.call.Call.TheVariants.{Create as CreateCall, Mkdir as MkdirCall, Write as WriteCall, Truncate as TruncateCall, Read, Stat, Link as LinkCall, Unlink as UnlinkCall, Rmdir as RmdirCall, Chown as ChownCall, SetQuota, SetGrace, Quota}
+use Rattle.qplain.specs.declared.call.Call.TheVariants.{Create as CreateCall, Mkdir as MkdirCall, Write as WriteCall, Truncate as TruncateCall, Read, Stat, Link as LinkCall, Unlink as UnlinkCall, Rmdir as RmdirCall, Rename as RenameCall, Chown as ChownCall, SetQuota, SetGrace, Quota}
 use Rattle.qplain.specs.declared.refusal.Refusal.{Refusal}
 use Rattle.qplain.specs.declared.reply.Reply.{Reply}
 use Rattle.qplain.specs.declared.reply.Reply.TheVariants.{Refused}
@@ -13,6 +13,7 @@ use Rattle.qplain.specs.State.{Inode, State, inode_at, is_directory, named, new_
 use Rattle.qplain.specs.Use.{is_empty}
 use Rattle.qplain.specs.Files.{with_inode}
 use Rattle.qplain.specs.Names.{created, swept, with_name, without_name}
+use Rattle.qplain.specs.Renames.{passes, renamed}
 use Rattle.qplain.specs.Owners.{with_owners}
 pub use Rattle.qpath.specs.Paths.{name_in}
 use Rattle.qtree.specs.Room.{Room, file_room, name_room}
@@ -23,7 +24,7 @@ use Rattle.qstore.specs.declared.ready.Plan.{Plan}
 use Rattle.qstore.specs.declared.ready.Plan.TheVariants.{Nothing, Change, Limits, SetGraces}
 use Rattle.qstore.specs.declared.ready.Ready.{Ready}
 use Rattle.qstore.specs.declared.ready.TreeChange.{TreeChange}
-use Rattle.qstore.specs.declared.ready.TreeChange.TheVariants.{Create, Mkdir, Write, Truncate, Unlink, Rmdir, Link, Chown}
+use Rattle.qstore.specs.declared.ready.TreeChange.TheVariants.{Create, Mkdir, Write, Truncate, Unlink, Rmdir, Link, Rename, Chown}
 use Rattle.qstore.specs.Stored.{IsSound, Stored}
 
 -- the bytes that a call brings
@@ -37,6 +38,7 @@ bytes_of (Stat path) = []
 bytes_of (LinkCall from to) = []
 bytes_of (UnlinkCall path) = []
 bytes_of (RmdirCall path) = []
+bytes_of (RenameCall from to) = []
 bytes_of (ChownCall path uid gid) = []
 bytes_of (SetQuota kind id limits) = []
 bytes_of (SetGrace graces) = []
@@ -57,6 +59,7 @@ wants_no_memory (Stat path) = true
 wants_no_memory (LinkCall from to) = false
 wants_no_memory (UnlinkCall path) = false
 wants_no_memory (RmdirCall path) = false
+wants_no_memory (RenameCall from to) = false
 wants_no_memory (ChownCall path uid gid) = true
 wants_no_memory (SetQuota kind id limits) = true
 wants_no_memory (SetGrace graces) = true
@@ -82,6 +85,8 @@ changed S (Truncate number size) bytes =
 changed S (Unlink dir path number) bytes = swept (without_name S dir (name_in path))
 changed S (Rmdir dir path number) bytes = swept (without_name S dir (name_in path))
 changed S (Link dir name number) bytes = with_name S dir (string_bytes name) number
+changed S (Rename dir path to_dir to_name number) bytes =
+    renamed S dir (name_in path) to_dir (string_bytes to_name) number
 changed S (Chown number uid gid) bytes = altered S number (λ inode. with_owners inode uid gid)
 
 -- the state with the holders that the store's books have after its bill
@@ -146,6 +151,19 @@ pub record CanLink (S : State) (room : Room) (dir : ℕ) (name : List ℕ) (numb
   pub absent : named S dir name ≡ None
   pub name_room : 0 < name_room room dir
 
+-- what has the first name may get the second, in place of an inode of its own sort, which if it is a directory is empty
+pub record CanRename (S : State) (room : Room) (dir : ℕ) (name : List ℕ) (to_dir : ℕ) (to_name : List ℕ) (number : ℕ)
+    : Type 0 where
+  pub led : named S dir name ≡ Some number
+  pub inode : Inode
+  pub there : inode_at S number ≡ Some inode
+  pub directory : is_directory S to_dir ≡ true
+  pub other : passes (λ n. n == number) (named S to_dir to_name) ≡ false
+  pub onto_directory : (inode.dir && passes (λ n. not (is_directory S n)) (named S to_dir to_name)) ≡ false
+  pub onto_file : (not inode.dir && passes (λ n. is_directory S n) (named S to_dir to_name)) ≡ false
+  pub empty : passes (λ n. not (is_empty S n)) (named S to_dir to_name) ≡ false
+  pub name_room : 0 < name_room room to_dir
+
 -- the inode is there, and may get other owners
 pub record CanChown (S : State) (number : ℕ) : Type 0 where
   pub inode : Inode
@@ -160,6 +178,8 @@ CanChange S room (Truncate number size) bytes = CanTruncate S number size
 CanChange S room (Unlink dir path number) bytes = CanUnlink S dir number (name_in path)
 CanChange S room (Rmdir dir path number) bytes = CanRmdir S dir number (name_in path)
 CanChange S room (Link dir name number) bytes = CanLink S room dir (string_bytes name) number
+CanChange S room (Rename dir path to_dir to_name number) bytes =
+    CanRename S room dir (name_in path) to_dir (string_bytes to_name) number
 CanChange S room (Chown number uid gid) bytes = CanChown S number
 
 -- the store's bill is for its books, which after it are those of this state with the bill's holders

@@ -53,6 +53,15 @@ pub(crate) enum TreeChange {
         name: String,
         number: u64,
     },
+    /// The last name of the path is to go out of the directory, and what has it gets another name, in place of what
+    /// had that.
+    Rename {
+        dir: u64,
+        path: Path,
+        to_dir: u64,
+        to_name: String,
+        number: u64,
+    },
     /// An inode gets other owners.
     Chown {
         number: u64,

@@ -31,6 +31,9 @@ mod link;
 mod mkdir;
 mod quota;
 mod read;
+mod rename;
+mod rename_fault;
+mod replacement;
 mod rights;
 mod rmdir;
 mod rows;
@@ -181,6 +184,9 @@ impl Store {
             Call::Link { from, to } => self.decide_link(cred, moment, from.text(), to.text()),
             Call::Unlink { path } => self.decide_unlink(cred, callers, moment, path),
             Call::Rmdir { path } => self.decide_rmdir(cred, callers, moment, path),
+            Call::Rename { from, to } => {
+                self.decide_rename(cred, callers, moment, from, to.text())
+            }
             Call::Chown { path, uid, gid } => {
                 Ok(self.decide_chown(cred, callers, moment, path.text(), *uid, *gid))
             }

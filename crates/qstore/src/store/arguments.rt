@@ -42,7 +42,9 @@ fn paths_fault(call: &Call) -> Option<Refusal>
         | Call::Unlink { path }
         | Call::Rmdir { path }
         | Call::Chown { path, .. } => fault_of(path.text()),
-        Call::Link { from, to } => fault_of_both(from.text(), to.text()),
+        Call::Link { from, to } | Call::Rename { from, to } => {
+            fault_of_both(from.text(), to.text())
+        }
         Call::SetQuota { .. } | Call::SetGrace { .. } | Call::Quota { .. } => None,
     }
 }
@@ -84,6 +86,7 @@ impl Store {
             | Call::Link { .. }
             | Call::Unlink { .. }
             | Call::Rmdir { .. }
+            | Call::Rename { .. }
             | Call::Quota { .. } => false,
         }
     }

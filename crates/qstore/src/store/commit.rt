@@ -5,21 +5,23 @@ ghost use Rattle.std.specs.Map.{lookup, remove_entry, set_value};
 ghost use Rattle.std.specs.Ordering.{nat_cmp};
 ghost use Rattle.qplain.specs.State.{State, is_dir, new_directory};
 ghost use Rattle.qplain.specs.Names.{created, swept, with_name, without_name};
+ghost use Rattle.qplain.specs.Renames.{renamed};
 ghost use Rattle.qlaws.specs.Laws.{IsLawful};
 ghost use Rattle.qstore.specs.Kept.{IsTreeOf};
-ghost use Rattle.qstore.specs.Ready.{CanCarryOut, CanChange, CanCreate, CanLink, CanRmdir, CanSettle, CanUnlink};
+ghost use Rattle.qstore.specs.Ready.{CanCarryOut, CanChange, CanCreate, CanLink, CanRename, CanRmdir, CanSettle, CanUnlink};
 ghost use Rattle.qstore.specs.Ready.{billed, changed, effect, name_in};
 ghost use Rattle.qstore.specs.Stored.{IsSound};
 
 use crate::ready::{Plan, TreeChange};
 use crate::store::Store;
+use crate::store::replacement::{drop_replaced, led_to, move_node};
 use qpath::last_of;
 use qplain::{Data, Path};
 use qtree::{Node, Tree};
 use std::alloc::Global;
 
 /// Takes one link from a file, and the file with its last one.
-fn drop_link(tree: &mut Tree, number: u64)
+pub(super) fn drop_link(tree: &mut Tree, number: u64)
     requires file { is_dir (lookup (is_at (nat_cmp number)) tree.old.inodes) ≡ false }
     ensures names { tree.new.names ≡ tree.old.names }
     ensures last { lookup (is_at (nat_cmp number)) tree.old.links ≡ Some 1
@@ -92,6 +94,22 @@ fn add_name(tree: &mut Tree, dir: u64, name: String, number: u64)
     tree.add_link(number);
 }
 
+/// Gives what has the last name of the path in the directory another name, in place of what had that.
+fn rename(tree: &mut Tree, dir: u64, path: &Path, to_dir: u64, to_name: String, number: u64)
+    requires { (S : State) × IsTreeOf S tree.old × IsLawful S
+        × CanRename S tree.old.room dir (name_in path.now) to_dir (string_bytes to_name) number }
+    ensures { (S : State) → IsTreeOf S tree.old → IsLawful S
+        → CanRename S tree.old.room dir (name_in path.now) to_dir (string_bytes to_name) number
+        → IsTreeOf (renamed S dir (name_in path.now) to_dir (string_bytes to_name) number) tree.new }
+{
+    let replaced = led_to(tree, to_dir, &to_name);
+    move_node(tree, dir, to_dir, number, replaced.is_some());
+    tree.move_name(dir, last_of(path.text()), to_dir, to_name, number);
+    if let Some(target) = replaced {
+        drop_replaced(tree, target);
+    }
+}
+
 /// Makes a change of inodes and names, and gives the number of the next inode.
 fn make(tree: &mut Tree, next: u64, alloc: Global, change: TreeChange, bytes: &Data) -> u64
     requires can { (S : State) × IsTreeOf S tree.old × (S.next ≡ next) × IsLawful S
@@ -129,6 +147,13 @@ fn make(tree: &mut Tree, next: u64, alloc: Global, change: TreeChange, bytes: &D
         TreeChange::Unlink { dir, path, number } => take_name(tree, dir, &path, number),
         TreeChange::Rmdir { dir, path, number } => take_directory(tree, dir, &path, number),
         TreeChange::Link { dir, name, number } => add_name(tree, dir, name, number),
+        TreeChange::Rename {
+            dir,
+            path,
+            to_dir,
+            to_name,
+            number,
+        } => rename(tree, dir, &path, to_dir, to_name, number),
         TreeChange::Chown { number, uid, gid } => tree.set_owners(number, uid, gid),
     }
     next

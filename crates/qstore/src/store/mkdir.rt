@@ -48,7 +48,7 @@ impl Store {
     }
 
     /// Whether the directory has as many links as an inode may have.
-    fn has_all_links(&self, dir: u64) -> bool
+    pub(super) fn has_all_links(&self, dir: u64) -> bool
         requires { is_directory self.now.state dir ≡ true }
         ensures { result ≡ nat_lt MAX_LINKS (links_of self.now.state dir true + 1) }
     {

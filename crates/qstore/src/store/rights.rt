@@ -1,8 +1,9 @@
 //! Who may do what with an inode, a name or a record.
-ghost use Rattle.std.specs.Prelude.{◌≡◌, ◌==◌, ◌||◌, Some};
+ghost use Rattle.std.specs.Prelude.{◌≡◌, ◌==◌, ◌||◌, not, Some};
 ghost use Rattle.std.specs.List.{list_any};
 ghost use Rattle.qplain.specs.State.{inode_at};
 ghost use Rattle.qplain.specs.Rights.{is_member, is_own, may_give, may_remove, may_write, owns};
+ghost use Rattle.qplain.specs.Renames.{passes};
 ghost use Rattle.qtree.specs.Nodes.{inode_of};
 
 use crate::store::Store;
@@ -68,5 +69,17 @@ impl Store {
         ensures { result ≡ may_remove self.now.state cred.now dir number }
     {
         cred.uid() == 0 || cred.uid() == node.uid || self.owns(cred, dir)
+    }
+
+    /// Whether the caller may not take this name away, which leads to an inode of this number, or to none.
+    pub(super) fn is_kept(&self, cred: &Cred, dir: u64, leads_to: Option<u64>) -> bool
+        ensures { result ≡ passes (λ number. not (may_remove self.now.state cred.now dir number)) leads_to }
+    {
+        match leads_to {
+            Some(number) => {
+                !(cred.uid() == 0 || self.owns(cred, number) || self.owns(cred, dir))
+            }
+            None => false,
+        }
     }
 }

@@ -22,7 +22,7 @@ use qrules::MAX_MOMENT;
 use qtree::{Content, Node};
 
 /// What is left of what a file takes, once a name of it has gone.
-fn left_of(node: &Node, claim: Claim) -> Option<Claim>
+pub(super) fn left_of(node: &Node, claim: Claim) -> Option<Claim>
     ensures more { 1 < node.now.links → result ≡ Some claim }
     ensures last { node.now.links ≤ 1 → result ≡ None }
 {

@@ -3,6 +3,7 @@ ghost use Rattle.std.specs.Prelude.{◌≡◌, ℕ, List, true, false, Some, Ok,
 ghost use Rattle.std.specs.Option.{option_map};
 ghost use Rattle.std.specs.List.{slice_split};
 ghost use Rattle.qplain.specs.Walk.{components, follow, is_slash, last_name, walk};
+ghost use Rattle.qplain.specs.Renames.{meets};
 ghost use Rattle.qplain.specs.State.{Inode, inode_at, is_directory, named};
 ghost use Rattle.qplain.specs.Use.{links_of};
 ghost use Rattle.qplain.specs.Attempt.{Attempt, Refuse, at_path, in_place};
@@ -73,6 +74,26 @@ impl Store {
             behind = rest;
         }
         Ok(reached)
+    }
+
+    /// Whether the walk to the place of a path comes past this inode, or ends there.
+    pub(super) fn meets(&self, path: &str, number: u64) -> bool
+        ensures { result ≡ meets self.now.state (components path.now) number }
+    {
+        let mut reached = ROOT;
+        let mut behind = names_of(path);
+        while let Some(names) = behind {
+            let (name, rest) = cut(names);
+            if reached == number {
+                return true;
+            }
+            reached = match self.follow(reached, name) {
+                Ok(next) => next,
+                Err(_) => return false,
+            };
+            behind = rest;
+        }
+        false
     }
 
     /// What the names of a path but the last lead to, and that last name.

@@ -20,3 +20,13 @@ returns-clause-further_names c = refl
 
 pub returns-clause-may_link : goal.returns-clause-may_link
 returns-clause-may_link c = refl
+
+pub returns-clause-names_move : goal.returns-clause-names_move
+unfolding after_write written resized with_touched with_index
+returns-clause-names_move c = refl
+
+pub returns-clause-directories_move : goal.returns-clause-directories_move
+returns-clause-directories_move c = refl
+
+pub returns-clause-may_rename : goal.returns-clause-may_rename
+returns-clause-may_rename c = refl

@@ -57,3 +57,10 @@ returns-in-Link-clause-tree c S is next lawful =
     let m = c.in-Link in
     subst (λ (change : TreeChange). CanChange S x.tree.now.room change x.bytes.now → IsTreeOf (changed S change x.bytes.now) c.add_name.new.tree) (sym m.is)
     (λ can. c.add_name.ensures S is lawful can)
+
+pub returns-in-Rename-clause-tree : goal.returns-in-Rename-clause-tree
+returns-in-Rename-clause-tree c S is next lawful =
+    let x = c.args in
+    let m = c.in-Rename in
+    subst (λ (change : TreeChange). CanChange S x.tree.now.room change x.bytes.now → IsTreeOf (changed S change x.bytes.now) c.rename.new.tree) (sym m.is)
+    (λ can. c.rename.ensures S is lawful can)

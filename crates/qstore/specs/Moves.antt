@@ -1,0 +1,13 @@
+-- The link counts of the directories between which a directory moves. No public clause cites this module.
+use Rattle.std.specs.Prelude.{ℕ, ◌+◌, ◌-◌, ◌==◌, Bool, if◌then◌else◌, List}
+use Rattle.std.specs.Ordering.{nat_cmp}
+use Rattle.std.specs.BTreeMap.{is_at}
+use Rattle.std.specs.Map.{set_value}
+
+-- the counts after a directory moved, told whether it took the place of another, and how many links its parents had:
+-- the one that it leaves has one less, and the one that it comes to one more, but for the one that it replaces
+abbrev pub moved_links : List (ℕ × ℕ) → ℕ → ℕ → Bool → ℕ → ℕ → List (ℕ × ℕ)
+moved_links links dir to_dir onto from to =
+    if onto then set_value (is_at (nat_cmp dir)) links (from - 1)
+    else if dir == to_dir then links
+    else set_value (is_at (nat_cmp to_dir)) (set_value (is_at (nat_cmp dir)) links (from - 1)) (to + 1)
