@@ -5,6 +5,8 @@
 - configs/THEME.rows: a line is a list of old and new pieces of configs/good.toml, in pairs, and last what is then told:
   a fault, or a line that the outcome of the empty script has.
 - scripts/THEME.rows: a line is the bytes of a script, and its fault.
+- renames/THEME.rows: a line is a caller, the two paths of a rename after renames/before.txt, the step of its call that
+  decides, its answer, and what a stat of some paths answers then.
 - command_lines.rows: a line is the words, the status, the output and the error output, in the folder `a`. Two dots at
   the end stand for any further text: what faults of the command line say is the library's.
 """
@@ -76,6 +78,15 @@ class Change(Case):
         return (status, err) == (0, b"") and self.out in out.splitlines()
 
 
+class Rename(Case):
+    """A rename after other lines, and the answers to it and to the lines behind it."""
+
+    def is_right(self):
+        status, out, err = self.answer
+        told = [line.partition(b" ")[2] for line in out.splitlines() if line[:1].isdigit()]
+        return (status, err) == (0, b"") and told[-len(self.out) :] == self.out and out.endswith(b"\naudit ok\n")
+
+
 class Row(Case):
     """A script at a moment, and the whole text that it prints."""
 
@@ -145,6 +156,18 @@ def scripts(work):
         (work / file).write_bytes(text.encode("latin-1"))
         words = ["run", "--config", EXAMPLE, work / file]
         yield Case(name, words, 2, err=f"quotafs: script 1: {fault}\n".encode(), refuses=number == 1)
+
+
+def renames(work):
+    """Renames that cross what is renamed, what is replaced, rights and places."""
+    folder = CHECKING / "renames"
+    callers = {"root": "0:0", "ann": "1000:100", "bob": "1001:0,100"}
+    before = (folder / "before.txt").read_text()
+    for name, _, (caller, old, new, step, answer, after), file in listed("renames/*.rows"):
+        calls = [f"rename {old} {new}", *(f"stat {path}" for path in after)]
+        (work / file).write_text(before + "".join(f"0 {callers[caller]} {call}\n" for call in calls))
+        answers = [answer.encode(), *(found.encode() for found in after.values())]
+        yield Rename(f"{name}: {step}", ["run", "--config", folder / "config.toml", work / file], 0, answers)
 
 
 def command_lines():
