@@ -1,5 +1,5 @@
 -- What is found in a table in order: each entry under its key, and after a name more or less what was found before.
-use Rattle.std.proofs.Common.{◌≡◌, ℕ, ◌+◌, ◌==◌, Bool, true, false, nat_lt, cond, List, [], ◌∷◌, All, count_by, Some, None, refl, sym, ap, subst, ◌∙◌, arith}
+use Rattle.std.proofs.Common.{◌≡◌, ℕ, ◌+◌, ◌==◌, Bool, true, false, nat_lt, cond, is_some, List, [], ◌∷◌, All, count_by, Option, Some, None, refl, sym, ap, subst, ◌∙◌, arith}
 use Rattle.std.specs.List.{AllByRecursion}
 use Rattle.std.specs.List.Sorted.{IsStrictlySortedBy}
 use Rattle.std.specs.Map.{keys_of, lookup, remove_entry}
@@ -8,12 +8,13 @@ use Rattle.std.specs.declared.cmp.Ordering.TheVariants.{Less, Equal, Greater}
 use Rattle.std.specs.Ordering.{eq_by_cmp, is_eq, nat_cmp, ordering_reverse}
 use Rattle.std.specs.BTreeMap.{insert_entry, is_at}
 use Rattle.std.specs.Cmp.{IsEquivalence, IsTotalOrder, eq_by_cmp_equiv, nat_cmp_total}
-use Rattle.std.proofs.lemmas.Bool.{cond-false, cond-true}
+use Rattle.std.proofs.lemmas.Bool.{and_parts, cond-false, cond-true}
 use Rattle.std.proofs.lemmas.List.Elements.{All-from_recursion, All-head, All-tail}
 use Rattle.std.proofs.lemmas.List.Sums.{sum_by-cons}
 use Rattle.std.proofs.lemmas.Map.{lookup-remove_entry}
 use Rattle.std.proofs.lemmas.Map.Keys.{IsDistinct-from_sorted}
-use Rattle.qplain.specs.State.{Inode, NameKey, State, inode_at, name_key_cmp, named}
+use Rattle.qplain.specs.State.{Inode, NameKey, State, inode_at, is_directory, name_key_cmp, named}
+use Rattle.qlaws.specs.Laws.{IsLawful, leads}
 use Rattle.qlaws.proofs.Tables.{lookup-insert_new, name_key_total}
 use Rattle.qlaws.proofs.Fitting.{not_both}
 use Rattle.qlaws.proofs.Sweeping.{key-dir}
@@ -72,6 +73,24 @@ found-key {K} {X} P test (e ∷ es) v all there =
       | true ↦ λ t h. let value : e.1 ≡ v = cc in (e.0, t, subst (λ (x : X). P (e.0, x)) value (All-head P e es all))
       | false ↦ λ t h. found-key P test es v (All-tail P e es all) h
     ] refl there
+
+-- a name leads to an inode that is there
+pub led-there : {A : Type 0} (S : State) (lawful : IsLawful S) (dir : ℕ) (name : List ℕ) (number : ℕ) → named S dir name ≡ Some number
+    → inode_at S number ≡ None → A
+led-there S lawful dir name number led none =
+    let key = found-key (λ e. leads S e ≡ true) (is_at (name_key_cmp (dir, name))) S.names number lawful.parts.names.lead led in
+    let some : is_some (inode_at S number) ≡ true = (and_parts (is_directory S key.0.0) (is_some (inode_at S number)) key.2).1 in
+    let no : is_some (inode_at S number) ≡ false = ap is_some none in
+    cc
+
+-- which is some
+pub led-inode : (S : State) (lawful : IsLawful S) (dir : ℕ) (name : List ℕ) (number : ℕ) → named S dir name ≡ Some number
+    → (inode : Inode) × inode_at S number ≡ Some inode
+led-inode S lawful dir name number led = by (inode_at S number) refl
+  where
+    by : (o : Option Inode) → inode_at S number ≡ o → (inode : Inode) × inode_at S number ≡ Some inode
+    by None none = led-there S lawful dir name number led none
+    by (Some inode) there = (inode, there)
 
 -- keys that are equal find the same
 pub same-key : {K X : Type 0} {eq : K → K → Bool} → IsEquivalence eq → (k q : K) → eq k q ≡ true → (es : List (K × X)) → lookup (eq q) es ≡ lookup (eq k) es

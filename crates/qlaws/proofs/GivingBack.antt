@@ -8,15 +8,14 @@ use Rattle.qrules.specs.declared.kind.Kind.TheVariants.{User, Group}
 use Rattle.qrules.specs.Sort.{Sort, Inodes, Blocks}
 use Rattle.qblocks.specs.File.{File, after_truncate, begins_below, size_of}
 use Rattle.qplain.specs.declared.call.Call.{Call}
-use Rattle.qplain.specs.declared.call.Call.TheVariants.{Truncate, Unlink, Rmdir}
 use Rattle.qplain.specs.declared.bounds.TheConstants.{ROOT}
 use Rattle.qplain.specs.declared.refusal.Refusal.{Refusal}
-use Rattle.qplain.specs.declared.refusal.Refusal.TheVariants.{EBUSY, EINVAL, ENAMETOOLONG, ENOTDIR, ENOTEMPTY, ENOSPC, EDQUOT, EISDIR, EACCES, EFBIG, EPERM}
+use Rattle.qplain.specs.declared.refusal.Refusal.TheVariants.{EINVAL, ENAMETOOLONG, ENOTDIR, ENOTEMPTY, ENOSPC, EDQUOT, EISDIR, EACCES, EFBIG, EPERM}
 use Rattle.qplain.specs.declared.reply.Reply.TheVariants.{Refused}
 use Rattle.qplain.specs.Caller.{Caller, is_superuser}
 use Rattle.qplain.specs.State.{Holder, Inode, State, inode_at, is_directory, named}
 use Rattle.qplain.specs.Use.{account_of, is_empty, names_to, use_of, weight}
-use Rattle.qplain.specs.Walk.{as_directory, components, follow, is_too_long, last_name, led_to, place, walk}
+use Rattle.qplain.specs.Walk.{as_directory, components, follow, is_too_long, led_to, place, walk}
 use Rattle.qplain.specs.Decision.{fault_of_holder, first_refusal, is_too_full, refusal_between}
 use Rattle.qplain.specs.Arguments.{is_invalid, paths_of}
 use Rattle.qplain.specs.Attempt.{Attempt, Refuse, Answer, Becomes, at_inode, at_name, at_path, at_reached, in_reached, under}
@@ -25,9 +24,9 @@ use Rattle.qplain.specs.Files.{truncate_at, with_file}
 use Rattle.qplain.specs.Names.{rmdir_as, rmdir_at, swept, unlink_as, unlink_at, without_name}
 use Rattle.qplain.specs.Calls.{attempt, attempt_of, unless}
 use Rattle.qplain.specs.Step.{settle, settled}
-use Rattle.qlaws.specs.Laws.{FitsTogether, GivingBackIsGranted, IsLawful, RefusesForNoLimit, is_for_limits}
+use Rattle.qlaws.specs.Laws.{FitsTogether, IsLawful, RefusesForNoLimit, is_for_limits}
 use Rattle.qlaws.specs.Replaces.{Replaces, charge_of, weight_of}
-use Rattle.qlaws.proofs.Trying.{led_to-ok, true-from_not}
+use Rattle.qlaws.proofs.Trying.{as_directory-ok, led_to-ok, true-from_not}
 use Rattle.qlaws.proofs.Removing.{Replaces-last, Replaces-more, links_of-unlinked, one_name}
 use Rattle.qlaws.proofs.Replacing.{Replaces-changed, fault_of-fewer, not_full-after}
 
@@ -125,7 +124,7 @@ module _ (S : State) (cred : Caller) (moment : ℕ) (lawful : IsLawful S) where
   -- ---- what an attempt is refused for
 
   -- a refusal for no limit, or a plain result that is refused to nobody
-  abbrev NoLimit : Attempt → Type 0
+  abbrev pub NoLimit : Attempt → Type 0
   NoLimit (Refuse r) = is_for_limits r ≡ false
   NoLimit (Answer reply) = (r : Refusal) → reply ≡ Refused r → is_for_limits r ≡ false
   NoLimit (Becomes S1 number) = refusal_between S S1 cred moment ≡ None
@@ -137,12 +136,12 @@ module _ (S : State) (cred : Caller) (moment : ℕ) (lawful : IsLawful S) where
       let done = sym (ap (λ o. (settled S S1 number moment o).1) holds) ∙ is in
       cc
 
-  choose : (b : Bool) (x y : Attempt) → NoLimit x → (b ≡ false → NoLimit y) → NoLimit (cond b x y)
+  pub choose : (b : Bool) (x y : Attempt) → NoLimit x → (b ≡ false → NoLimit y) → NoLimit (cond b x y)
   choose true x y p q = p
   choose false x y p q = q refl
 
   -- a walk is refused for no limit
-  abbrev Plain : Result ℕ Refusal → Type 0
+  abbrev pub Plain : Result ℕ Refusal → Type 0
   Plain (Ok n) = Unit {0}
   Plain (Err r) = is_for_limits r ≡ false
 
@@ -158,7 +157,7 @@ module _ (S : State) (cred : Caller) (moment : ℕ) (lawful : IsLawful S) where
         | false ↦ refl
       ]
 
-  walk-plain : (r : Result ℕ Refusal) (names : List (List ℕ)) → Plain r → Plain (fold (follow S) r names)
+  pub walk-plain : (r : Result ℕ Refusal) (names : List (List ℕ)) → Plain r → Plain (fold (follow S) r names)
   walk-plain r [] h = h
   walk-plain r (name ∷ rest) h = walk-plain (follow S r name) rest (follow-plain r name h)
 
@@ -171,14 +170,14 @@ module _ (S : State) (cred : Caller) (moment : ℕ) (lawful : IsLawful S) where
   at_inode-no_limit try number None each = refl
   at_inode-no_limit try number (Some inode) each = each inode refl
 
-  at_reached-no_limit : (try : ℕ → Inode → Attempt) (r : Result ℕ Refusal) → Plain r
+  pub at_reached-no_limit : (try : ℕ → Inode → Attempt) (r : Result ℕ Refusal) → Plain r
       → ((number : ℕ) (inode : Inode) → r ≡ Ok number → inode_at S number ≡ Some inode → NoLimit (try number inode)) → NoLimit (at_reached S try r)
   at_reached-no_limit try (Err e) plain each = plain
   at_reached-no_limit try (Ok number) plain each = at_inode-no_limit try number (inode_at S number) (λ inode there. each number inode refl there)
 
   -- ---- the three calls
 
-  truncate-no_limit : (path : List ℕ) (size : ℕ) → NoLimit (at_path S (truncate_at S cred size) path)
+  pub truncate-no_limit : (path : List ℕ) (size : ℕ) → NoLimit (at_path S (truncate_at S cred size) path)
   truncate-no_limit path size =
       at_reached-no_limit (truncate_at S cred size) (walk S (components path)) (walk-plain (Ok ROOT) (components path) tt) (λ number inode reached there.
       let becomes : Attempt = Becomes (with_file S number inode (after_truncate inode.file size)) number in
@@ -188,14 +187,14 @@ module _ (S : State) (cred : Caller) (moment : ℕ) (lawful : IsLawful S) where
       choose (nat_lt S.file_limit size) (Refuse EFBIG) becomes refl (λ below. granted-truncate number inode size there))))
 
   -- what is tried of a name's inode, where it is there
-  at_name-no_limit : (try : ℕ → Inode → Attempt) (dir : ℕ) (name : List ℕ)
+  pub at_name-no_limit : (try : ℕ → Inode → Attempt) (dir : ℕ) (name : List ℕ)
       → ((number : ℕ) (inode : Inode) → named S dir name ≡ Some number → inode_at S number ≡ Some inode → NoLimit (try number inode))
       → NoLimit (at_name S try dir name)
   at_name-no_limit try dir name each =
       at_reached-no_limit try (led_to (named S dir name)) (led_to-plain (named S dir name))
       (λ number inode reached there. each number inode (led_to-ok (named S dir name) number reached) there)
 
-  unlink-no_limit : (dir : ℕ) (name : List ℕ) → NoLimit (unlink_as S cred dir name)
+  pub unlink-no_limit : (dir : ℕ) (name : List ℕ) → NoLimit (unlink_as S cred dir name)
   unlink-no_limit dir name =
       at_name-no_limit (unlink_at S cred dir name) dir name (λ number inode led there.
       let becomes : Attempt = Becomes (swept (without_name S dir name)) number in
@@ -203,7 +202,7 @@ module _ (S : State) (cred : Caller) (moment : ℕ) (lawful : IsLawful S) where
       choose (not (may_remove S cred dir number)) (Refuse EPERM) becomes refl (λ may.
       granted-unlink dir name number inode led there file)))
 
-  rmdir-no_limit : (dir : ℕ) (name : List ℕ) → NoLimit (rmdir_as S cred dir name)
+  pub rmdir-no_limit : (dir : ℕ) (name : List ℕ) → NoLimit (rmdir_as S cred dir name)
   rmdir-no_limit dir name =
       at_name-no_limit (rmdir_at S cred dir name) dir name (λ number inode led there.
       let becomes : Attempt = Becomes (swept (without_name S dir name)) number in
@@ -213,17 +212,19 @@ module _ (S : State) (cred : Caller) (moment : ℕ) (lawful : IsLawful S) where
       choose (not (is_empty S number)) (Refuse ENOTEMPTY) becomes refl (λ empty.
       granted-rmdir dir name number inode led there (true-from_not inode.dir directory)))))
 
-  in_reached-no_limit : (try : ℕ → List ℕ → Attempt) → ((dir : ℕ) (name : List ℕ) → NoLimit (try dir name)) → (name : List ℕ) (r : Result ℕ Refusal)
-      → Plain r → NoLimit (in_reached try name r)
-  in_reached-no_limit try each name (Err e) plain = plain
-  in_reached-no_limit try each name (Ok dir) plain = each dir name
+  in_reached-no_limit : (try : ℕ → List ℕ → Attempt) (name : List ℕ) (r : Result ℕ Refusal) → Plain r
+      → ((dir : ℕ) → r ≡ Ok dir → NoLimit (try dir name)) → NoLimit (in_reached try name r)
+  in_reached-no_limit try name (Err e) plain each = plain
+  in_reached-no_limit try name (Ok dir) plain each = each dir refl
 
-  under-no_limit : (of_root : Refusal) (try : ℕ → List ℕ → Attempt) → is_for_limits of_root ≡ false → ((dir : ℕ) (name : List ℕ) → NoLimit (try dir name))
+  pub under-no_limit : (of_root : Refusal) (try : ℕ → List ℕ → Attempt) → is_for_limits of_root ≡ false
+      → ((dir : ℕ) (name : List ℕ) → is_directory S dir ≡ true → NoLimit (try dir name))
       → (names : List (List ℕ)) (o : Option (List ℕ)) → NoLimit (under S of_root try names o)
   under-no_limit of_root try plain each names None = plain
   under-no_limit of_root try plain each names (Some name) =
-      in_reached-no_limit try each name (place S names)
+      in_reached-no_limit try name (place S names)
       (as_directory-plain (walk S (take (length names - 1) names)) (walk-plain (Ok ROOT) (take (length names - 1) names) tt))
+      (λ dir placed. each dir name (as_directory-ok S (walk S (take (length names - 1) names)) dir placed))
 
   -- what is wrong with a call as it is written is no limit
   written-no_limit : (bad long : Bool) (a : Attempt) → NoLimit a
@@ -232,18 +233,7 @@ module _ (S : State) (cred : Caller) (moment : ℕ) (lawful : IsLawful S) where
   written-no_limit false true a holds = refl
   written-no_limit false false a holds = holds
 
-  no_limit : (call : Call) → NoLimit (attempt_of S cred call) → RefusesForNoLimit S cred moment call
+  pub no_limit : (call : Call) → NoLimit (attempt_of S cred call) → RefusesForNoLimit S cred moment call
   no_limit call holds =
       settle-no_limit (attempt S cred moment call)
       (written-no_limit (is_invalid S cred moment call) (list_any is_too_long (paths_of call)) (attempt_of S cred call) holds)
-
-pub giving_back_is_granted : GivingBackIsGranted
-giving_back_is_granted S cred moment path lawful = (
-  (λ size. no_limit S cred moment lawful (Truncate path size) (truncate-no_limit S cred moment lawful path size)),
-  no_limit S cred moment lawful (Unlink path)
-      (under-no_limit S cred moment lawful EISDIR (unlink_as S cred) refl (unlink-no_limit S cred moment lawful) (components path)
-      (last_name (components path))),
-  no_limit S cred moment lawful (Rmdir path)
-      (under-no_limit S cred moment lawful EBUSY (rmdir_as S cred) refl (rmdir-no_limit S cred moment lawful) (components path)
-      (last_name (components path))),
-)

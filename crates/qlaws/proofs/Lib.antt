@@ -31,6 +31,7 @@ pub mod Replacing
 pub mod Losing
 pub mod Removing
 pub mod GivingBack
+pub mod FreeNames
 pub mod Linking
 pub mod Relinking
 pub mod Bounding

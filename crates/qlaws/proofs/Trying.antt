@@ -23,7 +23,7 @@ ok_parts true d dir h = (refl, cc)
 ok_parts false d dir h = cc
 
 -- a number reached as a directory is one
-as_directory-ok : (S : State) (r : Result ℕ Refusal) (dir : ℕ) → as_directory S r ≡ Ok dir → is_directory S dir ≡ true
+pub as_directory-ok : (S : State) (r : Result ℕ Refusal) (dir : ℕ) → as_directory S r ≡ Ok dir → is_directory S dir ≡ true
 as_directory-ok S (Err e) dir h = cc
 as_directory-ok S (Ok d) dir h =
     let parts : (is_directory S d ≡ true) × (d ≡ dir) = ok_parts (is_directory S d) d dir h in

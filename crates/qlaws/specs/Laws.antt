@@ -13,7 +13,7 @@ use Rattle.qrules.specs.Grace.{with_ends, with_limits}
 use Rattle.qrules.specs.declared.limits.Limits.{Limits}
 use Rattle.qblocks.specs.File.{empty_file}
 use Rattle.qplain.specs.declared.call.Call.{Call}
-use Rattle.qplain.specs.declared.call.Call.TheVariants.{Truncate, Unlink, Rmdir}
+use Rattle.qplain.specs.declared.call.Call.TheVariants.{Truncate, Link, Unlink, Rmdir, Rename}
 use Rattle.qplain.specs.declared.refusal.Refusal.{Refusal}
 use Rattle.qplain.specs.declared.refusal.Refusal.TheVariants.{ENOSPC, EDQUOT}
 use Rattle.qplain.specs.declared.reply.Reply.TheVariants.{Refused}
@@ -129,11 +129,14 @@ abbrev pub RefusesForNoLimit : State → Caller → ℕ → Call → Type 0
 RefusesForNoLimit S cred moment call =
     (r : Refusal) → (step S cred moment call).1 ≡ Refused r → is_for_limits r ≡ false
 
--- whoever is over a limit may give back: no truncation, no unlink and no rmdir is refused for a limit
+-- whoever is over a limit may give back, and names cost nothing: no truncation, no unlink, no rmdir, no link and no
+-- rename is refused for a limit
 abbrev pub GivingBackIsGranted : Type 0
 GivingBackIsGranted = (S : State) (cred : Caller) (moment : ℕ) (path : List ℕ) → IsLawful S
     → ((size : ℕ) → RefusesForNoLimit S cred moment (Truncate path size))
     × RefusesForNoLimit S cred moment (Unlink path) × RefusesForNoLimit S cred moment (Rmdir path)
+    × ((to : List ℕ) → RefusesForNoLimit S cred moment (Link path to))
+    × ((to : List ℕ) → RefusesForNoLimit S cred moment (Rename path to))
 
 -- in a lawful state the users' uses add up to the totals, and so do the groups'
 abbrev pub UsesAddUp : Type 0

@@ -20,8 +20,8 @@ pub fn limits_hold()
     ensures { LimitsHold }
 {}
 
-/// From a lawful state no truncation, no unlink and no rmdir is refused for want of space or of quota: whoever is over
-/// a limit may give back.
+/// From a lawful state no truncation, no unlink, no rmdir, no link and no rename is refused for want of space or of
+/// quota: whoever is over a limit may give back, and names cost nothing.
 pub fn giving_back_is_granted()
     ensures { GivingBackIsGranted }
 {}

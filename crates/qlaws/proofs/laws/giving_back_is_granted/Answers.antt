@@ -1,4 +1,4 @@
-use Rattle.qlaws.proofs.GivingBack.{giving_back_is_granted}
+use Rattle.qlaws.proofs.FreeNames.{giving_back_is_granted}
 use Rattle.qlaws.proofs.laws.giving_back_is_granted.Goals as goal
 
 pub returns : goal.returns
