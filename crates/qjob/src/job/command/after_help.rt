@@ -3,12 +3,16 @@
 pub(crate) const AFTER_HELP: &str = "\
 A line of a script is MOMENT UID:GID[,GROUP..] CALL. The calls:
   create PATH
+  mkdir PATH
   write PATH OFFSET DATA
   fill PATH OFFSET COUNT BYTE
   truncate PATH SIZE
   read PATH OFFSET LENGTH
   stat PATH
+  link FROM TO
   unlink PATH
+  rmdir PATH
+  rename FROM TO
   chown PATH UID GID
   setquota KIND ID BSOFT BHARD ISOFT IHARD
   setgrace BLOCK INODE
