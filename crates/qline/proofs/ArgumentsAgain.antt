@@ -64,7 +64,7 @@ owner_word None is = refl
 owner_word (Some id) is = id_word id is
 
 -- digits are no dash
-digits_lack_dash : (w : List ℕ) → list_all is_ascii_digit w ≡ true → bytes_eq w (codes "-") ≡ false
+pub digits_lack_dash : (w : List ℕ) → list_all is_ascii_digit w ≡ true → bytes_eq w (codes "-") ≡ false
 digits_lack_dash [] all = refl
 digits_lack_dash (b ∷ w) all = grind (arith, nat_tests)
 

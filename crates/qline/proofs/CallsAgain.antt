@@ -47,7 +47,7 @@ call_word (Quota kind id) fits = (refl, (kind_word kind, (id_word id fits, tt)))
 pub any_number : (n : ℕ) → n < 2 ^ 64 → number (decimal n) ≡ Ok n
 any_number n lt = number_again BadNumber (2 ^ 64 - 1) n lt (omega arith)
 
-limits_again : (l : Limits) → AreLimits l → limits_of (decimal l.block_soft) (decimal l.block_hard) (decimal l.inode_soft) (decimal l.inode_hard) ≡ Ok l
+pub limits_again : (l : Limits) → AreLimits l → limits_of (decimal l.block_soft) (decimal l.block_hard) (decimal l.inode_soft) (decimal l.inode_hard) ≡ Ok l
 unfolding limits_of
 limits_again l fits = rw (
   any_number l.block_soft fits.block_soft,

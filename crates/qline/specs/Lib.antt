@@ -1,7 +1,9 @@
--- In reading order: callers, arguments, verbs, calls; how they are spelled out; replies.
+-- In reading order: callers, arguments, verbs, calls; how they are spelled out; replies, written, read and spelled out.
 pub mod Callers
 pub mod Arguments
 pub mod Verbs
 pub mod Calls
 pub mod Spelling
 pub mod Replies
+pub mod RepliesRead
+pub mod RepliesSpelled

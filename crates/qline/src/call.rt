@@ -100,7 +100,7 @@ fn chown_of<'a>(
 }
 
 #[tactic(auto, unfolding(crate::specs::Calls::limits_of))]
-fn limits_of(
+pub(crate) fn limits_of(
     block_soft: &[u8],
     block_hard: &[u8],
     inode_soft: &[u8],

@@ -1,9 +1,10 @@
-//! Calls, their callers and their replies as words: callers and calls read, replies written.
+//! Calls, their callers and their replies as words: all three read, and replies written.
 #![tactic(auto)]
 
 pub use call::{MAX_FILL, call_in};
 pub use caller::caller_of;
 pub use paths::Paths;
+pub use reply::reply_in;
 pub use reply_text::{REPLY_PLACE, put_reply};
 
 mod argument;
@@ -11,5 +12,7 @@ mod call;
 mod caller;
 mod path_call;
 mod paths;
+mod reply;
 mod reply_text;
+mod reply_word;
 mod verb;

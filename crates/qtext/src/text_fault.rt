@@ -36,6 +36,9 @@ pub enum TextKind {
     /// There was not enough memory, whatever the text says.
     #[error("memory")]
     Memory,
+    /// What stands behind the arguments of a journaled call is not `=>` and a reply.
+    #[error("bad reply")]
+    BadReply,
 }
 
 impl TextKind {
@@ -54,6 +57,7 @@ impl TextKind {
             TextKind::BadHex => 38,
             TextKind::TooMany => 39,
             TextKind::Memory => 40,
+            TextKind::BadReply => 45,
         }
     }
 
@@ -72,6 +76,7 @@ impl TextKind {
             TextKind::BadHex => "bad hex",
             TextKind::TooMany => "too many lines",
             TextKind::Memory => "memory",
+            TextKind::BadReply => "bad reply",
         }
     }
 }
