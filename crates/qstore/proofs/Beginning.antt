@@ -10,9 +10,10 @@ use Rattle.qplain.specs.State.{State, root, start}
 use Rattle.qplain.specs.Use.{links_of}
 use Rattle.qlaws.proofs.Start.{start_is_lawful}
 use Rattle.qledger.specs.Books.{AreBooksOf, AreInRange}
-use Rattle.qstore.specs.Kept.{AreLinks, IsCounted, state_of}
+use Rattle.qchange.specs.Trees.{AreLinks}
+use Rattle.qstore.specs.Kept.{IsCounted, state_of}
 use Rattle.qstore.specs.declared.store.Store.TheInside.{Inside}
-use Rattle.qstore.proofs.Making.{InOrder}
+use Rattle.qchange.proofs.Making.{InOrder}
 
 -- the root directory has the links of a directory with no name in it
 links-by : (s : Setting) (number : ℕ) (b : Bool)

@@ -32,7 +32,7 @@ use Rattle.qstore.specs.Kept.{state_of, stored_of}
 use Rattle.qstore.specs.FileTypes.{inode_new}
 use Rattle.qstore.specs.Targets.{IsTarget}
 use Rattle.qstore.specs.Decided.{IsAsked, IsClaimed, IsWhole}
-use Rattle.qstore.specs.Ready.{altered, altered_at}
+use Rattle.qchange.specs.Changes.{altered, altered_at}
 use Rattle.qstore.specs.Stored.{IsSameStore, Stored}
 use Rattle.qstore.proofs.Deciding.{asked-for, claimed, claimed-again, unclaimed}
 

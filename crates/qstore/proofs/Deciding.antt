@@ -33,9 +33,10 @@ use Rattle.qledger.proofs.Booked.{claim-weight}
 use Rattle.qstore.specs.declared.ready.Decided.{Decided}
 use Rattle.qstore.specs.declared.ready.Plan.{Plan}
 use Rattle.qstore.specs.declared.ready.Plan.TheVariants.{Nothing, Change, Limits as SetLimits}
-use Rattle.qstore.specs.declared.ready.TreeChange.{TreeChange}
+use Rattle.qchange.specs.declared.tree_change.TreeChange.{TreeChange}
 use Rattle.qstore.specs.Decided.{IsAsked, IsBilled, IsClaimed, IsDecided, IsUnbilled, IsWhole}
-use Rattle.qstore.specs.Ready.{CanCarryOut, CanChange, IsRefused, billed, changed, effect}
+use Rattle.qstore.specs.Ready.{CanCarryOut, IsRefused, billed, effect}
+use Rattle.qchange.specs.Changes.{CanChange, changed}
 use Rattle.qstore.specs.Stored.{IsSameStore, Stored}
 use Rattle.qstore.specs.Told.{told}
 

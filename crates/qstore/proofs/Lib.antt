@@ -1,8 +1,6 @@
--- What the proofs of more than one file share: of walks, of what is written, of link counts, then of stores.
+-- What the proofs of more than one file share: of walks, of what is written, then of stores.
 pub mod Walks
 pub mod Arguments
-pub mod Links
-pub mod Making
 pub mod Beginning
 pub mod Settling
 pub mod Steps
@@ -10,10 +8,6 @@ pub mod Listed
 pub mod Deciding
 pub mod Calls
 pub mod Directories
-pub mod ParentLinks
 pub mod FurtherNames
 pub mod Renamed
 pub mod Replaced
-pub mod Recounts
-pub mod Renamings
-pub mod RenamedTrees

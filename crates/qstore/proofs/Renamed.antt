@@ -15,8 +15,8 @@ use Rattle.qlaws.specs.Laws.{IsLawful}
 use Rattle.qlaws.proofs.Bounding.{too_many-renamed}
 use Rattle.qlaws.proofs.Relinking.{links_of-moved-file, links_of-moved-to, links_of-moved-within}
 use Rattle.qstore.specs.Faults.{adds_too_many, rename_fault}
-use Rattle.qstore.proofs.Directories.{directory-there}
-use Rattle.qstore.proofs.FurtherNames.{links-bounded}
+use Rattle.qchange.proofs.Directories.{directory-there}
+use Rattle.qchange.proofs.FurtherNames.{links-bounded}
 
 -- ---- the links that are asked
 

@@ -1,36 +1,15 @@
--- What a name in place of another replaces: that it is there, and what goes of it.
-use Rattle.std.proofs.Common.{◌≡◌, ℕ, ◌+◌, ◌^◌, ◌<◌, ◌≤◌, ◌==◌, ⊎_elim, true, false, not, is_some, List, Option, Some, None, refl, sym, ap, subst, ◌∙◌, arith}
-use Rattle.std.specs.BTreeMap.{is_at}
-use Rattle.std.proofs.lemmas.Bool.{and_parts, cases_lt}
+-- What goes of the inode that a name in place of another replaces.
+use Rattle.std.proofs.Common.{◌≡◌, ℕ, ◌+◌, ◌^◌, ◌<◌, ◌≤◌, ◌==◌, ⊎_elim, true, false, not, List, Option, Some, None, sym, ap, subst, ◌∙◌, arith}
+use Rattle.std.proofs.lemmas.Bool.{cases_lt}
 use Rattle.qrules.specs.Sort.{Blocks}
 use Rattle.qplain.specs.Renames.{passes, renamed}
-use Rattle.qplain.specs.State.{Inode, State, inode_at, is_directory, name_key_cmp, named}
+use Rattle.qplain.specs.State.{Inode, inode_at, is_directory, named}
 use Rattle.qplain.specs.Use.{is_empty, links_of, names_to, weight}
-use Rattle.qlaws.specs.Laws.{IsLawful, leads}
-use Rattle.qlaws.proofs.Finding.{found-key}
 use Rattle.qlaws.proofs.Renaming.{Replaces-held_on, Replaces-moved, Replaces-replaced, names_to-target, one_name-replaced}
 use Rattle.qledger.specs.declared.claim.Claim.{Claim}
 use Rattle.qstore.specs.Decided.{IsAsked, IsClaimed, IsWhole}
 use Rattle.qstore.specs.Stored.{Stored}
 use Rattle.qstore.proofs.Deciding.{asked-for, unclaimed}
-
--- a name leads to an inode that is there
-pub led-there : {A : Type 0} (S : State) (lawful : IsLawful S) (dir : ℕ) (name : List ℕ) (number : ℕ) → named S dir name ≡ Some number
-    → inode_at S number ≡ None → A
-led-there S lawful dir name number led none =
-    let key = found-key (λ e. leads S e ≡ true) (is_at (name_key_cmp (dir, name))) S.names number lawful.parts.names.lead led in
-    let some : is_some (inode_at S number) ≡ true = (and_parts (is_directory S key.0.0) (is_some (inode_at S number)) key.2).1 in
-    let no : is_some (inode_at S number) ≡ false = ap is_some none in
-    cc
-
--- which is some
-pub led-inode : (S : State) (lawful : IsLawful S) (dir : ℕ) (name : List ℕ) (number : ℕ) → named S dir name ≡ Some number
-    → (inode : Inode) × inode_at S number ≡ Some inode
-led-inode S lawful dir name number led = by (inode_at S number) refl
-  where
-    by : (o : Option Inode) → inode_at S number ≡ o → (inode : Inode) × inode_at S number ≡ Some inode
-    by None none = led-there S lawful dir name number led none
-    by (Some inode) there = (inode, there)
 
 module _ (s : Stored) (whole : IsWhole s) (dir : ℕ) (name : List ℕ) (number : ℕ) (inode : Inode) (to_dir : ℕ) (to_name : List ℕ)
     (led : named s.state dir name ≡ Some number) (there : inode_at s.state number ≡ Some inode) (stands : is_directory s.state to_dir ≡ true)

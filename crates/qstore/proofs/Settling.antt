@@ -7,11 +7,13 @@ use Rattle.qledger.specs.Bills.{settled}
 use Rattle.qledger.specs.Books.{AreBooksOf, AreInRange, Books}
 use Rattle.qledger.specs.KeptHolders.{holders_in}
 use Rattle.qledger.proofs.Booked.{in_range-settled}
-use Rattle.qstore.specs.declared.ready.TreeChange.{TreeChange}
-use Rattle.qstore.specs.declared.ready.TreeChange.TheVariants.{Create, Mkdir, Write, Truncate, Unlink, Rmdir, Link, Rename, Chown}
+use Rattle.qchange.specs.declared.tree_change.TreeChange.{TreeChange}
+use Rattle.qchange.specs.declared.tree_change.TreeChange.TheVariants.{Create, Mkdir, Write, Truncate, Unlink, Rmdir, Link, Rename, Chown}
 use Rattle.qstore.specs.declared.store.Store.TheInside.{Inside}
-use Rattle.qstore.specs.Kept.{AreLinks, IsCounted, IsTreeOf, state_of, stored_of}
-use Rattle.qstore.specs.Ready.{CanSettle, altered_at, billed, changed}
+use Rattle.qchange.specs.Trees.{AreLinks, IsTreeOf}
+use Rattle.qstore.specs.Kept.{IsCounted, state_of, stored_of}
+use Rattle.qstore.specs.Ready.{CanSettle, billed}
+use Rattle.qchange.specs.Changes.{altered_at, changed}
 use Rattle.qstore.specs.Stored.{IsSound, Stored}
 
 -- what no change of inodes and names touches

@@ -1,14 +1,11 @@
 -- How a store keeps its state: which counts it holds beside it, and that they are the recounted ones. No public clause
 -- cites this module.
-use Rattle.std.specs.Prelude.{◌≡◌, ℕ, List}
-use Rattle.std.specs.Option.{option_map}
+use Rattle.std.specs.Prelude.{ℕ, List}
 use Rattle.std.specs.Ordering.{nat_cmp}
-use Rattle.std.specs.BTreeMap.{is_at}
 use Rattle.std.specs.List.Sorted.{IsStrictlySortedBy}
-use Rattle.std.specs.Map.{keys_of, lookup}
-use Rattle.qplain.specs.State.{State, inode_at}
-use Rattle.qplain.specs.Use.{links_of}
-use Rattle.qtree.specs.Tree.{RoomyTree}
+use Rattle.std.specs.Map.{keys_of}
+use Rattle.qplain.specs.State.{State}
+use Rattle.qchange.specs.Trees.{AreLinks}
 use Rattle.qledger.specs.Books.{AreBooksOf, AreInRange, Books}
 use Rattle.qledger.specs.KeptHolders.{holders_in}
 use Rattle.qstore.specs.declared.store.Store.TheInside.{Inside}
@@ -30,19 +27,6 @@ state_of a = record {
 -- what a caller sees of a store
 abbrev pub stored_of : Inside → Stored
 stored_of a = record { state = state_of a; room = a.tree.room; books = a.accounts; bill = a.bill }
-
--- the link counts are those of the inodes that are there
-abbrev pub AreLinks : State → List (ℕ × ℕ) → Type 0
-AreLinks S links =
-    (number : ℕ) → lookup (is_at (nat_cmp number)) links
-    ≡ option_map (λ inode. links_of S number inode.dir) (inode_at S number)
-
--- the tree has the state's inodes and names, and keeps their link counts in the order of the numbers
-pub record IsTreeOf (S : State) (tree : RoomyTree) : Type 0 where
-  pub inodes : tree.inodes ≡ S.inodes
-  pub names : tree.names ≡ S.names
-  pub links : AreLinks S tree.links
-  pub in_order : IsStrictlySortedBy nat_cmp (keys_of tree.links)
 
 -- the state is sound, and what is kept beside it is what it counts to: the books, and each inode's links in order
 pub record IsCounted (S : State) (b : Books) (kept : List (ℕ × ℕ)) : Type 0 where

@@ -9,4 +9,3 @@ pub mod Decided
 pub mod Targets
 pub mod FileTypes
 pub mod Kept
-pub mod Moves

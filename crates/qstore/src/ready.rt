@@ -2,73 +2,10 @@
 ghost use Rattle.std.specs.Prelude.{◌≡◌};
 ghost use Rattle.qstore.specs.Told.{told};
 
-use qblocks::Spare;
+use qchange::TreeChange;
 use qledger::{Claim, change_of};
-use qplain::{Data, Path, Refusal, Reply};
+use qplain::{Data, Refusal, Reply};
 use qrules::Graces;
-
-/// A change of inodes and names, for which all room is made.
-#[derive(Drop)]
-pub(crate) enum TreeChange {
-    /// An empty file is to stand in the directory.
-    Create {
-        dir: u64,
-        name: String,
-        uid: u32,
-        gid: u32,
-    },
-    /// An empty directory is to stand in the directory.
-    Mkdir {
-        dir: u64,
-        name: String,
-        uid: u32,
-        gid: u32,
-    },
-    /// The call's bytes are to be written.
-    Write {
-        number: u64,
-        off: u64,
-        spare: Spare,
-    },
-    /// A file is to have another size.
-    Truncate {
-        number: u64,
-        size: u64,
-    },
-    /// The last name of the path is to go out of the directory, and the file with it, if it has no other.
-    Unlink {
-        dir: u64,
-        path: Path,
-        number: u64,
-    },
-    /// The last name of the path is to go out of the directory, and the empty directory that has it.
-    Rmdir {
-        dir: u64,
-        path: Path,
-        number: u64,
-    },
-    /// A file gets a further name.
-    Link {
-        dir: u64,
-        name: String,
-        number: u64,
-    },
-    /// The last name of the path is to go out of the directory, and what has it gets another name, in place of what
-    /// had that.
-    Rename {
-        dir: u64,
-        path: Path,
-        to_dir: u64,
-        to_name: String,
-        number: u64,
-    },
-    /// An inode gets other owners.
-    Chown {
-        number: u64,
-        uid: u32,
-        gid: u32,
-    },
-}
 
 /// What a granted call still has to do.
 #[derive(Drop)]

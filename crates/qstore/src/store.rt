@@ -33,7 +33,6 @@ mod quota;
 mod read;
 mod rename;
 mod rename_fault;
-mod replacement;
 mod rights;
 mod rmdir;
 mod rows;

@@ -8,10 +8,11 @@ ghost use Rattle.qledger.specs.Books.{HasSlots};
 ghost use Rattle.qstore.specs.Decided.{IsDecided, IsWhole};
 ghost use Rattle.qstore.specs.Stored.{IsSameStore};
 
-use crate::ready::{Decided, TreeChange};
+use crate::ready::Decided;
 use crate::store::Store;
 use crate::store::rights::may_give;
 use crate::store::walk::Found;
+use qchange::TreeChange;
 use qledger::Slots;
 use qplain::{Cred, Refusal};
 use qrules::MAX_MOMENT;

@@ -10,11 +10,12 @@ ghost use Rattle.qplain.specs.Attempt.{Becomes};
 ghost use Rattle.qtree.specs.Nodes.{inode_of};
 ghost use Rattle.qledger.specs.Books.{HasSlots};
 ghost use Rattle.qstore.specs.Decided.{IsAsked, IsBilled, IsClaimed, IsDecided, IsUnbilled, IsWhole};
-ghost use Rattle.qstore.specs.Ready.{CanChange, changed};
+ghost use Rattle.qchange.specs.Changes.{CanChange, changed};
 ghost use Rattle.qstore.specs.Stored.{IsSameStore};
 
-use crate::ready::{Decided, TreeChange};
+use crate::ready::Decided;
 use crate::store::Store;
+use qchange::TreeChange;
 use qledger::{Claim, Slots};
 use qplain::{Cred, MAX_BLOCKS, Refusal};
 use qrules::{Kind, MAX_MOMENT};

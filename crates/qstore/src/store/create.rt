@@ -10,12 +10,14 @@ ghost use Rattle.qtree.specs.Room.{Room};
 ghost use Rattle.qledger.specs.Books.{HasSlots};
 ghost use Rattle.qstore.specs.Decided.{IsDecided, IsWhole};
 ghost use Rattle.qstore.specs.FileTypes.{inode_new};
-ghost use Rattle.qstore.specs.Ready.{CanChange, CanCreate, IsRefused, changed};
+ghost use Rattle.qchange.specs.Changes.{CanChange, CanCreate, changed};
+ghost use Rattle.qstore.specs.Ready.{IsRefused};
 ghost use Rattle.qstore.specs.Stored.{IsSameStore};
 
 use crate::file_type::FileType;
-use crate::ready::{Decided, TreeChange};
+use crate::ready::Decided;
 use crate::store::Store;
+use qchange::TreeChange;
 use qledger::{Claim, Slots};
 use qplain::{Cred, NoMemory, Refusal};
 use qrules::MAX_MOMENT;

@@ -8,12 +8,14 @@ ghost use Rattle.qplain.specs.Step.{settle};
 ghost use Rattle.qtree.specs.Nodes.{is_dir_content};
 ghost use Rattle.qstore.specs.Decided.{IsDecided, IsWhole};
 ghost use Rattle.qstore.specs.Faults.{link_fault};
-ghost use Rattle.qstore.specs.Ready.{IsFile, IsRefused};
+ghost use Rattle.qchange.specs.Changes.{IsFile};
+ghost use Rattle.qstore.specs.Ready.{IsRefused};
 ghost use Rattle.qstore.specs.Stored.{IsSameStore};
 
-use crate::ready::{Decided, TreeChange};
+use crate::ready::Decided;
 use crate::store::Store;
 use crate::store::walk::Found;
+use qchange::TreeChange;
 use qplain::{Cred, MAX_LINKS, NoMemory, Refusal};
 use qrules::MAX_MOMENT;
 use qtree::{Content, Node};

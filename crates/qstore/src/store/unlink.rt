@@ -10,12 +10,15 @@ ghost use Rattle.qtree.specs.Room.{Room};
 ghost use Rattle.qledger.specs.Books.{HasSlots};
 ghost use Rattle.qstore.specs.Decided.{IsAsked, IsDecided, IsWhole};
 ghost use Rattle.qstore.specs.FileTypes.{CanRemove};
-ghost use Rattle.qstore.specs.Ready.{CanChange, IsRefused, changed, name_in};
+ghost use Rattle.qchange.specs.Changes.{CanChange, changed};
+ghost use Rattle.qstore.specs.Ready.{IsRefused};
+ghost use Rattle.qpath.specs.Paths.{name_in};
 ghost use Rattle.qstore.specs.Stored.{IsSameStore};
 
 use crate::file_type::FileType;
-use crate::ready::{Decided, TreeChange};
+use crate::ready::Decided;
 use crate::store::Store;
+use qchange::TreeChange;
 use qledger::{Claim, Slots};
 use qplain::{Cred, NoMemory, Path, Refusal};
 use qrules::MAX_MOMENT;

@@ -8,7 +8,7 @@ ghost use Rattle.qplain.specs.State.{Inode, inode_at, is_directory, named};
 ghost use Rattle.qplain.specs.Use.{links_of};
 ghost use Rattle.qplain.specs.Attempt.{Attempt, Refuse, at_path, in_place};
 ghost use Rattle.qtree.specs.Nodes.{inode_of};
-ghost use Rattle.qstore.specs.Ready.{name_in};
+ghost use Rattle.qpath.specs.Paths.{name_in};
 ghost use Rattle.qstore.specs.Paths.{parent};
 
 use crate::store::Store;

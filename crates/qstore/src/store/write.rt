@@ -10,10 +10,11 @@ ghost use Rattle.qstore.specs.Ready.{IsRefused};
 ghost use Rattle.qstore.specs.Stored.{IsSameStore};
 ghost use Rattle.qstore.specs.Targets.{IsTarget};
 
-use crate::ready::{Decided, TreeChange};
+use crate::ready::Decided;
 use crate::store::Store;
 use crate::store::rights::may_write;
 use crate::store::walk::Found;
+use qchange::TreeChange;
 use qledger::{Claim, Slots};
 use qplain::{Cred, Data, MAX_DATA, NO_CHANGE, NoMemory, Refusal, Reply};
 use qrules::MAX_MOMENT;

@@ -8,7 +8,8 @@ use Rattle.qplain.specs.State.{inode_at}
 use Rattle.qplain.specs.Step.{settle}
 use Rattle.qplain.specs.Walk.{components}
 use Rattle.qstore.specs.Decided.{IsDecided}
-use Rattle.qstore.specs.Ready.{IsRefused, name_in}
+use Rattle.qstore.specs.Ready.{IsRefused}
+use Rattle.qpath.specs.Paths.{name_in}
 use Rattle.qstore.proofs.Deciding.{decided-answered}
 use Rattle.qstore.proofs.Renamed.{rename-own, some-inode}
 use Rattle.qstore.proofs.store.Store.decide_rename.Goals as goal

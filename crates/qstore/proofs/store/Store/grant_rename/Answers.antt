@@ -3,7 +3,8 @@ use Rattle.qplain.specs.Renames.{renamed}
 use Rattle.qplain.specs.State.{State}
 use Rattle.qstore.specs.Decided.{IsBilled}
 use Rattle.qstore.specs.Kept.{stored_of}
-use Rattle.qstore.specs.Ready.{CanRename, name_in}
+use Rattle.qchange.specs.Changes.{CanRename}
+use Rattle.qpath.specs.Paths.{name_in}
 use Rattle.qstore.specs.Stored.{Stored}
 use Rattle.qstore.proofs.Calls.{same-with_room}
 use Rattle.qstore.proofs.Deciding.{decided-billed, decided-unbilled}
@@ -38,8 +39,9 @@ returns-clause-decided c =
     (subst (λ (v : Stored). IsBilled s v.bill x.cred.now x.moment x.claim x.left 0) (sym c.self.view_is) c.in-Ok.ensures.granted)
     (λ i. renamed s.state new.dir (name i) new.to.dir (to_name i) new.number)
     (let can = c.requires.can tree.room c.in_ok-make_name_room.ensures.room in
+    let copied = string_bytes c.in_ok-to_name.to_name in
     (λ (S : State) (same_state : S ≡ s.state).
-    subst (λ (T : State). CanRename T tree.room new.dir (name_in c.in_ok-path.path) new.to.dir (string_bytes c.in_ok-to_name.to_name) new.number) (sym same_state)
-    (subst (λ n. CanRename s.state tree.room new.dir n new.to.dir (string_bytes c.in_ok-to_name.to_name) new.number) (sym name)
+    subst (λ (T : State). CanRename T tree.room new.dir (name_in c.in_ok-path.path) new.to.dir copied new.number) (sym same_state)
+    (subst (λ n. CanRename s.state tree.room new.dir n new.to.dir copied new.number) (sym name)
     (subst (λ n. CanRename s.state tree.room new.dir (name_in x.from.now) new.to.dir n new.number) (sym to_name) can))) _ same.state)
     c.granted.ensures.reply c.granted.ensures.plan

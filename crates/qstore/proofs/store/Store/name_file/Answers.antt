@@ -3,7 +3,7 @@ use Rattle.qplain.specs.Names.{with_name}
 use Rattle.qplain.specs.State.{State, is_directory, named}
 use Rattle.qstore.specs.Decided.{IsBilled}
 use Rattle.qstore.specs.Kept.{stored_of}
-use Rattle.qstore.specs.Ready.{IsFile}
+use Rattle.qchange.specs.Changes.{IsFile}
 use Rattle.qstore.specs.Stored.{Stored}
 use Rattle.qstore.proofs.Calls.{same-with_room}
 use Rattle.qstore.proofs.Deciding.{decided-billed}

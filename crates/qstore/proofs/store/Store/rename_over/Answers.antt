@@ -8,7 +8,8 @@ use Rattle.qplain.specs.Use.{is_empty}
 use Rattle.qplain.specs.Walk.{components}
 use Rattle.qtree.specs.Nodes.{inode_of}
 use Rattle.qstore.specs.Decided.{IsDecided}
-use Rattle.qstore.specs.Ready.{IsRefused, name_in}
+use Rattle.qstore.specs.Ready.{IsRefused}
+use Rattle.qpath.specs.Paths.{name_in}
 use Rattle.qstore.proofs.Deciding.{decided-refused}
 use Rattle.qstore.proofs.Renamed.{rename-becomes, rename-refused, tests-passed}
 use Rattle.qstore.proofs.store.Store.rename_over.Goals as goal

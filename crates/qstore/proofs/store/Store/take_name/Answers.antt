@@ -7,7 +7,8 @@ use Rattle.qplain.specs.State.{inode_at}
 use Rattle.qplain.specs.Step.{settle}
 use Rattle.qtree.specs.Nodes.{inode_of, is_dir_content}
 use Rattle.qstore.specs.Decided.{IsAsked, IsDecided}
-use Rattle.qstore.specs.Ready.{CanUnlink, IsRefused}
+use Rattle.qchange.specs.Changes.{CanUnlink}
+use Rattle.qstore.specs.Ready.{IsRefused}
 use Rattle.qstore.proofs.Calls.{unlink-becomes, unlinked-asked}
 use Rattle.qstore.proofs.store.Store.take_name.Goals as goal
 

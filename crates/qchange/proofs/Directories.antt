@@ -1,0 +1,64 @@
+-- What stands at a number, and what a name leads to.
+use Rattle.std.proofs.Common.{◌≡◌, ℕ, ◌==◌, Bool, true, false, not, cond, is_some, List, [], ◌∷◌, Option, Some, None, refl, ap, arith, tests}
+use Rattle.std.specs.BTreeMap.{is_at}
+use Rattle.std.specs.List.{list_any}
+use Rattle.std.specs.Map.{lookup}
+use Rattle.std.proofs.lemmas.Bool.{and_parts, or_parts}
+use Rattle.qplain.specs.State.{Inode, NameKey, State, inode_at, is_dir, is_directory, name_key_cmp, named}
+use Rattle.qplain.specs.Use.{is_empty}
+use Rattle.qlaws.specs.Laws.{IsLawful, leads}
+use Rattle.qlaws.proofs.Finding.{found-key}
+use Rattle.qlaws.proofs.Sweeping.{key-dir}
+
+-- where a directory stands an inode does, which is one
+pub record IsThere (o : Option Inode) : Type 0 where
+  pub inode : Inode
+  pub there : o ≡ Some inode
+  pub directory : inode.dir ≡ true
+
+-- it is told from the inode
+pub directory-there : (o : Option Inode) → is_dir o ≡ true → IsThere o
+directory-there None stands = cc
+directory-there (Some inode) stands = record { inode = inode; there = refl; directory = stands }
+
+-- where no name stands in a directory, none is found in it
+pub none-in : (number : ℕ) (names : List (NameKey × ℕ)) → list_any (λ e. e.0.0 == number) names ≡ false → (name : List ℕ)
+    → lookup (is_at (name_key_cmp (number, name))) names ≡ None
+none-in number [] empty name = refl
+none-in number (e ∷ es) empty name =
+    let parts = or_parts (e.0.0 == number) (list_any (λ e. e.0.0 == number) es) empty in
+    by (is_at (name_key_cmp (number, name)) e.0) refl parts.0 (none-in number es parts.1 name)
+  where
+    by : (b : Bool) → is_at (name_key_cmp (number, name)) e.0 ≡ b → (e.0.0 == number) ≡ false → lookup (is_at (name_key_cmp (number, name))) es ≡ None
+        → cond b (Some e.1) (lookup (is_at (name_key_cmp (number, name))) es) ≡ None
+    by true at apart later =
+        let same : number ≡ e.0.0 = key-dir number name e.0 at in
+        let itself : (e.0.0 == number) ≡ true = grind (arith, tests, same) in
+        cc
+    by false at apart later = later
+
+-- the same of an empty inode
+pub empty-none : (S : State) (number : ℕ) → is_empty S number ≡ true → (name : List ℕ) → named S number name ≡ None
+empty-none S number empty name = none-in number S.names (false-from (list_any (λ e. e.0.0 == number) S.names) empty) name
+  where
+    false-from : (b : Bool) → not b ≡ true → b ≡ false
+    false-from true h = cc
+    false-from false h = refl
+
+-- a name leads to an inode that is there
+pub led-there : {A : Type 0} (S : State) (lawful : IsLawful S) (dir : ℕ) (name : List ℕ) (number : ℕ) → named S dir name ≡ Some number
+    → inode_at S number ≡ None → A
+led-there S lawful dir name number led none =
+    let key = found-key (λ e. leads S e ≡ true) (is_at (name_key_cmp (dir, name))) S.names number lawful.parts.names.lead led in
+    let some : is_some (inode_at S number) ≡ true = (and_parts (is_directory S key.0.0) (is_some (inode_at S number)) key.2).1 in
+    let no : is_some (inode_at S number) ≡ false = ap is_some none in
+    cc
+
+-- which is some
+pub led-inode : (S : State) (lawful : IsLawful S) (dir : ℕ) (name : List ℕ) (number : ℕ) → named S dir name ≡ Some number
+    → (inode : Inode) × inode_at S number ≡ Some inode
+led-inode S lawful dir name number led = by (inode_at S number) refl
+  where
+    by : (o : Option Inode) → inode_at S number ≡ o → (inode : Inode) × inode_at S number ≡ Some inode
+    by None none = led-there S lawful dir name number led none
+    by (Some inode) there = (inode, there)

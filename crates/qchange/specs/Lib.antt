@@ -1,0 +1,4 @@
+-- In reading order. A module that no public clause cites says so.
+pub mod Changes
+pub mod Trees
+pub mod Moves
