@@ -1,7 +1,7 @@
 """The scripts that `bench/program` counts: for each its name, its lines, the configuration under which they run, and
 what a program without proofs takes for such a script. Its figures were counted once, by the same counter, on scripts of
 the same kinds; these here are made so that the program of that day takes for them what it took for those, within a
-twentieth."""
+twentieth. That could not be tried of links and renames, which that program did not have yet."""
 
 from typing import NamedTuple
 
@@ -44,6 +44,15 @@ def stats_and_quotas(*more):
     """A file of 4 KiB looked at and a record asked for, in turn, and more calls."""
     first = f"{CALLER} create /file00001", f"{CALLER} fill /file00001 0 4096 ab"
     return repeated(f"{CALLER} stat /file00001", f"{CALLER} quota user 1000", *more, first=first)
+
+
+def links_and_renames(files=5_536):
+    """Links and renames in turn, each to a name that is not there: the files are linked one after the other, over and
+    over, and each further name is then another."""
+    further = [(i % files, i) for i in range((LINES - files) // 2)]
+    return [f"0 {CALLER} create /file{i:05}" for i in range(files)] + [
+        f"0 {CALLER} {call}" for file, name in further
+        for call in (f"link /file{file:05} /link{name:05}", f"rename /link{name:05} /name{name:05}")]
 
 
 def refusals():
@@ -125,6 +134,7 @@ def workloads():
     sixty_four = config([0, *range(1000, 1063)], [0, *range(2000, 2063)])
     return [
         Workload("60,000 creates, then 5,536 stats", creates(), two, 1_936, 25),
+        Workload("60,000 links and renames in one directory", links_and_renames(), two, 2_216, 0),
         Workload("stat /", repeated("0:0 stat /"), two, 1_103, 11),
         Workload("stats and quotas", stats_and_quotas(), two, 1_770, 15),
         Workload(".. a third of them reads of 64 bytes", stats_and_quotas(f"{CALLER} read /file00001 0 64"), two, 1_809, 16),

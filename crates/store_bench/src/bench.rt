@@ -182,4 +182,54 @@ impl Bench {
     pub(crate) fn unlink_1000(&mut self, calls: &[Call]) -> Result<Tally, NoMemory> {
         self.apply_all("unlinks of 1000 blocks", calls)
     }
+
+    #[inline(never)]
+    pub(crate) fn link(&mut self, calls: &[Call]) -> Result<Tally, NoMemory> {
+        self.apply_all("links", calls)
+    }
+
+    #[inline(never)]
+    pub(crate) fn unlink_further(&mut self, calls: &[Call]) -> Result<Tally, NoMemory> {
+        self.apply_all("unlinks of further names", calls)
+    }
+
+    #[inline(never)]
+    pub(crate) fn rename_free(&mut self, calls: &[Call]) -> Result<Tally, NoMemory> {
+        self.apply_all("renames onto nothing", calls)
+    }
+
+    #[inline(never)]
+    pub(crate) fn rename_over(&mut self, calls: &[Call]) -> Result<Tally, NoMemory> {
+        self.apply_all("renames over empty files", calls)
+    }
+
+    #[inline(never)]
+    pub(crate) fn mkdir(&mut self, calls: &[Call]) -> Result<Tally, NoMemory> {
+        self.apply_all("mkdirs", calls)
+    }
+
+    #[inline(never)]
+    pub(crate) fn rmdir(&mut self, calls: &[Call]) -> Result<Tally, NoMemory> {
+        self.apply_all("rmdirs", calls)
+    }
+
+    #[inline(never)]
+    pub(crate) fn move_empty(&mut self, calls: &[Call]) -> Result<Tally, NoMemory> {
+        self.apply_all("renames of an empty directory into another", calls)
+    }
+
+    #[inline(never)]
+    pub(crate) fn move_full(&mut self, calls: &[Call]) -> Result<Tally, NoMemory> {
+        self.apply_all("renames of a directory of 1000 files into another", calls)
+    }
+
+    #[inline(never)]
+    pub(crate) fn stat_near(&mut self, calls: &[Call]) -> Result<Tally, NoMemory> {
+        self.apply_all("stats of paths of a component", calls)
+    }
+
+    #[inline(never)]
+    pub(crate) fn stat_deep(&mut self, calls: &[Call]) -> Result<Tally, NoMemory> {
+        self.apply_all("stats of paths of 30 components", calls)
+    }
 }

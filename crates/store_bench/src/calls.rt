@@ -5,13 +5,22 @@ use qplain::{Call, Data, NoMemory, Path, Shared};
 use std::alloc::Global;
 use std::io;
 
-/// The path of a file of the root directory. The first has the number 10,000, so that all names are of one length.
-fn path_of(alloc: Global, file: u64) -> io::Result<Path> {
-    let text = format!(in alloc; "/f{}", file.wrapping_add(10_000))?;
+/// How the paths of the files begin.
+pub(crate) const FILES: &str = "/f";
+
+/// The path of this text.
+pub(crate) fn path(alloc: Global, text: &str) -> io::Result<Path> {
     match Path::new(alloc, text.as_bytes())? {
         Some(path) => Ok(path),
         None => Err(io::Error::from(io::ErrorKind::InvalidInput)),
     }
+}
+
+/// The path of what has this number among those whose paths begin so. The first has the number 10,000, so that all
+/// names are of one length.
+fn path_of(alloc: Global, prefix: &str, number: u64) -> io::Result<Path> {
+    let text = format!(in alloc; "{prefix}{}", number.wrapping_add(10_000))?;
+    path(alloc, &text)
 }
 
 /// One file after another, far from each other, and none twice before all were there once: the step is a prime, which
@@ -22,11 +31,11 @@ fn scattered(k: u64, files: u64) -> u64
     k.wrapping_mul(7919) % files
 }
 
-/// Creates of the files from `first` up to `end`.
-pub(crate) fn creates(alloc: Global, first: u64, end: u64) -> io::Result<Vec<Call>> {
+/// Creates of the files from `first` up to `end` whose paths begin so.
+pub(crate) fn creates(alloc: Global, prefix: &str, first: u64, end: u64) -> io::Result<Vec<Call>> {
     let mut calls = Vec::new(alloc);
     for file in first..end {
-        let path = path_of(alloc, file)?;
+        let path = path_of(alloc, prefix, file)?;
         calls.push(Call::Create { path })?;
     }
     Ok(calls)
@@ -38,7 +47,7 @@ pub(crate) fn stats(alloc: Global, count: u64, files: u64) -> io::Result<Vec<Cal
 {
     let mut calls = Vec::new(alloc);
     for k in 0..count {
-        let path = path_of(alloc, scattered(k, files))?;
+        let path = path_of(alloc, FILES, scattered(k, files))?;
         calls.push(Call::Stat { path })?;
     }
     Ok(calls)
@@ -46,7 +55,7 @@ pub(crate) fn stats(alloc: Global, count: u64, files: u64) -> io::Result<Vec<Cal
 
 fn write(alloc: Global, file: u64, off: u64, bytes: &[u8]) -> io::Result<Call> {
     Ok(Call::Write {
-        path: path_of(alloc, file)?,
+        path: path_of(alloc, FILES, file)?,
         off,
         bytes: Data::new(Shared::new(Vec::from_slice(alloc, bytes)?)?),
     })
@@ -69,9 +78,11 @@ pub(crate) fn writes(
     Ok(calls)
 }
 
-/// So many of the scattered files, from one of them on.
+/// So many of the scattered files, from one of them on, or as many other inodes.
 #[derive(Clone, Copy)]
 pub(crate) struct Chosen {
+    /// How their paths begin.
+    pub(crate) prefix: &'static str,
     pub(crate) first: u64,
     pub(crate) count: u64,
     /// How many files there are in all.
@@ -79,10 +90,11 @@ pub(crate) struct Chosen {
 }
 
 impl Chosen {
-    fn path(&self, alloc: Global, k: u64) -> io::Result<Path>
+    pub(crate) fn path(&self, alloc: Global, k: u64) -> io::Result<Path>
         requires { 1 ≤ self.now.files }
     {
-        path_of(alloc, scattered(self.first.wrapping_add(k), self.files))
+        let number = scattered(self.first.wrapping_add(k), self.files);
+        path_of(alloc, self.prefix, number)
     }
 }
 

@@ -5,14 +5,18 @@
 ghost use Rattle.std.specs.Prelude.{◌≤◌, IfOk};
 
 use crate::bench::{Bench, Tally};
-use crate::calls::{Chosen, creates, stats, writes};
+use crate::calls::{Chosen, FILES, creates, stats, writes};
 use crate::changes::{change_long, change_short, cut_blocks};
+use crate::directories::{change_directories, look_deep, move_directory};
+use crate::names::change_names;
 use std::alloc::Global;
 use std::io;
 
 mod bench;
 mod calls;
 mod changes;
+mod directories;
+mod names;
 mod setting;
 
 /// How many files the store has, where no argument says it.
@@ -27,10 +31,13 @@ const LAST: u64 = 100;
 /// How many calls of each other kind are made, if there are so many files.
 const CALLS: u64 = 1000;
 
-/// How many files are filled, given away and taken away, and how many are made long.
+/// How many files are filled, given away and taken away, or renamed, and how many are made long.
 const SHORT_FILES: u64 = 100;
 
 const LONG_FILES: u64 = 10;
+
+/// The first of the files that are renamed: those before it are taken away.
+const NAMED_FIRST: u64 = 200;
 
 /// The number of files that the first argument says.
 fn files_asked(words: &[String]) -> io::Result<u64>
@@ -59,8 +66,8 @@ fn make_files(rt: &impl Print, alloc: Global, bench: &mut Bench, files: u64) -> 
     requires { (1 ≤ files) × (files ≤ MOST_FILES) }
 {
     let most = files - files.min(LAST);
-    let first = creates(alloc, 0, most)?;
-    let last = creates(alloc, most, files)?;
+    let first = creates(alloc, FILES, 0, most)?;
+    let last = creates(alloc, FILES, most, files)?;
     say(rt, bench.create_first(&first)?)?;
     say(rt, bench.create_last(&last)?)
 }
@@ -83,13 +90,18 @@ fn change_files(rt: &impl Print, alloc: Global, bench: &mut Bench, files: u64) -
     requires { (1 ≤ files) × (files ≤ MOST_FILES) }
 {
     let chosen = |first: u64, count: u64| Chosen {
+        prefix: FILES,
         first,
         count: files.min(count),
         files,
     };
     cut_blocks(rt, alloc, bench, chosen(0, CALLS))?;
     change_long(rt, alloc, bench, chosen(SHORT_FILES, LONG_FILES))?;
-    change_short(rt, alloc, bench, chosen(0, SHORT_FILES))
+    change_short(rt, alloc, bench, chosen(0, SHORT_FILES))?;
+    change_names(rt, alloc, bench, chosen(NAMED_FIRST, SHORT_FILES))?;
+    change_directories(rt, alloc, bench, chosen(0, SHORT_FILES))?;
+    move_directory(rt, alloc, bench)?;
+    look_deep(rt, alloc, bench)
 }
 
 fn main(rt: HostRuntime) -> io::Result<()> {
