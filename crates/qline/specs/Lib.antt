@@ -3,6 +3,7 @@ pub mod Callers
 pub mod Arguments
 pub mod Verbs
 pub mod Calls
+pub mod Journaled
 pub mod Spelling
 pub mod Replies
 pub mod RepliesRead

@@ -159,7 +159,7 @@ fn quota_of(kind: &[u8], id: &[u8]) -> Result<Call, ReadFault>
 
 /// The call of a verb and its arguments, of which there are as many as it takes.
 #[tactic(auto, unfolding(crate::specs::Calls::call_of))]
-fn call_of<'a>(
+pub(crate) fn call_of<'a>(
     alloc: Global,
     paths: &mut Paths<'a>,
     verb: Verb,

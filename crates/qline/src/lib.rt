@@ -3,6 +3,7 @@
 
 pub use call::{MAX_FILL, call_in};
 pub use caller::caller_of;
+pub use journaled::journaled_call_in;
 pub use paths::Paths;
 pub use reply::reply_in;
 pub use reply_text::{REPLY_PLACE, put_reply};
@@ -10,6 +11,7 @@ pub use reply_text::{REPLY_PLACE, put_reply};
 mod argument;
 mod call;
 mod caller;
+mod journaled;
 mod path_call;
 mod paths;
 mod reply;

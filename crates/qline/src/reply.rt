@@ -1,11 +1,9 @@
 //! Replies read from words.
-ghost use Rattle.std.specs.Prelude.{◌≡◌, map};
-ghost use Rattle.std.specs.Char.{is_ascii_uppercase};
-ghost use Rattle.std.specs.List.{list_any};
+ghost use Rattle.std.specs.Prelude.{map};
 ghost use Rattle.qtext.specs.Gives.{Gives};
 ghost use Rattle.qline.specs.RepliesRead.{as_bad_reply, bytes_of, done_of, edquot_of, end_of, keyword, quota_of, rise_of, reply_in, reply_of, signed, stat_of, type_of, words_of_reply};
 
-use crate::argument::kind_of;
+use crate::argument::{has_upper_case, kind_of};
 use crate::call::limits_of;
 use crate::reply_word::{ReplyWord, over_of, refusal_of, reply_word_of};
 use qplain::{Change, Quota, Refusal, Reply, Shared, Stat};
@@ -76,12 +74,6 @@ fn done_of(
             inodes_released: inodes.1,
         },
     ))
-}
-
-fn has_upper_case(digits: &[u8]) -> bool
-    ensures { result ≡ list_any is_ascii_uppercase digits.now }
-{
-    digits.iter().any(|digit| digit.is_ascii_uppercase())
 }
 
 /// The bytes that were read, in lower case.

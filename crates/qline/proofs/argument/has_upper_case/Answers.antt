@@ -2,7 +2,7 @@ use Rattle.std.proofs.Common.{rules, tests}
 use Rattle.std.specs.Char.{is_ascii_uppercase}
 use Rattle.std.proofs.lemmas.Iterator.{YieldsList-from_slice}
 use Rattle.std.proofs.lemmas.Iterator.Search.{any_from_yields_List}
-use Rattle.qline.proofs.reply.has_upper_case.Goals as goal
+use Rattle.qline.proofs.argument.has_upper_case.Goals as goal
 
 pub returns : goal.returns
 returns c =
