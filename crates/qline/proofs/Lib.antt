@@ -3,6 +3,7 @@ pub mod ArgumentsAgain
 pub mod CallersAgain
 pub mod CallsAgain
 pub mod RepliesAgain
+pub mod JournaledAgain
 pub mod RepliesJoined
 mod FewGroups
 mod Regrouped

@@ -51,7 +51,7 @@ lower_encoded (b ∷ bs) fits =
     let low : b % 16 < 16 = omega arith in
     rw (lower_at lower_digits 16 (b / 16) refl high, lower_at lower_digits 16 (b % 16) refl low) (lower_encoded bs (λ k. fits (suc k)))
 
-lower_data : (bs : List ℕ) → IsBytes bs → list_any is_ascii_uppercase (data_text bs) ≡ false
+pub lower_data : (bs : List ℕ) → IsBytes bs → list_any is_ascii_uppercase (data_text bs) ≡ false
 lower_data [] fits = refl
 lower_data (b ∷ bs) fits = lower_encoded (b ∷ bs) fits
 

@@ -1,5 +1,5 @@
 //! Calls as journals have them: without `fill`, and with data in lower case.
-ghost use Rattle.std.specs.Prelude.{◌≡◌, map};
+ghost use Rattle.std.specs.Prelude.{◌≡◌, ◌≤◌, length, map, IfOk};
 ghost use Rattle.qtext.specs.Gives.{Gives};
 ghost use Rattle.qline.specs.Journaled.{arity, in_one_case, journaled_call_in, journaled_call_of, journaled_verb_of};
 
@@ -74,7 +74,8 @@ pub fn journaled_call_in<'a>(
     paths: &mut Paths<'a>,
     words: &[&'a [u8]],
 ) -> Result<(Call, usize), ReadFault>
-    ensures { Gives result (journaled_call_in (map (λ word. word.now) words.now)) }
+    ensures call { Gives result (journaled_call_in (map (λ word. word.now) words.now)) }
+    ensures within { IfOk result (λ read. read.1 ≤ length words.now) }
 {
     match words {
         [] => Err(ReadFault::Fault(TextKind::BadVerb)),

@@ -17,18 +17,18 @@ struct KeptCaller<'a> {
 
 /// Reads callers one after the other, and keeps the last one: mostly the next is the same.
 #[derive(Drop)]
-pub(crate) struct Callers<'a> {
+pub struct Callers<'a> {
     last: Option<KeptCaller<'a>>,
 }
 
 impl<'a> Callers<'a> {
     /// With none kept.
-    pub(crate) fn new() -> Self {
+    pub fn new() -> Self {
         Callers { last: None }
     }
 
-    /// `UID:GID`, then at most 16 times `,GROUP`.
-    pub(crate) fn read(&mut self, alloc: Global, word: &'a [u8]) -> Result<Cred, ReadFault>
+    /// `UID:GID`, then at most 16 times `,GROUP`, all of them ids without leading zeros, or BadCred.
+    pub fn read(&mut self, alloc: Global, word: &'a [u8]) -> Result<Cred, ReadFault>
         ensures { Gives result (caller_of word.now) }
     {
         if let Some(last) = &self.last {

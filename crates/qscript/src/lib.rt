@@ -1,6 +1,8 @@
 //! Scripts read from text: their lines, or the first line at fault with the first thing wrong in it.
 #![tactic(auto)]
 
+pub use callers::Callers;
+pub use raw_line::{NextLine, next_line};
 pub use script::{MAX_LINES, Script};
 
 mod callers;

@@ -7,8 +7,8 @@ use qtext::cut_line;
 use std::alloc::AllocError;
 
 /// A line as it stands in a text.
-#[derive(Clone, Copy)]
-pub(crate) struct NextLine<'a> {
+#[derive(Clone, Copy, Debug)]
+pub struct NextLine<'a> {
     /// The line, with no line end.
     pub bytes: &'a [u8],
     /// Whether a line end stands behind it.
@@ -19,8 +19,11 @@ pub(crate) struct NextLine<'a> {
     pub after: &'a [u8],
 }
 
-/// The first line. Its words are put into the room, whatever that holds, so that lines share one allocation.
-pub(crate) fn next_line<'a>(
+/// The first line of a text that is not empty, for scripts and journals.
+///
+/// Its words are put into the room, whatever that holds, so that lines share one allocation. Where a byte of it is
+/// neither a space nor one that prints, the room holds some of its words. An Err says nothing of the text.
+pub fn next_line<'a>(
     room: &mut Vec<&'a [u8]>,
     text: &'a [u8],
 ) -> Result<NextLine<'a>, AllocError>

@@ -2,7 +2,7 @@
 use Rattle.std.specs.Prelude.{ℕ, List, codes}
 use Rattle.qtext.specs.declared.text_fault.TextKind.{TextKind}
 use Rattle.qtext.specs.declared.text_fault.TextFault.{TextFault}
-use Rattle.qtext.specs.declared.text_fault.TextKind.TheVariants.{Cut, BadByte, BadNumber, BadCred, BadVerb, WordCount, BadWord, BadHex, TooMany, Memory, BadReply}
+use Rattle.qtext.specs.declared.text_fault.TextKind.TheVariants.{Cut, BadByte, BadNumber, BadCred, BadVerb, WordCount, BadWord, BadHex, TooMany, Memory, BadHead, BadReply}
 
 -- the number of a fault
 abbrev pub text_kind_number : TextKind → ℕ
@@ -16,6 +16,7 @@ text_kind_number BadWord = 37
 text_kind_number BadHex = 38
 text_kind_number TooMany = 39
 text_kind_number Memory = 40
+text_kind_number BadHead = 44
 text_kind_number BadReply = 45
 
 -- the words that name a fault
@@ -30,6 +31,7 @@ text_kind_words BadWord = codes "bad word"
 text_kind_words BadHex = codes "bad hex"
 text_kind_words TooMany = codes "too many lines"
 text_kind_words Memory = codes "memory"
+text_kind_words BadHead = codes "bad head"
 text_kind_words BadReply = codes "bad reply"
 
 -- the one fault that no text has

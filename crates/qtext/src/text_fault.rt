@@ -36,6 +36,9 @@ pub enum TextKind {
     /// There was not enough memory, whatever the text says.
     #[error("memory")]
     Memory,
+    /// The first line of a journal is missing or of another form.
+    #[error("bad head")]
+    BadHead,
     /// What stands behind the arguments of a journaled call is not `=>` and a reply.
     #[error("bad reply")]
     BadReply,
@@ -57,6 +60,7 @@ impl TextKind {
             TextKind::BadHex => 38,
             TextKind::TooMany => 39,
             TextKind::Memory => 40,
+            TextKind::BadHead => 44,
             TextKind::BadReply => 45,
         }
     }
@@ -76,6 +80,7 @@ impl TextKind {
             TextKind::BadHex => "bad hex",
             TextKind::TooMany => "too many lines",
             TextKind::Memory => "memory",
+            TextKind::BadHead => "bad head",
             TextKind::BadReply => "bad reply",
         }
     }

@@ -30,6 +30,7 @@ fn a_fault_of_a_text_is_shown_in_its_words(rt: HostRuntime) -> Result<(), Fail> 
         TextKind::BadHex,
         TextKind::TooMany,
         TextKind::Memory,
+        TextKind::BadHead,
         TextKind::BadReply,
     ] {
         assert_eq!(rt; kind.to_string(rt.alloc())?.as_str(), kind.words());

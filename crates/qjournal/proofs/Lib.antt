@@ -1,0 +1,2 @@
+-- Entries one after the other.
+pub mod Entries

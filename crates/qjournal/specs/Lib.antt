@@ -1,0 +1,2 @@
+-- What a journal says.
+pub mod Journals

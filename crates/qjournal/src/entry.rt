@@ -1,0 +1,109 @@
+//! One entry of a journal.
+ghost use Rattle.std.specs.Prelude.{◌≡◌, ◌≤◌, ◌+◌, true, map, IfOk};
+ghost use Rattle.std.specs.List.{list_all};
+ghost use Rattle.qtext.specs.Gives.{Gives};
+ghost use Rattle.qtext.specs.Words.{is_text_byte, words as words_of};
+ghost use Rattle.qjournal.specs.Journals.{answer_in, entry_in, entry_of, worker_of};
+
+use crate::journal::MAX_ENTRIES;
+use qline::{Paths, journaled_call_in, reply_in};
+use qplain::{Entry, Reply};
+use qscript::{Callers, NextLine};
+use qtext::{ReadFault, TextKind, number, number_of};
+use std::alloc::Global;
+
+/// The number of a worker, of which there are so many, from 1.
+#[tactic(auto, unfolding(crate::specs::Journals::worker_of))]
+fn worker_of(workers: u64, word: &[u8]) -> Result<u64, ReadFault>
+    ensures { Gives result (worker_of workers word.now) }
+{
+    let worker = number_of(TextKind::BadNumber, workers, word)?;
+    if worker == 0 {
+        return Err(ReadFault::Fault(TextKind::BadNumber));
+    }
+    Ok(worker)
+}
+
+/// `=>` and a reply.
+#[tactic(auto, unfolding(crate::specs::Journals::answer_in))]
+fn answer_in(alloc: Global, words: &[&[u8]]) -> Result<Reply, ReadFault>
+    ensures { Gives result (answer_in (map (λ word. word.now) words.now)) }
+{
+    match words {
+        [] => Err(ReadFault::Fault(TextKind::BadReply)),
+        [arrow, reply @ ..] => {
+            if *arrow == b"=>".as_slice() {
+                return reply_in(alloc, reply);
+            }
+            Err(ReadFault::Fault(TextKind::BadReply))
+        }
+    }
+}
+
+/// `WORKER MOMENT CALLER CALL => REPLY`.
+#[tactic(auto, unfolding(crate::specs::Journals::entry_in))]
+fn entry_in<'a>(
+    alloc: Global,
+    callers: &mut Callers<'a>,
+    paths: &mut Paths<'a>,
+    workers: u64,
+    words: &[&'a [u8]],
+) -> Result<Entry, ReadFault>
+    ensures { Gives result (entry_in workers (map (λ word. word.now) words.now)) }
+{
+    match words {
+        [] => Err(ReadFault::Fault(TextKind::BadNumber)),
+        [worker] => {
+            worker_of(workers, worker)?;
+            Err(ReadFault::Fault(TextKind::BadNumber))
+        }
+        [worker, moment] => {
+            worker_of(workers, worker)?;
+            number(moment)?;
+            Err(ReadFault::Fault(TextKind::BadCred))
+        }
+        [worker, moment, cred, behind @ ..] => {
+            let worker = worker_of(workers, worker)?;
+            let moment = number(moment)?;
+            let cred = callers.read(alloc, cred)?;
+            let (call, taken) = journaled_call_in(alloc, paths, behind)?;
+            let reply = answer_in(alloc, behind.split_at(taken).1)?;
+            Ok(Entry {
+                worker,
+                cred,
+                moment,
+                call,
+                reply,
+            })
+        }
+    }
+}
+
+/// The entry in the line of that number, whose words these are.
+#[tactic(auto, unfolding(crate::specs::Journals::entry_of))]
+pub(crate) fn entry_of<'a>(
+    alloc: Global,
+    callers: &mut Callers<'a>,
+    paths: &mut Paths<'a>,
+    workers: u64,
+    number: u64,
+    line: &NextLine<'a>,
+    words: &[&'a [u8]],
+) -> Result<Entry, ReadFault>
+    requires bytes { line.now.is_text ≡ list_all is_text_byte line.now.bytes.now }
+    requires words { line.now.is_text ≡ true → map (λ word. word.now) words.now ≡ words_of line.now.bytes.now }
+    ensures reads { Gives result
+        (entry_of workers (record { number = number; bytes = line.now.bytes.now; whole = line.now.whole })) }
+    ensures few { IfOk result (λ _. number ≤ MAX_ENTRIES + 1) }
+{
+    if number > MAX_ENTRIES as u64 + 1 {
+        return Err(ReadFault::Fault(TextKind::TooMany));
+    }
+    if !line.whole {
+        return Err(ReadFault::Fault(TextKind::Cut));
+    }
+    if !line.is_text {
+        return Err(ReadFault::Fault(TextKind::BadByte));
+    }
+    entry_in(alloc, callers, paths, workers, words)
+}
