@@ -6,6 +6,8 @@ mod asks;
 #[cfg(test)]
 mod dropped;
 #[cfg(test)]
+mod links;
+#[cfg(test)]
 mod refused;
 #[cfg(test)]
 mod rows;
