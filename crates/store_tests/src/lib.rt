@@ -1,4 +1,4 @@
-//! Tests of the store that no script can make: a library with no function of its own.
+//! Tests of the store that no script can make, or no short one: a library with no function of its own.
 #![tactic(auto)]
 
 #[cfg(test)]
