@@ -15,7 +15,8 @@ loop-ino-init c =
     let es = c.self.inside.table.entries in
     IsPermutation-append_right c.args.rows.now.items (map (row_in c.args.dir) c.args.self.now.entries) _
     (subst (λ (n : RoomyNames). IsPermutation (map (row_in c.args.dir) n.entries) (map (row_to c.args.dir) c.into_iter-ino-iterator.result)) c.self.view_is
-    (subst (λ l. IsPermutation (map (row_in c.args.dir) (names_of es)) (map (row_to c.args.dir) l)) (sym (c.into_iter-ino-iterator.ensures.into_iter_gives ∙ c.values-ino-items.ensures.rest))
+    (subst (λ l. IsPermutation (map (row_in c.args.dir) (names_of es)) (map (row_to c.args.dir) l))
+    (sym (c.into_iter-ino-iterator.ensures.into_iter_gives ∙ c.values-ino-items.ensures.rest))
     (table_rows c.args.dir es c.values-ino-items.ensures.unique)))
 
 pub loop-ino-preserved : goal.loop-ino-preserved
