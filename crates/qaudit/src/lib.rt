@@ -12,6 +12,7 @@ mod comparison;
 mod counts;
 mod difference;
 mod links;
+mod numbers;
 mod owners;
 mod recounts;
 mod reports;

@@ -1,26 +1,29 @@
 //! The link counts of inodes, counted in rows.
-ghost use Rattle.std.specs.Prelude.{◌≡◌, ◌≤◌, ◌^◌, ℕ, IfOk, length, map};
-ghost use Rattle.std.specs.BTreeMap.{get};
+ghost use Rattle.std.specs.Prelude.{◌≡◌, ◌<◌, ◌≤◌, ◌^◌, ℕ, IfOk, length, map, slice_index};
 ghost use Rattle.std.specs.BTreeSet.{contains};
-ghost use Rattle.std.specs.Option.{unwrap_or};
+ghost use Rattle.std.specs.List.Sorted.{IsStrictlyIncreasing};
 ghost use Rattle.std.specs.Ordering.{nat_cmp};
 ghost use Rattle.qaudit.specs.Recount.{is_directory, link_row, names_to, subdirectories};
 
-use crate::tallies::{add_one, add_where, count_at};
+use crate::numbers::numbers_of;
+use crate::tallies::{add_one, add_where, count_at, no_counts};
 use crate::{LinkRow, NoMemory};
 use qrules::{InodeRow, NameRow};
 use std::alloc::Global;
-use std::collections::{BTreeMap, BTreeSet};
+use std::collections::BTreeSet;
 
-/// How many names lead to each number.
-fn names_by_inode(alloc: Global, names: &[NameRow]) -> Result<BTreeMap<u64, u64>, NoMemory>
-    ensures { IfOk result (λ tally. (q : ℕ) → unwrap_or (get nat_cmp tally q) 0 ≡ names_to names.now q) }
+/// How many names lead to each of these numbers.
+fn names_by_number(alloc: Global, numbers: &[u64], names: &[NameRow]) -> Result<Vec<u64>, NoMemory>
+    requires { IsStrictlyIncreasing numbers.now }
+    ensures len { IfOk result (λ counts. length counts.items ≡ length numbers.now) }
+    ensures counts { IfOk result (λ counts. (k : ℕ) → k < length numbers.now
+        → slice_index counts.items k ≡ names_to names.now (slice_index numbers.now k)) }
 {
-    let mut tally = BTreeMap::new(alloc);
+    let mut counts = no_counts(alloc, numbers)?;
     for name in names {
-        add_one(&mut tally, name.ino)?;
+        add_one(numbers, &mut counts, name.ino);
     }
-    Ok(tally)
+    Ok(counts)
 }
 
 /// The numbers that a row of a directory has.
@@ -36,21 +39,25 @@ fn directories(alloc: Global, inodes: &[InodeRow]) -> Result<BTreeSet<u64>, NoMe
     Ok(found)
 }
 
-/// How many names in each directory lead to directories.
+/// How many names in the directory of each of these numbers lead to directories.
 fn subdirectories_by_number(
     alloc: Global,
+    numbers: &[u64],
     inodes: &[InodeRow],
     names: &[NameRow],
-) -> Result<BTreeMap<u64, u64>, NoMemory>
-    ensures { IfOk result (λ tally. (q : ℕ)
-        → unwrap_or (get nat_cmp tally q) 0 ≡ subdirectories inodes.now names.now q) }
+) -> Result<Vec<u64>, NoMemory>
+    requires { IsStrictlyIncreasing numbers.now }
+    ensures len { IfOk result (λ counts. length counts.items ≡ length numbers.now) }
+    ensures counts { IfOk result (λ counts. (k : ℕ) → k < length numbers.now
+        → slice_index counts.items k ≡ subdirectories inodes.now names.now (slice_index numbers.now k)) }
 {
     let directories = directories(alloc, inodes)?;
-    let mut tally = BTreeMap::new(alloc);
+    let mut counts = no_counts(alloc, numbers)?;
     for name in names {
-        add_where(&mut tally, name.dir, directories.contains(&name.ino))?;
+        let is_counted = directories.contains(&name.ino);
+        add_where(numbers, &mut counts, name.dir, is_counted);
     }
-    Ok(tally)
+    Ok(counts)
 }
 
 /// The link counts of the rows, in order, each beside the one that its row shows.
@@ -61,14 +68,15 @@ pub(crate) fn link_rows(
 ) -> Result<Vec<LinkRow>, NoMemory>
     ensures { IfOk result (λ rows. rows.items ≡ map (link_row inodes.now names.now) inodes.now) }
 {
-    let names_to = names_by_inode(alloc, names)?;
-    let subdirectories = subdirectories_by_number(alloc, inodes, names)?;
+    let numbers = numbers_of(alloc, inodes)?;
+    let names_to = names_by_number(alloc, &numbers, names)?;
+    let subdirectories = subdirectories_by_number(alloc, &numbers, inodes, names)?;
     let mut rows = Vec::with_capacity(alloc, inodes.len())?;
     for inode in inodes {
         let counted = if inode.dir {
-            2 + count_at(&subdirectories, inode.ino)
+            2 + count_at(&numbers, &subdirectories, inode.ino)
         } else {
-            count_at(&names_to, inode.ino)
+            count_at(&numbers, &names_to, inode.ino)
         };
         rows.push(LinkRow {
             ino: inode.ino,

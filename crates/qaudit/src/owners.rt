@@ -3,6 +3,7 @@ ghost use Rattle.std.specs.Prelude.{◌≡◌, ◌<◌, ◌+◌, ◌==◌, ◌^�
 ghost use Rattle.std.specs.BTreeMap.{keys};
 ghost use Rattle.std.specs.BTreeSet.{insert_key};
 ghost use Rattle.std.specs.Ordering.{nat_cmp};
+ghost use Rattle.qaudit.specs.Differences.{no_use};
 ghost use Rattle.qaudit.specs.Owners.{counted_at, with_row};
 ghost use Rattle.qaudit.specs.Recount.{counts_by, owner_of};
 
@@ -34,6 +35,17 @@ pub(crate) fn count_at(counts: &BTreeMap<u32, CountRow>, id: u32) -> CountRow
     }
 }
 
+/// The count of an owner's first row.
+fn first_count(id: u32, blocks: u32) -> CountRow
+    ensures { result ≡ with_row (no_use id) blocks }
+{
+    CountRow {
+        id,
+        blocks: blocks as u64,
+        inodes: 1,
+    }
+}
+
 /// Counts one more row of an owner.
 fn add_row(counts: &mut BTreeMap<u32, CountRow>, id: u32, blocks: u32) -> Result<(), NoMemory>
     requires blocks { (counted_at counts.old id).blocks + blocks < 2 ^ 64 }
@@ -42,13 +54,15 @@ fn add_row(counts: &mut BTreeMap<u32, CountRow>, id: u32, blocks: u32) -> Result
     ensures counts { OnOk result ((q : ℕ) → counted_at counts.new q
         ≡ (if id == q then with_row (counted_at counts.old q) blocks else counted_at counts.old q)) }
 {
-    let before = count_at(counts, id);
-    let count = CountRow {
-        id: before.id,
-        blocks: before.blocks + blocks as u64,
-        inodes: before.inodes + 1,
-    };
-    counts.insert(id, count)?;
+    match counts.get_mut(&id) {
+        Some(count) => {
+            count.blocks += blocks as u64;
+            count.inodes += 1;
+        }
+        None => {
+            counts.insert(id, first_count(id, blocks))?;
+        }
+    }
     Ok(())
 }
 

@@ -1,5 +1,5 @@
 -- Directories that come and go: what is tested, and what stands where then.
-use Rattle.std.proofs.Common.{◌≡◌, ℕ, ◌+◌, Bool, true, not, nat_lt, cond, List, Some, None, refl, sym, ap, ◌∙◌, arith, tests}
+use Rattle.std.proofs.Common.{◌≡◌, ℕ, ◌+◌, Bool, true, not, nat_lt, cond, List, Some, None, refl, sym, ap, ◌∙◌, arith}
 use Rattle.qplain.specs.declared.bounds.TheConstants.{MAX_LINKS}
 use Rattle.qplain.specs.declared.refusal.Refusal.TheVariants.{EMLINK, ENOTDIR, ENOTEMPTY, EPERM}
 use Rattle.qplain.specs.Attempt.{Becomes, Refuse, at_inode, at_reached}

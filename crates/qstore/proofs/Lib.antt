@@ -1,5 +1,4 @@
 -- What the proofs of more than one file share: of walks, of what is written, then of stores.
-pub mod Walks
 pub mod Arguments
 pub mod Beginning
 pub mod Settling
@@ -9,5 +8,4 @@ pub mod Deciding
 pub mod Calls
 pub mod Directories
 pub mod FurtherNames
-pub mod Renamed
 pub mod Replaced

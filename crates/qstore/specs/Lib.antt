@@ -2,8 +2,6 @@
 pub mod Stored
 pub mod Ready
 pub mod Rows
-pub mod Paths
-pub mod Faults
 pub mod Told
 pub mod Decided
 pub mod Targets

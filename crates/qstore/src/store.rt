@@ -9,6 +9,7 @@ ghost use Rattle.qplain.specs.Arguments.{has_bad_number};
 ghost use Rattle.qplain.specs.Calls.{attempt_of};
 ghost use Rattle.qplain.specs.Step.{settle, step};
 ghost use Rattle.qlaws.specs.Laws.{IsLawful, PassesNoLimit};
+ghost use Rattle.qchange.specs.Trees.{IsTreeOf};
 ghost use Rattle.qledger.specs.Books.{HasSlots};
 ghost use Rattle.qstore.specs.Stored.{IsSameStore, IsSound, Stored};
 ghost use Rattle.qstore.specs.Decided.{IsDecided, IsWhole};
@@ -32,8 +33,6 @@ mod mkdir;
 mod quota;
 mod read;
 mod rename;
-mod rename_fault;
-mod rights;
 mod rmdir;
 mod rows;
 mod set_grace;
@@ -41,7 +40,6 @@ mod set_quota;
 mod stat;
 mod truncate;
 mod unlink;
-mod walk;
 mod write;
 
 /// Inodes, names and quota records in memory, whose state and replies are those of the plain machine.
@@ -129,6 +127,13 @@ impl Store {
         ensures lawful { IsLawful self.now.state }
     {
         self.accounts.inodes()
+    }
+
+    /// The inodes and names.
+    fn tree(&self) -> &Tree
+        ensures { IsTreeOf self.now.state result.now }
+    {
+        &self.tree
     }
 
     /// Decides a call, and makes every growth that it needs.

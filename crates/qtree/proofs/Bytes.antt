@@ -13,7 +13,6 @@ use Rattle.std.proofs.lemmas.Map.Lookups.{exact_bytes}
 use Rattle.qtree.specs.InOrder.{keyed_by}
 use Rattle.qtree.specs.Names.{names_of}
 use Rattle.qtree.proofs.InOrder.{in_order-insert, in_order-same, in_order-sorted, lookup-in_order, strictly-in_order}
-use Rattle.qtree.proofs.PutAll.{put_all, put_all-distinct}
 use Rattle.qtree.proofs.Read.{lookup-agree, lookup-keyed_by, tests_agree}
 
 -- two names of the same bytes
@@ -114,12 +113,6 @@ pub distinct-keyed_by : {K L X : Type 0} (f : K → L) (eq : L → L → Bool) (
 unfolding IsDistinct
 distinct-keyed_by f eq [] d = tt
 distinct-keyed_by f eq (e ∷ es) d = (distinct_past f eq e.0 es d.0, distinct-keyed_by f eq es d.1)
-
--- distinct names put in turn are the table's names
-pub names_of-put_all : {A : Type 0} (es : List (String A × ℕ)) → IsDistinct (text_eq {A = A}) (keys_of es)
-    → put_all (slice_cmp nat_cmp) [] (keyed_by string_bytes es) ≡ names_of es
-names_of-put_all es d = put_all-distinct nat_list_cmp_total exact_bytes bytes_ties
-    (keyed_by string_bytes es) (distinct-keyed_by string_bytes (pointwise nat_eq) es d)
 
 -- a table's names are in order
 pub names_of-order : {A : Type 0} (es : List (String A × ℕ)) → IsStrictlySortedBy (slice_cmp nat_cmp) (keys_of (names_of es))

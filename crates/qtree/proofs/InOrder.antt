@@ -14,7 +14,7 @@ use Rattle.std.proofs.lemmas.Map.Entries.{none_below_head}
 use Rattle.std.proofs.lemmas.Map.Keys.{IsDistinct-from_sorted}
 use Rattle.std.specs.FinMap as map
 use Rattle.std.specs.FinMap.{IsAntisymmetric, put, find}
-use Rattle.std.specs.FinMap.Entries.{by_order, below_all, is_sorted, same_entries}
+use Rattle.std.specs.FinMap.Entries.{by_order, below_all, find-put, is_sorted, same_entries}
 use Rattle.qtree.specs.InOrder.{in_order}
 
 -- the two words for putting an entry into a list in order
@@ -183,3 +183,11 @@ module _ {K X : Type 0} {R : K → K → Ordering} (o : IsTotalOrder R) (same : 
   in_order-taken es fs k is =
       sorted-taken (in_order R es) (in_order R fs) k (sorted-in_order es) (sorted-in_order fs)
       (λ q. lookup-in_order fs q ∙ is q ∙ ap (cond (eq_by_cmp R k q) None) (sym (lookup-in_order es q)))
+
+  -- a look-up after an entry is put in its slot
+  pub lookup-insert : (k : K) (v : X) (acc : List (K × X)) (q : K)
+      → lookup (eq_by_cmp R q) (insert_entry R acc k v)
+      ≡ cond (eq_by_cmp R q k) (Some v) (lookup (eq_by_cmp R q) acc)
+  lookup-insert k v acc q =
+      sym (find_lookup R q (insert_entry R acc k v)) ∙ ap (find R q) (sym (put_insert R k v acc)) ∙ find-put R o q k v acc
+      ∙ ap (cond (eq_by_cmp R q k) (Some v)) (find_lookup R q acc)

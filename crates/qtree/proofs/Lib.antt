@@ -1,7 +1,6 @@
 -- What the proofs of more than one file share: entries in key order, tables, the names in all directories, the tree, rows.
 pub mod InOrder
 pub mod Read
-pub mod PutAll
 pub mod Numbered
 pub mod Bytes
 pub mod AllNames
@@ -9,4 +8,5 @@ pub mod NoNames
 pub mod TreeChanges
 pub mod Changed
 pub mod Pushed
+pub mod Shuffled
 pub mod Rows

@@ -5,14 +5,12 @@ use Rattle.std.specs.Cmp.{nat_cmp_total, unsigned_ties}
 use Rattle.std.specs.FinMap.{nat_cmp-IsAntisymmetric}
 use Rattle.std.specs.FinMap.Entries.{below_all, is_sorted}
 use Rattle.std.specs.BTreeMap.{insert_entry, is_at}
-use Rattle.std.specs.List.{IsDistinct}
 use Rattle.std.specs.List.Sorted.{IsStrictlySortedBy}
 use Rattle.std.specs.Map.{keys_of, lookup, remove_entry, set_value}
 use Rattle.std.specs.Option.{IsSome, option_map}
 use Rattle.std.proofs.lemmas.Bool.{eqb-true}
 use Rattle.qtree.specs.InOrder.{in_order, read_by}
 use Rattle.qtree.proofs.InOrder.{both_of, first_of, in_order-insert, in_order-set, in_order-taken, lookup-in_order, same_sorted, second_of, sorted-in_order, strictly-in_order}
-use Rattle.qtree.proofs.PutAll.{put_all, put_all-distinct}
 use Rattle.qtree.proofs.Read.{lookup-agree, lookup-read_by, read_by-insert, read_by-remove, read_by-set}
 
 -- the second list answers v at k, and else as the first
@@ -35,10 +33,6 @@ module _ {X : Type 0} where
   -- the table by number is in order
   pub numbered-sorted : (es : List (ℕ × X)) → T (is_sorted nat_cmp (in_order nat_cmp es))
   numbered-sorted es = sorted-in_order nat_cmp_total nat_cmp-IsAntisymmetric es
-
-  -- distinct entries put in turn are the table by number
-  pub numbered-put_all : (es : List (ℕ × X)) → IsDistinct nat_eq (keys_of es) → put_all nat_cmp [] es ≡ in_order nat_cmp es
-  numbered-put_all es d = put_all-distinct nat_cmp_total nat_cmp-IsAntisymmetric unsigned_ties es d
 
   put_at : (es fs : List (ℕ × X)) (k : ℕ) (v : X) → IsPut es fs k v → (q : ℕ)
       → lookup (eq_by_cmp nat_cmp q) fs

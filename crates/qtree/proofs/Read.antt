@@ -18,21 +18,6 @@ pub lookup-keyed_by : {K L X : Type 0} (f : K → L) (test : L → Bool) (es : L
 lookup-keyed_by f test [] = refl
 lookup-keyed_by f test (e ∷ es) = ap (cond (test (f e.0)) (Some e.1)) (lookup-keyed_by f test es)
 
--- to put an entry in its slot and to make its key are the same in either order
-pub keyed_by-insert : {K L X : Type 0} (f : K → L) (R : L → L → Ordering) (es : List (K × X)) (k : K) (v : X)
-    → keyed_by f (insert_entry (λ x y. R (f x) (f y)) es k v) ≡ insert_entry R (keyed_by f es) (f k) v
-keyed_by-insert f R [] k v = refl
-keyed_by-insert f R (e ∷ es) k v =
-    elim (R (f k) (f e.0)) as
-    (λ r. keyed_by f (match_ordering r ((k, v) ∷ e ∷ es) ((e.0, v) ∷ es)
-    (e ∷ insert_entry (λ x y. R (f x) (f y)) es k v))
-    ≡ match_ordering r ((f k, v) ∷ keyed_by f (e ∷ es)) ((f e.0, v) ∷ keyed_by f es)
-    ((f e.0, e.1) ∷ insert_entry R (keyed_by f es) (f k) v)) [
-      | Less ↦ refl
-      | Equal ↦ refl
-      | Greater ↦ ap (λ t. (f e.0, e.1) ∷ t) (keyed_by-insert f R es k v)
-    ]
-
 -- what is not there cannot be set
 pub set_none : {K X : Type 0} (test : K → Bool) (es : List (K × X)) (v : X) → lookup test es ≡ None → set_value test es v ≡ es
 set_none test [] v none = refl

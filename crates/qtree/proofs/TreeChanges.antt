@@ -22,9 +22,8 @@ use Rattle.qtree.specs.Nodes.{IsSameNode, file_in, inode_of, is_dir_content, nam
 use Rattle.qtree.specs.Tree.{IsSameTree, RoomyTree, file_room, name_room, tree_of}
 use Rattle.qtree.proofs.AllNames.{name_at, named, named-get, named-gone, named-insert, named-same, named-taken}
 use Rattle.qtree.proofs.Bytes.{bytes_tie}
-use Rattle.qtree.proofs.InOrder.{in_order-sorted}
+use Rattle.qtree.proofs.InOrder.{in_order-sorted, lookup-insert}
 use Rattle.qtree.proofs.Numbered.{IsPut, IsTaken, seen-get, seen-kept, seen-same}
-use Rattle.qtree.proofs.PutAll.{lookup-insert}
 
 -- ---- from a hash map's clauses
 module _ {X S : Type 0} (m n : HashMap ℕ X S) (k : ℕ) (v : X) where

@@ -1,18 +1,17 @@
 //! The names in one directory.
-ghost use Rattle.std.specs.Prelude.{◌≡◌, ◌<◌, ◌≤◌, ◌==◌, ◌++◌, [], length, map, string_bytes, None, IfOk, OnOk};
+ghost use Rattle.std.specs.Prelude.{◌≡◌, ◌<◌, ◌≤◌, ◌==◌, ◌++◌, [], length, map, string_bytes, None, IsPermutation, OnOk};
 ghost use Rattle.std.specs.Ordering.{nat_cmp};
 ghost use Rattle.std.specs.Cmp.Lexicographic.{slice_cmp};
 ghost use Rattle.std.specs.BTreeMap.{insert_entry, is_at};
 ghost use Rattle.std.specs.List.Sorted.{IsStrictlySortedBy};
 ghost use Rattle.std.specs.Map.{keys_of, lookup};
-ghost use Rattle.qtree.specs.InOrder.{keyed_by};
-ghost use Rattle.qtree.specs.Names.{LosesName, names_of, row_in};
+ghost use Rattle.qtree.specs.Names.{LosesName, row_in};
 
 use crate::name_hasher::NameHasher;
 use qplain::NoMemory;
 use qrules::NameRow;
 use std::alloc::Global;
-use std::collections::{BTreeMap, HashMap};
+use std::collections::HashMap;
 use std::marker::Model;
 
 /// The names in a directory, each with the number of the inode that it leads to.
@@ -86,39 +85,16 @@ impl Names {
         self.table.remove(name);
     }
 
-    /// Appends a row for each of these names, which are in this directory, by their bytes.
-    ///
-    /// O(n log n), and for audits alone.
-    pub(crate) fn push_rows(
-        &self,
-        alloc: Global,
-        dir: u64,
-        rows: &mut Vec<NameRow>,
-    ) -> Result<(), NoMemory>
+    /// Appends a row for each of these names, which are in this directory, in any order. O(n), and for audits alone.
+    pub(crate) fn push_rows(&self, dir: u64, rows: &mut Vec<NameRow>) -> Result<(), NoMemory>
         ensures rows { OnOk result
-            (rows.new.items ≡ rows.old.items ++ map (row_in dir) self.now.entries) }
-        ensures order { OnOk result
+            (IsPermutation (rows.old.items ++ map (row_in dir) self.now.entries) rows.new.items) }
+        ensures in_order { OnOk result
             (IsStrictlySortedBy (slice_cmp nat_cmp) (keys_of self.now.entries)) }
     {
-        let numbers = by_bytes(&self.table, alloc)?;
-        for (_, number) in &numbers {
-            rows.push(NameRow { dir, ino: *number })?;
+        for ino in self.table.values() {
+            rows.push(NameRow { dir, ino: *ino })?;
         }
         Ok(())
     }
-}
-
-/// The numbers under their names, in the order of the names' bytes.
-fn by_bytes(
-    table: &HashMap<String, u64, NameHasher>,
-    alloc: Global,
-) -> Result<BTreeMap<&String, u64>, NoMemory>
-    ensures { IfOk result (λ numbers.
-        keyed_by (λ name. string_bytes name.now) numbers.entries ≡ names_of table.now.entries) }
-{
-    let mut numbers = BTreeMap::new(alloc);
-    for (name, number) in table.iter() {
-        numbers.insert(name, *number)?;
-    }
-    Ok(numbers)
 }

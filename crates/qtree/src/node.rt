@@ -1,5 +1,5 @@
 //! One inode, as a store keeps it.
-ghost use Rattle.std.specs.Prelude.{◌≡◌, ◌+◌, ◌<◌, ◌≤◌, ◌==◌, ◌^◌, ◌++◌, [], length, map, string_bytes, None, false, true, is_some, IfOk, IfSome, OnOk};
+ghost use Rattle.std.specs.Prelude.{◌≡◌, ◌+◌, ◌<◌, ◌≤◌, ◌==◌, ◌^◌, ◌++◌, [], length, map, string_bytes, None, false, true, is_some, IfOk, IfSome, IsPermutation, OnOk};
 ghost use Rattle.std.specs.Ordering.{nat_cmp};
 ghost use Rattle.std.specs.Cmp.Lexicographic.{slice_cmp};
 ghost use Rattle.std.specs.BTreeMap.{insert_entry, is_at};
@@ -213,20 +213,15 @@ impl Node {
         }
     }
 
-    /// Appends a row for each name in this inode, whose number this is, by the names' bytes.
-    pub(crate) fn push_names(
-        &self,
-        alloc: Global,
-        number: u64,
-        rows: &mut Vec<NameRow>,
-    ) -> Result<(), NoMemory>
-        ensures { OnOk result (rows.new.items
-            ≡ rows.old.items
-            ++ map (row_in number) (in_order (slice_cmp nat_cmp) (names_in self.now.content))) }
+    /// Appends a row for each name in this inode, whose number this is, in any order.
+    pub(crate) fn push_names(&self, number: u64, rows: &mut Vec<NameRow>) -> Result<(), NoMemory>
+        ensures { OnOk result (IsPermutation
+            (rows.old.items ++ map (row_in number) (in_order (slice_cmp nat_cmp) (names_in self.now.content)))
+            rows.new.items) }
     {
         match &self.content {
             Content::File(_) => Ok(()),
-            Content::Directory(names) => names.push_rows(alloc, number, rows),
+            Content::Directory(names) => names.push_rows(number, rows),
         }
     }
 }

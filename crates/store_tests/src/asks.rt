@@ -1,8 +1,13 @@
 //! A small store, and calls and replies as the rows of a test write them.
 
-use Ask::{Chown, Create, Read, SetGrace, SetUser, Stat, Truncate, Unlink, User, Write};
-use Told::{Bytes, Done, File, Freed, Record};
-use qplain::{Call, Change, Cred, Data, NoMemory, Path, Principal, Quota, Reply, Setup, Shared};
+use Ask::{
+    Chown, Create, Link, Mkdir, Read, Rename, SetGrace, SetUser, Stat, Truncate, Unlink, User,
+    Write,
+};
+use Told::{Bytes, Done, File, Freed, Linked, Record, Refused};
+use qplain::{
+    Call, Change, Cred, Data, NoMemory, Path, Principal, Quota, Refusal, Reply, Setup, Shared,
+};
 use qrules::{Graces, Kind, Limits, PrincipalName};
 use qstore::Store;
 use std::alloc::Global;
@@ -12,11 +17,14 @@ use std::process::Abort;
 #[derive(Clone, Copy, Debug)]
 pub(crate) enum Ask<'a> {
     Create(&'a str),
+    Mkdir(&'a str),
     Write(&'a str, u64, &'a [u8]),
     Read(&'a str, u64, u64),
     Stat(&'a str),
     Truncate(&'a str, u64),
+    Link(&'a str, &'a str),
     Unlink(&'a str),
+    Rename(&'a str, &'a str),
     /// To another group.
     Chown(&'a str, u32),
     /// To set the soft limit of user 0 for blocks, in KiB.
@@ -37,13 +45,18 @@ fn principal(alloc: Global, id: u32, name: &str) -> Result<Principal, NoMemory> 
 
 /// A new store that has room for 10 blocks and 6 inodes, and has user 0 and the groups 0 and 7 alone.
 pub(crate) fn new_store(rt: &impl Abort, alloc: Global) -> Result<Store, NoMemory> {
+    store_of(rt, alloc, 6)
+}
+
+/// Such a store with room for this many inodes.
+pub(crate) fn store_of(rt: &impl Abort, alloc: Global, inodes: u64) -> Result<Store, NoMemory> {
     let graces = Graces {
         block: 100,
         inode: 100,
     };
     let users = vec![in alloc; principal(alloc, 0, "root")?]?;
     let groups = vec![in alloc; principal(alloc, 0, "root")?, principal(alloc, 7, "staff")?]?;
-    let setup = Setup::new(10, 6, graces, users, groups).expect(rt, "a setup");
+    let setup = Setup::new(10, inodes, graces, users, groups).expect(rt, "a setup");
     Store::new(alloc, setup, 7)
 }
 
@@ -72,6 +85,9 @@ pub(crate) fn call(rt: &impl Abort, alloc: Global, ask: Ask<'_>) -> Result<Call,
         Create(text) => Call::Create {
             path: path(rt, alloc, text)?,
         },
+        Mkdir(text) => Call::Mkdir {
+            path: path(rt, alloc, text)?,
+        },
         Write(text, off, bytes) => Call::Write {
             path: path(rt, alloc, text)?,
             off,
@@ -89,8 +105,16 @@ pub(crate) fn call(rt: &impl Abort, alloc: Global, ask: Ask<'_>) -> Result<Call,
             path: path(rt, alloc, text)?,
             size,
         },
+        Link(from, to) => Call::Link {
+            from: path(rt, alloc, from)?,
+            to: path(rt, alloc, to)?,
+        },
         Unlink(text) => Call::Unlink {
             path: path(rt, alloc, text)?,
+        },
+        Rename(from, to) => Call::Rename {
+            from: path(rt, alloc, from)?,
+            to: path(rt, alloc, to)?,
         },
         Chown(text, gid) => Call::Chown {
             path: path(rt, alloc, text)?,
@@ -122,8 +146,11 @@ pub(crate) enum Told<'a> {
     Bytes(&'a [u8]),
     /// A file of the superuser's with one name: its number, size and blocks.
     File(u64, u64, u64),
+    /// An empty inode of the superuser's: its number, whether it is a directory, and its links.
+    Linked(u64, bool, u64),
     /// The record of user 0: blocks, inodes, the soft limit for blocks, and the end of the grace for blocks that runs.
     Record(u64, u64, u64, u64),
+    Refused(Refusal),
 }
 
 const NO_CHANGE: Change = Change {
@@ -151,8 +178,8 @@ fn freed(number: u64, blocks: u64, inodes: u64) -> Reply {
     Reply::Done(number, change)
 }
 
-fn file(ino: u64, size: u64, blocks: u64) -> Reply {
-    Reply::Stat(qplain::Stat {
+fn file(ino: u64, size: u64, blocks: u64) -> qplain::Stat {
+    qplain::Stat {
         ino,
         dir: false,
         uid: 0,
@@ -160,7 +187,7 @@ fn file(ino: u64, size: u64, blocks: u64) -> Reply {
         size,
         blocks,
         links: 1,
-    })
+    }
 }
 
 fn record(blocks: u64, inodes: u64, block_soft: u64, end: u64) -> Reply {
@@ -178,8 +205,14 @@ pub(crate) fn reply(alloc: Global, told: Told<'_>) -> Result<Reply, NoMemory> {
         Done(number, blocks, inodes) => done(number, blocks, inodes),
         Freed(number, blocks, inodes) => freed(number, blocks, inodes),
         Bytes(bytes) => Reply::Bytes(shared(alloc, bytes)?),
-        File(ino, size, blocks) => file(ino, size, blocks),
+        File(ino, size, blocks) => Reply::Stat(file(ino, size, blocks)),
+        Linked(ino, dir, links) => Reply::Stat(qplain::Stat {
+            dir,
+            links,
+            ..file(ino, 0, 0)
+        }),
         Record(blocks, inodes, block_soft, end) => record(blocks, inodes, block_soft, end),
+        Refused(refusal) => Reply::Refused(refusal),
     })
 }
 

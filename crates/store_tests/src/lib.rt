@@ -1,10 +1,12 @@
-//! Tests of the store that no script can make: a library with no function of its own.
+//! Tests of the store that no script can make, or no short one: a library with no function of its own.
 #![tactic(auto)]
 
 #[cfg(test)]
 mod asks;
 #[cfg(test)]
 mod dropped;
+#[cfg(test)]
+mod links;
 #[cfg(test)]
 mod refused;
 #[cfg(test)]

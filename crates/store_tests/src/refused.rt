@@ -1,7 +1,8 @@
 //! Each allocation refused in turn: the store is as before, and the same call then gets its reply.
 
 use crate::asks::Ask::{
-    Chown, Create, Read, SetGrace, SetUser, Stat, Truncate, Unlink, User, Write,
+    Chown, Create, Link, Mkdir, Read, Rename, SetGrace, SetUser, Stat, Truncate, Unlink, User,
+    Write,
 };
 use crate::asks::Told::{Bytes, Done, File, Freed, Record};
 use crate::asks::{Row, call, caller, new_store, reply};
@@ -119,7 +120,7 @@ fn count_rows(rt: &impl Print, store: &Store) -> Result<(usize, usize, usize), N
     Ok((records.len(), inodes.len(), names.len()))
 }
 
-const ROWS: [(Way, Row<'static>); 18] = [
+const ROWS: [(Way, Row<'static>); 24] = [
     (Apply, (Create("/a"), Done(2, 0, 1))),
     (Commit, (Create("/b"), Done(3, 0, 1))),
     (Commit, (Write("/a", 4095, b"xy"), Done(2, 2, 0))),
@@ -138,6 +139,12 @@ const ROWS: [(Way, Row<'static>); 18] = [
     (Commit, (Create("/d"), Done(5, 0, 1))),
     (Apply, (Unlink("/c"), Freed(4, 0, 1))),
     (Commit, (Unlink("/a"), Freed(2, 1, 1))),
+    (Apply, (Mkdir("/m"), Done(6, 0, 1))),
+    (Commit, (Mkdir("/n"), Done(7, 0, 1))),
+    (Apply, (Link("/b", "/a"), Done(3, 0, 0))),
+    (Commit, (Link("/b", "/m/b"), Done(3, 0, 0))),
+    (Apply, (Rename("/b", "/n/b"), Done(3, 0, 0))),
+    (Commit, (Rename("/d", "/m/b"), Done(5, 0, 0))),
 ];
 
 #[test]
@@ -147,7 +154,7 @@ fn a_refused_call_changes_nothing(rt: HostRuntime) -> Result<(), NoMemory> {
     for (way, row) in ROWS {
         ask(&rt, alloc, &mut store, way, row)?;
     }
-    assert_eq!(rt; count_rows(&rt, &store)?, (3, 3, 2));
-    assert_eq!(rt; (store.blocks(), store.inodes()), (0, 3));
+    assert_eq!(rt; count_rows(&rt, &store)?, (3, 5, 5));
+    assert_eq!(rt; (store.blocks(), store.inodes()), (0, 5));
     Ok(())
 }

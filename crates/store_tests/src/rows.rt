@@ -1,15 +1,14 @@
-//! Rows of inodes and of names, which no script asks for.
+//! Rows of records, of inodes and of names.
 
 use crate::asks::Ask::{Create, Write};
 use crate::asks::Told::Done;
 use crate::asks::{Row, new_store, play};
 use qplain::NoMemory;
-use qrules::{InodeRow, NameRow};
+use qrules::{InodeRow, Kind, NameRow};
 use qstore::Store;
 use std::alloc::Global;
 use std::process::Abort;
 
-// The file that was made second is named first.
 const TWO_FILES: [Row<'static>; 3] = [
     (Create("/b"), Done(2, 0, 1)),
     (Create("/a"), Done(3, 0, 1)),
@@ -47,9 +46,26 @@ fn inodes_are_listed_by_number(rt: HostRuntime) -> Result<(), NoMemory> {
 }
 
 #[test]
-fn names_are_listed_by_their_bytes(rt: HostRuntime) -> Result<(), NoMemory> {
-    let rows = two_files(&rt, rt.alloc())?.name_rows()?;
-    let wanted = [NameRow { dir: 1, ino: 3 }, NameRow { dir: 1, ino: 2 }];
+fn each_name_is_listed(rt: HostRuntime) -> Result<(), NoMemory> {
+    let mut rows = two_files(&rt, rt.alloc())?.name_rows()?;
+    rows.sort_unstable_by_key(|row| row.ino);
+    let wanted = [NameRow { dir: 1, ino: 2 }, NameRow { dir: 1, ino: 3 }];
     assert!(rt; rows.as_slice() == wanted.as_slice());
+    Ok(())
+}
+
+#[test]
+fn records_are_listed_by_id(rt: HostRuntime) -> Result<(), NoMemory> {
+    let rows = two_files(&rt, rt.alloc())?.record_rows()?;
+    let mut uses = Vec::new(rt.alloc());
+    for row in &rows {
+        uses.push((row.kind, row.id, row.blocks, row.inodes))?;
+    }
+    let wanted = [
+        (Kind::User, 0, 1, 3),
+        (Kind::Group, 0, 0, 1),
+        (Kind::Group, 7, 1, 2),
+    ];
+    assert!(rt; uses.as_slice() == wanted.as_slice());
     Ok(())
 }

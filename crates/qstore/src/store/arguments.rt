@@ -1,53 +1,17 @@
 //! What is wrong with a call as it is written, and where the caller's records stand.
-ghost use Rattle.std.specs.Prelude.{◌≡◌, ◌∷◌, [], not, nat_lt, ◌||◌, ◌&&◌, ◌≤◌, true, false, None, Some, is_some, IfOk, IfErr, IfSome};
+ghost use Rattle.std.specs.Prelude.{◌≡◌, not, nat_lt, ◌||◌, ◌≤◌, false, None, Some, is_some, IfOk, IfErr};
 ghost use Rattle.std.specs.List.{list_all};
 ghost use Rattle.qrules.specs.declared.kind.Kind.TheVariants.{User, Group};
-ghost use Rattle.qplain.specs.Arguments.{has_bad_number, is_declared, is_undeclared, paths_of, refusal_of_arguments};
-ghost use Rattle.qpath.specs.Paths.{path_fault, paths_fault};
+ghost use Rattle.qplain.specs.Arguments.{has_bad_number, is_declared, is_undeclared, refusal_of_arguments};
 ghost use Rattle.qledger.specs.Books.{HasSlots};
 ghost use Rattle.qstore.specs.Decided.{IsWhole};
 ghost use Rattle.qstore.specs.Stored.{IsSound};
 
 use crate::store::Store;
 use qledger::Slots;
-use qpath::fault_of;
+use qpath::paths_fault;
 use qplain::{Call, Cred, MAX_DATA, Refusal};
 use qrules::{Kind, MAX_MOMENT};
-
-/// What is wrong with two paths: EINVAL of either comes before ENAMETOOLONG of either.
-fn fault_of_both(from: &str, to: &str) -> Option<Refusal>
-    ensures { result ≡ paths_fault (from.now ∷ to.now ∷ []) }
-{
-    let first = fault_of(from);
-    if first == Some(Refusal::EINVAL) {
-        return first;
-    }
-    match fault_of(to) {
-        Some(second) => Some(second),
-        None => first,
-    }
-}
-
-/// What is wrong with the paths of a call.
-fn paths_fault(call: &Call) -> Option<Refusal>
-    ensures { result ≡ paths_fault (paths_of call.now) }
-{
-    match call {
-        Call::Create { path }
-        | Call::Mkdir { path }
-        | Call::Write { path, .. }
-        | Call::Truncate { path, .. }
-        | Call::Read { path, .. }
-        | Call::Stat { path }
-        | Call::Unlink { path }
-        | Call::Rmdir { path }
-        | Call::Chown { path, .. } => fault_of(path.text()),
-        Call::Link { from, to } | Call::Rename { from, to } => {
-            fault_of_both(from.text(), to.text())
-        }
-        Call::SetQuota { .. } | Call::SetGrace { .. } | Call::Quota { .. } => None,
-    }
-}
 
 impl Store {
     /// Whether this principal is declared.

@@ -10,12 +10,11 @@ ghost use Rattle.qstore.specs.Stored.{IsSameStore};
 
 use crate::ready::Decided;
 use crate::store::Store;
-use crate::store::rights::may_give;
-use crate::store::walk::Found;
 use qchange::TreeChange;
 use qledger::Slots;
 use qplain::{Cred, Refusal};
 use qrules::MAX_MOMENT;
+use qwalk::{Found, find, may_give};
 
 impl Store {
     /// Decides other owners of an inode; what is None stays.
@@ -36,7 +35,7 @@ impl Store {
         ensures decided { IsDecided self.old self.new cred.now moment
             (at_path self.old.state (chown_at self.old.state cred.now uid gid) path.now) [] result }
     {
-        let Found { number, node } = match self.find(path) {
+        let Found { number, node } = match find(self.tree(), path) {
             Ok(found) => found,
             Err(refusal) => return Decided::refused(refusal),
         };

@@ -1,5 +1,5 @@
 //! What an inode takes of its owners' records, and the bill of a change.
-ghost use Rattle.std.specs.Prelude.{◌≡◌, ℕ, ◌+◌, ◌≤◌, ◌&&◌, [], true, Option, None, Some, is_some, IfErr, IfSome, OnOk};
+ghost use Rattle.std.specs.Prelude.{◌≡◌, ◌+◌, ◌≤◌, ◌&&◌, [], true, Option, None, Some, is_some, IfErr, IfSome, OnOk};
 ghost use Rattle.std.specs.Option.{IsSome};
 ghost use Rattle.qrules.specs.declared.kind.Kind.TheVariants.{User, Group};
 ghost use Rattle.qrules.specs.Sort.{Blocks};

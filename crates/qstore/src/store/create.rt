@@ -21,6 +21,7 @@ use qchange::TreeChange;
 use qledger::{Claim, Slots};
 use qplain::{Cred, NoMemory, Refusal};
 use qrules::MAX_MOMENT;
+use qwalk::place_of;
 
 /// The change by which a new inode comes to stand.
 fn creation(sort: FileType, dir: u64, name: String, uid: u32, gid: u32) -> TreeChange
@@ -62,7 +63,7 @@ impl Store {
         ensures refused_first { IsRefused (settle self.old.state cred.now moment
             (in_place self.old.state EEXIST (create_as self.old.state cred.now) path.now)).1 → IsOk result }
     {
-        let place = match self.place_of(path, Refusal::EEXIST) {
+        let place = match place_of(self.tree(), path, Refusal::EEXIST) {
             Ok(place) => place,
             Err(refusal) => return Ok(Decided::refused(refusal)),
         };

@@ -1,12 +1,11 @@
 //! To make a directory (mkdir(2)).
-ghost use Rattle.std.specs.Prelude.{◌≡◌, ◌≤◌, ◌+◌, nat_lt, true, [], None, IfOk};
+ghost use Rattle.std.specs.Prelude.{◌≡◌, ◌≤◌, true, [], None, IfOk};
 ghost use Rattle.std.specs.Result.{IsOk};
 ghost use Rattle.qplain.specs.declared.refusal.Refusal.TheVariants.{EEXIST};
 ghost use Rattle.qplain.specs.Attempt.{in_place};
 ghost use Rattle.qplain.specs.Names.{created, mkdir_as, unless_too_many_links};
 ghost use Rattle.qplain.specs.State.{is_directory, named, new_directory};
 ghost use Rattle.qplain.specs.Step.{settle};
-ghost use Rattle.qplain.specs.Use.{links_of};
 ghost use Rattle.qledger.specs.Books.{HasSlots};
 ghost use Rattle.qstore.specs.Decided.{IsDecided, IsWhole};
 ghost use Rattle.qstore.specs.Ready.{IsRefused};
@@ -16,8 +15,9 @@ use crate::file_type::FileType;
 use crate::ready::Decided;
 use crate::store::Store;
 use qledger::Slots;
-use qplain::{Cred, MAX_LINKS, NoMemory, Refusal};
+use qplain::{Cred, NoMemory, Refusal};
 use qrules::MAX_MOMENT;
+use qwalk::{has_all_links, place_of};
 
 impl Store {
     /// Decides the making of a directory, and makes room for it.
@@ -37,24 +37,13 @@ impl Store {
         ensures refused_first { IsRefused (settle self.old.state cred.now moment
             (in_place self.old.state EEXIST (mkdir_as self.old.state cred.now) path.now)).1 → IsOk result }
     {
-        let place = match self.place_of(path, Refusal::EEXIST) {
+        let place = match place_of(self.tree(), path, Refusal::EEXIST) {
             Ok(place) => place,
             Err(refusal) => return Ok(Decided::refused(refusal)),
         };
         match place.leads_to {
             Some(_) => Ok(Decided::refused(Refusal::EEXIST)),
             None => self.make_directory(cred, callers, moment, place.dir, place.name),
-        }
-    }
-
-    /// Whether the directory has as many links as an inode may have.
-    pub(super) fn has_all_links(&self, dir: u64) -> bool
-        requires { is_directory self.now.state dir ≡ true }
-        ensures { result ≡ nat_lt MAX_LINKS (links_of self.now.state dir true + 1) }
-    {
-        match self.inode(dir) {
-            Some(node) => node.links >= MAX_LINKS,
-            None => unreachable!(),
         }
     }
 
@@ -80,7 +69,7 @@ impl Store {
             (created self.old.state (new_directory cred.now.uid cred.now.gid) dir name.now)
             self.old.state.next)).1 → IsOk result }
     {
-        if self.has_all_links(dir) {
+        if has_all_links(self.tree(), dir) {
             return Ok(Decided::refused(Refusal::EMLINK));
         }
         self.make_inode(cred, callers, moment, dir, name, FileType::Directory)

@@ -4,10 +4,10 @@ ghost use Rattle.qplain.specs.Quotas.{ask_quota};
 ghost use Rattle.qplain.specs.Step.{settle};
 
 use crate::store::Store;
-use crate::store::rights::is_own;
 use qledger::KeptHolder;
 use qplain::{Cred, Quota, Refusal, Reply};
 use qrules::Kind;
+use qwalk::is_own;
 
 /// What a kept holder's record holds.
 fn quota_of(holder: &KeptHolder) -> Quota

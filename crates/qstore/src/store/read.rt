@@ -10,6 +10,7 @@ ghost use Rattle.qstore.specs.Ready.{IsRefused};
 use crate::store::Store;
 use qplain::{NoMemory, Refusal, Reply, Shared};
 use qtree::Content;
+use qwalk::find;
 
 impl Store {
     /// The reply to a read.
@@ -19,7 +20,7 @@ impl Store {
         ensures refused_first { (cred : Caller) (moment : ℕ) → IsRefused (settle self.now.state cred moment
             (at_path self.now.state (read_from off len) path.now)).1 → IsOk result }
     {
-        let node = match self.find(path) {
+        let node = match find(self.tree(), path) {
             Ok(found) => found.node,
             Err(refusal) => return Ok(Reply::Refused(refusal)),
         };

@@ -1,10 +1,9 @@
 //! To give an inode another name, in place of what has that (rename(2)).
-ghost use Rattle.std.specs.Prelude.{◌≡◌, ℕ, ◌<◌, ◌≤◌, ◌==◌, false, true, not, List, [], Some, IfErr, IfOk};
+ghost use Rattle.std.specs.Prelude.{◌≡◌, ℕ, ◌<◌, ◌≤◌, ◌==◌, false, true, not, List, [], Some, IfOk};
 ghost use Rattle.std.specs.Option.{IsSome};
 ghost use Rattle.std.specs.Result.{IsOk};
 ghost use Rattle.qplain.specs.declared.refusal.Refusal.TheVariants.{EBUSY};
-ghost use Rattle.qplain.specs.Attempt.{Becomes, Refuse, in_place};
-ghost use Rattle.qplain.specs.Caller.{Caller};
+ghost use Rattle.qplain.specs.Attempt.{Becomes, in_place};
 ghost use Rattle.qplain.specs.Renames.{passes, rename_as, rename_from, renamed};
 ghost use Rattle.qplain.specs.State.{Inode, inode_at, is_directory, named};
 ghost use Rattle.qplain.specs.Step.{settle};
@@ -19,22 +18,13 @@ ghost use Rattle.qstore.specs.Stored.{IsSameStore};
 
 use crate::ready::Decided;
 use crate::store::Store;
-use crate::store::rename_fault::is_its_own;
 use crate::store::unlink::left_of;
-use crate::store::walk::Place;
 use qchange::TreeChange;
 use qledger::{Claim, Slots};
-use qplain::{Cred, NO_CHANGE, NoMemory, Path, Refusal, Reply};
+use qplain::{Cred, NO_CHANGE, NoMemory, Path, Reply};
 use qrules::MAX_MOMENT;
 use qtree::Content;
-
-/// An inode, the directory of its name, and the place of the name that it is to have.
-#[derive(Clone, Copy)]
-pub(super) struct Renaming<'a> {
-    pub(super) dir: u64,
-    pub(super) number: u64,
-    pub(super) to: Place<'a>,
-}
+use qwalk::{Renaming, inode, is_its_own, places_of, rename_fault};
 
 /// What the inode that is replaced takes of its owners' records, before and after, where there is one.
 struct Replaced {
@@ -61,7 +51,7 @@ impl Store {
         ensures refused_first { IsRefused (settle self.old.state cred.now moment
             (in_place self.old.state EBUSY (rename_from self.old.state cred.now to.now) from.now)).1 → IsOk result }
     {
-        let new = match self.renaming(from.text(), to) {
+        let new = match places_of(self.tree(), from.text(), to) {
             Ok(new) => new,
             Err(refusal) => return Ok(Decided::refused(refusal)),
         };
@@ -97,10 +87,11 @@ impl Store {
             → IsRefused (settle self.old.state cred.now moment (rename_as self.old.state cred.now to.now new.now.dir
             (name_in from.now) new.now.number inode new.now.to.dir new.now.to.name.now)).1 → IsOk result }
     {
-        let Some(node) = self.inode(new.number) else {
+        let tree = self.tree();
+        let Some(node) = inode(tree, new.number) else {
             unreachable!()
         };
-        match self.rename_fault(cred, to, new, node) {
+        match rename_fault(tree, cred, to, new, node) {
             Some(refusal) => return Ok(Decided::refused(refusal)),
             None => {}
         }
@@ -127,7 +118,7 @@ impl Store {
                 left: None,
             };
         };
-        let Some(node) = self.inode(number) else {
+        let Some(node) = inode(self.tree(), number) else {
             unreachable!()
         };
         let claim = self.claim_of(cred, callers, number, node);
@@ -181,35 +172,5 @@ impl Store {
             number: new.number,
         };
         Ok(Decided::granted(new.number, claim, left, change))
-    }
-
-    /// What has the last name of the first path, and the place of the second: ENOENT, and the faults of both walks.
-    fn renaming<'a>(&self, from: &str, to: &'a str) -> Result<Renaming<'a>, Refusal>
-        ensures led { IfOk result (λ new. named self.now.state new.dir (name_in from.now) ≡ Some new.number) }
-        ensures directory { IfOk result (λ new. is_directory self.now.state new.to.dir ≡ true) }
-        ensures leads_to { IfOk result (λ new. new.to.leads_to
-            ≡ named self.now.state new.to.dir new.to.name.now) }
-        ensures found { IfOk result (λ new. (cred : Caller) (inode : Inode)
-            → inode_at self.now.state new.number ≡ Some inode
-            → in_place self.now.state EBUSY (rename_from self.now.state cred to.now) from.now
-            ≡ rename_as self.now.state cred to.now new.dir (name_in from.now) new.number inode new.to.dir
-            new.to.name.now) }
-        ensures there { IfOk result (λ new. IsSome (inode_at self.now.state new.number)) }
-        ensures fault { IfErr result (λ refusal. (cred : Caller)
-            → in_place self.now.state EBUSY (rename_from self.now.state cred to.now) from.now ≡ Refuse refusal) }
-    {
-        let place = self.place_of(from, Refusal::EBUSY)?;
-        let Some(number) = place.leads_to else {
-            return Err(Refusal::ENOENT);
-        };
-        if self.inode(number).is_none() {
-            return Err(Refusal::ENOENT);
-        }
-        let to = self.place_of(to, Refusal::EBUSY)?;
-        Ok(Renaming {
-            dir: place.dir,
-            number,
-            to,
-        })
     }
 }

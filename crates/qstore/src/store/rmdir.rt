@@ -20,6 +20,7 @@ use qledger::Slots;
 use qplain::{Cred, NoMemory, Path, Refusal};
 use qrules::MAX_MOMENT;
 use qtree::Content;
+use qwalk::{inode, is_empty, may_remove, place_of};
 
 impl Store {
     /// Decides that a directory goes.
@@ -39,7 +40,7 @@ impl Store {
         ensures refused_first { IsRefused (settle self.old.state cred.now moment
             (in_place self.old.state EBUSY (rmdir_as self.old.state cred.now) path.now)).1 → IsOk result }
     {
-        let place = match self.place_of(path.text(), Refusal::EBUSY) {
+        let place = match place_of(self.tree(), path.text(), Refusal::EBUSY) {
             Ok(place) => place,
             Err(refusal) => return Ok(Decided::refused(refusal)),
         };
@@ -49,13 +50,6 @@ impl Store {
             }
             None => Ok(Decided::refused(Refusal::ENOENT)),
         }
-    }
-
-    /// Whether no name stands in the inode of this number.
-    fn is_empty(&self, number: u64) -> bool
-        ensures { result ≡ is_empty self.now.state number }
-    {
-        self.tree.has_no_names(number)
     }
 
     /// Decides that the last name of the path goes, which leads to this number.
@@ -81,16 +75,17 @@ impl Store {
         ensures refused_first { IsRefused (settle self.old.state cred.now moment
             (rmdir_as self.old.state cred.now dir name.now)).1 → IsOk result }
     {
-        let Some(node) = self.inode(number) else {
+        let tree = self.tree();
+        let Some(node) = inode(tree, number) else {
             return Ok(Decided::refused(Refusal::ENOENT));
         };
         let Content::Directory(_) = &node.content else {
             return Ok(Decided::refused(Refusal::ENOTDIR));
         };
-        if !self.may_remove(cred, dir, number, node) {
+        if !may_remove(tree, cred, dir, number, node) {
             return Ok(Decided::refused(Refusal::EPERM));
         }
-        if !self.is_empty(number) {
+        if !is_empty(tree, number) {
             return Ok(Decided::refused(Refusal::ENOTEMPTY));
         }
         let claim = self.claim_of(cred, callers, number, node);

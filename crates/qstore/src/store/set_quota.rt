@@ -1,5 +1,5 @@
 //! To set limits (quotactl(2), Q_SETQUOTA; setquota(8)).
-ghost use Rattle.std.specs.Prelude.{◌≡◌, ◌≤◌, []};
+ghost use Rattle.std.specs.Prelude.{◌≤◌, []};
 ghost use Rattle.qplain.specs.Quotas.{set_quota};
 ghost use Rattle.qstore.specs.Decided.{IsDecided, IsWhole};
 ghost use Rattle.qstore.specs.Stored.{IsSameStore};

@@ -10,6 +10,7 @@ ghost use Rattle.qtree.specs.Nodes.{file_in, inode_of};
 use crate::store::Store;
 use qplain::{Reply, Stat};
 use qtree::{Content, Node};
+use qwalk::find;
 
 /// What is known of an inode.
 fn stat_of(number: u64, node: &Node) -> Stat
@@ -44,7 +45,7 @@ impl Store {
         ensures { (cred : Caller) (moment : ℕ) → (self.now.state, result)
             ≡ settle self.now.state cred moment (at_path self.now.state (stat_at self.now.state) path.now) }
     {
-        match self.find(path) {
+        match find(self.tree(), path) {
             Ok(found) => Reply::Stat(stat_of(found.number, found.node)),
             Err(refusal) => Reply::Refused(refusal),
         }

@@ -1,5 +1,5 @@
 //! To cut a file off, or to let it grow (truncate(2)).
-ghost use Rattle.std.specs.Prelude.{◌≡◌, ◌≤◌, []};
+ghost use Rattle.std.specs.Prelude.{◌≤◌, []};
 ghost use Rattle.qplain.specs.Attempt.{at_path};
 ghost use Rattle.qplain.specs.Files.{truncate_at};
 ghost use Rattle.qledger.specs.Books.{HasSlots};
@@ -8,13 +8,12 @@ ghost use Rattle.qstore.specs.Stored.{IsSameStore};
 
 use crate::ready::Decided;
 use crate::store::Store;
-use crate::store::rights::may_write;
-use crate::store::walk::Found;
 use qchange::TreeChange;
 use qledger::{Claim, Slots};
 use qplain::{Cred, Refusal};
 use qrules::MAX_MOMENT;
 use qtree::Content;
+use qwalk::{Found, find, may_write};
 
 impl Store {
     /// Decides another size of a file.
@@ -34,7 +33,7 @@ impl Store {
             (at_path self.old.state (truncate_at self.old.state cred.now size) path.now) [] result }
     {
         let limit = self.file_limit;
-        let Found { number, node } = match self.find(path) {
+        let Found { number, node } = match find(self.tree(), path) {
             Ok(found) => found,
             Err(refusal) => return Decided::refused(refusal),
         };

@@ -23,6 +23,7 @@ use qledger::{Claim, Slots};
 use qplain::{Cred, NoMemory, Path, Refusal};
 use qrules::MAX_MOMENT;
 use qtree::{Content, Node};
+use qwalk::{inode, may_remove, place_of};
 
 /// What is left of what a file takes, once a name of it has gone.
 pub(super) fn left_of(node: &Node, claim: Claim) -> Option<Claim>
@@ -62,7 +63,7 @@ impl Store {
         ensures refused_first { IsRefused (settle self.old.state cred.now moment
             (in_place self.old.state EISDIR (unlink_as self.old.state cred.now) path.now)).1 → IsOk result }
     {
-        let place = match self.place_of(path.text(), Refusal::EISDIR) {
+        let place = match place_of(self.tree(), path.text(), Refusal::EISDIR) {
             Ok(place) => place,
             Err(refusal) => return Ok(Decided::refused(refusal)),
         };
@@ -96,13 +97,14 @@ impl Store {
         ensures refused_first { IsRefused (settle self.old.state cred.now moment
             (unlink_as self.old.state cred.now dir name.now)).1 → IsOk result }
     {
-        let Some(node) = self.inode(number) else {
+        let tree = self.tree();
+        let Some(node) = inode(tree, number) else {
             return Ok(Decided::refused(Refusal::ENOENT));
         };
         let Content::File(_) = &node.content else {
             return Ok(Decided::refused(Refusal::EISDIR));
         };
-        if !self.may_remove(cred, dir, number, node) {
+        if !may_remove(tree, cred, dir, number, node) {
             return Ok(Decided::refused(Refusal::EPERM));
         }
         let claim = self.claim_of(cred, callers, number, node);

@@ -12,13 +12,12 @@ ghost use Rattle.qstore.specs.Targets.{IsTarget};
 
 use crate::ready::Decided;
 use crate::store::Store;
-use crate::store::rights::may_write;
-use crate::store::walk::Found;
 use qchange::TreeChange;
 use qledger::{Claim, Slots};
 use qplain::{Cred, Data, MAX_DATA, NO_CHANGE, NoMemory, Refusal, Reply};
 use qrules::MAX_MOMENT;
 use qtree::Content;
+use qwalk::{Found, find, may_write};
 
 /// A file that may be written into: what it takes, and how many blocks the write allocates.
 #[derive(Clone, Copy)]
@@ -80,7 +79,7 @@ impl Store {
             (at_path self.now.state (write_into self.now.state cred.now off bytes.now) path.now)
             ≡ (self.now.state, reply)) }
     {
-        let Found { number, node } = match self.find(path) {
+        let Found { number, node } = match find(self.tree(), path) {
             Ok(found) => found,
             Err(refusal) => return Err(Reply::Refused(refusal)),
         };

@@ -1,9 +1,11 @@
-use Rattle.std.proofs.Common.{◌≡◌, ℕ, take}
-use Rattle.std.specs.BTreeMap.{get}
-use Rattle.std.specs.Option.{unwrap_or}
-use Rattle.std.specs.Ordering.{nat_cmp}
+use Rattle.std.proofs.Common.{◌≡◌, ◌<◌, ℕ, length, slice_index, take}
 use Rattle.qaudit.specs.Recount.{subdirectories}
 use Rattle.qaudit.proofs.links.subdirectories_by_number.Given as goal
 
 abbrev pub invariant-loop-name : goal.invariant-loop-name
-invariant-loop-name l = (q : ℕ) → unwrap_or (get nat_cmp l.tally q) 0 ≡ subdirectories l.inodes (take l.name-index l.names) q
+invariant-loop-name l = record {
+  long : length l.counts.items ≡ length l.numbers;
+  each :
+      (k : ℕ) → k < length l.numbers
+      → slice_index l.counts.items k ≡ subdirectories l.inodes (take l.name-index l.names) (slice_index l.numbers k);
+}

@@ -4,14 +4,16 @@ use Rattle.qaudit.specs.Differences.{differences_of}
 use Rattle.qaudit.specs.Recount.{recount_of}
 use Rattle.qrows.specs.Own.{inode_rows, name_rows}
 use Rattle.qrows.proofs.Agree.{nothing_found}
+use Rattle.qrows.proofs.AnyOrder.{recount-any_order}
 use Rattle.qrows.proofs.audits.audit.Goals as goal
 
 pub returns-clause-differences : goal.returns-clause-differences
 returns-clause-differences c =
     let inodes = c.deref.ensures.value ∙ c.in_ok-inodes.ensures.rows in
-    let names = c.deref-2.ensures.value ∙ c.in_ok-names.ensures.rows in
-    let counted : c.in_ok-counts.counts ≡ recount_of (inode_rows c.args.store.now.state) (name_rows c.args.store.now.state) =
-    c.in_ok-counts.ensures ∙ (λ i. recount_of (inodes i) (names i)) in
+    let state = c.args.store.now.state in
+    let counted : c.in_ok-counts.counts ≡ recount_of (inode_rows state) (name_rows state) =
+    c.in_ok-counts.ensures ∙ (λ i. recount_of (inodes i) (c.deref-2.ensures.value i))
+    ∙ recount-any_order (inode_rows state) (name_rows state) c.in_ok-names.names.items c.in_ok-names.ensures.rows in
     subst (λ (all : List Difference). IfOk c.compare.result (λ found. found.items ≡ all))
     (λ i. differences_of (counted i) (c.requires.own i)) c.compare.ensures
 

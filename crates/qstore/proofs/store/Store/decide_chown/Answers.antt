@@ -16,7 +16,7 @@ pub returns-in-Err-clause-decided : goal.returns-in-Err-clause-decided
 returns-in-Err-clause-decided c =
     let x = c.args in
     decided-refused x.self.now x.self.now x.cred.now x.moment _ [] c.refused.result c.in-Err.refusal refl
-    (c.in-Err.ensures.fault (chown_at x.self.now.state x.cred.now x.uid x.gid)) c.refused.ensures.reply c.refused.ensures.plan
+    (c.in-Err.ensures.fault x.self.now.state c.tree.ensures (chown_at x.self.now.state x.cred.now x.uid x.gid)) c.refused.ensures.reply c.refused.ensures.plan
 
 pub returns-then-not-may_give-clause-decided : goal.returns-then-not-may_give-clause-decided
 returns-then-not-may_give-clause-decided c =
@@ -24,7 +24,7 @@ returns-then-not-may_give-clause-decided c =
     let S = x.self.now.state in
     let number = c.in-Ok.found.number in
     let inode = inode_of c.in-Ok.found.node.now in
-    let found = c.in-Ok.ensures.found (chown_at S x.cred.now x.uid x.gid) in
+    let found = c.in-Ok.ensures.found S c.tree.ensures (chown_at S x.cred.now x.uid x.gid) in
     let owners : chown_at S x.cred.now x.uid x.gid number inode
     ≡ give S x.cred.now c.unwrap_or-uid.result c.unwrap_or-gid.result number inode =
     λ i. give S x.cred.now (sym c.unwrap_or-uid.ensures i) (sym c.unwrap_or-gid.ensures i) number inode in
@@ -38,7 +38,7 @@ claim-to-requires-clause-declared c =
     let x = c.args in
     let S = x.self.now.state in
     let inode = inode_of c.in-Ok.found.node.now in
-    let known = known-owners S c.in-Ok.found.number inode c.requires.whole.sound.lawful.parts c.in-Ok.ensures.there in
+    let known = known-owners S c.in-Ok.found.number inode c.requires.whole.sound.lawful.parts (c.in-Ok.ensures.there S c.tree.ensures) in
     (λ i. is_declared S User (c.unwrap_or-uid.ensures i) && is_declared S Group (c.unwrap_or-gid.ensures i))
     ∙ named-declared S x.uid x.gid inode.uid inode.gid c.requires.declared known
 
@@ -48,7 +48,7 @@ grant-requires-clause-asked c =
     let s = x.self.now in
     let inode = inode_of c.in-Ok.found.node.now in
     let number = c.in-Ok.found.number in
-    let there = c.in-Ok.ensures.there in
+    let there = (c.in-Ok.ensures.there x.self.now.state c.tree.ensures) in
     let uid = c.unwrap_or-uid.result in
     let gid = c.unwrap_or-gid.result in
     let blocks = c.claim_of-from.ensures.blocks in
@@ -67,11 +67,17 @@ returns-clause-decided c =
     let inode = inode_of c.in-Ok.found.node.now in
     let uid = c.unwrap_or-uid.result in
     let gid = c.unwrap_or-gid.result in
-    let found = c.in-Ok.ensures.found (chown_at S x.cred.now x.uid x.gid) in
+    let found = c.in-Ok.ensures.found S c.tree.ensures (chown_at S x.cred.now x.uid x.gid) in
     let owners : chown_at S x.cred.now x.uid x.gid number inode
     ≡ give S x.cred.now c.unwrap_or-uid.result c.unwrap_or-gid.result number inode =
     λ i. give S x.cred.now (sym c.unwrap_or-uid.ensures i) (sym c.unwrap_or-gid.ensures i) number inode in
     let may : may_give x.cred.now inode uid gid ≡ true = search rules in
-    let made = altered-there S number (λ i. with_owners i uid gid) inode c.in-Ok.ensures.there in
+    let made = altered-there S number (λ i. with_owners i uid gid) inode (c.in-Ok.ensures.there S c.tree.ensures) in
     decided-along x.self.now c.grant.new.self x.cred.now x.moment _ _ [] c.grant.result
     (sym (found ∙ owners ∙ give-becomes S x.cred.now uid gid number inode may ∙ ap (λ T. Becomes T number) (sym made))) c.grant.ensures.decided
+
+pub grant-requires-clause-can : goal.grant-requires-clause-can
+grant-requires-clause-can c = record {
+  inode = inode_of c.in-Ok.found.node.now;
+  there = c.in-Ok.ensures.there c.args.self.now.state c.tree.ensures;
+}

@@ -15,12 +15,12 @@ pub returns-in-Err-clause-decided : goal.returns-in-Err-clause-decided
 returns-in-Err-clause-decided c =
     let x = c.args in
     decided-refused x.self.now x.self.now x.cred.now x.moment _ [] c.refused.result c.in-Err.refusal refl
-    (c.in-Err.ensures.fault (truncate_at x.self.now.state x.cred.now x.size)) c.refused.ensures.reply c.refused.ensures.plan
+    (c.in-Err.ensures.fault x.self.now.state c.tree.ensures (truncate_at x.self.now.state x.cred.now x.size)) c.refused.ensures.reply c.refused.ensures.plan
 
 pub returns-in_default-clause-decided : goal.returns-in_default-clause-decided
 returns-in_default-clause-decided c =
     let x = c.args in
-    let found = c.in-Ok.ensures.found (truncate_at x.self.now.state x.cred.now x.size) in
+    let found = c.in-Ok.ensures.found x.self.now.state c.tree.ensures (truncate_at x.self.now.state x.cred.now x.size) in
     let dir : (inode_of c.in-Ok.found.node.now).dir ≡ true = ap is_dir_content c.in_default.is in
     decided-refused x.self.now x.self.now x.cred.now x.moment _ [] c.refused-in_default.result EISDIR refl
     (found ∙ search (rules, dir)) c.refused-in_default.ensures.reply c.refused-in_default.ensures.plan
@@ -28,7 +28,7 @@ returns-in_default-clause-decided c =
 pub returns-then-not-may_write-clause-decided : goal.returns-then-not-may_write-clause-decided
 returns-then-not-may_write-clause-decided c =
     let x = c.args in
-    let found = c.in-Ok.ensures.found (truncate_at x.self.now.state x.cred.now x.size) in
+    let found = c.in-Ok.ensures.found x.self.now.state c.tree.ensures (truncate_at x.self.now.state x.cred.now x.size) in
     let file : (inode_of c.in-Ok.found.node.now).dir ≡ false = ap is_dir_content c.in-File.is in
     let may : may_write x.cred.now (inode_of c.in-Ok.found.node.now) ≡ false = search rules in
     decided-refused x.self.now x.self.now x.cred.now x.moment _ [] c.refused-then-not-may_write.result EACCES refl
@@ -38,7 +38,7 @@ pub returns-then-size-limit-clause-decided : goal.returns-then-size-limit-clause
 returns-then-size-limit-clause-decided c =
     let x = c.args in
     let S = x.self.now.state in
-    let found = c.in-Ok.ensures.found (truncate_at S x.cred.now x.size) in
+    let found = c.in-Ok.ensures.found S c.tree.ensures (truncate_at S x.cred.now x.size) in
     let file : (inode_of c.in-Ok.found.node.now).dir ≡ false = ap is_dir_content c.in-File.is in
     let may : may_write x.cred.now (inode_of c.in-Ok.found.node.now) ≡ true = search rules in
     let limit = ap (λ (v : Stored). v.state.file_limit) c.self.view_is in
@@ -53,7 +53,7 @@ grant-requires-clause-asked c =
     let s = x.self.now in
     let inode = inode_of c.in-Ok.found.node.now in
     let number = c.in-Ok.found.number in
-    let there = c.in-Ok.ensures.there in
+    let there = (c.in-Ok.ensures.there x.self.now.state c.tree.ensures) in
     let after = after_truncate inode.file x.size in
     let freed : MoreBlocks after inode.file c.freed_by.result =
     subst (λ (f : File). MoreBlocks (after_truncate f x.size) f c.freed_by.result) (sym (ap file_in c.in-File.is)) c.freed_by.ensures.freed in
@@ -71,12 +71,26 @@ returns-clause-decided c =
     let S = x.self.now.state in
     let inode = inode_of c.in-Ok.found.node.now in
     let number = c.in-Ok.found.number in
-    let found = c.in-Ok.ensures.found (truncate_at S x.cred.now x.size) in
+    let found = c.in-Ok.ensures.found S c.tree.ensures (truncate_at S x.cred.now x.size) in
     let file : inode.dir ≡ false = ap is_dir_content c.in-File.is in
     let may : may_write x.cred.now inode ≡ true = search rules in
     let limit = ap (λ (v : Stored). v.state.file_limit) c.self.view_is in
     let long = c.if-size-limit.false in
     let low : nat_lt S.file_limit x.size ≡ false = grind (arith, tests, limit, long) in
-    let made = altered-there S number (λ i. record i { file = after_truncate i.file x.size }) inode c.in-Ok.ensures.there in
+    let made = altered-there S number (λ i. record i { file = after_truncate i.file x.size }) inode (c.in-Ok.ensures.there S c.tree.ensures) in
     decided-along x.self.now c.grant.new.self x.cred.now x.moment _ _ [] c.grant.result
     (sym (found ∙ truncate-becomes S x.cred.now x.size number inode file may low ∙ ap (λ T. Becomes T number) (sym made))) c.grant.ensures.decided
+
+pub grant-requires-clause-can : goal.grant-requires-clause-can
+grant-requires-clause-can c =
+    let limit = ap (λ (v : Stored). v.state.file_limit) c.self.view_is in
+    let bound = c.requires.whole.sound.file_bound in
+    let long = c.if-size-limit.false in
+    record {
+      file = record {
+        inode = inode_of c.in-Ok.found.node.now;
+        there = c.in-Ok.ensures.there c.args.self.now.state c.tree.ensures;
+        is_file = ap is_dir_content c.in-File.is;
+      };
+      bound = omega (arith, limit, bound, long);
+    }

@@ -15,7 +15,7 @@ returns-then-has_all_links-clause-decided c =
     let s = x.self.now in
     decided-refused s s x.cred.now x.moment _ [] c.refused.result EMLINK refl
     (mkdir-attempt s.state x.cred.now.uid x.cred.now.gid x.dir x.name.now _ c.requires.whole.sound.lawful c.requires.absent
-    c.requires.directory c.if-has_all_links.ensures)
+    c.requires.directory (c.if-has_all_links.ensures s.state c.tree.ensures c.requires.directory))
     c.refused.ensures.reply c.refused.ensures.plan
 
 pub returns-clause-decided : goal.returns-clause-decided
@@ -24,7 +24,7 @@ returns-clause-decided c =
     let s = x.self.now in
     subst (λ (a : Attempt). IfOk c.make_inode.result (IsDecided s c.make_inode.new.self x.cred.now x.moment a []))
     (sym (mkdir-attempt s.state x.cred.now.uid x.cred.now.gid x.dir x.name.now _ c.requires.whole.sound.lawful c.requires.absent
-    c.requires.directory c.if-has_all_links.ensures))
+    c.requires.directory (c.if-has_all_links.ensures s.state c.tree.ensures c.requires.directory)))
     c.make_inode.ensures.decided
 
 pub returns-clause-refused_first : goal.returns-clause-refused_first
@@ -34,5 +34,5 @@ returns-clause-refused_first c refused =
     c.make_inode.ensures.refused_first
     (subst (λ (a : Attempt). IsRefused (settle s.state x.cred.now x.moment a).1)
     (mkdir-attempt s.state x.cred.now.uid x.cred.now.gid x.dir x.name.now _ c.requires.whole.sound.lawful c.requires.absent
-    c.requires.directory c.if-has_all_links.ensures)
+    c.requires.directory (c.if-has_all_links.ensures s.state c.tree.ensures c.requires.directory))
     refused)

@@ -1,4 +1,4 @@
-use Rattle.std.proofs.Common.{rules, ◌≡◌, ◌==◌, not, None, Some, ap, refl, sym, ◌∙◌, arith}
+use Rattle.std.proofs.Common.{◌≡◌, ◌==◌, not, None, Some, ap, refl, sym, ◌∙◌, arith}
 use Rattle.qplain.specs.Renames.{passes}
 use Rattle.qplain.specs.State.{inode_at, named}
 use Rattle.qplain.specs.Use.{is_empty}
@@ -20,7 +20,7 @@ pub unreachable-requires : goal.unreachable-requires
 unreachable-requires c =
     let S = c.args.self.now.state in
     let to = c.args.new.now.to in
-    let none : inode_at S c.in-Some.number ≡ None = search rules in
+    let none : inode_at S c.in-Some.number ≡ None = sym (c.in_default-inode.ensures.there S c.tree.ensures) in
     led-there S c.requires.whole.sound.lawful to.dir to.name.now c.in-Some.number (sym c.requires.leads_to ∙ c.in-Some.is) none
 
 pub returns-in-Directory : goal.returns-in-Directory
@@ -30,7 +30,7 @@ returns-in-Directory c name inode led there =
     let r = c.requires in
     let to : named s.state new.to.dir new.to.name.now ≡ new.to.leads_to = sym r.leads_to in
     let replaced = inode_of c.in-Some-inode.node.now in
-    let there_too : inode_at s.state c.in-Some.number ≡ Some replaced = search rules in
+    let there_too : inode_at s.state c.in-Some.number ≡ Some replaced = sym (c.in-Some-inode.ensures.there s.state c.tree.ensures) in
     let blocks = c.claim_of-claim.ensures.blocks in
     let few = c.claim_of-claim.ensures.few in
     directory-asked s r.whole new.dir name new.number inode new.to.dir new.to.name.now led there r.directory
@@ -45,11 +45,11 @@ returns-in-File c name inode led there =
     let r = c.requires in
     let to : named s.state new.to.dir new.to.name.now ≡ new.to.leads_to = sym r.leads_to in
     let node = c.in-Some-inode.node.now in
-    let there_too : inode_at s.state c.in-Some.number ≡ Some (inode_of node) = search rules in
+    let there_too : inode_at s.state c.in-Some.number ≡ Some (inode_of node) = sym (c.in-Some-inode.ensures.there s.state c.tree.ensures) in
     let blocks = c.claim_of-claim.ensures.blocks in
     let few = c.claim_of-claim.ensures.few in
     file-asked s r.whole new.dir name new.number inode new.to.dir new.to.name.now led there r.directory
     (ap (passes (λ n. n == new.number)) to ∙ r.other) (ap (passes (λ n. not (is_empty s.state n))) to ∙ r.empty)
     c.in-Some.number (inode_of node) (to ∙ c.in-Some.is) there_too c.claim_of-claim.result c.left_of-left.result c.claim_of-claim.ensures.claimed
-    (omega (arith, blocks, few)) node.links (ap is_dir_content c.in-File.is) c.in-Some-inode.ensures.links
+    (omega (arith, blocks, few)) node.links (ap is_dir_content c.in-File.is) (c.in-Some-inode.ensures.links s.state c.tree.ensures)
     c.left_of-left.ensures.more c.left_of-left.ensures.last

@@ -9,13 +9,14 @@ use Rattle.qstore.proofs.store.Store.target.Goals as goal
 pub returns-in-Err-clause-refused : goal.returns-in-Err-clause-refused
 returns-in-Err-clause-refused c moment =
     let x = c.args in
-    ap (settle x.self.now.state x.cred.now moment) (c.in-Err.ensures.fault (write_into x.self.now.state x.cred.now x.off x.bytes.now))
+    let S = x.self.now.state in
+    ap (settle S x.cred.now moment) (c.in-Err.ensures.fault S c.tree.ensures (write_into S x.cred.now x.off x.bytes.now))
 
 pub returns-in_default-clause-refused : goal.returns-in_default-clause-refused
 returns-in_default-clause-refused c moment =
     let x = c.args in
     let S = x.self.now.state in
-    let found = c.in-Ok.ensures.found (write_into S x.cred.now x.off x.bytes.now) in
+    let found = c.in-Ok.ensures.found S c.tree.ensures (write_into S x.cred.now x.off x.bytes.now) in
     let dir : (inode_of c.in-Ok.found.node.now).dir ≡ true = ap is_dir_content c.in_default.is in
     ap (settle S x.cred.now moment) found ∙ (search (rules, dir))
 
@@ -23,7 +24,7 @@ pub returns-then-not-may_write-clause-refused : goal.returns-then-not-may_write-
 returns-then-not-may_write-clause-refused c moment =
     let x = c.args in
     let S = x.self.now.state in
-    let found = c.in-Ok.ensures.found (write_into S x.cred.now x.off x.bytes.now) in
+    let found = c.in-Ok.ensures.found S c.tree.ensures (write_into S x.cred.now x.off x.bytes.now) in
     let file : (inode_of c.in-Ok.found.node.now).dir ≡ false = ap is_dir_content c.in-File.is in
     let may : may_write x.cred.now (inode_of c.in-Ok.found.node.now) ≡ false = search rules in
     ap (settle S x.cred.now moment) found ∙ (search (rules, file, may))
@@ -32,7 +33,7 @@ pub returns-then-is_empty-clause-refused : goal.returns-then-is_empty-clause-ref
 returns-then-is_empty-clause-refused c moment =
     let x = c.args in
     let S = x.self.now.state in
-    let found = c.in-Ok.ensures.found (write_into S x.cred.now x.off x.bytes.now) in
+    let found = c.in-Ok.ensures.found S c.tree.ensures (write_into S x.cred.now x.off x.bytes.now) in
     let file : (inode_of c.in-Ok.found.node.now).dir ≡ false = ap is_dir_content c.in-File.is in
     let may : may_write x.cred.now (inode_of c.in-Ok.found.node.now) ≡ true = search rules in
     let none : (length x.bytes.now == 0) ≡ true = sym c.is_empty.ensures ∙ c.if-is_empty.true in
@@ -42,7 +43,7 @@ pub returns-then-is_past_limit-clause-refused : goal.returns-then-is_past_limit-
 returns-then-is_past_limit-clause-refused c moment =
     let x = c.args in
     let S = x.self.now.state in
-    let found = c.in-Ok.ensures.found (write_into S x.cred.now x.off x.bytes.now) in
+    let found = c.in-Ok.ensures.found S c.tree.ensures (write_into S x.cred.now x.off x.bytes.now) in
     let file : (inode_of c.in-Ok.found.node.now).dir ≡ false = ap is_dir_content c.in-File.is in
     let may : may_write x.cred.now (inode_of c.in-Ok.found.node.now) ≡ true = search rules in
     let some : (length x.bytes.now == 0) ≡ false = sym c.is_empty.ensures ∙ c.if-is_empty.false in
@@ -54,14 +55,14 @@ returns-clause-granted c =
     let x = c.args in
     let S = x.self.now.state in
     let inode = inode_of c.in-Ok.found.node.now in
-    let found = c.in-Ok.ensures.found (write_into S x.cred.now x.off x.bytes.now) in
+    let found = c.in-Ok.ensures.found S c.tree.ensures (write_into S x.cred.now x.off x.bytes.now) in
     let file : inode.dir ≡ false = ap is_dir_content c.in-File.is in
     let may : may_write x.cred.now inode ≡ true = search rules in
     let some : (length x.bytes.now == 0) ≡ false = sym c.is_empty.ensures ∙ c.if-is_empty.false in
     let low : nat_lt S.file_limit (x.off + length x.bytes.now) ≡ false = search rules in
     record {
       inode = inode;
-      there = c.in-Ok.ensures.there;
+      there = (c.in-Ok.ensures.there S c.tree.ensures);
       is_file = file;
       claimed = c.claim_of.ensures.claimed;
       blocks = c.claim_of.ensures.blocks;

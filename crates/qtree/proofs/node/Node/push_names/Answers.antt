@@ -1,6 +1,7 @@
-use Rattle.std.proofs.Common.{◌≡◌, [], ◌++◌, Result, Ok, Err, ap, append-nil, map, sym, ◌∙◌}
+use Rattle.std.proofs.Common.{◌≡◌, [], ◌++◌, Result, Ok, Err, ap, append-nil, map, subst, sym, ◌∙◌, IsPermutation}
 use Rattle.std.specs.Ordering.{nat_cmp}
 use Rattle.std.specs.Cmp.Lexicographic.{slice_cmp, nat_list_cmp_total}
+use Rattle.std.proofs.lemmas.List.Sorted.{IsPermutation-refl}
 use Rattle.std.proofs.lemmas.Map.Lookups.{exact_bytes}
 use Rattle.std.specs.List.Sorted.{IsStrictlySortedBy}
 use Rattle.std.specs.Map.{keys_of}
@@ -13,9 +14,11 @@ use Rattle.qtree.proofs.node.Node.push_names.Goals as goal
 
 pub returns-in-File : goal.returns-in-File
 returns-in-File c =
-    sym (append-nil c.args.rows.now.items)
-    ∙ ap (λ names. c.args.rows.now.items ++ map (row_in c.args.number) names)
-    (sym (in_order-sorted nat_list_cmp_total exact_bytes [] tt) ∙ ap (λ x. in_order (slice_cmp nat_cmp) (names_in x)) (sym c.in-File.is))
+    let rows = c.args.rows.now.items in
+    let none : rows ++ map (row_in c.args.number) (in_order (slice_cmp nat_cmp) (names_in c.args.self.now.content)) ≡ rows =
+    ap (λ x. rows ++ map (row_in c.args.number) (in_order (slice_cmp nat_cmp) (names_in x))) c.in-File.is
+    ∙ ap (λ names. rows ++ map (row_in c.args.number) names) (in_order-sorted nat_list_cmp_total exact_bytes [] tt) ∙ append-nil rows in
+    subst (λ l. IsPermutation l rows) (sym none) (IsPermutation-refl rows)
 
 -- two facts of a call that succeeds
 both : {A E P Q Z : Type 0} (r : Result A E) → (P → Q → Z) → OnOk r P → OnOk r Q → OnOk r Z
@@ -25,9 +28,11 @@ both (Err e) f p q = p
 pub returns-in-Directory : goal.returns-in-Directory
 returns-in-Directory c =
     let names = c.in-Directory.names.entries in
-    both c.push_rows.result (λ (rows : c.push_rows.new.rows.items ≡ c.args.rows.now.items
-    ++ map (row_in c.args.number) names) (order : IsStrictlySortedBy (slice_cmp nat_cmp) (keys_of names)).
-    rows ∙ ap (λ es. c.args.rows.now.items ++ map (row_in c.args.number) es)
-    (sym (in_order-sorted nat_list_cmp_total exact_bytes names
-    (sorted_from (slice_cmp nat_cmp) names order))
-    ∙ ap (λ x. in_order (slice_cmp nat_cmp) (names_in x)) (sym c.in-Directory.is))) c.push_rows.ensures.rows c.push_rows.ensures.order
+    let rows = c.args.rows.now.items in
+    let InOrder : Type 0 = IsStrictlySortedBy (slice_cmp nat_cmp) (keys_of names) in
+    let same : InOrder → names ≡ in_order (slice_cmp nat_cmp) (names_in c.args.self.now.content) =
+    λ order. sym (in_order-sorted nat_list_cmp_total exact_bytes names (sorted_from (slice_cmp nat_cmp) names order))
+    ∙ ap (λ x. in_order (slice_cmp nat_cmp) (names_in x)) (sym c.in-Directory.is) in
+    both c.push_rows.result (λ (pushed : IsPermutation (rows ++ map (row_in c.args.number) names) c.push_rows.new.rows.items) (order : InOrder).
+    subst (λ es. IsPermutation (rows ++ map (row_in c.args.number) es) c.push_rows.new.rows.items) (same order) pushed)
+    c.push_rows.ensures.rows c.push_rows.ensures.in_order

@@ -1,0 +1,4 @@
+-- What the proofs of more than one file share: of walks, then what the faults of a link and of a rename say.
+pub mod Walks
+pub mod FurtherNames
+pub mod Renamed

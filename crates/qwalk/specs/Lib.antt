@@ -1,0 +1,3 @@
+-- In reading order. A module that no public clause cites says so.
+pub mod Parents
+pub mod Faults

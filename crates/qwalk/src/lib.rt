@@ -1,0 +1,14 @@
+//! Walks along the names of a tree, and what calls ask of it before they change it. No question changes anything.
+#![tactic(auto)]
+
+pub use directory::{has_all_links, is_empty};
+pub use links::{FurtherName, further_name};
+pub use renames::{Renaming, is_its_own, places_of, rename_fault};
+pub use rights::{is_own, may_give, may_remove, may_write};
+pub use walk::{Found, Place, find, inode, place_of};
+
+mod directory;
+mod links;
+mod renames;
+mod rights;
+mod walk;
