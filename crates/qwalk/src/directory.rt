@@ -1,5 +1,5 @@
 //! What is asked of a directory before a name comes into it, or it goes.
-ghost use Rattle.std.specs.Prelude.{◌≡◌, ◌==◌, ◌+◌, nat_lt, true, not};
+ghost use Rattle.std.specs.Prelude.{◌≡◌, ◌+◌, nat_lt, true, not};
 ghost use Rattle.qplain.specs.Renames.{passes};
 ghost use Rattle.qplain.specs.State.{State, is_directory};
 ghost use Rattle.qplain.specs.Use.{is_empty, links_of};
