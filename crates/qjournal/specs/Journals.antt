@@ -1,4 +1,4 @@
--- Journals: how many workers they tell of and their entries, or the first line at fault with the first thing wrong in it.
+-- Journals: their workers and entries, or the first line at fault with the first thing wrong in it.
 use Rattle.std.specs.Prelude.{ℕ, ◌+◌, ◌==◌, ◌<◌, ◌≤◌, not, List, [], ◌∷◌, drop, codes, Result, Ok, Err, nat_lt, if◌then◌else◌}
 use Rattle.std.specs.List.{list_all}
 use Rattle.std.specs.Str.{bytes_eq}

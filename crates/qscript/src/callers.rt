@@ -1,4 +1,4 @@
-ghost use Rattle.std.specs.Prelude.{◌≡◌, Ok};
+ghost use Rattle.std.specs.Prelude.{◌≡◌, Ok, None};
 ghost use Rattle.qtext.specs.Gives.{Gives};
 ghost use Rattle.qline.specs.Callers.{caller_of};
 
@@ -6,6 +6,7 @@ use qline::caller_of;
 use qplain::Cred;
 use qtext::ReadFault;
 use std::alloc::Global;
+use std::marker::Model;
 
 /// A caller that was read, beside its word.
 #[derive(Drop)]
@@ -15,15 +16,27 @@ struct KeptCaller<'a> {
     ghost same: { caller_of word.now ≡ Ok cred },
 }
 
-/// Reads callers one after the other, and keeps the last one: mostly the next is the same.
+/// Reads callers one after the other, and keeps the last one: mostly the next is the same. Contracts see the word that
+/// is kept.
 #[derive(Drop)]
 pub struct Callers<'a> {
     last: Option<KeptCaller<'a>>,
 }
 
+impl<'a> Model for Callers<'a> {
+    ghost use Rattle.std.specs.Prelude.{List, ℕ, Option};
+    ghost use Rattle.std.specs.Option.{option_map};
+
+    ghost Value = { Option (List ℕ) };
+
+    ghost view = { λ c. option_map (λ kept. kept.word.now) c.last };
+}
+
 impl<'a> Callers<'a> {
     /// With none kept.
-    pub fn new() -> Self {
+    pub fn new() -> Self
+        ensures { result ≡ None }
+    {
         Callers { last: None }
     }
 
