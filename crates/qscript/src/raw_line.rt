@@ -23,10 +23,7 @@ pub struct NextLine<'a> {
 ///
 /// Its words are put into the room, whatever that holds, so that lines share one allocation. Where a byte of it is
 /// neither a space nor one that prints, the room holds some of its words. An Err says nothing of the text.
-pub fn next_line<'a>(
-    room: &mut Vec<&'a [u8]>,
-    text: &'a [u8],
-) -> Result<NextLine<'a>, AllocError>
+pub fn next_line<'a>(room: &mut Vec<&'a [u8]>, text: &'a [u8]) -> Result<NextLine<'a>, AllocError>
     requires { 0 < length text.now }
     ensures first { IfOk result (λ line. (n : ℕ) → raw_lines_from n (parts 10 text.now)
         ≡ record { number = n; bytes = line.bytes.now; whole = line.whole }
