@@ -145,7 +145,7 @@ impl Ledger {
     }
 
     /// Writes the records of both owners as they will be where one inode comes to stand in the place of another; one record
-    /// where both have the same.
+    /// where both have the same, and none where names alone change.
     pub(crate) fn write_postings(
         &self,
         from: Option<Share>,
@@ -163,6 +163,11 @@ impl Ledger {
             → IsLedgerReplacement self.now kind from to S S1 f t → S.graces ≡ graces
             → ArePosted self.now kind S1 moment from to postings.new }
     {
+        if from.is_none() && to.is_none() {
+            postings.from = None;
+            postings.to = None;
+            return;
+        }
         postings.from = self.posting_for(apart(from, to), from, to, graces, moment);
         postings.to = self.posting_for(to, from, to, graces, moment);
     }
