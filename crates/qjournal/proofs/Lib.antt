@@ -1,2 +1,3 @@
--- Entries one after the other.
+-- A journal from its entries, and that journals spelled out are read again.
 pub mod Entries
+pub mod JournalsAgain

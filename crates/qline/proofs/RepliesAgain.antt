@@ -1,7 +1,7 @@
 -- Replies that are spelled out are read again, and their text is their words.
 use Rattle.std.proofs.Common.{◌≡◌, ℕ, ◌-◌, ◌<◌, ◌^◌, ◌/◌, ◌%◌, ◌==◌, ◌&&◌, ◌||◌, Bool, true, false, not, List, [], ◌∷◌, zero, suc, inl, inr, slice_index, Option, Some, None, Ok, refl, arith, codes, decimal, if◌then◌else◌}
 use Rattle.std.specs.Char.{is_ascii_uppercase}
-use Rattle.std.specs.List.{list_any}
+use Rattle.std.specs.List.{list_any, AllByRecursion}
 use Rattle.std.proofs.lemmas.Bool.{and_parts, cases_lt}
 use Rattle.hex.specs.Hex.{IsBytes, encode_with, lower_digits}
 use Rattle.qrules.specs.declared.over.Over.{Over}
@@ -17,8 +17,8 @@ use Rattle.qtext.proofs.WordsAgain.{are_digits, data_again, number_again}
 use Rattle.qline.specs.Replies.{end_text}
 use Rattle.qline.specs.RepliesRead.{bytes_of, done_of, edquot_of, end_of, keyword, over_of, quota_of, refusal_of, reply_in, reply_of, reply_word_of, rise_of, signed, stat_of, type_of, words_of_reply}
 use Rattle.qline.specs.RepliesSpelled.{IsEnd, IsReply, reply_words}
-use Rattle.qline.proofs.ArgumentsAgain.{digits_lack_dash, kind_again}
-use Rattle.qline.proofs.CallsAgain.{any_number, limits_again}
+use Rattle.qline.proofs.ArgumentsAgain.{data_word, decimal_word, digits_lack_dash, id_word, kind_again, kind_word}
+use Rattle.qline.proofs.CallsAgain.{IsWord, any_number, limits_again}
 
 -- ---- data in lower case
 
@@ -128,3 +128,91 @@ reply_again (Refused EMLINK) fits = refl
 reply_again (Refused ENOTEMPTY) fits = refl
 reply_again (Refused EBUSY) fits = refl
 reply_again (Refused ESRCH) fits = refl
+
+-- ---- each byte of a word prints
+
+over_word : (over : Over) → IsWord (over_text over)
+over_word InodeHard = refl
+over_word InodeSoft = refl
+over_word BlockHard = refl
+over_word BlockSoft = refl
+
+end_word : (end : Option ℕ) → IsEnd end → IsWord (end_text end)
+end_word None fits = refl
+end_word (Some end) fits = decimal_word end fits
+
+type_word : (dir : Bool) → IsWord (if dir then codes "dir" else codes "file")
+type_word true = refl
+type_word false = refl
+
+pub reply_word : (r : Reply) → IsReply r → AllByRecursion IsWord (reply_words r)
+reply_word (Done ino c) fits = (
+  refl,
+  (
+    decimal_word ino fits.0,
+    (
+      refl,
+      (
+        decimal_word c.blocks_charged fits.1.blocks_charged,
+        (
+          decimal_word c.blocks_released fits.1.blocks_released,
+          (refl, (decimal_word c.inodes_charged fits.1.inodes_charged, (decimal_word c.inodes_released fits.1.inodes_released, tt))),
+        ),
+      ),
+    ),
+  ),
+)
+reply_word (Bytes bytes) fits = (refl, (data_word bytes fits, tt))
+reply_word (StatReply s) fits = (
+  refl,
+  (
+    decimal_word s.ino fits.ino,
+    (
+      type_word s.dir,
+      (
+        id_word s.uid fits.uid,
+        (
+          id_word s.gid fits.gid,
+          (
+            decimal_word s.size fits.size,
+            (decimal_word s.blocks fits.blocks, (decimal_word s.links fits.links, tt)),
+          ),
+        ),
+      ),
+    ),
+  ),
+)
+reply_word (QuotaReply q) fits = (
+  refl,
+  (
+    decimal_word q.blocks fits.blocks,
+    (
+      decimal_word q.inodes fits.inodes,
+      (
+        decimal_word q.limits.block_soft fits.limits.block_soft,
+        (
+          decimal_word q.limits.block_hard fits.limits.block_hard,
+          (
+            decimal_word q.limits.inode_soft fits.limits.inode_soft,
+            (decimal_word q.limits.inode_hard fits.limits.inode_hard, (end_word q.block_end fits.block_end, (end_word q.inode_end fits.inode_end, tt))),
+          ),
+        ),
+      ),
+    ),
+  ),
+)
+reply_word (Refused EINVAL) fits = (refl, (refl, tt))
+reply_word (Refused ENAMETOOLONG) fits = (refl, (refl, tt))
+reply_word (Refused ENOENT) fits = (refl, (refl, tt))
+reply_word (Refused ENOTDIR) fits = (refl, (refl, tt))
+reply_word (Refused EEXIST) fits = (refl, (refl, tt))
+reply_word (Refused ENOSPC) fits = (refl, (refl, tt))
+reply_word (Refused (EDQUOT kind over)) fits = (refl, (refl, (kind_word kind, (over_word over, tt))))
+reply_word (Refused EISDIR) fits = (refl, (refl, tt))
+reply_word (Refused EACCES) fits = (refl, (refl, tt))
+reply_word (Refused EFBIG) fits = (refl, (refl, tt))
+reply_word (Refused EPERM) fits = (refl, (refl, tt))
+reply_word (Refused EMLINK) fits = (refl, (refl, tt))
+reply_word (Refused ENOTEMPTY) fits = (refl, (refl, tt))
+reply_word (Refused EBUSY) fits = (refl, (refl, tt))
+reply_word (Refused ESRCH) fits = (refl, (refl, tt))

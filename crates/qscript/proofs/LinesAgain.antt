@@ -35,7 +35,7 @@ in_again moment cred call lt c k = rw (any_number moment lt, caller_again cred c
 abbrev joined : Line → List ℕ
 joined l = join_with_byte 32 (line_words l)
 
-weaker_all : (p q : ℕ → Bool) (ws : List (List ℕ)) → ((b : ℕ) → p b ≡ true → q b ≡ true)
+pub weaker_all : (p q : ℕ → Bool) (ws : List (List ℕ)) → ((b : ℕ) → p b ≡ true → q b ≡ true)
     → AllByRecursion (λ w. list_all p w ≡ true) ws → AllByRecursion (λ w. list_all q w ≡ true) ws
 weaker_all p q [] f h = tt
 weaker_all p q (w ∷ ws) f h = (passes_weaker p q w f h.0, weaker_all p q ws f h.1)

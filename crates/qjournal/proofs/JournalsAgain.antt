@@ -1,0 +1,131 @@
+-- Journals that are spelled out are read again.
+use Rattle.std.proofs.Common.{◌≡◌, ℕ, ◌+◌, ◌≤◌, ◌<◌, ◌==◌, ◌^◌, Bool, true, false, not, eqb, ltb, List, [], ◌∷◌, ◌++◌, length, drop, Ok, refl, sym, ap, ◌∙◌, append_assoc, arith, tests, codes, decimal}
+use Rattle.std.specs.List.{flat_map, join_with_byte, list_all, AllByRecursion}
+use Rattle.std.proofs.lemmas.Bool.{le-ltb}
+use Rattle.qplain.specs.Paths.{is_path_byte}
+use Rattle.qplain.specs.declared.entry.Entry.{Entry}
+use Rattle.qtext.specs.declared.text_fault.TextKind.TheVariants.{BadHead, BadNumber}
+use Rattle.qtext.specs.Reading.{each_of}
+use Rattle.qtext.specs.Words.{is_text_byte, parts, words}
+use Rattle.qtext.proofs.Joining.{lacks, parts_first, parts_join, passes_join, passes_weaker}
+use Rattle.qtext.proofs.Splitting.{some_part}
+use Rattle.qtext.proofs.WordsAgain.{number_again, text_lacks_feed}
+use Rattle.qline.specs.RepliesSpelled.{IsReply, reply_words}
+use Rattle.qline.specs.Spelling.{IsCall, call_words, caller_text}
+use Rattle.qline.proofs.ArgumentsAgain.{decimal_word, word_is_text, word_lacks_space}
+use Rattle.qline.proofs.CallersAgain.{caller_again, caller_word}
+use Rattle.qline.proofs.CallsAgain.{IsWord, any_number, call_word}
+use Rattle.qline.proofs.JournaledAgain.{journaled_again}
+use Rattle.qline.proofs.RepliesAgain.{reply_again, reply_word}
+use Rattle.qscript.specs.Scripts.{raw_lines_from}
+use Rattle.qscript.proofs.LinesAgain.{weaker_all}
+use Rattle.qscript.proofs.RawLines.{more_lines, no_line}
+use Rattle.qjournal.specs.Journals.{IsWorkers, Written, answer_in, at_entry, entry_in, entry_of, head_in, head_of, journal_in, journal_of, keyword, told_of, worker_of, workers_of}
+use Rattle.qjournal.specs.Spelling.{IsEntry, IsJournal, entry_text, entry_words, head_text, head_words, spelling}
+
+-- ---- words
+
+-- what stands in front is dropped
+drop_front : (xs ys : List (List ℕ)) → drop (length xs) (xs ++ ys) ≡ ys
+drop_front [] ys = refl
+drop_front (x ∷ xs) ys = drop_front xs ys
+
+both : (xs ys : List (List ℕ)) → AllByRecursion IsWord xs → AllByRecursion IsWord ys → AllByRecursion IsWord (xs ++ ys)
+both [] ys a b = b
+both (x ∷ xs) ys a b = (a.0, both xs ys a.1 b)
+
+worker_again : (workers worker : ℕ) → workers ≤ 16 → 0 < worker → worker ≤ workers → worker_of workers (decimal worker) ≡ Ok worker
+unfolding worker_of
+worker_again workers worker few some le =
+    let none : (worker == 0) ≡ false = grind (arith, tests) in
+    rw (number_again BadNumber workers worker (omega arith) le, none) refl
+
+workers_again : (workers : ℕ) → IsWorkers workers → workers_of (decimal workers) ≡ Ok workers
+unfolding workers_of
+workers_again workers is =
+    let some : 0 < workers = is.0 in
+    let few : workers ≤ 16 = is.1 in
+    let none : (workers == 0) ≡ false = grind (arith, tests) in
+    rw (number_again BadHead 16 workers (omega arith) few, none) refl
+
+entry_word : (workers : ℕ) (e : Entry) → workers ≤ 16 → IsEntry workers e → AllByRecursion IsWord (entry_words e)
+entry_word workers e few fits =
+    let le = fits.worker.1 in (
+      decimal_word e.worker (omega (arith, le)),
+      (
+        decimal_word e.moment fits.moment,
+        (
+          caller_word e.cred fits.cred,
+          both (call_words e.call) (codes "=>" ∷ reply_words e.reply) (call_word e.call fits.call) (refl, reply_word e.reply fits.reply),
+        ),
+      ),
+    )
+
+head_word : (workers : ℕ) → IsWorkers workers → AllByRecursion IsWord (head_words workers)
+head_word workers is = let few = is.1 in (refl, (refl, (refl, (refl, (decimal_word workers (omega (arith, few)), tt)))))
+
+in_again : (workers : ℕ) (e : Entry) → workers ≤ 16 → IsEntry workers e → entry_in workers (entry_words e) ≡ Ok e
+unfolding entry_in answer_in
+in_again workers e few fits =
+    rw (
+      worker_again workers e.worker few fits.worker.0 fits.worker.1,
+      any_number e.moment fits.moment,
+      caller_again e.cred fits.cred,
+      journaled_again e.call fits.call (codes "=>" ∷ reply_words e.reply),
+      drop_front (call_words e.call) (codes "=>" ∷ reply_words e.reply),
+      reply_again e.reply fits.reply,
+    ) refl
+
+-- ---- lines
+
+-- words that print, with a space between two of them, are a text without a line end whose words they are
+joined_is_text : (w : List ℕ) (ws : List (List ℕ)) → AllByRecursion IsWord (w ∷ ws) → list_all is_text_byte (join_with_byte 32 (w ∷ ws)) ≡ true
+joined_is_text w ws fits = passes_join is_text_byte 32 (w ∷ ws) refl (weaker_all is_path_byte is_text_byte (w ∷ ws) word_is_text fits)
+
+joined_parts : (w : List ℕ) (ws : List (List ℕ)) → AllByRecursion IsWord (w ∷ ws) → words (join_with_byte 32 (w ∷ ws)) ≡ w ∷ ws
+joined_parts w ws fits = parts_join 32 w ws (weaker_all is_path_byte (λ b. not (eqb b 32)) (w ∷ ws) word_lacks_space fits)
+
+raw_again : (n : ℕ) (w : List ℕ) (ws : List (List ℕ)) (rest : List ℕ) → AllByRecursion IsWord (w ∷ ws)
+    → raw_lines_from n (parts 10 ((join_with_byte 32 (w ∷ ws) ++ 10 ∷ []) ++ rest))
+    ≡ record { number = n; bytes = join_with_byte 32 (w ∷ ws); whole = true } ∷ raw_lines_from (n + 1) (parts 10 rest)
+raw_again n w ws rest fits =
+    let line : List ℕ = join_with_byte 32 (w ∷ ws) in
+    let regrouped : (line ++ 10 ∷ []) ++ rest ≡ line ++ 10 ∷ rest = append_assoc line (10 ∷ []) rest in
+    let lacking_feed : lacks 10 line ≡ true = passes_weaker is_text_byte (λ b. not (eqb b 10)) line text_lacks_feed (joined_is_text w ws fits) in
+    ap (λ (t : List ℕ). raw_lines_from n (parts 10 t)) regrouped ∙ ap (raw_lines_from n) (parts_first 10 line rest lacking_feed)
+    ∙ more_lines n line (parts 10 rest) (some_part 10 rest)
+
+at_again : (workers n : ℕ) (e : Entry) → workers ≤ 16 → n ≤ 65537 → IsEntry workers e
+    → at_entry workers (record { number = n; bytes = join_with_byte 32 (entry_words e); whole = true }) ≡ Ok e
+unfolding at_entry entry_of
+at_again workers n e few le fits =
+    let near : ltb 65537 n ≡ false = le-ltb _ _ le in
+    let word = entry_word workers e few fits in
+    rw (near, joined_is_text _ _ word, joined_parts _ _ word, in_again workers e few fits) refl
+
+each_again : (workers n : ℕ) (es : List Entry) → workers ≤ 16 → n + length es ≤ 65538 → AllByRecursion (IsEntry workers) es
+    → each_of (at_entry workers) (raw_lines_from n (parts 10 (flat_map entry_text es))) ≡ Ok es
+unfolding each_of
+each_again workers n [] few le fits = ap (each_of (at_entry workers)) (no_line n)
+each_again workers n (e ∷ es) few le fits =
+    let near : n ≤ 65537 = omega arith in
+    let rest : n + 1 + length es ≤ 65538 = omega arith in
+    ap (each_of (at_entry workers)) (raw_again n (decimal e.worker) (decimal e.moment ∷ caller_text e.cred
+    ∷ (call_words e.call ++ codes "=>" ∷ reply_words e.reply)) (flat_map entry_text es) (entry_word workers e few fits.0))
+    ∙ rw (at_again workers n e few near fits.0, each_again workers (n + 1) es few rest fits.1) refl
+
+head_again : (workers : ℕ) → IsWorkers workers → head_of (record { number = 1; bytes = join_with_byte 32 (head_words workers); whole = true }) ≡ Ok workers
+unfolding head_of head_in told_of keyword
+head_again workers is =
+    let word = head_word workers is in
+    rw (joined_is_text _ _ word, joined_parts _ _ word, workers_again workers is) refl
+
+-- what a journal says that is spelled out
+pub journal_again : (j : Written) → IsJournal j → journal_of (spelling j) ≡ Ok j
+unfolding journal_in
+journal_again j fits =
+    let workers : j.workers ≤ 16 = fits.workers.1 in
+    let few : length j.entries ≤ 65536 = fits.few in
+    let lines = raw_again 1 (codes "quotafs") (codes "journal" ∷ codes "1" ∷ codes "workers" ∷ decimal j.workers ∷ [])
+    (flat_map entry_text j.entries) (head_word j.workers fits.workers) in
+    rw (lines, head_again j.workers fits.workers, each_again j.workers 2 j.entries workers (omega arith) fits.each) refl

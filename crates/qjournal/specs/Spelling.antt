@@ -1,0 +1,44 @@
+-- How journals are spelled out, each in its one spelling.
+use Rattle.std.specs.Prelude.{ℕ, ◌<◌, ◌≤◌, ◌^◌, List, [], ◌∷◌, ◌++◌, codes, decimal, length}
+use Rattle.std.specs.List.{flat_map, join_with_byte, AllByRecursion}
+use Rattle.qplain.specs.declared.entry.Entry.{Entry}
+use Rattle.qline.specs.RepliesSpelled.{IsReply, reply_words}
+use Rattle.qline.specs.Spelling.{IsCall, IsCaller, call_words, caller_text}
+use Rattle.qjournal.specs.declared.journal.TheConstants.{MAX_ENTRIES}
+use Rattle.qjournal.specs.Journals.{IsWorkers, Written}
+
+-- WORKER MOMENT CALLER CALL => REPLY
+abbrev pub entry_words : Entry → List (List ℕ)
+entry_words e = decimal e.worker ∷ decimal e.moment ∷ caller_text e.cred
+    ∷ (call_words e.call ++ codes "=>" ∷ reply_words e.reply)
+
+-- an entry with a space between its words and a line end behind it
+abbrev pub entry_text : Entry → List ℕ
+entry_text e = join_with_byte 0x20 (entry_words e) ++ 10 ∷ []
+
+-- quotafs journal 1 workers W
+abbrev pub head_words : ℕ → List (List ℕ)
+head_words workers =
+    codes "quotafs" ∷ codes "journal" ∷ codes "1" ∷ codes "workers" ∷ decimal workers ∷ []
+
+-- the first line
+abbrev pub head_text : ℕ → List ℕ
+head_text workers = join_with_byte 0x20 (head_words workers) ++ 10 ∷ []
+
+-- a journal, spelled out
+abbrev pub spelling : Written → List ℕ
+spelling j = head_text j.workers ++ flat_map entry_text j.entries
+
+-- the parts of an entry, of so many workers, are what their types can hold
+pub record IsEntry (workers : ℕ) (e : Entry) : Type 0 where
+  pub worker : (0 < e.worker) × (e.worker ≤ workers)
+  pub moment : e.moment < 2 ^ 64
+  pub cred : IsCaller e.cred
+  pub call : IsCall e.call
+  pub reply : IsReply e.reply
+
+-- such entries, no more than a journal may have, of 1 to 16 workers
+pub record IsJournal (j : Written) : Type 0 where
+  pub workers : IsWorkers j.workers
+  pub few : length j.entries ≤ MAX_ENTRIES
+  pub each : AllByRecursion (IsEntry j.workers) j.entries
