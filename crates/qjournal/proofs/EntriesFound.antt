@@ -1,18 +1,17 @@
 -- The head and the entries of a journal that were read are spelled out as they stood in their lines.
-use Rattle.std.proofs.Common.{◌≡◌, ℕ, ◌≤◌, ◌<◌, ◌==◌, Bool, true, false, cond, not, List, [], ◌∷◌, drop, Result, Ok, Err, refl, sym, ap, ◌∙◌, arith, codes, decimal}
+use Rattle.std.proofs.Common.{◌≡◌, ℕ, ◌≤◌, ◌<◌, ◌==◌, true, cond, not, List, [], ◌∷◌, drop, Result, Ok, Err, refl, sym, ap, arith, codes, decimal}
 use Rattle.std.specs.Prelude.{nat_lt}
 use Rattle.std.specs.List.{join_with_byte, list_all}
 use Rattle.std.specs.Str.{bytes_eq}
 use Rattle.std.proofs.lemmas.Bool.{eqb-false, ltb-false}
 use Rattle.std.proofs.lemmas.List.{take-append-drop}
-use Rattle.std.proofs.lemmas.List.Splits.{join_with_byte-slice_split}
 use Rattle.qplain.specs.declared.entry.Entry.{Entry}
 use Rattle.qplain.specs.declared.reply.Reply.{Reply}
 use Rattle.qtext.specs.declared.text_fault.TextKind.{TextKind}
 use Rattle.qtext.specs.declared.text_fault.TextKind.TheVariants.{BadByte, BadHead, BadNumber, BadReply, Cut, TooMany}
 use Rattle.qtext.specs.Reading.{◌>>=◌}
-use Rattle.qtext.specs.Words.{is_text_byte, number_of, parts, words}
-use Rattle.qtext.proofs.StepsFound.{Spells, kept, passed, same_ok, same_word, step_found, word_found}
+use Rattle.qtext.specs.Words.{is_text_byte, number_of, words}
+use Rattle.qtext.proofs.StepsFound.{joined, not_false, Spells, kept, passed, same_ok, same_word, step_found, word_found}
 use Rattle.qtext.proofs.WordsFound.{number_found}
 use Rattle.qline.specs.Journaled.{journaled_call_in}
 use Rattle.qline.specs.RepliesRead.{reply_in}
@@ -79,14 +78,6 @@ in_found workers (w ∷ m ∷ c ∷ behind) entry few e =
       rw (is_worker, is_moment, is_cred, call.0, answer.0, take-append-drop called.1 behind) refl,
       record { worker = worker_fits; moment = moment_fits; cred = cred_fits; call = call.1; reply = answer.1 },
     )
-
--- the words of a line, joined again
-joined : (s : ℕ) (text : List ℕ) (ws : List (List ℕ)) → ws ≡ parts s text → join_with_byte s ws ≡ text
-joined s text ws are = ap (join_with_byte s) are ∙ join_with_byte-slice_split s text
-
-not_false : (b : Bool) → not b ≡ false → b ≡ true
-not_false true e = refl
-not_false false e = absurd (cc e)
 
 -- what was told of a line
 pub line_found : {A : Type 0} {x : A} (n : ℕ) (read : Result A TextKind) → in_line n read ≡ Ok x → read ≡ Ok x

@@ -2,11 +2,10 @@
 use Rattle.std.proofs.Common.{◌≡◌, ℕ, ◌+◌, ◌≤◌, Bool, true, false, cond, eqb, List, [], ◌∷◌, ◌++◌, length, Ok, refl, ◌∙◌, append_assoc, arith}
 use Rattle.std.specs.List.{flat_map, join_with_byte, AllByRecursion}
 use Rattle.std.proofs.lemmas.Bool.{eqb-true}
-use Rattle.std.proofs.lemmas.List.Splits.{join_with_byte-slice_split}
 use Rattle.qplain.specs.declared.entry.Entry.{Entry}
 use Rattle.qtext.specs.Reading.{each_of}
 use Rattle.qtext.specs.Words.{parts}
-use Rattle.qtext.proofs.StepsFound.{same_ok, step_found}
+use Rattle.qtext.proofs.StepsFound.{joined, same_ok, step_found}
 use Rattle.qscript.specs.Scripts.{RawLine, in_line, raw_lines_from}
 use Rattle.qjournal.specs.Journals.{Written, at_entry, head_of, journal_in, journal_of}
 use Rattle.qjournal.proofs.EntriesFound.{entry_found, head_found, line_found}
@@ -85,4 +84,4 @@ lines_found (l ∷ m ∷ ls) j e =
 pub journal_found : (text : List ℕ) (j : Written) → journal_of text ≡ Ok j → (spelling j ≡ text) × IsJournal j
 journal_found text j e =
     let so = lines_found (parts 10 text) j e in
-    (so.0 ∙ join_with_byte-slice_split 10 text, so.1)
+    (so.0 ∙ joined 10 text _ refl, so.1)

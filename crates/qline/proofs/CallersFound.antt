@@ -1,13 +1,12 @@
 -- Callers that were read are spelled out as they stood.
-use Rattle.std.proofs.Common.{◌≡◌, ℕ, ◌≤◌, ◌<◌, ◌^◌, leb, List, [], ◌∷◌, length, map, Ok, refl, ap, ◌∙◌, decimal}
-use Rattle.std.specs.List.{AllByRecursion, join_with_byte}
+use Rattle.std.proofs.Common.{◌≡◌, ℕ, ◌≤◌, ◌<◌, ◌^◌, leb, List, [], ◌∷◌, length, map, Ok, refl, decimal}
+use Rattle.std.specs.List.{AllByRecursion}
 use Rattle.std.proofs.lemmas.Bool.{leb-true}
-use Rattle.std.proofs.lemmas.List.Splits.{join_with_byte-slice_split}
 use Rattle.qplain.specs.Caller.{Caller}
 use Rattle.qplain.specs.declared.cred.TheConstants.{MAX_MORE_GROUPS}
 use Rattle.qtext.specs.declared.text_fault.TextKind.TheVariants.{BadCred}
 use Rattle.qtext.specs.Words.{parts}
-use Rattle.qtext.proofs.StepsFound.{Spells, kept, same_ok, step_found, word_found, words_found}
+use Rattle.qtext.proofs.StepsFound.{joined, Spells, kept, same_ok, step_found, word_found, words_found}
 use Rattle.qline.specs.Callers.{caller_of, caller_in, caller_from, few_groups_of, own_ids_of, own_ids_in, groups_of}
 use Rattle.qline.specs.Spelling.{caller_text, own_ids_text, IsCaller}
 use Rattle.qline.proofs.ArgumentsFound.{any_id}
@@ -35,9 +34,6 @@ few_found words more e =
     let few = kept (leb (length groups) 16) (Ok groups) BadCred more e in
     let so = words_found (any_id BadCred) words groups are in
     rw (← same_ok few.1) (so.0, so.1, leb-true _ _ few.0)
-
-joined : (s : ℕ) (text : List ℕ) (words : List (List ℕ)) → words ≡ parts s text → join_with_byte s words ≡ text
-joined s text words are = ap (join_with_byte s) are ∙ join_with_byte-slice_split s text
 
 from_found : (first : List ℕ) (groups : List (List ℕ)) (c : Caller) → caller_from first groups ≡ Ok c
     → (own_ids_text c ∷ map decimal c.more ≡ first ∷ groups) × IsCaller c

@@ -1,5 +1,5 @@
 -- Calls that were read are spelled out in the words that stood there.
-use Rattle.std.proofs.Common.{◌≡◌, ℕ, suc, ◌+◌, Bool, true, false, not, List, [], ◌∷◌, length, take, Ok, refl, ◌∙◌, arith, codes}
+use Rattle.std.proofs.Common.{◌≡◌, ℕ, suc, ◌+◌, true, false, not, List, [], ◌∷◌, length, take, Ok, refl, ◌∙◌, arith, codes}
 use Rattle.std.specs.Prelude.{nat_lt}
 use Rattle.std.specs.List.{list_any}
 use Rattle.std.specs.Char.{is_ascii_uppercase}
@@ -7,7 +7,7 @@ use Rattle.qplain.specs.declared.call.Call.{Call}
 use Rattle.qtext.specs.declared.text_fault.TextKind.TheVariants.{BadHex, BadNumber, BadVerb, WordCount}
 use Rattle.qtext.specs.Data.{data_of}
 use Rattle.qtext.proofs.Joining.{not_true}
-use Rattle.qtext.proofs.StepsFound.{passed, same_ok, step_found, told, word_found}
+use Rattle.qtext.proofs.StepsFound.{not_false, passed, same_ok, step_found, told, word_found}
 use Rattle.qtext.proofs.DataFound.{data_found}
 use Rattle.qline.specs.declared.verb.Verb.{Verb}
 use Rattle.qline.specs.declared.verb.Verb.TheVariants as verb
@@ -58,10 +58,6 @@ verb_found word v e =
 -- the words are those of the call, whose parts are what their types can hold
 abbrev IsSpelled : Verb → List (List ℕ) → Call → Type 0
 IsSpelled v arguments call = (call_words call ≡ verb_text v ∷ arguments) × IsCall call
-
-not_false : (b : Bool) → not b ≡ false → b ≡ true
-not_false true e = refl
-not_false false e = absurd (cc e)
 
 call_found : (v : Verb) (arguments : List (List ℕ)) (call : Call) → is_fill v ≡ false → in_one_case v arguments ≡ true
     → call_of v arguments ≡ Ok call → IsSpelled v arguments call

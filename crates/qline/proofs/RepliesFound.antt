@@ -14,7 +14,7 @@ use Rattle.qtext.specs.Data.{data_of}
 use Rattle.qtext.specs.RuleWords.{over_text}
 use Rattle.qtext.specs.Words.{number}
 use Rattle.qtext.proofs.DataFound.{data_found}
-use Rattle.qtext.proofs.StepsFound.{Spells, chosen, kept, passed, same_ok, same_word, step_found, told, word_found}
+use Rattle.qtext.proofs.StepsFound.{not_false, Spells, chosen, kept, passed, same_ok, same_word, step_found, told, word_found}
 use Rattle.qline.specs.Calls.{limits_of}
 use Rattle.qline.specs.Replies.{end_text}
 use Rattle.qline.specs.RepliesRead.{as_bad_reply, bytes_of, done_of, edquot_of, end_of, keyword, over_of, quota_of, refusal_of, reply_in, reply_of, reply_word_of, rise_of, signed, stat_of, type_of, words_of_reply}
@@ -132,10 +132,6 @@ empty_found : (dir : Bool) (size blocks : ℕ) → (dir && (not (size == 0) || n
 empty_found dir size blocks e is =
     let both = or_parts _ _ (rw is at e) in
     (eqb-true size 0 (not_false _ both.0), eqb-true blocks 0 (not_false _ both.1))
-  where
-    not_false : (b : Bool) → not b ≡ false → b ≡ true
-    not_false true e = refl
-    not_false false e = absurd (cc e)
 
 reply_found : (first : ReplyWord) (words : List (List ℕ)) (r : Reply) → reply_of first words ≡ Ok r
     → (reply_words r ≡ first_text first ∷ words) × IsReply r

@@ -1,10 +1,12 @@
 -- What a reading went through that gave a value.
-use Rattle.std.proofs.Common.{◌≡◌, ℕ, Bool, true, false, cond, List, [], ◌∷◌, map, Result, Ok, Err, refl, sym, subst}
-use Rattle.std.specs.List.{AllByRecursion}
+use Rattle.std.proofs.Common.{◌≡◌, ℕ, Bool, true, false, not, cond, List, [], ◌∷◌, map, Result, Ok, Err, refl, sym, ap, ◌∙◌, subst}
+use Rattle.std.specs.List.{AllByRecursion, join_with_byte}
 use Rattle.std.specs.Str.{bytes_eq}
+use Rattle.std.proofs.lemmas.List.Splits.{join_with_byte-slice_split}
 use Rattle.std.proofs.lemmas.Slice.Eq.{bytes_eq-Decides}
 use Rattle.qtext.specs.declared.text_fault.TextKind.{TextKind}
 use Rattle.qtext.specs.Reading.{◌>>=◌, each_of}
+use Rattle.qtext.specs.Words.{parts}
 
 -- what a reader takes is spelled so, and is what its type can hold
 abbrev pub Spells : {A : Type 0} → (A → List ℕ) → (A → Type 0) → (List ℕ → Result A TextKind) → Type 0
@@ -47,6 +49,14 @@ pub passed : {A E : Type 0} (test : Bool) (first : Result A E) (fault : E) (y : 
     → (test ≡ false) × (first ≡ Ok y)
 passed false first fault y e = (refl, e)
 passed true first fault y e = absurd (cc e)
+
+pub not_false : (test : Bool) → not test ≡ false → test ≡ true
+not_false true e = refl
+not_false false e = absurd (cc e)
+
+-- parts of a text, joined again
+pub joined : (separator : ℕ) (text : List ℕ) (words : List (List ℕ)) → words ≡ parts separator text → join_with_byte separator words ≡ text
+joined separator text words are = ap (join_with_byte separator) are ∙ join_with_byte-slice_split separator text
 
 pub same_word : (word wanted : List ℕ) → bytes_eq word wanted ≡ true → word ≡ wanted
 same_word word wanted e = (bytes_eq-Decides word wanted).0 e
