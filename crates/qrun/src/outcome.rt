@@ -1,5 +1,9 @@
+ghost use Rattle.std.specs.Prelude.{IfOk};
+ghost use Rattle.qrun.specs.Left.{IsLeftOf};
+
+use crate::journaled_store::JournaledStore;
 use qaudit::Difference;
-use qplain::{Entry, Setup, Transcript};
+use qplain::{Entry, NoMemory, Setup, Transcript};
 use qrules::{Items, RecordRow};
 use qstore::Store;
 
@@ -13,4 +17,24 @@ pub struct Outcome {
     pub transcripts: Items<Transcript>,
     pub records: Items<RecordRow>,
     pub differences: Items<Difference>,
+}
+
+/// What is left of a store that was played on, with these transcripts.
+pub(crate) fn outcome_of(
+    store: JournaledStore,
+    transcripts: Items<Transcript>,
+) -> Result<Outcome, NoMemory>
+    ensures { IfOk result (IsLeftOf store transcripts) }
+{
+    let records = store.record_rows()?;
+    let differences = store.audit(&records)?;
+    let (setup, store, journal) = store.into_parts();
+    Ok(Outcome {
+        setup,
+        store,
+        journal: Items::new(journal),
+        transcripts,
+        records: Items::new(records),
+        differences: Items::new(differences),
+    })
 }
