@@ -11,7 +11,7 @@ use Rattle.qlaws.proofs.Playing.{legal-one_more, play-one_more}
 use Rattle.qstore.specs.declared.ready.Ready.{Ready}
 use Rattle.qstore.specs.Ready.{committed}
 use Rattle.qstore.specs.Stored.{Stored}
-use Rattle.qrun.specs.declared.journaled_store.TheConstants.{MAX_ENTRIES}
+use Rattle.qjournal.specs.declared.journal.TheConstants.{MAX_ENTRIES}
 use Rattle.qrun.specs.Journaled.{IsPlayed, Journaled, entry_of}
 use Rattle.qrun.specs.Replays.{line_of}
 
@@ -28,6 +28,7 @@ played_on old new worker line reply is few setting journal stepped =
     let state : new.stored.state ≡ play S (old.journal ++ e ∷ []) = ap (λ p. p.0) next ∙ sym (play-one_more S old.journal e) in
     let count : length (old.journal ++ e ∷ []) ≡ length old.journal + 1 = length-append old.journal (e ∷ []) in
     record {
+      lawful = rw setting is.lawful;
       legal = rw (setting, journal) legal;
       state = rw (setting, journal) state;
       few = rw (journal, count) (omega arith);

@@ -1,5 +1,8 @@
--- One more call of a journaled store, one more line of a transcript, what a run comes to, and a journal played again.
+-- One more call of a journaled store, one more line of a transcript, what a journal tells of directories, what a run comes to, a journal played
+-- again, and that of a run.
 pub mod Journaling
 pub mod Telling
+pub mod Stats
 pub mod Coming
 pub mod Replaying
+pub mod GivingBack

@@ -1,5 +1,5 @@
 -- A journal played again: where it is first another than the store's, and whose entries each of its transcripts has.
-use Rattle.std.proofs.Common.{◌≡◌, ℕ, ◌+◌, ◌<◌, ◌==◌, true, false, List, [], ◌∷◌, ◌++◌, length, map, filter, take, drop, get_or, Bool, cond, refl, sym, ap, ◌∙◌, arith, add-one, suc, tests, append-nil, drop-cons}
+use Rattle.std.proofs.Common.{◌≡◌, ℕ, ◌+◌, ◌<◌, ◌==◌, false, List, [], ◌∷◌, ◌++◌, length, map, filter, take, drop, get_or, Bool, refl, sym, ap, ◌∙◌, arith, add-one, suc, tests, append-nil, drop-cons}
 use Rattle.std.proofs.Math.Seq.{take-suc}
 use Rattle.std.proofs.lemmas.List.{length-take-le, map_push, take-append-drop}
 use Rattle.std.proofs.lemmas.List.Elements.{filter-append}

@@ -1,5 +1,6 @@
 -- What a journal leaves that is played again.
-use Rattle.std.specs.Prelude.{◌≡◌, ℕ, ◌+◌, List, [], ◌∷◌, ◌++◌, length, map, Result, Ok}
+use Rattle.std.specs.Prelude.{◌≡◌, ℕ, ◌+◌, List, [], ◌∷◌, ◌++◌, length, map, filter, Result, Ok, Err}
+use Rattle.std.specs.Result.{is_ok}
 use Rattle.std.specs.List.{range_with_len}
 use Rattle.qplain.specs.declared.call_fault.CallFault.{CallFault}
 use Rattle.qplain.specs.declared.entry.Entry.{Entry}
@@ -13,6 +14,8 @@ use Rattle.qstore.specs.Rows.{record_row_of}
 use Rattle.qrows.specs.Own.{differences_in}
 use Rattle.qjournal.specs.Journals.{Written}
 use Rattle.qrun.specs.declared.outcome.Outcome.{Outcome}
+use Rattle.qrun.specs.declared.run_fault.RunFault.{RunFault}
+use Rattle.qrun.specs.declared.run_fault.RunFault.TheVariants.{Memory, Mismatch}
 
 -- the line of an entry
 abbrev pub line_of : Entry → Line
@@ -53,9 +56,35 @@ pub record IsMismatch (S : State) (journal : List Entry) (place : ℕ) : Type 0 
 pub record IsReplayOf (setting : Setting) (written : Written) (o : Outcome) : Type 0 where
   pub setup : o.setup ≡ setting
   pub legal : IsLegal (start setting) written.entries
-  pub journal : o.journal ≡ written.entries
+  pub journal : o.journal ≡ written
   pub store : o.store.state ≡ play (start setting) written.entries
   pub transcripts : o.transcripts ≡ transcripts_in written
   pub records : o.records ≡ map (record_row_of o.store.state) o.store.state.holders
   pub differences : o.differences ≡ differences_in o.store.state
   pub agree : o.differences ≡ []
+
+-- ---- of what a run has left
+
+-- the lines that have a receipt
+unfoldable pub granted_lines : List Line → List (Result Receipt CallFault) → List Line
+granted_lines (line ∷ lines) (Ok receipt ∷ answers) = line ∷ granted_lines lines answers
+granted_lines (line ∷ lines) (Err fault ∷ answers) = granted_lines lines answers
+granted_lines [] answers = []
+granted_lines (line ∷ lines) [] = []
+
+-- a transcript without the lines that are in no journal
+abbrev pub without_failed : Transcript → Transcript
+without_failed t = record t { lines = granted_lines t.lines t.answers; answers = filter is_ok t.answers }
+
+-- what was played again is as it was, but for the lines that are in no journal
+pub record IsAsBefore (old new : Outcome) : Type 0 where
+  pub store : new.store.state ≡ old.store.state
+  pub transcripts : new.transcripts ≡ map without_failed old.transcripts
+  pub records : new.records ≡ old.records
+  pub differences : new.differences ≡ old.differences
+
+-- the replay gives back what the run has left, or memory was wanting
+abbrev pub GivesBack : Outcome → Result Outcome RunFault → Type 0
+GivesBack old (Ok new) = IsAsBefore old new
+GivesBack old (Err Memory) = Unit {0}
+GivesBack old (Err (Mismatch place)) = ⊥

@@ -11,15 +11,13 @@ ghost use Rattle.qrun.specs.Replays.{IsMismatch, IsMismatchAfter};
 
 use crate::RunFault;
 use qaudit::Difference;
+use qjournal::MAX_ENTRIES;
 use qplain::{CallFault, Entry, Line, NoMemory, Receipt, Reply, Setup};
 use qrows::audit;
 use qrules::RecordRow;
 use qstore::{Ready, Store};
 use std::alloc::Global;
 use std::marker::Model;
-
-/// The most entries that a journal may hold.
-pub const MAX_ENTRIES: usize = 65_536;
 
 /// A store with the journal of its calls and the setup that it began with. It is always what the journal leaves.
 #[derive(Drop)]
@@ -86,6 +84,8 @@ impl JournaledStore {
         ensures journal { IfOk result (λ j. j.journal ≡ []) }
     {
         let store = Store::new(alloc, setup.copy(alloc)?, seed)?;
+        // A store that is asked for its blocks is lawful, and this one stands at its start.
+        let _blocks = store.blocks();
         Ok(JournaledStore {
             alloc,
             setup,

@@ -1,8 +1,8 @@
 //! Runs: the lines of a script played on a store of their own, with its journal. Replays: a journal played again.
 #![tactic(auto)]
 
-pub use journaled_store::MAX_ENTRIES;
 pub use outcome::Outcome;
+pub use qjournal::MAX_ENTRIES;
 pub use replays::replay;
 pub use run_fault::RunFault;
 pub use runs::run_lines;

@@ -1,9 +1,12 @@
 //! Replays: journals played again on a store of their own.
-ghost use Rattle.std.specs.Prelude.{◌≡◌, ◌≤◌, ℕ, Err, IfOk, length};
+ghost use Rattle.std.specs.Prelude.{◌≡◌, ◌≤◌, ℕ, List, Err, IfOk, length};
+ghost use Rattle.qplain.specs.declared.line.Line.{Line};
 ghost use Rattle.qplain.specs.State.{start};
-ghost use Rattle.qrun.specs.declared.journaled_store.TheConstants.{MAX_ENTRIES};
+ghost use Rattle.qjournal.specs.declared.journal.TheConstants.{MAX_ENTRIES};
+ghost use Rattle.qrun.specs.declared.outcome.Outcome.{Outcome};
+ghost use Rattle.qrun.specs.Runs.{IsOutcomeOf};
 ghost use Rattle.qrun.specs.declared.run_fault.RunFault.TheVariants.{Mismatch};
-ghost use Rattle.qrun.specs.Replays.{IsMismatch, IsReplayOf, line_of, transcript_in, transcripts_in};
+ghost use Rattle.qrun.specs.Replays.{GivesBack, IsMismatch, IsReplayOf, line_of, transcript_in, transcripts_in};
 
 use crate::journaled_store::JournaledStore;
 use crate::outcome::outcome_of;
@@ -60,13 +63,8 @@ fn transcripts_of(alloc: Global, journal: &Journal) -> Result<Items<Transcript>,
     Ok(Items::new(transcripts))
 }
 
-/// Plays a journal again on a new store of the setup, one entry after the other, whoever's they are.
-///
-/// Where the store answers an entry as the journal does, up to the end, this is what is left, with the journal as it
-/// was and each worker's own entries for a transcript, in the order of the workers. Else the place of the first entry
-/// with another reply is told. The hashes of names begin at `seed`, which may be any number; nothing of the outcome
-/// depends on it. O(entries), and what each call takes; no data are copied. After an Err the store is given up.
-pub fn replay(
+/// Plays a journal again on a new store of the setup.
+fn play_again(
     alloc: Global,
     setup: Setup,
     journal: &Journal,
@@ -79,5 +77,28 @@ pub fn replay(
     let mut store = JournaledStore::new(alloc, setup, seed)?;
     store.replay(journal.entries())?;
     let transcripts = transcripts_of(alloc, journal)?;
-    Ok(outcome_of(store, transcripts)?)
+    Ok(outcome_of(store, journal.workers(), transcripts)?)
+}
+
+/// Plays a journal again on a new store of the setup, one entry after the other, whoever's they are.
+///
+/// Where the store answers each entry as the journal does, this is what is left: the journal as it was, and for each
+/// worker, in order, its own entries as a transcript. Else the place of the first entry with another reply is told. The
+/// hashes of names begin at `seed`, which may be any number; nothing of the outcome depends on it. O(entries), and what
+/// each call takes; no data are copied. After an Err the store is given up.
+pub fn replay(
+    alloc: Global,
+    setup: Setup,
+    journal: &Journal,
+    seed: u64,
+) -> Result<Outcome, RunFault>
+    ensures replay { IfOk result (IsReplayOf setup journal.now) }
+    ensures mismatch { (place : ℕ) → result ≡ Err (Mismatch place)
+        → IsMismatch (start setup) journal.now.entries place }
+
+    // The journal of a run under this setup gives back what the run has left, but for the lines that failed.
+    ensures of_a_run { (scripts : List (List Line)) (run : Outcome) → IsOutcomeOf setup scripts run
+        → journal.now ≡ run.journal → GivesBack run result }
+{
+    play_again(alloc, setup, journal, seed)
 }

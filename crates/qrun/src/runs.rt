@@ -1,6 +1,7 @@
 //! Runs: scripts played on a store of their own.
 ghost use Rattle.std.specs.Prelude.{◌≡◌, [], ◌∷◌, length, All, IfOk, IfErr, OnOk};
 ghost use Rattle.qplain.specs.Journal.{entries_of};
+ghost use Rattle.qrun.specs.Left.{IsOneOf};
 ghost use Rattle.qrun.specs.Runs.{AreTranscriptsOf, Belongs, FullIsToldFirst, IsFullOf, IsOutcomeOf, IsTranscriptOf, journaled_lines};
 
 use crate::journaled_store::{JournaledStore, append};
@@ -43,6 +44,7 @@ fn transcripts_of(
     ensures setting { store.new.setting ≡ store.old.setting }
     ensures transcripts { IfOk result (AreTranscriptsOf 1 (lines.items ∷ []) store.new.journal) }
     ensures belong { IfOk result (λ transcripts. All (Belongs transcripts) store.new.journal) }
+    ensures workers { OnOk result (All (IsOneOf 1) store.new.journal) }
 {
     let mut transcripts = Vec::with_capacity(alloc, 1)?;
     let answers = answers_of(alloc, store, 1, &lines)?;
@@ -65,7 +67,7 @@ fn play_lines(
     ensures { IfOk result (IsOutcomeOf store.setting (lines.items ∷ [])) }
 {
     let transcripts = transcripts_of(alloc, &mut store, lines)?;
-    outcome_of(store, transcripts)
+    outcome_of(store, 1, transcripts)
 }
 
 /// Plays the lines of one worker on a new store of the setup.

@@ -1,9 +1,7 @@
-use Rattle.std.proofs.Common.{◌≡◌, ◌∙◌}
-use Rattle.qrun.proofs.Coming.{again}
+use Rattle.qrun.proofs.GivingBack.{gives_back}
 use Rattle.qrun.proofs.replays.replay.Goals as goal
 
-pub returns-clause-replay : goal.returns-clause-replay
-returns-clause-replay c =
-    again c.args.setup c.args.journal.now c.replay.new.self c.in_ok-outcome_of.field-0
-    (rw c.in_ok-transcripts.ensures at c.in_ok-outcome_of.ensures)
-    (c.in_ok-replay.ensures.setting ∙ c.in_ok-store.ensures.setting) (c.in_ok-replay.ensures.ok ∙ c.entries.ensures.entries)
+pub returns-clause-of_a_run : goal.returns-clause-of_a_run
+returns-clause-of_a_run c scripts run is same =
+    gives_back c.args.setup scripts run c.play_again.result is (rw same at c.play_again.ensures.replay)
+    (rw same at c.play_again.ensures.mismatch)

@@ -1,4 +1,4 @@
-use Rattle.std.proofs.Common.{◌≡◌, ◌+◌, ap, refl, ◌∙◌}
+use Rattle.std.proofs.Common.{◌+◌, ap, refl, ◌∙◌}
 use Rattle.qrun.specs.Replays.{answer_of, line_of}
 use Rattle.qrun.proofs.Replaying.{one_more-told, other-taken, own-taken}
 use Rattle.qrun.proofs.replays.transcript_of.Goals as goal

@@ -1,5 +1,5 @@
 use Rattle.std.proofs.Common.{◌≡◌, ◌<◌, [], ◌∷◌, ◌++◌, length, refl, ap, ◌∙◌}
-use Rattle.qrun.specs.declared.journaled_store.TheConstants.{MAX_ENTRIES}
+use Rattle.qjournal.specs.declared.journal.TheConstants.{MAX_ENTRIES}
 use Rattle.qrun.specs.Journaled.{entry_of}
 use Rattle.qrun.specs.KeptJournaled.{journaled_of}
 use Rattle.qrun.proofs.Journaling.{carried_out, played_on}

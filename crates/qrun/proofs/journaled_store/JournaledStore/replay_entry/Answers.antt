@@ -1,5 +1,5 @@
 use Rattle.std.proofs.Common.{◌≡◌, ◌<◌, ◌++◌, ◌∷◌, [], length, refl, ap, sym, ◌∙◌}
-use Rattle.qrun.specs.declared.journaled_store.TheConstants.{MAX_ENTRIES}
+use Rattle.qjournal.specs.declared.journal.TheConstants.{MAX_ENTRIES}
 use Rattle.qrun.specs.KeptJournaled.{journaled_of}
 use Rattle.qrun.proofs.Journaling.{played_again}
 use Rattle.qrun.proofs.journaled_store.JournaledStore.replay_entry.Goals as goal
