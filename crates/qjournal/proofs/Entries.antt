@@ -6,18 +6,13 @@ use Rattle.qtext.specs.declared.text_fault.TextKind.{TextKind}
 use Rattle.qtext.specs.declared.text_fault.TextKind.TheVariants.{BadHead}
 use Rattle.qtext.specs.Reading.{each_of}
 use Rattle.qtext.specs.TextFaults.{want_of_memory}
-use Rattle.qscript.specs.Scripts.{RawLine, raw_lines}
+use Rattle.qscript.specs.Scripts.{RawLine, in_line, raw_lines}
 use Rattle.qscript.proofs.RawLines.{no_line_of}
 use Rattle.qjournal.specs.Journals.{Written, at_entry, entry_of, head_of, journal_in, journal_of}
 
-pub at_entry_ok : (workers : ℕ) (l : RawLine) (x : Entry) → entry_of workers l ≡ Ok x → at_entry workers l ≡ Ok x
+pub at_entry_is : (workers : ℕ) (l : RawLine) → in_line l.number (entry_of workers l) ≡ at_entry workers l
 unfolding at_entry
-at_entry_ok workers l x e = rw e refl
-
-pub at_entry_err : (workers : ℕ) (l : RawLine) (kind : TextKind) → entry_of workers l ≡ Err kind
-    → at_entry workers l ≡ Err (record { line = l.number; kind = kind })
-unfolding at_entry
-at_entry_err workers l kind e = rw e refl
+at_entry_is workers l = refl
 
 -- ---- a journal, from its lines
 

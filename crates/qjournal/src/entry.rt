@@ -1,14 +1,13 @@
 //! One entry of a journal.
-ghost use Rattle.std.specs.Prelude.{◌≡◌, ◌≤◌, ◌+◌, true, map, IfOk};
-ghost use Rattle.std.specs.List.{list_all};
+ghost use Rattle.std.specs.Prelude.{◌+◌, map};
 ghost use Rattle.qtext.specs.Gives.{Gives};
-ghost use Rattle.qtext.specs.Words.{is_text_byte, words as words_of};
+ghost use Rattle.qjournal.specs.declared.journal.TheConstants.{MAX_ENTRIES};
 ghost use Rattle.qjournal.specs.Journals.{answer_in, entry_in, entry_of, worker_of};
 
 use crate::journal::MAX_ENTRIES;
 use qline::{Paths, journaled_call_in, reply_in};
 use qplain::{Entry, Reply};
-use qscript::{Callers, NextLine};
+use qscript::{Callers, NextLine, ReadLine};
 use qtext::{ReadFault, TextKind, number, number_of};
 use std::alloc::Global;
 
@@ -79,31 +78,44 @@ fn entry_in<'a>(
     }
 }
 
-/// The entry in the line of that number, whose words these are.
-#[tactic(auto, unfolding(crate::specs::Journals::entry_of))]
-pub(crate) fn entry_of<'a>(
-    alloc: Global,
-    callers: &mut Callers<'a>,
-    paths: &mut Paths<'a>,
-    workers: u64,
-    number: u64,
-    line: &NextLine<'a>,
-    words: &[&'a [u8]],
-) -> Result<Entry, ReadFault>
-    requires bytes { line.now.is_text ≡ list_all is_text_byte line.now.bytes.now }
-    requires words { line.now.is_text ≡ true → map (λ word. word.now) words.now ≡ words_of line.now.bytes.now }
-    ensures reads { Gives result
-        (entry_of workers (record { number = number; bytes = line.now.bytes.now; whole = line.now.whole })) }
-    ensures few { IfOk result (λ _. number ≤ MAX_ENTRIES + 1) }
-{
-    if number > MAX_ENTRIES as u64 + 1 {
-        return Err(ReadFault::Fault(TextKind::TooMany));
+/// Reads the entries of a journal of so many workers, and keeps the last caller and path.
+#[derive(Drop)]
+pub(crate) struct EntryReader<'a> {
+    pub(crate) alloc: Global,
+    pub(crate) workers: u64,
+    pub(crate) callers: Callers<'a>,
+    pub(crate) paths: Paths<'a>,
+}
+
+impl<'a> ReadLine<'a> for EntryReader<'a> {
+    type Item = Entry;
+
+    ghost says = { λ r l. entry_of r.workers l };
+
+    ghost most = { λ _. MAX_ENTRIES + 1 };
+
+    #[tactic(auto, unfolding(crate::specs::Journals::entry_of))]
+    fn read(
+        &mut self,
+        number: u64,
+        line: &NextLine<'a>,
+        words: &[&'a [u8]],
+    ) -> Result<Entry, ReadFault> {
+        if number > MAX_ENTRIES as u64 + 1 {
+            return Err(ReadFault::Fault(TextKind::TooMany));
+        }
+        if !line.whole {
+            return Err(ReadFault::Fault(TextKind::Cut));
+        }
+        if !line.is_text {
+            return Err(ReadFault::Fault(TextKind::BadByte));
+        }
+        entry_in(
+            self.alloc,
+            &mut self.callers,
+            &mut self.paths,
+            self.workers,
+            words,
+        )
     }
-    if !line.whole {
-        return Err(ReadFault::Fault(TextKind::Cut));
-    }
-    if !line.is_text {
-        return Err(ReadFault::Fault(TextKind::BadByte));
-    }
-    entry_in(alloc, callers, paths, workers, words)
 }

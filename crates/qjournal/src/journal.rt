@@ -8,12 +8,12 @@ ghost use Rattle.qscript.specs.Scripts.{raw_lines_from};
 ghost use Rattle.qjournal.specs.Journals.{at_entry, journal_of};
 ghost use Rattle.qtext.specs.TextFaults.{want_of_memory};
 
-use crate::entry::entry_of;
+use crate::entry::EntryReader;
 use crate::head::head_of;
 use qline::Paths;
 use qplain::Entry;
 use qrules::Items;
-use qscript::{Callers, next_line};
+use qscript::{Callers, WANT_OF_MEMORY, next_line, read_lines};
 use qtext::{ReadFault, TextFault, TextKind};
 use std::alloc::Global;
 use std::marker::Model;
@@ -44,46 +44,18 @@ impl Model for Journal {
     ghost inverse = { λ j. record { workers = j.workers; entries = j.entries } };
 }
 
-const WANT_OF_MEMORY: TextFault = TextFault {
-    line: 0,
-    kind: TextKind::Memory,
-};
-
 /// The entries behind the first line, of so many workers, or the first line at fault.
 fn entries_of(alloc: Global, workers: u64, text: &[u8]) -> Result<Items<Entry>, TextFault>
     ensures entries { Reads result (each_of (at_entry workers) (raw_lines_from 2 (parts 10 text.now))) }
     ensures few { IfOk result (λ entries. length entries ≤ MAX_ENTRIES) }
 {
-    let mut entries = Vec::new(alloc);
-    let mut room = Vec::new(alloc);
-    let mut callers = Callers::new();
-    let mut paths = Paths::new();
-    let mut rest = text;
-    let mut number = 1u64;
-    while !rest.is_empty() {
-        number += 1;
-        let Ok(next) = next_line(&mut room, rest) else {
-            return Err(WANT_OF_MEMORY);
-        };
-        match entry_of(
-            alloc,
-            &mut callers,
-            &mut paths,
-            workers,
-            number,
-            &next,
-            &room,
-        ) {
-            Ok(entry) => match entries.push(entry) {
-                Ok(()) => {}
-                Err(_) => return Err(WANT_OF_MEMORY),
-            },
-            Err(ReadFault::Memory) => return Err(WANT_OF_MEMORY),
-            Err(ReadFault::Fault(kind)) => return Err(TextFault { line: number, kind }),
-        }
-        rest = next.after;
-    }
-    Ok(Items::new(entries))
+    let mut reader = EntryReader {
+        alloc,
+        workers,
+        callers: Callers::new(),
+        paths: Paths::new(),
+    };
+    read_lines(alloc, &mut reader, 1, text)
 }
 
 /// What a text says, or the first line at fault.

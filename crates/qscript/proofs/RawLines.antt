@@ -1,11 +1,11 @@
 -- The lines of a text, one after the other.
-use Rattle.std.proofs.Common.{◌≡◌, ℕ, ◌<◌, ◌+◌, true, false, eqb, List, [], ◌∷◌, length, Ok, Err, refl, arith}
+use Rattle.std.proofs.Common.{◌≡◌, ℕ, ◌<◌, ◌+◌, true, false, eqb, List, [], ◌∷◌, length, Result, Ok, Err, refl, arith}
 use Rattle.std.proofs.lemmas.Bool.Decides.{nat_tests}
 use Rattle.qtext.specs.declared.text_fault.TextKind.{TextKind}
+use Rattle.qtext.specs.Reading.{each_of}
 use Rattle.qtext.specs.Words.{parts}
 use Rattle.qtext.proofs.Splitting.{some_part}
-use Rattle.qplain.specs.declared.line.Line.{Line}
-use Rattle.qscript.specs.Scripts.{RawLine, raw_lines_from, line_of, at_line}
+use Rattle.qscript.specs.Scripts.{RawLine, raw_lines_from, in_line, line_of, at_line}
 
 pub more_lines : (n : ℕ) (l : List ℕ) (ls : List (List ℕ)) → 0 < length ls
     → raw_lines_from n (l ∷ ls) ≡ record { number = n; bytes = l; whole = true } ∷ raw_lines_from (n + 1) ls
@@ -33,10 +33,21 @@ pub cut_line : (n : ℕ) (text line : List ℕ) → 0 < length line → parts 10
     → raw_lines_from n (parts 10 text) ≡ record { number = n; bytes = line; whole = false } ∷ raw_lines_from (n + 1) (parts 10 [])
 cut_line n text line lt e = rw (e, no_line (n + 1)) (one_line n line lt)
 
-pub at_line_ok : (l : RawLine) (x : Line) → line_of l ≡ Ok x → at_line l ≡ Ok x
-unfolding at_line
-at_line_ok l x e = rw e refl
+-- ---- what is told of a line
 
-pub at_line_err : (l : RawLine) (kind : TextKind) → line_of l ≡ Err kind → at_line l ≡ Err (record { line = l.number; kind = kind })
+pub told_ok : {A : Type 0} (n : ℕ) (read : Result A TextKind) (x : A) → read ≡ Ok x → in_line n read ≡ Ok x
+told_ok n read x e = rw e refl
+
+pub told_err : {A : Type 0} (n : ℕ) (read : Result A TextKind) (kind : TextKind) → read ≡ Err kind
+    → in_line n read ≡ Err (record { line = n; kind = kind })
+told_err n read kind e = rw e refl
+
+-- two readers that say the same of each line
+pub each_same : {A B E : Type 0} (f g : A → Result B E) → ((x : A) → f x ≡ g x) → (xs : List A) → each_of f xs ≡ each_of g xs
+unfolding each_of
+each_same f g same [] = refl
+each_same f g same (x ∷ xs) = rw (same x, each_same f g same xs) refl
+
+pub at_line_is : (l : RawLine) → in_line l.number (line_of l) ≡ at_line l
 unfolding at_line
-at_line_err l kind e = rw e refl
+at_line_is l = refl

@@ -2,10 +2,12 @@
 #![tactic(auto)]
 
 pub use callers::Callers;
+pub use lines::{ReadLine, WANT_OF_MEMORY, read_lines};
 pub use raw_line::{NextLine, next_line};
 pub use script::{MAX_LINES, Script};
 
 mod callers;
 mod line;
+mod lines;
 mod raw_line;
 mod script;

@@ -5,12 +5,12 @@ ghost use Rattle.qtext.specs.Gives.{Reads};
 ghost use Rattle.qscript.specs.Scripts.{script_of};
 
 use crate::callers::Callers;
-use crate::line::line_of;
-use crate::raw_line::next_line;
+use crate::line::LineReader;
+use crate::lines::read_lines;
 use qline::Paths;
 use qplain::Line;
 use qrules::Items;
-use qtext::{ReadFault, TextFault, TextKind};
+use qtext::TextFault;
 use std::alloc::Global;
 use std::marker::Model;
 
@@ -37,38 +37,17 @@ impl Model for Script {
     ghost inverse = { λ lines. record { lines = lines } };
 }
 
-const WANT_OF_MEMORY: TextFault = TextFault {
-    line: 0,
-    kind: TextKind::Memory,
-};
-
 /// The lines of a script, or the first line at fault with the first thing wrong in it.
 fn lines_of(alloc: Global, text: &[u8]) -> Result<Items<Line>, TextFault>
     ensures lines { Reads result (script_of text.now) }
     ensures few { IfOk result (λ lines. length lines ≤ MAX_LINES) }
 {
-    let mut lines = Vec::new(alloc);
-    let mut room = Vec::new(alloc);
-    let mut callers = Callers::new();
-    let mut paths = Paths::new();
-    let mut rest = text;
-    let mut number = 0u64;
-    while !rest.is_empty() {
-        number += 1;
-        let Ok(next) = next_line(&mut room, rest) else {
-            return Err(WANT_OF_MEMORY);
-        };
-        match line_of(alloc, &mut callers, &mut paths, number, &next, &room) {
-            Ok(line) => match lines.push(line) {
-                Ok(()) => {}
-                Err(_) => return Err(WANT_OF_MEMORY),
-            },
-            Err(ReadFault::Memory) => return Err(WANT_OF_MEMORY),
-            Err(ReadFault::Fault(kind)) => return Err(TextFault { line: number, kind }),
-        }
-        rest = next.after;
-    }
-    Ok(Items::new(lines))
+    let mut reader = LineReader {
+        alloc,
+        callers: Callers::new(),
+        paths: Paths::new(),
+    };
+    read_lines(alloc, &mut reader, 0, text)
 }
 
 impl Script {
