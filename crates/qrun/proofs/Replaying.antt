@@ -67,7 +67,7 @@ module _ (entries : List Entry) (i : ℕ) (d e : Entry) (worker : ℕ) (few : i 
   other-taken other = ap (λ es. entries_of es worker) longer ∙ other-one_more (take i entries) e worker other
 
 -- what is told of a worker's own entries, of which there is one more
-pub one_more-told : {X : Type 0} (f : ℕ × Entry → X) (old new : List X) (told : X) (own longer : List (ℕ × Entry)) (x : ℕ × Entry)
-    → new ≡ old ++ told ∷ [] → old ≡ map f own → told ≡ f x → longer ≡ own ++ x ∷ [] → new ≡ map f longer
-one_more-told f old new told own longer x more is same another =
+pub one_more-told : {X : Type 0} (f : ℕ × Entry → X) (old new : List X) (told : X) (own more_own : List (ℕ × Entry)) (x : ℕ × Entry)
+    → new ≡ old ++ told ∷ [] → old ≡ map f own → told ≡ f x → more_own ≡ own ++ x ∷ [] → new ≡ map f more_own
+one_more-told f old new told own more_own x more is same another =
     more ∙ ap (λ ts. ts ++ told ∷ []) is ∙ ap (λ t. map f own ++ t ∷ []) same ∙ sym (map_push f own x) ∙ sym (ap (map f) another)

@@ -4,8 +4,8 @@ ghost use Rattle.qplain.specs.declared.line.Line.{Line};
 ghost use Rattle.qplain.specs.State.{start};
 ghost use Rattle.qjournal.specs.declared.journal.TheConstants.{MAX_ENTRIES};
 ghost use Rattle.qrun.specs.declared.outcome.Outcome.{Outcome};
-ghost use Rattle.qrun.specs.Runs.{IsOutcomeOf};
 ghost use Rattle.qrun.specs.declared.run_fault.RunFault.TheVariants.{Mismatch};
+ghost use Rattle.qrun.specs.Runs.{IsOutcomeOf};
 ghost use Rattle.qrun.specs.Replays.{GivesBack, IsMismatch, IsReplayOf, line_of, transcript_in, transcripts_in};
 
 use crate::journaled_store::JournaledStore;

@@ -28,4 +28,5 @@ returns c =
 
 pub invariant_of-result : goal.invariant_of-result
 invariant_of-result c =
-    (journal_found c.args.text.now _ (all_read c.args.text.now _ _ _ _ (c.in-Ok.ensures.first 1) c.in-Ok-head_of.ensures.workers c.in_ok-entries.ensures.entries)).1
+    let read = all_read c.args.text.now _ _ _ _ (c.in-Ok.ensures.first 1) c.in-Ok-head_of.ensures.workers c.in_ok-entries.ensures.entries in
+    (journal_found c.args.text.now _ read).1

@@ -18,7 +18,9 @@ loop-left-preserved g c =
       room = search rules;
       written = rw (sym (drop-replicate 256 c.loop-left.left c.args.byte))
           (partly_then _ _ _ _ _ _ (rw (first_piece 256 c.loop-left.line (replicate c.loop-left.left c.args.byte)) at c.loop-left.invariant.written)
-          (partly_on _ _ _ _ _ (rw (c.digits.ensures.text, sym (take-replicate 256 c.loop-left.left c.args.byte (omega (arith, more)))) at c.in_ok-put_all.ensures.passes)));
+          (partly_on _ _ _ _ _
+          (rw (c.digits.ensures.text, sym (take-replicate 256 c.loop-left.left c.args.byte (omega (arith, more))))
+          at c.in_ok-put_all.ensures.passes)));
     }
 
 pub returns-clause-passes : goal.returns-clause-passes

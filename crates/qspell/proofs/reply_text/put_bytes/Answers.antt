@@ -10,5 +10,6 @@ returns-in_err-put_data g c = refused_whole _ _ _ c.args.line.now _ _ c.from_res
 
 pub returns : goal.returns
 returns g c = partly_last _ _ _ _ _ _
-    (behind _ _ c.args.line.now _ _ _ (rw (c.text.ensures.text, append_assoc c.args.line.now (codes "bytes ") (data_text c.args.bytes.now)) at c.in_ok-put_data.ensures.passes))
+    (behind _ _ c.args.line.now _ _ _
+    (rw (c.text.ensures.text, append_assoc c.args.line.now (codes "bytes ") (data_text c.args.bytes.now)) at c.in_ok-put_data.ensures.passes))
     c.put_end.ensures
