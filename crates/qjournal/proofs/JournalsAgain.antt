@@ -1,7 +1,8 @@
 -- Journals that are spelled out are read again.
-use Rattle.std.proofs.Common.{◌≡◌, ℕ, ◌+◌, ◌≤◌, ◌<◌, ◌==◌, ◌^◌, Bool, true, false, not, eqb, ltb, List, [], ◌∷◌, ◌++◌, length, drop, Ok, refl, sym, ap, ◌∙◌, append_assoc, arith, tests, codes, decimal}
+use Rattle.std.proofs.Common.{◌≡◌, ℕ, ◌+◌, ◌≤◌, ◌<◌, ◌==◌, true, false, not, eqb, ltb, List, [], ◌∷◌, ◌++◌, length, drop, Ok, refl, ap, ◌∙◌, append_assoc, arith, tests, codes, decimal}
 use Rattle.std.specs.List.{flat_map, join_with_byte, list_all, AllByRecursion}
 use Rattle.std.proofs.lemmas.Bool.{le-ltb}
+use Rattle.std.proofs.lemmas.List.Elements.{recursion_from_All}
 use Rattle.qplain.specs.Paths.{is_path_byte}
 use Rattle.qplain.specs.declared.entry.Entry.{Entry}
 use Rattle.qtext.specs.declared.text_fault.TextKind.TheVariants.{BadHead, BadNumber}
@@ -10,8 +11,8 @@ use Rattle.qtext.specs.Words.{is_text_byte, parts, words}
 use Rattle.qtext.proofs.Joining.{lacks, parts_first, parts_join, passes_join, passes_weaker}
 use Rattle.qtext.proofs.Splitting.{some_part}
 use Rattle.qtext.proofs.WordsAgain.{number_again, text_lacks_feed}
-use Rattle.qline.specs.RepliesSpelled.{IsReply, reply_words}
-use Rattle.qline.specs.Spelling.{IsCall, call_words, caller_text}
+use Rattle.qline.specs.RepliesSpelled.{reply_words}
+use Rattle.qline.specs.Spelling.{call_words, caller_text}
 use Rattle.qline.proofs.ArgumentsAgain.{decimal_word, word_is_text, word_lacks_space}
 use Rattle.qline.proofs.CallersAgain.{caller_again, caller_word}
 use Rattle.qline.proofs.CallsAgain.{IsWord, any_number, call_word}
@@ -20,8 +21,17 @@ use Rattle.qline.proofs.RepliesAgain.{reply_again, reply_word}
 use Rattle.qscript.specs.Scripts.{raw_lines_from}
 use Rattle.qscript.proofs.LinesAgain.{weaker_all}
 use Rattle.qscript.proofs.RawLines.{more_lines, no_line}
-use Rattle.qjournal.specs.Journals.{IsWorkers, Written, answer_in, at_entry, entry_in, entry_of, head_in, head_of, journal_in, journal_of, keyword, told_of, worker_of, workers_of}
-use Rattle.qjournal.specs.Spelling.{IsEntry, IsJournal, entry_text, entry_words, head_text, head_words, spelling}
+use Rattle.qjournal.specs.Journals.{IsEntryOf, IsJournal, IsWorkers, Written, answer_in, at_entry, entry_in, entry_of, head_in, head_of, journal_in, journal_of, keyword, told_of, worker_of, workers_of}
+use Rattle.qjournal.specs.Spelling.{IsHeld, entry_text, entry_words, head_words, spelling}
+
+-- ---- entries
+
+abbrev IsEntry : ℕ → Entry → Type 0
+IsEntry workers e = IsEntryOf workers e × IsHeld e
+
+entries : (workers : ℕ) (es : List Entry) → AllByRecursion (IsEntryOf workers) es → AllByRecursion IsHeld es → AllByRecursion (IsEntry workers) es
+entries workers [] of held = tt
+entries workers (e ∷ es) of held = ((of.0, held.0), entries workers es of.1 held.1)
 
 -- ---- words
 
@@ -50,13 +60,13 @@ workers_again workers is =
 
 entry_word : (workers : ℕ) (e : Entry) → workers ≤ 16 → IsEntry workers e → AllByRecursion IsWord (entry_words e)
 entry_word workers e few fits =
-    let le = fits.worker.1 in (
+    let le = fits.0.1 in (
       decimal_word e.worker (omega (arith, le)),
       (
-        decimal_word e.moment fits.moment,
+        decimal_word e.moment fits.1.moment,
         (
-          caller_word e.cred fits.cred,
-          both (call_words e.call) (codes "=>" ∷ reply_words e.reply) (call_word e.call fits.call) (refl, reply_word e.reply fits.reply),
+          caller_word e.cred fits.1.cred,
+          both (call_words e.call) (codes "=>" ∷ reply_words e.reply) (call_word e.call fits.1.call) (refl, reply_word e.reply fits.1.reply),
         ),
       ),
     )
@@ -68,12 +78,12 @@ in_again : (workers : ℕ) (e : Entry) → workers ≤ 16 → IsEntry workers e 
 unfolding entry_in answer_in
 in_again workers e few fits =
     rw (
-      worker_again workers e.worker few fits.worker.0 fits.worker.1,
-      any_number e.moment fits.moment,
-      caller_again e.cred fits.cred,
-      journaled_again e.call fits.call (codes "=>" ∷ reply_words e.reply),
+      worker_again workers e.worker few fits.0.0 fits.0.1,
+      any_number e.moment fits.1.moment,
+      caller_again e.cred fits.1.cred,
+      journaled_again e.call fits.1.call (codes "=>" ∷ reply_words e.reply),
       drop_front (call_words e.call) (codes "=>" ∷ reply_words e.reply),
-      reply_again e.reply fits.reply,
+      reply_again e.reply fits.1.reply,
     ) refl
 
 -- ---- lines
@@ -121,11 +131,12 @@ head_again workers is =
     rw (joined_is_text _ _ word, joined_parts _ _ word, workers_again workers is) refl
 
 -- what a journal says that is spelled out
-pub journal_again : (j : Written) → IsJournal j → journal_of (spelling j) ≡ Ok j
+pub journal_again : (j : Written) → IsJournal j → AllByRecursion IsHeld j.entries → journal_of (spelling j) ≡ Ok j
 unfolding journal_in
-journal_again j fits =
-    let workers : j.workers ≤ 16 = fits.workers.1 in
-    let few : length j.entries ≤ 65536 = fits.few in
+journal_again j is held =
+    let workers : j.workers ≤ 16 = is.workers.1 in
+    let few : length j.entries ≤ 65536 = is.few in
     let lines = raw_again 1 (codes "quotafs") (codes "journal" ∷ codes "1" ∷ codes "workers" ∷ decimal j.workers ∷ [])
-    (flat_map entry_text j.entries) (head_word j.workers fits.workers) in
-    rw (lines, head_again j.workers fits.workers, each_again j.workers 2 j.entries workers (omega arith) fits.each) refl
+    (flat_map entry_text j.entries) (head_word j.workers is.workers) in
+    let each = entries j.workers j.entries (recursion_from_All (IsEntryOf j.workers) j.entries is.each) held in
+    rw (lines, head_again j.workers is.workers, each_again j.workers 2 j.entries workers (omega arith) each) refl

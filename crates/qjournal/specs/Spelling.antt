@@ -1,11 +1,10 @@
 -- How journals are spelled out, each in its one spelling.
-use Rattle.std.specs.Prelude.{ℕ, ◌<◌, ◌≤◌, ◌^◌, List, [], ◌∷◌, ◌++◌, codes, decimal, length}
-use Rattle.std.specs.List.{flat_map, join_with_byte, AllByRecursion}
+use Rattle.std.specs.Prelude.{ℕ, ◌<◌, ◌^◌, List, [], ◌∷◌, ◌++◌, codes, decimal}
+use Rattle.std.specs.List.{flat_map, join_with_byte}
 use Rattle.qplain.specs.declared.entry.Entry.{Entry}
 use Rattle.qline.specs.RepliesSpelled.{IsReply, reply_words}
 use Rattle.qline.specs.Spelling.{IsCall, IsCaller, call_words, caller_text}
-use Rattle.qjournal.specs.declared.journal.TheConstants.{MAX_ENTRIES}
-use Rattle.qjournal.specs.Journals.{IsWorkers, Written}
+use Rattle.qjournal.specs.Journals.{Written}
 
 -- WORKER MOMENT CALLER CALL => REPLY
 abbrev pub entry_words : Entry → List (List ℕ)
@@ -29,16 +28,9 @@ head_text workers = join_with_byte 0x20 (head_words workers) ++ 10 ∷ []
 abbrev pub spelling : Written → List ℕ
 spelling j = head_text j.workers ++ flat_map entry_text j.entries
 
--- the parts of an entry, of so many workers, are what their types can hold
-pub record IsEntry (workers : ℕ) (e : Entry) : Type 0 where
-  pub worker : (0 < e.worker) × (e.worker ≤ workers)
+-- the parts of an entry are what their types can hold
+pub record IsHeld (e : Entry) : Type 0 where
   pub moment : e.moment < 2 ^ 64
   pub cred : IsCaller e.cred
   pub call : IsCall e.call
   pub reply : IsReply e.reply
-
--- such entries, no more than a journal may have, of 1 to 16 workers
-pub record IsJournal (j : Written) : Type 0 where
-  pub workers : IsWorkers j.workers
-  pub few : length j.entries ≤ MAX_ENTRIES
-  pub each : AllByRecursion (IsEntry j.workers) j.entries

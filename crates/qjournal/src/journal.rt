@@ -1,11 +1,11 @@
 //! Journals: what workers called and what they were answered.
-ghost use Rattle.std.specs.Prelude.{◌≡◌, ◌≤◌, ◌<◌, ◌⊎◌, List, Ok, Err, IfOk, length};
+ghost use Rattle.std.specs.Prelude.{◌≡◌, ◌≤◌, ◌<◌, ◌⊎◌, List, Ok, Err, IfOk, All, length};
 ghost use Rattle.qplain.specs.declared.entry.Entry.{Entry};
 ghost use Rattle.qtext.specs.Gives.{Reads};
 ghost use Rattle.qtext.specs.Reading.{each_of};
 ghost use Rattle.qtext.specs.Words.{parts};
 ghost use Rattle.qscript.specs.Scripts.{raw_lines_from};
-ghost use Rattle.qjournal.specs.Journals.{at_entry, journal_of};
+ghost use Rattle.qjournal.specs.Journals.{IsEntryOf, at_entry, journal_of};
 
 use crate::entry::entry_of;
 use crate::head::head_of;
@@ -23,7 +23,8 @@ pub const MAX_ENTRIES: usize = 65_536;
 /// The most workers that a journal may tell of.
 pub const MAX_WORKERS: u64 = 16;
 
-/// The entries of a journal, as they were read, and how many workers there were.
+/// What happened to a store: how many workers there were, from 1 to 16, and their entries in order, at most 65,536. Each
+/// entry is of one of the workers, and a stat of a directory tells of no bytes and no blocks.
 #[derive(Debug, PartialEq, Eq, Drop)]
 pub struct Journal {
     workers: u64,
@@ -31,15 +32,13 @@ pub struct Journal {
 }
 
 impl Model for Journal {
-    ghost use Rattle.std.specs.Prelude.{◌≤◌, length};
-    ghost use Rattle.qjournal.specs.declared.journal.TheConstants.{MAX_ENTRIES};
-    ghost use Rattle.qjournal.specs.Journals.{IsWorkers, Written};
+    ghost use Rattle.qjournal.specs.Journals.{IsJournal, Written};
 
     ghost Value = { Written };
 
     ghost view = { λ j. record { workers = j.workers; entries = j.entries } };
 
-    ghost invariant = { λ j. IsWorkers j.workers × (length j.entries ≤ MAX_ENTRIES) };
+    ghost invariant = { λ j. IsJournal (record { workers = j.workers; entries = j.entries }) };
 
     ghost inverse = { λ j. record { workers = j.workers; entries = j.entries } };
 }
@@ -53,6 +52,7 @@ const WANT_OF_MEMORY: TextFault = TextFault {
 fn entries_of(alloc: Global, workers: u64, text: &[u8]) -> Result<Items<Entry>, TextFault>
     ensures entries { Reads result (each_of (at_entry workers) (raw_lines_from 2 (parts 10 text.now))) }
     ensures few { IfOk result (λ entries. length entries ≤ MAX_ENTRIES) }
+    ensures each { IfOk result (λ entries. All (IsEntryOf workers) entries) }
 {
     let mut entries = Vec::new(alloc);
     let mut room = Vec::new(alloc);
@@ -87,8 +87,16 @@ fn entries_of(alloc: Global, workers: u64, text: &[u8]) -> Result<Items<Entry>, 
 }
 
 impl Journal {
-    ghost use Rattle.qjournal.specs.Journals.{journal_of};
+    ghost use Rattle.qjournal.specs.Journals.{IsJournal, journal_of};
     ghost use Rattle.qtext.specs.TextFaults.{want_of_memory};
+
+    /// A journal of 1 to 16 workers with at most 65,536 entries, each of one of them.
+    pub fn new(workers: u64, entries: Items<Entry>) -> Self
+        requires { IsJournal (record { workers = workers; entries = entries }) }
+        ensures { result ≡ record { workers = workers; entries = entries } }
+    {
+        Journal { workers, entries }
+    }
 
     /// Reads a journal: its workers and entries, or the first line at fault with the first thing wrong in it.
     ///

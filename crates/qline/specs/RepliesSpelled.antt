@@ -59,6 +59,18 @@ pub record IsChange (c : Change) : Type 0 where
   pub inodes_charged : c.inodes_charged < 2 ^ 64
   pub inodes_released : c.inodes_released < 2 ^ 64
 
+-- a directory has no size and no blocks
+abbrev pub IsEmptyDirectory : Stat → Type 0
+IsEmptyDirectory s = s.dir ≡ true → (s.size ≡ 0) × (s.blocks ≡ 0)
+
+-- where a reply is a stat, it is one that a directory may have
+abbrev pub HasLawfulStat : Reply → Type 0
+HasLawfulStat (Done ino change) = Unit {0}
+HasLawfulStat (Bytes bytes) = Unit {0}
+HasLawfulStat (StatReply stat) = IsEmptyDirectory stat
+HasLawfulStat (QuotaReply quota) = Unit {0}
+HasLawfulStat (Refused refusal) = Unit {0}
+
 -- the numbers of an inode are what their types can hold, and a directory has no size and no blocks
 pub record IsStat (s : Stat) : Type 0 where
   pub ino : s.ino < 2 ^ 64
@@ -67,7 +79,7 @@ pub record IsStat (s : Stat) : Type 0 where
   pub size : s.size < 2 ^ 64
   pub blocks : s.blocks < 2 ^ 64
   pub links : s.links < 2 ^ 64
-  pub empty : s.dir ≡ true → (s.size ≡ 0) × (s.blocks ≡ 0)
+  pub empty : IsEmptyDirectory s
 
 -- those of a record are
 pub record IsQuota (q : Quota) : Type 0 where
