@@ -1,8 +1,11 @@
-//! Journals read from text: their entries, or the first line at fault with the first thing wrong in it.
+//! Journals, read from text and written.
 #![tactic(auto)]
 
 pub use journal::{Journal, MAX_ENTRIES, MAX_WORKERS};
+pub use qspell::WriteFault;
+pub use writing::write_journal;
 
 mod entry;
 mod head;
 mod journal;
+mod writing;

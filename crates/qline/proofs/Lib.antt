@@ -1,4 +1,4 @@
--- That arguments, callers, calls and replies that are spelled out are read again; how replies are put together.
+-- That arguments, callers, calls and replies that are spelled out are read again, and that the text of a reply is its words.
 pub mod ArgumentsAgain
 pub mod CallersAgain
 pub mod CallsAgain
@@ -6,4 +6,3 @@ pub mod RepliesAgain
 pub mod JournaledAgain
 pub mod RepliesJoined
 mod FewGroups
-mod Regrouped

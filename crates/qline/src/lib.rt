@@ -1,4 +1,4 @@
-//! Calls, their callers and their replies as words: all three read, and replies written.
+//! Calls, their callers and their replies as words, read.
 #![tactic(auto)]
 
 pub use call::{MAX_FILL, call_in};
@@ -6,7 +6,6 @@ pub use caller::caller_of;
 pub use journaled::journaled_call_in;
 pub use paths::Paths;
 pub use reply::reply_in;
-pub use reply_text::{REPLY_PLACE, put_reply};
 
 mod argument;
 mod call;
@@ -15,6 +14,5 @@ mod journaled;
 mod path_call;
 mod paths;
 mod reply;
-mod reply_text;
 mod reply_word;
 mod verb;

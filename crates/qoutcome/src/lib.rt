@@ -3,9 +3,8 @@
 
 pub use audit_text::write_audit;
 pub use outcome_text::write_outcome;
-pub use write_fault::WriteFault;
+pub use qspell::WriteFault;
 
 mod audit_text;
 mod outcome_text;
 mod transcript_text;
-mod write_fault;

@@ -1,6 +1,7 @@
 //! Outcomes as text.
 ghost use Rattle.std.specs.Prelude.{◌≡◌, codes, decimal, ◌∷◌, []};
 ghost use Rattle.std.specs.List.{concat};
+ghost use Rattle.qaudit.specs.Reports.{report_text};
 ghost use Rattle.qtext.specs.Written.{Writes};
 ghost use Rattle.qoutcome.specs.Outcomes.{moment_text, outcome_text, run_text, totals_text};
 
@@ -8,6 +9,7 @@ use crate::WriteFault;
 use crate::audit_text::write_audit;
 use crate::transcript_text::put_transcripts;
 use qaudit::report;
+use qrules::RecordRow;
 use qrun::Outcome;
 use qtext::{Piece, RefusedWrite, put_pieces};
 use std::io::Write;
@@ -40,6 +42,15 @@ fn put_totals<W: Write>(out: &mut W, outcome: &Outcome) -> Result<(), RefusedWri
     put_pieces(out, &pieces)
 }
 
+fn put_report<W: Write>(out: &mut W, rows: &[RecordRow], moment: u64) -> Result<(), RefusedWrite>
+    ensures { Writes (W.contents out.old) (W.contents out.new) result (report_text rows.now moment) }
+{
+    match report(rows, moment, out) {
+        Ok(()) => Ok(()),
+        Err(_) => Err(RefusedWrite),
+    }
+}
+
 /// Writes the transcripts, the report as of the moment, and the totals.
 #[tactic(auto, using(qtext::proofs::Fronts::front_of_first, qtext::proofs::Fronts::writes_then))]
 fn put_run<W: Write>(outcome: &Outcome, moment: u64, out: &mut W) -> Result<(), WriteFault>
@@ -47,7 +58,7 @@ fn put_run<W: Write>(outcome: &Outcome, moment: u64, out: &mut W) -> Result<(), 
 {
     put_transcripts(out, outcome.transcripts.as_slice())?;
     put_moment(out, moment)?;
-    report(outcome.records.as_slice(), moment, out)?;
+    put_report(out, outcome.records.as_slice(), moment)?;
     Ok(put_totals(out, outcome)?)
 }
 

@@ -4,8 +4,8 @@ ghost use Rattle.std.specs.List.{flat_map};
 ghost use Rattle.qtext.specs.Written.{Writes};
 ghost use Rattle.qoutcome.specs.Outcomes.{call_fault_text, line_text, transcript_text};
 
-use qline::put_reply;
 use qplain::{CallFault, Receipt, Transcript};
+use qspell::put_reply;
 use qtext::{Piece, RefusedWrite, TextLine, put_pieces};
 use std::io::Write;
 

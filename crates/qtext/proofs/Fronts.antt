@@ -5,7 +5,7 @@ use Rattle.std.specs.Prelude.{IsErr}
 use Rattle.std.proofs.lemmas.List.{append-nil, drop_all, take-append-drop}
 use Rattle.std.proofs.lemmas.List.Concat.{flat_map-cons}
 use Rattle.std.specs.List.{flat_map}
-use Rattle.qtext.specs.Written.{AppendsFront, Writes}
+use Rattle.qtext.specs.Written.{AppendsFront, Partly, Passes, Writes}
 
 pub appends_nothing : (a : Option (List ℕ)) → Appends a a []
 appends_nothing None = tt
@@ -53,12 +53,6 @@ pub refused_last : {T E : Type 0} (a b c : Option (List ℕ)) (r : Result T E) (
     → Appends a b xs → AppendsFront b c ys → Writes a c r (xs ++ ys)
 refused_last a b c (Ok x) xs ys h p f = absurd (cc)
 refused_last a b c (Err e) xs ys h p f = front_of_second a b c xs ys p f
-
--- what is written so far, and what is left
-pub record Partly (old now : Option (List ℕ)) (text rest : List ℕ) : Type 0 where
-  pub front : List ℕ
-  pub parts : text ≡ front ++ rest
-  pub appends : Appends old now front
 
 pub partly_at_first : (a : Option (List ℕ)) (text : List ℕ) → Partly a a text text
 partly_at_first a text = record { front = []; parts = refl; appends = appends_nothing a }
@@ -140,3 +134,49 @@ pub rows_end : {A : Type 0} (a b : Option (List ℕ)) (text : A → List ℕ) (r
     → Partly a b (flat_map text rows) (flat_map text (drop i rows)) → length rows ≤ i
     → Appends a b (flat_map text rows)
 rows_end a b text rows i p le = partly_done a b _ (rw (drop_all i rows le) at p)
+
+-- nothing was written yet
+pub passes_nothing : {T E : Type 0} (a : Option (List ℕ)) (r : Result T E) (x : T) (text : List ℕ) → r ≡ Ok x → Passes a a r text text
+passes_nothing a r x text done = rw done (partly_at_first a text)
+
+-- all of it was
+pub passes_all : {T E : Type 0} (a b : Option (List ℕ)) (r : Result T E) (xs : List ℕ) → Writes a b r xs → Passes a b r xs []
+passes_all a b (Ok x) xs p = record { front = xs; parts = sym (append-nil xs); appends = p }
+passes_all a b (Err e) xs f = f
+
+-- what is left is followed by more
+pub partly_on : (a b : Option (List ℕ)) (text rest more : List ℕ) → Partly a b text rest → Partly a b (text ++ more) (rest ++ more)
+partly_on a b text rest more p =
+    record { front = p.front; parts = ap (λ (l : List ℕ). l ++ more) p.parts ∙ append_assoc p.front rest more; appends = p.appends }
+
+-- some of what was left was written
+pub partly_then : (a b c : Option (List ℕ)) (text rest left : List ℕ) → Partly a b text rest → Partly b c rest left → Partly a c text left
+partly_then a b c text rest left p q = record {
+  front = p.front ++ q.front;
+  parts = p.parts ∙ ap (λ (l : List ℕ). p.front ++ l) q.parts ∙ sym (append_assoc p.front q.front left);
+  appends = appends_then a b c p.front q.front p.appends q.appends;
+}
+
+-- a part of the text passed, and then what is left of it
+pub passes_then : {T E : Type 0} (a b c : Option (List ℕ)) (r : Result T E) (text rest left : List ℕ)
+    → Partly a b text rest → Passes b c r rest left → Passes a c r text left
+passes_then a b c (Ok x) text rest left p q = partly_then a b c text rest left p q
+passes_then a b c (Err e) text rest left p q = rw p.parts (front_of_second a b c p.front rest p.appends q)
+
+-- a refusal in the first part of what is left
+pub passes_refused : {T E : Type 0} (a b c : Option (List ℕ)) (r : Result T E) (text rest xs ys left : List ℕ)
+    → IsErr r → Partly a b text rest → AppendsFront b c xs → rest ≡ xs ++ ys → Passes a c r text left
+passes_refused a b c (Ok x) text rest xs ys left h p f e = absurd (cc)
+passes_refused a b c (Err d) text rest xs ys left h p f e = partly_refused a b c text rest xs p f ys e
+
+-- a refusal in the first part of a text
+pub passes_front : {T E : Type 0} (a b : Option (List ℕ)) (r : Result T E) (text xs ys left : List ℕ)
+    → IsErr r → AppendsFront a b xs → text ≡ xs ++ ys → Passes a b r text left
+passes_front a b (Ok x) text xs ys left h f e = absurd (cc)
+passes_front a b (Err d) text xs ys left h f e = rw e (front_of_first a b xs ys f)
+
+-- a refusal in what was left of a text
+pub passes_ends : {T E : Type 0} (a b c : Option (List ℕ)) (r : Result T E) (text rest left : List ℕ)
+    → IsErr r → Partly a b text rest → AppendsFront b c rest → Passes a c r text left
+passes_ends a b c (Ok x) text rest left h p f = absurd (cc)
+passes_ends a b c (Err d) text rest left h p f = rw p.parts (front_of_second a b c p.front rest p.appends f)

@@ -16,7 +16,6 @@ cut n bytes =
     sym (ap encode_lower (take-append-drop n bytes)) ∙ digits_append lower_digits (take n bytes) (drop n bytes)
 
 -- what stands before the digits goes out with those of the first bytes
-pub first_piece : (n : ℕ) (before bytes end : List ℕ)
-    → before ++ (encode_lower bytes ++ end)
-    ≡ (before ++ encode_lower (take n bytes)) ++ (encode_lower (drop n bytes) ++ end)
-first_piece n before bytes end = rw (cut n bytes) (simp append_assoc)
+pub first_piece : (n : ℕ) (before bytes : List ℕ)
+    → before ++ encode_lower bytes ≡ (before ++ encode_lower (take n bytes)) ++ encode_lower (drop n bytes)
+first_piece n before bytes = rw (cut n bytes) (sym (append_assoc before (encode_lower (take n bytes)) (encode_lower (drop n bytes))))

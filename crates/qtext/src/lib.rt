@@ -9,7 +9,7 @@ pub use read_fault::ReadFault;
 pub use refused_write::RefusedWrite;
 pub use rule_words::{kind_word, over_word};
 pub use text_fault::{TextFault, TextKind};
-pub use text_line::{HEAD_ROOM, LINE_ROOM, TextLine};
+pub use text_line::{HEAD_ROOM, LINE_ROOM, TextLine, WORD_ROOM};
 pub use word::first_part;
 pub use writing::{put, put_pieces};
 

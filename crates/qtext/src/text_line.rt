@@ -1,7 +1,7 @@
-ghost use Rattle.std.specs.Prelude.{◌≡◌, ◌≤◌, ◌<◌, ◌+◌, ◌*◌, ◌∷◌, ◌++◌, [], length, decimal, codes};
+ghost use Rattle.std.specs.Prelude.{◌≡◌, ◌≤◌, ◌<◌, ◌+◌, ◌*◌, ◌∷◌, ◌++◌, [], length, decimal, codes, IfOk};
 ghost use Rattle.hex.specs.Hex.{encode_lower};
 ghost use Rattle.qtext.specs.Pieces.{data_text};
-ghost use Rattle.qtext.specs.Written.{Writes};
+ghost use Rattle.qtext.specs.Written.{Passes, Writes};
 
 use crate::{RefusedWrite, put};
 use itoa::Buffer;
@@ -9,10 +9,13 @@ use std::io::Write;
 use std::marker::Model;
 
 /// How many bytes a line holds before it is written.
-pub const LINE_ROOM: usize = 768;
+pub const LINE_ROOM: usize = 1_536;
 
 /// How many bytes may stand before data.
-pub const HEAD_ROOM: usize = 64;
+pub const HEAD_ROOM: usize = 1_000;
+
+/// How many bytes a line holds at most behind a word.
+pub const WORD_ROOM: usize = 480;
 
 /// How many bytes' digits are written at once.
 const DATA_PIECE: usize = 256;
@@ -107,7 +110,7 @@ impl TextLine {
     }
 
     /// Puts two lower case hexadecimal digits a byte behind what is there.
-    fn digits(&mut self, bytes: &[u8])
+    pub fn digits(&mut self, bytes: &[u8])
         requires { length self.old + 2 * length bytes.now ≤ LINE_ROOM }
         ensures text { self.new ≡ self.old ++ encode_lower bytes.now }
         ensures len { length self.new ≡ length self.old + 2 * length bytes.now }
@@ -126,33 +129,70 @@ impl TextLine {
         put(out, self.as_slice())
     }
 
-    /// Writes what was put into it, then two lower case hexadecimal digits a byte, and a line end.
+    /// Writes what was put into it, of which nothing is left in it.
+    pub fn put_all<W: Write>(&mut self, out: &mut W) -> Result<(), RefusedWrite>
+        ensures passes { Passes (W.contents out.old) (W.contents out.new) result self.old self.new }
+        ensures none { IfOk result (λ _. self.new ≡ []) }
+    {
+        put(out, self.as_slice())?;
+        self.clear();
+        Ok(())
+    }
+
+    /// Leaves room for what comes: where it has more than `WORD_ROOM` bytes, they are written.
+    pub fn put_full<W: Write>(&mut self, out: &mut W) -> Result<(), RefusedWrite>
+        ensures passes { Passes (W.contents out.old) (W.contents out.new) result self.old self.new }
+        ensures short { IfOk result (λ _. length self.new ≤ WORD_ROOM) }
+    {
+        if self.len <= WORD_ROOM {
+            return Ok(());
+        }
+        self.put_all(out)
+    }
+
+    /// Puts a word of any length behind what is there. What there is no room for is written.
+    pub fn put_word<W: Write>(&mut self, out: &mut W, word: &[u8]) -> Result<(), RefusedWrite>
+        ensures passes { Passes (W.contents out.old) (W.contents out.new) result (self.old ++ word.now) self.new }
+        ensures short { IfOk result (λ _. length self.new ≤ WORD_ROOM) }
+    {
+        if self.len + word.len() <= WORD_ROOM {
+            self.text(word);
+            return Ok(());
+        }
+        self.put_all(out)?;
+        put(out, word)
+    }
+
+    /// Puts two lower case hexadecimal digits a byte behind what is there. All but the last are written where there are
+    /// more than a piece.
     fn put_digits<W: Write>(&mut self, out: &mut W, bytes: &[u8]) -> Result<(), RefusedWrite>
         requires { length self.old ≤ HEAD_ROOM }
-        ensures { Writes (W.contents out.old) (W.contents out.new) result
-            (self.old ++ (encode_lower bytes.now ++ codes "\n")) }
+        ensures passes { Passes (W.contents out.old) (W.contents out.new) result
+            (self.old ++ encode_lower bytes.now) self.new }
+        ensures room { IfOk result (λ _. length self.new < LINE_ROOM) }
     {
         let mut rest = bytes;
         while rest.len() > DATA_PIECE {
             let (piece, after) = rest.split_at(DATA_PIECE);
             self.digits(piece);
-            put(out, self.as_slice())?;
-            self.clear();
+            self.put_all(out)?;
             rest = after;
         }
         self.digits(rest);
-        self.put_end(out)
+        Ok(())
     }
 
-    /// Writes what was put into it, then bytes as lower case hexadecimal digits or `-` for none, and a line end.
+    /// Puts bytes as lower case hexadecimal digits, or `-` for none, behind what is there. What there is no room for is
+    /// written.
     pub fn put_data<W: Write>(&mut self, out: &mut W, bytes: &[u8]) -> Result<(), RefusedWrite>
         requires { length self.old ≤ HEAD_ROOM }
-        ensures { Writes (W.contents out.old) (W.contents out.new) result
-            (self.old ++ (data_text bytes.now ++ codes "\n")) }
+        ensures passes { Passes (W.contents out.old) (W.contents out.new) result
+            (self.old ++ data_text bytes.now) self.new }
+        ensures room { IfOk result (λ _. length self.new < LINE_ROOM) }
     {
         if bytes.is_empty() {
             self.byte(b'-');
-            return self.put_end(out);
+            return Ok(());
         }
         self.put_digits(out, bytes)
     }

@@ -1,6 +1,6 @@
 use Rattle.std.proofs.Common.{drop}
 use Rattle.qaudit.specs.Reports.{report_text}
-use Rattle.qtext.proofs.Fronts.{Partly}
+use Rattle.qtext.specs.Written.{Partly}
 use Rattle.qaudit.proofs.reports.put_rows.Given as goal
 
 abbrev pub invariant-loop-row : goal.invariant-loop-row

@@ -1,6 +1,6 @@
 use Rattle.std.proofs.Common.{drop}
 use Rattle.std.specs.List.{flat_map}
-use Rattle.qtext.proofs.Fronts.{Partly}
+use Rattle.qtext.specs.Written.{Partly}
 use Rattle.qoutcome.specs.Audits.{difference_text}
 use Rattle.qoutcome.proofs.audit_text.put_differences.Given as goal
 

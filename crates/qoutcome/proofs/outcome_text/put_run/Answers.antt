@@ -12,13 +12,13 @@ returns-in_err-put_moment g c =
     (moment_text c.args.moment) (rw c.as_slice.ensures at c.in_ok-put_transcripts.ensures)
     c.in_err-put_moment.ensures))
 
-pub returns-in_err-report : goal.returns-in_err-report
-returns-in_err-report g c =
-    refused_first _ _ _ _ (totals_text c.args.outcome.now) c.from_residual-in_err-report.ensures.0
+pub returns-in_err-put_report : goal.returns-in_err-put_report
+returns-in_err-put_report g c =
+    refused_first _ _ _ _ (totals_text c.args.outcome.now) c.from_residual-in_err-put_report.ensures.0
     (front_of_second _ _ _ _ (report_text c.args.outcome.now.records c.args.moment)
     (appends_then _ _ _ (flat_map transcript_text c.args.outcome.now.transcripts) (moment_text c.args.moment)
     (rw c.as_slice.ensures at c.in_ok-put_transcripts.ensures) c.in_ok-put_moment.ensures)
-    (rw c.as_slice-2.ensures at c.in_err-report.ensures))
+    (rw c.as_slice-2.ensures at c.in_err-put_report.ensures))
 
 pub returns-in_err-put_totals : goal.returns-in_err-put_totals
 returns-in_err-put_totals g c =
@@ -26,4 +26,4 @@ returns-in_err-put_totals g c =
     (appends_then _ _ _ _ (report_text c.args.outcome.now.records c.args.moment)
     (appends_then _ _ _ (flat_map transcript_text c.args.outcome.now.transcripts) (moment_text c.args.moment)
     (rw c.as_slice.ensures at c.in_ok-put_transcripts.ensures) c.in_ok-put_moment.ensures)
-    (rw c.as_slice-2.ensures at c.in_ok-report.ensures)) c.in_err-put_totals.ensures
+    (rw c.as_slice-2.ensures at c.in_ok-put_report.ensures)) c.in_err-put_totals.ensures

@@ -1,6 +1,6 @@
 use Rattle.std.proofs.Common.{drop}
 use Rattle.std.specs.List.{flat_map}
-use Rattle.qtext.proofs.Fronts.{Partly}
+use Rattle.qtext.specs.Written.{Partly}
 use Rattle.qoutcome.specs.Outcomes.{line_text}
 use Rattle.qoutcome.proofs.transcript_text.put_lines.Given as goal
 

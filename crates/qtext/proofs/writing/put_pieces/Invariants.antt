@@ -1,6 +1,6 @@
 use Rattle.std.proofs.Common.{drop}
 use Rattle.qtext.specs.Pieces.{pieces_text}
-use Rattle.qtext.proofs.Fronts.{Partly}
+use Rattle.qtext.specs.Written.{Partly}
 use Rattle.qtext.proofs.writing.put_pieces.Given as goal
 
 abbrev pub invariant-loop-piece : goal.invariant-loop-piece

@@ -1,6 +1,6 @@
 use Rattle.std.proofs.Common.{◌-◌}
 use Rattle.qtext.specs.Pieces.{spaces}
-use Rattle.qtext.proofs.Fronts.{Partly}
+use Rattle.qtext.specs.Written.{Partly}
 use Rattle.qtext.proofs.writing.put_spaces.Given as goal
 
 abbrev pub invariant-loop : goal.invariant-loop

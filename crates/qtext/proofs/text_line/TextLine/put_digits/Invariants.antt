@@ -1,6 +1,6 @@
-use Rattle.std.proofs.Common.{◌≤◌, ◌++◌, length, codes}
+use Rattle.std.proofs.Common.{◌≤◌, ◌++◌, length}
 use Rattle.hex.specs.Hex.{encode_lower}
-use Rattle.qtext.proofs.Fronts.{Partly}
+use Rattle.qtext.specs.Written.{Partly}
 use Rattle.qtext.specs.declared.text_line.TheConstants.{HEAD_ROOM}
 use Rattle.qtext.proofs.text_line.TextLine.put_digits.Given as goal
 
@@ -8,7 +8,7 @@ abbrev pub invariant-loop-rest : goal.invariant-loop-rest
 invariant-loop-rest g l = record {
   room : length l.self ≤ HEAD_ROOM;
   written : Partly (g.W.Write.contents l.fn.out) (g.W.Write.contents l.out)
-      (l.fn.self ++ (encode_lower l.fn.bytes ++ codes "\n")) (l.self ++ (encode_lower l.rest ++ codes "\n"));
+      (l.fn.self ++ encode_lower l.fn.bytes) (l.self ++ encode_lower l.rest);
 }
 
 abbrev pub decreases-loop-rest : goal.decreases-loop-rest

@@ -1,7 +1,7 @@
 use Rattle.std.proofs.Common.{◌∷◌, codes, decimal}
 use Rattle.qline.specs.Replies.{end_text}
-use Rattle.qline.proofs.Regrouped.{nine_parts}
-use Rattle.qline.proofs.reply_text.put_quota.Goals as goal
+use Rattle.qspell.proofs.Regrouped.{nine_parts}
+use Rattle.qspell.proofs.reply_text.put_quota.Goals as goal
 
 pub returns-clause-text : goal.returns-clause-text
 returns-clause-text c =

@@ -1,6 +1,5 @@
 ghost use Rattle.std.specs.Prelude.{◌≡◌};
 
-use qaudit::ReportFault;
 use qtext::RefusedWrite;
 
 /// Why a text was not written whole.
@@ -23,12 +22,6 @@ impl WriteFault {
 
 impl From<RefusedWrite> for WriteFault {
     fn from(_refused: RefusedWrite) -> WriteFault {
-        WriteFault::Write
-    }
-}
-
-impl From<ReportFault> for WriteFault {
-    fn from(_fault: ReportFault) -> WriteFault {
         WriteFault::Write
     }
 }

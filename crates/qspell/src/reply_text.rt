@@ -1,5 +1,6 @@
 //! Replies as text.
 ghost use Rattle.std.specs.Prelude.{◌≡◌, ◌≤◌, ◌<◌, ◌+◌, ◌∷◌, ◌++◌, length, codes};
+ghost use Rattle.qtext.specs.Pieces.{data_text};
 ghost use Rattle.qtext.specs.Written.{Writes};
 ghost use Rattle.qline.specs.Replies.{done_text, end_text, quota_text, refusal_text, reply_text, stat_text};
 
@@ -9,7 +10,7 @@ use qtext::{HEAD_ROOM, LINE_ROOM, RefusedWrite, TextLine, kind_word, over_word};
 use std::io::Write;
 
 /// How many bytes may stand before a reply.
-pub const REPLY_PLACE: usize = 32;
+pub const REPLY_PLACE: usize = 720;
 
 /// Puts a space and a grace end.
 fn put_end(line: &mut TextLine, end: Option<u64>)
@@ -108,6 +109,17 @@ fn put_quota(line: &mut TextLine, quota: &Quota)
     put_end(line, quota.inode_end);
 }
 
+/// Writes what the line holds, the bytes that were read, and a line end.
+fn put_bytes<W: Write>(out: &mut W, line: &mut TextLine, bytes: &[u8]) -> Result<(), RefusedWrite>
+    requires { length line.old ≤ REPLY_PLACE }
+    ensures { Writes (W.contents out.old) (W.contents out.new) result
+        (line.old ++ ((codes "bytes " ++ data_text bytes.now) ++ codes "\n")) }
+{
+    line.text(b"bytes ");
+    line.put_data(out, bytes)?;
+    line.put_end(out)
+}
+
 /// Writes what the line holds, a reply and a line end, by one write where the writer takes all of it and the reply
 /// has no more bytes than a piece of data.
 pub fn put_reply<W: Write>(
@@ -121,10 +133,7 @@ pub fn put_reply<W: Write>(
 {
     match reply {
         Reply::Done(number, change) => put_done(line, *number, change),
-        Reply::Bytes(bytes) => {
-            line.text(b"bytes ");
-            return line.put_data(out, bytes.as_slice());
-        }
+        Reply::Bytes(bytes) => return put_bytes(out, line, bytes.as_slice()),
         Reply::Stat(stat) => put_stat(line, stat),
         Reply::Quota(quota) => put_quota(line, quota),
         Reply::Refused(refusal) => {

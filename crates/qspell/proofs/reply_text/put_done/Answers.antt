@@ -1,6 +1,6 @@
 use Rattle.std.proofs.Common.{◌∷◌, codes, decimal}
-use Rattle.qline.proofs.Regrouped.{ten_parts}
-use Rattle.qline.proofs.reply_text.put_done.Goals as goal
+use Rattle.qspell.proofs.Regrouped.{ten_parts}
+use Rattle.qspell.proofs.reply_text.put_done.Goals as goal
 
 pub returns-clause-text : goal.returns-clause-text
 returns-clause-text c =

@@ -1,0 +1,2 @@
+-- Parts of a line as text.
+pub mod Texts

@@ -1,0 +1,13 @@
+//! Callers, calls and replies as text.
+#![tactic(auto)]
+
+pub use call_text::{CALL_PLACE, CALL_ROOM, put_call};
+pub use caller_text::{CALLER_PLACE, put_caller};
+pub use reply_text::{REPLY_PLACE, put_reply};
+pub use write_fault::WriteFault;
+
+mod call_text;
+mod caller_text;
+mod data_text;
+mod reply_text;
+mod write_fault;
