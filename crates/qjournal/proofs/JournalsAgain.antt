@@ -1,12 +1,14 @@
 -- Journals that are spelled out are read again.
-use Rattle.std.proofs.Common.{◌≡◌, ℕ, ◌+◌, ◌≤◌, ◌<◌, ◌==◌, true, false, not, eqb, ltb, List, [], ◌∷◌, ◌++◌, length, drop, Ok, refl, ap, ◌∙◌, append_assoc, arith, tests, codes, decimal}
+use Rattle.std.proofs.Common.{◌≡◌, ◌⊎◌, ℕ, ◌+◌, ◌≤◌, ◌<◌, ◌==◌, true, false, not, eqb, ltb, List, [], ◌∷◌, ◌++◌, length, drop, Result, Ok, Err, inl, inr, refl, ap, ◌∙◌, append_assoc, arith, tests, codes, decimal}
 use Rattle.std.specs.List.{flat_map, join_with_byte, list_all, AllByRecursion}
 use Rattle.std.proofs.lemmas.Bool.{le-ltb}
 use Rattle.std.proofs.lemmas.List.Elements.{recursion_from_All}
 use Rattle.qplain.specs.Paths.{is_path_byte}
 use Rattle.qplain.specs.declared.entry.Entry.{Entry}
+use Rattle.qtext.specs.declared.text_fault.TextFault.{TextFault}
 use Rattle.qtext.specs.declared.text_fault.TextKind.TheVariants.{BadHead, BadNumber}
 use Rattle.qtext.specs.Reading.{each_of}
+use Rattle.qtext.specs.TextFaults.{want_of_memory}
 use Rattle.qtext.specs.Words.{is_text_byte, parts, words}
 use Rattle.qtext.proofs.Joining.{lacks, parts_first, parts_join, passes_join, passes_weaker}
 use Rattle.qtext.proofs.Splitting.{some_part}
@@ -140,3 +142,9 @@ journal_again j is held =
     (flat_map entry_text j.entries) (head_word j.workers is.workers) in
     let each = entries j.workers j.entries (recursion_from_All (IsEntryOf j.workers) j.entries is.each) held in
     rw (lines, head_again j.workers is.workers, each_again j.workers 2 j.entries workers (omega arith) each) refl
+
+-- what was answered, where a journal was spelled out
+pub read_again : (text : List ℕ) (answer : Result Written TextFault) → (answer ≡ journal_of text) ⊎ (answer ≡ Err want_of_memory)
+    → (j : Written) → IsJournal j → AllByRecursion IsHeld j.entries → text ≡ spelling j → (answer ≡ Ok j) ⊎ (answer ≡ Err want_of_memory)
+read_again text answer (inl e) j is held same = inl (e ∙ ap journal_of same ∙ journal_again j is held)
+read_again text answer (inr e) j is held same = inr e

@@ -1,10 +1,9 @@
 //! One entry of a journal.
-ghost use Rattle.std.specs.Prelude.{◌≡◌, ◌<◌, ◌≤◌, ◌+◌, true, map, IfOk};
+ghost use Rattle.std.specs.Prelude.{◌≡◌, ◌≤◌, ◌+◌, true, map, IfOk};
 ghost use Rattle.std.specs.List.{list_all};
 ghost use Rattle.qtext.specs.Gives.{Gives};
 ghost use Rattle.qtext.specs.Words.{is_text_byte, words as words_of};
-ghost use Rattle.qline.specs.RepliesSpelled.{HasLawfulStat};
-ghost use Rattle.qjournal.specs.Journals.{IsEntryOf, answer_in, entry_in, entry_of, worker_of};
+ghost use Rattle.qjournal.specs.Journals.{answer_in, entry_in, entry_of, worker_of};
 
 use crate::journal::MAX_ENTRIES;
 use qline::{Paths, journaled_call_in, reply_in};
@@ -16,8 +15,7 @@ use std::alloc::Global;
 /// The number of a worker, of which there are so many, from 1.
 #[tactic(auto, unfolding(crate::specs::Journals::worker_of))]
 fn worker_of(workers: u64, word: &[u8]) -> Result<u64, ReadFault>
-    ensures worker { Gives result (worker_of workers word.now) }
-    ensures among { IfOk result (λ worker. (0 < worker) × (worker ≤ workers)) }
+    ensures { Gives result (worker_of workers word.now) }
 {
     let worker = number_of(TextKind::BadNumber, workers, word)?;
     if worker == 0 {
@@ -29,8 +27,7 @@ fn worker_of(workers: u64, word: &[u8]) -> Result<u64, ReadFault>
 /// `=>` and a reply.
 #[tactic(auto, unfolding(crate::specs::Journals::answer_in))]
 fn answer_in(alloc: Global, words: &[&[u8]]) -> Result<Reply, ReadFault>
-    ensures answer { Gives result (answer_in (map (λ word. word.now) words.now)) }
-    ensures lawful { IfOk result HasLawfulStat }
+    ensures { Gives result (answer_in (map (λ word. word.now) words.now)) }
 {
     match words {
         [] => Err(ReadFault::Fault(TextKind::BadReply)),
@@ -52,8 +49,7 @@ fn entry_in<'a>(
     workers: u64,
     words: &[&'a [u8]],
 ) -> Result<Entry, ReadFault>
-    ensures entry { Gives result (entry_in workers (map (λ word. word.now) words.now)) }
-    ensures of { IfOk result (IsEntryOf workers) }
+    ensures { Gives result (entry_in workers (map (λ word. word.now) words.now)) }
 {
     match words {
         [] => Err(ReadFault::Fault(TextKind::BadNumber)),
@@ -98,7 +94,6 @@ pub(crate) fn entry_of<'a>(
     requires words { line.now.is_text ≡ true → map (λ word. word.now) words.now ≡ words_of line.now.bytes.now }
     ensures reads { Gives result
         (entry_of workers (record { number = number; bytes = line.now.bytes.now; whole = line.now.whole })) }
-    ensures of { IfOk result (IsEntryOf workers) }
     ensures few { IfOk result (λ _. number ≤ MAX_ENTRIES + 1) }
 {
     if number > MAX_ENTRIES as u64 + 1 {

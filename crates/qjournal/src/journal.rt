@@ -5,7 +5,8 @@ ghost use Rattle.qtext.specs.Gives.{Reads};
 ghost use Rattle.qtext.specs.Reading.{each_of};
 ghost use Rattle.qtext.specs.Words.{parts};
 ghost use Rattle.qscript.specs.Scripts.{raw_lines_from};
-ghost use Rattle.qjournal.specs.Journals.{IsEntryOf, at_entry, journal_of};
+ghost use Rattle.qjournal.specs.Journals.{at_entry, journal_of};
+ghost use Rattle.qtext.specs.TextFaults.{want_of_memory};
 
 use crate::entry::entry_of;
 use crate::head::head_of;
@@ -52,7 +53,6 @@ const WANT_OF_MEMORY: TextFault = TextFault {
 fn entries_of(alloc: Global, workers: u64, text: &[u8]) -> Result<Items<Entry>, TextFault>
     ensures entries { Reads result (each_of (at_entry workers) (raw_lines_from 2 (parts 10 text.now))) }
     ensures few { IfOk result (λ entries. length entries ≤ MAX_ENTRIES) }
-    ensures each { IfOk result (λ entries. All (IsEntryOf workers) entries) }
 {
     let mut entries = Vec::new(alloc);
     let mut room = Vec::new(alloc);
@@ -86,8 +86,33 @@ fn entries_of(alloc: Global, workers: u64, text: &[u8]) -> Result<Items<Entry>, 
     Ok(Items::new(entries))
 }
 
+/// What a text says, or the first line at fault.
+fn journal_in(alloc: Global, text: &[u8]) -> Result<Journal, TextFault>
+    ensures { (result ≡ journal_of text.now) ⊎ (result ≡ Err want_of_memory) }
+{
+    if text.is_empty() {
+        return Err(TextFault {
+            line: 1,
+            kind: TextKind::BadHead,
+        });
+    }
+    let mut room = Vec::new(alloc);
+    let Ok(head) = next_line(&mut room, text) else {
+        return Err(WANT_OF_MEMORY);
+    };
+    let workers = match head_of(&head, &room) {
+        Ok(workers) => workers,
+        Err(ReadFault::Memory) => return Err(WANT_OF_MEMORY),
+        Err(ReadFault::Fault(kind)) => return Err(TextFault { line: 1, kind }),
+    };
+    let entries = entries_of(alloc, workers, head.after)?;
+    Ok(Journal { workers, entries })
+}
+
 impl Journal {
-    ghost use Rattle.qjournal.specs.Journals.{IsJournal, journal_of};
+    ghost use Rattle.std.specs.List.{AllByRecursion};
+    ghost use Rattle.qjournal.specs.Journals.{IsJournal, Written, journal_of};
+    ghost use Rattle.qjournal.specs.Spelling.{IsHeld, spelling};
     ghost use Rattle.qtext.specs.TextFaults.{want_of_memory};
 
     /// A journal of 1 to 16 workers with at most 65,536 entries, each of one of them.
@@ -111,24 +136,15 @@ impl Journal {
     pub fn read(alloc: Global, text: &[u8]) -> Result<Self, TextFault>
         // What the text says, want of memory aside.
         ensures exact { (result ≡ journal_of text.now) ⊎ (result ≡ Err want_of_memory) }
+
+        // A journal that was read is spelled so, byte by byte.
+        ensures spelled { IfOk result (λ j. spelling j ≡ text.now) }
+
+        // A journal that is spelled out is read again.
+        ensures again { (j : Written) → IsJournal j → AllByRecursion IsHeld j.entries → text.now ≡ spelling j
+            → (result ≡ Ok j) ⊎ (result ≡ Err want_of_memory) }
     {
-        if text.is_empty() {
-            return Err(TextFault {
-                line: 1,
-                kind: TextKind::BadHead,
-            });
-        }
-        let mut room = Vec::new(alloc);
-        let Ok(head) = next_line(&mut room, text) else {
-            return Err(WANT_OF_MEMORY);
-        };
-        let workers = match head_of(&head, &room) {
-            Ok(workers) => workers,
-            Err(ReadFault::Memory) => return Err(WANT_OF_MEMORY),
-            Err(ReadFault::Fault(kind)) => return Err(TextFault { line: 1, kind }),
-        };
-        let entries = entries_of(alloc, workers, head.after)?;
-        Ok(Journal { workers, entries })
+        journal_in(alloc, text)
     }
 
     /// How many workers there were, from 1 to 16.

@@ -1,8 +1,13 @@
--- That arguments, callers, calls and replies that are spelled out are read again, and that the text of a reply is its words.
+-- That arguments, callers, calls and replies that are spelled out are read again, that what was read is spelled so, and that
+-- the text of a reply is its words.
 pub mod ArgumentsAgain
 pub mod CallersAgain
 pub mod CallsAgain
 pub mod RepliesAgain
 pub mod JournaledAgain
 pub mod RepliesJoined
+pub mod ArgumentsFound
+pub mod CallersFound
+pub mod CallsFound
+pub mod RepliesFound
 mod FewGroups

@@ -1,7 +1,6 @@
 //! Replies read from words.
-ghost use Rattle.std.specs.Prelude.{map, IfOk};
+ghost use Rattle.std.specs.Prelude.{map};
 ghost use Rattle.qtext.specs.Gives.{Gives};
-ghost use Rattle.qline.specs.RepliesSpelled.{HasLawfulStat};
 ghost use Rattle.qline.specs.RepliesRead.{as_bad_reply, bytes_of, done_of, edquot_of, end_of, keyword, quota_of, rise_of, reply_in, reply_of, signed, stat_of, type_of, words_of_reply};
 
 use crate::argument::{has_upper_case, kind_of};
@@ -60,9 +59,8 @@ fn done_of(
     inodes_up: &[u8],
     inodes_down: &[u8],
 ) -> Result<Reply, ReadFault>
-    ensures reply { Gives result (done_of ino.now blocks.now blocks_up.now blocks_down.now
+    ensures { Gives result (done_of ino.now blocks.now blocks_up.now blocks_down.now
         inodes.now inodes_up.now inodes_down.now) }
-    ensures lawful { IfOk result HasLawfulStat }
 {
     let ino = number(ino)?;
     let blocks = rise_of(b"blocks", blocks, blocks_up, blocks_down)?;
@@ -81,8 +79,7 @@ fn done_of(
 /// The bytes that were read, in lower case.
 #[tactic(auto, unfolding(crate::specs::RepliesRead::bytes_of))]
 fn bytes_of(alloc: Global, digits: &[u8]) -> Result<Reply, ReadFault>
-    ensures reply { Gives result (bytes_of digits.now) }
-    ensures lawful { IfOk result HasLawfulStat }
+    ensures { Gives result (bytes_of digits.now) }
 {
     if has_upper_case(digits) {
         return Err(ReadFault::Fault(TextKind::BadReply));
@@ -116,8 +113,7 @@ fn stat_of(
     blocks: &[u8],
     links: &[u8],
 ) -> Result<Reply, ReadFault>
-    ensures reply { Gives result (stat_of ino.now dir.now uid.now gid.now size.now blocks.now links.now) }
-    ensures lawful { IfOk result HasLawfulStat }
+    ensures { Gives result (stat_of ino.now dir.now uid.now gid.now size.now blocks.now links.now) }
 {
     let ino = number(ino)?;
     let dir = type_of(dir)?;
@@ -164,9 +160,8 @@ fn quota_of(
     block_end: &[u8],
     inode_end: &[u8],
 ) -> Result<Reply, ReadFault>
-    ensures reply { Gives result (quota_of blocks.now inodes.now block_soft.now block_hard.now inode_soft.now
+    ensures { Gives result (quota_of blocks.now inodes.now block_soft.now block_hard.now inode_soft.now
         inode_hard.now block_end.now inode_end.now) }
-    ensures lawful { IfOk result HasLawfulStat }
 {
     let blocks = number(blocks)?;
     let inodes = number(inodes)?;
@@ -185,8 +180,7 @@ fn quota_of(
 /// `EDQUOT KIND OVER`.
 #[tactic(auto, unfolding(crate::specs::RepliesRead::edquot_of))]
 fn edquot_of(name: &[u8], kind: &[u8], over: &[u8]) -> Result<Reply, ReadFault>
-    ensures reply { Gives result (edquot_of name.now kind.now over.now) }
-    ensures lawful { IfOk result HasLawfulStat }
+    ensures { Gives result (edquot_of name.now kind.now over.now) }
 {
     keyword(b"EDQUOT", name)?;
     let kind = kind_of(kind)?;
@@ -197,8 +191,7 @@ fn edquot_of(name: &[u8], kind: &[u8], over: &[u8]) -> Result<Reply, ReadFault>
 /// The reply of a first word and those behind it, of which there are as many as it takes.
 #[tactic(auto, unfolding(crate::specs::RepliesRead::reply_of))]
 fn reply_of(alloc: Global, first: ReplyWord, words: &[&[u8]]) -> Result<Reply, ReadFault>
-    ensures reply { Gives result (reply_of first (map (λ word. word.now) words.now)) }
-    ensures lawful { IfOk result HasLawfulStat }
+    ensures { Gives result (reply_of first (map (λ word. word.now) words.now)) }
 {
     match (first, words) {
         (ReplyWord::Done, [ino, blocks, up, down, inodes, inodes_up, inodes_down]) => {
@@ -232,8 +225,7 @@ fn reply_of(alloc: Global, first: ReplyWord, words: &[&[u8]]) -> Result<Reply, R
 /// The reply that words spell, whatever may be wrong with them.
 #[tactic(auto, unfolding(crate::specs::RepliesRead::words_of_reply))]
 fn words_of_reply(alloc: Global, words: &[&[u8]]) -> Result<Reply, ReadFault>
-    ensures reply { Gives result (words_of_reply (map (λ word. word.now) words.now)) }
-    ensures lawful { IfOk result HasLawfulStat }
+    ensures { Gives result (words_of_reply (map (λ word. word.now) words.now)) }
 {
     match words {
         [] => Err(ReadFault::Fault(TextKind::BadReply)),
@@ -248,8 +240,7 @@ fn words_of_reply(alloc: Global, words: &[&[u8]]) -> Result<Reply, ReadFault>
 ///
 /// All that may be wrong with them is one fault, BadReply. An Err gives no reply.
 pub fn reply_in(alloc: Global, words: &[&[u8]]) -> Result<Reply, ReadFault>
-    ensures reply { Gives result (reply_in (map (λ word. word.now) words.now)) }
-    ensures lawful { IfOk result HasLawfulStat }
+    ensures { Gives result (reply_in (map (λ word. word.now) words.now)) }
 {
     match words_of_reply(alloc, words) {
         Err(ReadFault::Fault(_)) => Err(ReadFault::Fault(TextKind::BadReply)),

@@ -1,4 +1,5 @@
--- Texts written in parts; loops that read; numerals; how texts come apart, and that words spelled out are read again.
+-- Texts written in parts; loops that read; numerals; how texts come apart; that words spelled out are read again, and
+-- that words that were read are spelled so.
 pub mod CutLines
 pub mod Fronts
 pub mod HexPieces
@@ -8,3 +9,6 @@ pub mod Runs
 pub mod Splitting
 pub mod Joining
 pub mod WordsAgain
+pub mod StepsFound
+pub mod WordsFound
+pub mod DataFound

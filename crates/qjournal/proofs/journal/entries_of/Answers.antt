@@ -1,8 +1,7 @@
 use Rattle.std.proofs.Common.{◌+◌, inr, arith, rules}
-use Rattle.std.proofs.lemmas.List.Elements.{All-push}
 use Rattle.qtext.proofs.Loops.{goes_on, ends, is_done}
 use Rattle.qscript.proofs.RawLines.{no_line_of}
-use Rattle.qjournal.specs.Journals.{IsEntryOf, at_entry}
+use Rattle.qjournal.specs.Journals.{at_entry}
 use Rattle.qjournal.proofs.Entries.{at_entry_err, at_entry_ok}
 use Rattle.qjournal.proofs.journal.entries_of.Goals as goal
 
@@ -17,8 +16,6 @@ pub loop-rest-preserved : goal.loop-rest-preserved
 loop-rest-preserved c =
     record {
       few = c.in-Ok-entry_of.ensures.few;
-      each = rw c.in-Ok-push.ensures.items
-          (All-push (IsEntryOf c.args.workers) c.loop-rest.entries.items _ c.loop-rest.invariant.each c.in-Ok-entry_of.ensures.of);
       count = omega (arith, c.in-Ok-push.ensures.len, c.loop-rest.invariant.count);
       reads = rw c.in-Ok-push.ensures.items
           (goes_on (at_entry c.args.workers) c.loop-rest.entries.items _ _ _ _ _ (at_entry_ok c.args.workers _ _ c.in-Ok-entry_of.ensures.reads)

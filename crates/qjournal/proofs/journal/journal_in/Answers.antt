@@ -1,0 +1,31 @@
+use Rattle.std.proofs.Common.{inl, sym, ◌≡◌, length, arith, tests}
+use Rattle.std.proofs.lemmas.Result.{err_from_is_err_and}
+use Rattle.qjournal.proofs.Entries.{all_read, head_fault, no_head, told}
+use Rattle.qjournal.proofs.JournalsFound.{journal_found}
+use Rattle.qjournal.proofs.journal.journal_in.Goals as goal
+
+pub returns-then-is_empty : goal.returns-then-is_empty
+returns-then-is_empty c =
+    let empty = c.if-is_empty.ensures in
+    let none : length c.args.text.now ≡ 0 = grind (arith, tests, empty) in
+    inl (sym (no_head c.args.text.now none))
+
+pub returns-in-Err-Fault : goal.returns-in-Err-Fault
+returns-in-Err-Fault c =
+    rw c.in-Err-Fault.field-0-is
+    (inl (sym (head_fault c.args.text.now _ _ _ (c.in-Ok.ensures.first 1)
+    (rw c.in-Err-Fault.field-0-is at c.in-Err-Fault.ensures.workers))))
+
+pub returns-in_err-entries : goal.returns-in_err-entries
+returns-in_err-entries c =
+    let fault = err_from_is_err_and c.from_residual.result c.from_residual.ensures.1 in
+    rw (fault.1, fault.2)
+    (told c.args.text.now _ _ _ _ (c.in-Ok.ensures.first 1) c.in-Ok-head_of.ensures.workers c.in_err-entries.ensures.entries)
+
+pub returns : goal.returns
+returns c =
+    inl (sym (all_read c.args.text.now _ _ _ _ (c.in-Ok.ensures.first 1) c.in-Ok-head_of.ensures.workers c.in_ok-entries.ensures.entries))
+
+pub invariant_of-result : goal.invariant_of-result
+invariant_of-result c =
+    (journal_found c.args.text.now _ (all_read c.args.text.now _ _ _ _ (c.in-Ok.ensures.first 1) c.in-Ok-head_of.ensures.workers c.in_ok-entries.ensures.entries)).1
