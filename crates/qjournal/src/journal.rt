@@ -158,6 +158,7 @@ impl Journal {
     pub fn entries(&self) -> &[Entry]
         ensures entries { result.now ≡ self.now.entries }
         ensures few { length result.now ≤ MAX_ENTRIES }
+        ensures lawful { IsJournal self.now }
     {
         self.entries.as_slice()
     }

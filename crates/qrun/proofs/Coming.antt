@@ -1,17 +1,20 @@
 -- What a run of one worker comes to, put together of its parts.
-use Rattle.std.proofs.Common.{◌≡◌, List, [], ◌∷◌, length, map, All, Result, sym, refl, arith}
+use Rattle.std.proofs.Common.{◌≡◌, ℕ, List, [], ◌∷◌, length, All, Result, Ok, Err, IfOk, sym, ap, refl, ◌∙◌, arith}
 use Rattle.qplain.specs.declared.entry.Entry.{Entry}
 use Rattle.qplain.specs.declared.line.Line.{Line}
 use Rattle.qplain.specs.Setups.{Setting}
 use Rattle.qplain.specs.Journal.{entries_of}
-use Rattle.qstore.specs.Rows.{record_row_of}
-use Rattle.qrows.specs.Own.{differences_in}
 use Rattle.qplain.specs.declared.call_fault.CallFault.{CallFault}
 use Rattle.qplain.specs.declared.receipt.Receipt.{Receipt}
 use Rattle.qrun.specs.declared.outcome.Outcome.{Outcome}
 use Rattle.qplain.specs.declared.transcript.Transcript.{Transcript}
+use Rattle.qjournal.specs.Journals.{IsJournal, IsWorkers, Written}
 use Rattle.qrun.specs.Journaled.{IsPlayed, Journaled}
+use Rattle.qrun.specs.Left.{IsLeftOf, IsOneOf}
+use Rattle.qrun.specs.Replays.{IsReplayOf, transcripts_in}
 use Rattle.qrun.specs.Runs.{AreTranscriptsOf, Belongs, FullIsToldFirst, IsFullOf, IsOutcomeOf, journaled_lines}
+use Rattle.qplain.specs.State.{start}
+use Rattle.qrun.proofs.Stats.{legal-fair}
 use Rattle.qrun.proofs.Telling.{IsOf}
 
 -- the only worker's transcript
@@ -41,20 +44,57 @@ pub all_belong : (lines : List Line) (journal : List Entry) (answers : List (Res
     → All (IsOf 1) journal → All (Belongs (only_transcript lines answers ∷ [])) journal
 all_belong lines journal answers all k d less = (0, omega arith, sym (all k d less))
 
+-- the entries of the only worker are of one of one
+pub of_one : (journal : List Entry) → All (IsOf 1) journal → All (IsOneOf 1) journal
+of_one journal all k d less = let own = all k d less in (omega (arith, own), omega (arith, own))
+
+-- the journal of a store that was played on by so many workers is one
+pub journal_left : (j : Journaled) (workers : ℕ) → IsPlayed j → IsWorkers workers → All (IsOneOf workers) j.journal
+    → IsJournal (record { workers = workers; entries = j.journal })
+journal_left j workers played lawful each = record {
+  workers = lawful;
+  few = played.few;
+  each = λ k d less.
+      let one = each k d less in
+      (one.0, one.1, legal-fair (start j.setting) j.journal played.lawful played.legal k d less);
+}
+
 -- what is left of a store that was played on
-pub alone : (setting : Setting) (scripts : List (List Line)) (j : Journaled) (o : Outcome) → IsPlayed j
-    → j.setting ≡ setting → AreTranscriptsOf 1 scripts j.journal o.transcripts
-    → All (Belongs o.transcripts) j.journal → o.setup ≡ j.setting → o.store ≡ j.stored → o.journal ≡ j.journal
-    → o.records ≡ map (record_row_of j.stored.state) j.stored.state.holders
-    → o.differences ≡ differences_in j.stored.state → o.differences ≡ [] → IsOutcomeOf setting scripts o
-alone setting scripts j o played same transcripts belong setup store journal records differences agree = record {
-  setup = rw (setup, same) refl;
-  legal = rw (journal, sym same) played.legal;
-  few = rw journal played.few;
-  store = rw (store, journal, sym same) played.state;
-  transcripts = rw journal transcripts;
-  belong = rw journal belong;
-  records = rw store records;
-  differences = rw store differences;
-  agree = agree;
+pub alone : (setting : Setting) (scripts : List (List Line)) (j : Journaled) (workers : ℕ) (transcripts : List Transcript)
+    (o : Outcome) → IsLeftOf j workers transcripts o → workers ≡ length scripts → j.setting ≡ setting → AreTranscriptsOf 1 scripts j.journal transcripts
+    → All (Belongs transcripts) j.journal → IsOutcomeOf setting scripts o
+alone setting scripts j workers transcripts o left each same told belong = record {
+  setup = rw (left.setup, same) refl;
+  legal = rw (left.journal, sym same) left.played.legal;
+  workers = ap (λ journal. journal.workers) left.journal ∙ each;
+  few = rw left.journal left.played.few;
+  store = rw (left.store, left.journal, sym same) left.played.state;
+  transcripts = rw (left.transcripts_are, left.journal) told;
+  belong = rw (left.transcripts_are, left.journal) belong;
+  records = rw left.store left.records;
+  differences = rw left.store left.differences;
+  agree = left.agree;
+}
+
+-- the same, if anything is left
+pub left_alone : {E : Type 0} (setting : Setting) (scripts : List (List Line)) (j : Journaled) (workers : ℕ)
+    (transcripts : List Transcript) (r : Result Outcome E) → IfOk r (IsLeftOf j workers transcripts) → workers ≡ length scripts → j.setting ≡ setting
+    → AreTranscriptsOf 1 scripts j.journal transcripts → All (Belongs transcripts) j.journal
+    → IfOk r (IsOutcomeOf setting scripts)
+left_alone setting scripts j workers transcripts (Ok o) left each same told belong =
+    alone setting scripts j workers transcripts o left each same told belong
+left_alone setting scripts j workers transcripts (Err fault) left each same told belong = tt
+
+-- what is left of a store on which a journal was played again
+pub again : (setting : Setting) (written : Written) (j : Journaled) (o : Outcome) → IsLeftOf j written.workers (transcripts_in written) o
+    → j.setting ≡ setting → j.journal ≡ written.entries → IsReplayOf setting written o
+again setting written j o left same journal = record {
+  setup = rw (left.setup, same) refl;
+  legal = rw (sym same, sym journal) left.played.legal;
+  journal = left.journal ∙ ap (λ entries. record { workers = written.workers; entries = entries }) journal;
+  store = rw (left.store, sym same, sym journal) left.played.state;
+  transcripts = left.transcripts_are;
+  records = rw left.store left.records;
+  differences = rw left.store left.differences;
+  agree = left.agree;
 }

@@ -11,8 +11,9 @@ use Rattle.qlaws.proofs.Playing.{legal-one_more, play-one_more}
 use Rattle.qstore.specs.declared.ready.Ready.{Ready}
 use Rattle.qstore.specs.Ready.{committed}
 use Rattle.qstore.specs.Stored.{Stored}
-use Rattle.qrun.specs.declared.journaled_store.TheConstants.{MAX_ENTRIES}
+use Rattle.qjournal.specs.declared.journal.TheConstants.{MAX_ENTRIES}
 use Rattle.qrun.specs.Journaled.{IsPlayed, Journaled, entry_of}
+use Rattle.qrun.specs.Replays.{line_of}
 
 -- one more entry, whose reply and state are the plain machine's
 pub played_on : (old new : Journaled) (worker : ℕ) (line : Line) (reply : Reply) → IsPlayed old
@@ -27,6 +28,7 @@ played_on old new worker line reply is few setting journal stepped =
     let state : new.stored.state ≡ play S (old.journal ++ e ∷ []) = ap (λ p. p.0) next ∙ sym (play-one_more S old.journal e) in
     let count : length (old.journal ++ e ∷ []) ≡ length old.journal + 1 = length-append old.journal (e ∷ []) in
     record {
+      lawful = rw setting is.lawful;
       legal = rw (setting, journal) legal;
       state = rw (setting, journal) state;
       few = rw (journal, count) (omega arith);
@@ -40,3 +42,15 @@ pub carried_out : (before after : State) (ready : Stored) (r : Ready) (reply sho
 carried_out before after ready r reply shown copy line stepped done told copied =
     let given : reply ≡ r.reply = ap (λ p. p.1) done in
     ap (λ x. (after, x)) (copied ∙ told ∙ sym given) ∙ done ∙ stepped
+
+-- one more entry, whose reply was compared with the one that was ready
+pub played_again : (old new : Journaled) (e copy : Entry) (ready : Stored) (r : Ready) (reply : Reply) → IsPlayed old
+    → length old.journal < MAX_ENTRIES → new.setting ≡ old.setting → new.journal ≡ old.journal ++ copy ∷ [] → copy ≡ e
+    → committed ready r ≡ step old.stored.state e.cred e.moment e.call
+    → (new.stored.state, reply) ≡ committed ready r → r.reply ≡ e.reply → IsPlayed new
+played_again old new e copy ready r reply is few setting journal copied stepped done same =
+    let entries : new.journal ≡ old.journal ++ entry_of e.worker (line_of e) e.reply ∷ [] =
+    journal ∙ ap (λ x. old.journal ++ x ∷ []) copied in
+    let next : (new.stored.state, e.reply) ≡ step old.stored.state e.cred e.moment e.call =
+    ap (λ x. (new.stored.state, x)) (sym same ∙ sym (ap (λ p. p.1) done)) ∙ done ∙ stepped in
+    played_on old new e.worker (line_of e) e.reply is few setting entries next

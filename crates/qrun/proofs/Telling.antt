@@ -11,7 +11,7 @@ use Rattle.qplain.specs.declared.call_fault.CallFault.{CallFault}
 use Rattle.qplain.specs.declared.receipt.Receipt.{Receipt}
 use Rattle.qrun.specs.Journaled.{IsJournaled, entry_of}
 use Rattle.qplain.specs.declared.call_fault.CallFault.TheVariants.{JournalFull, OutOfMemory}
-use Rattle.qrun.specs.declared.journaled_store.TheConstants.{MAX_ENTRIES}
+use Rattle.qjournal.specs.declared.journal.TheConstants.{MAX_ENTRIES}
 use Rattle.qrun.specs.Runs.{FullIsToldFirst, IsFullBehind, IsFullOf, journaled_line, journaled_lines}
 
 -- the entry is the worker's

@@ -8,7 +8,8 @@ use Rattle.qplain.specs.State.{start}
 use Rattle.qplain.specs.Journal.{IsLegal, play}
 use Rattle.qstore.specs.Stored.{Stored}
 use Rattle.qplain.specs.declared.receipt.Receipt.{Receipt}
-use Rattle.qrun.specs.declared.journaled_store.TheConstants.{MAX_ENTRIES}
+use Rattle.qlaws.specs.Laws.{IsLawful}
+use Rattle.qjournal.specs.declared.journal.TheConstants.{MAX_ENTRIES}
 
 -- the setup that a store began with, the store, and its journal
 pub record Journaled : Type 0 where
@@ -16,8 +17,10 @@ pub record Journaled : Type 0 where
   pub stored : Stored
   pub journal : List Entry
 
--- the journal is legal from the start of the setup, leaves exactly the store's state, and is no longer than it may be
+-- the setup's start is lawful; from there the journal is legal and leaves exactly the store's state, and it is no
+-- longer than it may be
 pub record IsPlayed (j : Journaled) : Type 0 where
+  pub lawful : IsLawful (start j.setting)
   pub legal : IsLegal (start j.setting) j.journal
   pub state : j.stored.state ≡ play (start j.setting) j.journal
   pub few : length j.journal ≤ MAX_ENTRIES

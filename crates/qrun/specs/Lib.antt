@@ -1,4 +1,8 @@
--- In reading order: a store with its journal, and what a run leaves. A module that no public clause cites says so.
+-- In reading order: a store with its journal, what a run leaves, what a replay leaves, and the numbers of their faults.
+-- A module that no public clause cites says so.
 pub mod Journaled
 pub mod Runs
+pub mod Replays
+pub mod RunFaults
 pub mod KeptJournaled
+pub mod Left

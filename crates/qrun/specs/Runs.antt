@@ -9,7 +9,7 @@ use Rattle.qstore.specs.Rows.{record_row_of}
 use Rattle.qrows.specs.Own.{differences_in}
 use Rattle.qplain.specs.declared.call_fault.CallFault.{CallFault}
 use Rattle.qplain.specs.declared.call_fault.CallFault.TheVariants.{JournalFull, OutOfMemory}
-use Rattle.qrun.specs.declared.journaled_store.TheConstants.{MAX_ENTRIES}
+use Rattle.qjournal.specs.declared.journal.TheConstants.{MAX_ENTRIES}
 use Rattle.qplain.specs.declared.receipt.Receipt.{Receipt}
 use Rattle.qplain.specs.declared.transcript.Transcript.{Transcript}
 use Rattle.qrun.specs.declared.outcome.Outcome.{Outcome}
@@ -65,15 +65,17 @@ AreTranscriptsOf worker (lines ∷ scripts) journal [] = ⊥
 abbrev pub Belongs : List Transcript → Entry → Type 0
 Belongs transcripts e = Contains (map (λ t. t.worker) transcripts) e.worker
 
--- what a run of these scripts leaves, from this setup on; the journal is no longer than it may be, no entry belongs to
--- anyone else, and the differences are those of the store's own rows, of which there are none
+-- what a run of these scripts leaves, from this setup on; the journal has a worker for each and is no longer than it
+-- may be, no entry belongs to anyone else, and the differences are those of the store's own rows, of which there are
+-- none
 pub record IsOutcomeOf (setting : Setting) (scripts : List (List Line)) (o : Outcome) : Type 0 where
   pub setup : o.setup ≡ setting
-  pub legal : IsLegal (start setting) o.journal
-  pub few : length o.journal ≤ MAX_ENTRIES
-  pub store : o.store.state ≡ play (start setting) o.journal
-  pub transcripts : AreTranscriptsOf 1 scripts o.journal o.transcripts
-  pub belong : All (Belongs o.transcripts) o.journal
+  pub legal : IsLegal (start setting) o.journal.entries
+  pub workers : o.journal.workers ≡ length scripts
+  pub few : length o.journal.entries ≤ MAX_ENTRIES
+  pub store : o.store.state ≡ play (start setting) o.journal.entries
+  pub transcripts : AreTranscriptsOf 1 scripts o.journal.entries o.transcripts
+  pub belong : All (Belongs o.transcripts) o.journal.entries
   pub records : o.records ≡ map (record_row_of o.store.state) o.store.state.holders
   pub differences : o.differences ≡ differences_in o.store.state
   pub agree : o.differences ≡ []

@@ -1,20 +1,23 @@
 //! A store with the journal of its calls.
-ghost use Rattle.std.specs.Prelude.{◌≡◌, ◌<◌, ◌≤◌, ◌+◌, ◌++◌, ◌∷◌, [], ◌↔◌, length, map, vec_len, vec_capacity, IfOk, OnErr, OnOk, Err};
+ghost use Rattle.std.specs.Prelude.{◌≡◌, ℕ, ◌<◌, ◌≤◌, ◌+◌, ◌++◌, ◌∷◌, [], ◌↔◌, length, map, vec_len, vec_capacity, IfOk, OnErr, OnOk, Err};
+ghost use Rattle.std.specs.Bool.{Decides};
 ghost use Rattle.qplain.specs.State.{start};
+ghost use Rattle.qstore.specs.Ready.{IsReady, committed};
 ghost use Rattle.qstore.specs.Rows.{record_row_of};
 ghost use Rattle.qrows.specs.Own.{differences_in, record_rows};
+ghost use Rattle.qrun.specs.declared.run_fault.RunFault.TheVariants.{Mismatch};
 ghost use Rattle.qrun.specs.Journaled.{IsJournaled, IsPlayed};
+ghost use Rattle.qrun.specs.Replays.{IsMismatch, IsMismatchAfter};
 
+use crate::RunFault;
 use qaudit::Difference;
-use qplain::{CallFault, Entry, Line, NoMemory, Receipt, Setup};
+use qjournal::MAX_ENTRIES;
+use qplain::{CallFault, Entry, Line, NoMemory, Receipt, Reply, Setup};
 use qrows::audit;
 use qrules::RecordRow;
-use qstore::Store;
+use qstore::{Ready, Store};
 use std::alloc::Global;
 use std::marker::Model;
-
-/// The most entries that a journal may hold.
-pub const MAX_ENTRIES: usize = 65_536;
 
 /// A store with the journal of its calls and the setup that it began with. It is always what the journal leaves.
 #[derive(Drop)]
@@ -38,6 +41,29 @@ impl Model for JournaledStore {
     ghost invariant = { λ a. IsPlayed (journaled_of a) };
 }
 
+/// Whether the two replies are the same.
+fn are_same(one: &Reply, other: &Reply) -> bool
+    ensures { Decides result (one.now ≡ other.now) }
+{
+    one == other
+}
+
+/// Does what is ready, and journals it as this entry.
+fn carry_out(store: &mut Store, journal: &mut Vec<Entry>, ready: Ready, entry: Entry) -> Receipt
+    requires ready { IsReady store.old ready }
+    requires room { vec_len journal.old < vec_capacity journal.old }
+    ensures done { (store.new.state, result.reply) ≡ committed store.old ready }
+    ensures journal { journal.new.items ≡ journal.old.items ++ entry ∷ [] }
+    ensures place { result.place ≡ length journal.old.items + 1 }
+{
+    let reply = store.commit(ready);
+    append(journal, entry);
+    Receipt {
+        place: journal.len() as u64,
+        reply,
+    }
+}
+
 /// Appends to what has room for one more.
 pub(crate) fn append<T: Drop>(items: &mut Vec<T>, item: T)
     requires room { vec_len items.old < vec_capacity items.old }
@@ -58,6 +84,8 @@ impl JournaledStore {
         ensures journal { IfOk result (λ j. j.journal ≡ []) }
     {
         let store = Store::new(alloc, setup.copy(alloc)?, seed)?;
+        // A store that is asked for its blocks is lawful, and this one stands at its start.
+        let _blocks = store.blocks();
         Ok(JournaledStore {
             alloc,
             setup,
@@ -76,20 +104,16 @@ impl JournaledStore {
         self.journal.reserve(1)?;
         let Line { cred, moment, call } = line.copy()?;
         let ready = self.store.ready(&line.cred, line.moment, &line.call)?;
-        let copy = ready.reply().copy()?;
-        let reply = self.store.commit(ready);
+        let reply = ready.reply().copy()?;
         let entry = Entry {
             worker,
             cred,
             moment,
             call,
-            reply: copy,
-        };
-        append(&mut self.journal, entry);
-        Ok(Receipt {
-            place: self.journal.len() as u64,
             reply,
-        })
+        };
+        let receipt = carry_out(&mut self.store, &mut self.journal, ready, entry);
+        Ok(receipt)
     }
 
     /// One call of a worker, journaled. An Err changes nothing; a full journal is told before want of memory.
@@ -106,6 +130,41 @@ impl JournaledStore {
             Ok(receipt) => Ok(receipt),
             Err(_) => Err(CallFault::OutOfMemory),
         }
+    }
+
+    /// Makes the call of an entry again and journals it with its reply, which has to be the store's. An Err changes
+    /// nothing.
+    fn replay_entry(&mut self, entry: &Entry) -> Result<(), RunFault>
+        requires few { length self.old.journal < MAX_ENTRIES }
+        ensures setting { self.new.setting ≡ self.old.setting }
+        ensures ok { OnOk result (self.new.journal ≡ self.old.journal ++ entry.now ∷ []) }
+        ensures mismatch { (place : ℕ) → result ≡ Err (Mismatch place)
+            → IsMismatchAfter (start self.old.setting) self.old.journal entry.now place }
+    {
+        self.journal.reserve(1)?;
+        let copy = entry.copy()?;
+        let ready = self.store.ready(&entry.cred, entry.moment, &entry.call)?;
+        if !are_same(ready.reply(), &entry.reply) {
+            return Err(RunFault::Mismatch(self.journal.len() as u64 + 1));
+        }
+        carry_out(&mut self.store, &mut self.journal, ready, copy);
+        Ok(())
+    }
+
+    /// Plays the entries again, one after the other, on a store that has just begun, up to the first whose reply is
+    /// another than the store's.
+    pub(crate) fn replay(&mut self, entries: &[Entry]) -> Result<(), RunFault>
+        requires fresh { self.old.journal ≡ [] }
+        requires few { length entries.now ≤ MAX_ENTRIES }
+        ensures setting { self.new.setting ≡ self.old.setting }
+        ensures ok { OnOk result (self.new.journal ≡ entries.now) }
+        ensures mismatch { (place : ℕ) → result ≡ Err (Mismatch place)
+            → IsMismatch (start self.old.setting) entries.now place }
+    {
+        for entry in entries {
+            self.replay_entry(entry)?;
+        }
+        Ok(())
     }
 
     /// The quota records of the store.

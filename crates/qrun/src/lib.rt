@@ -1,10 +1,14 @@
-//! Runs: the lines of a script played on a store of their own, with its journal.
+//! Runs: the lines of a script played on a store of their own, with its journal. Replays: a journal played again.
 #![tactic(auto)]
 
-pub use journaled_store::MAX_ENTRIES;
 pub use outcome::Outcome;
-pub use runs::{RunFault, run_lines};
+pub use qjournal::MAX_ENTRIES;
+pub use replays::replay;
+pub use run_fault::RunFault;
+pub use runs::run_lines;
 
 mod journaled_store;
 mod outcome;
+mod replays;
+mod run_fault;
 mod runs;

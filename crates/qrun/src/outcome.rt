@@ -1,5 +1,11 @@
+ghost use Rattle.std.specs.Prelude.{All, IfOk};
+ghost use Rattle.qjournal.specs.Journals.{IsWorkers};
+ghost use Rattle.qrun.specs.Left.{IsLeftOf, IsOneOf};
+
+use crate::journaled_store::JournaledStore;
 use qaudit::Difference;
-use qplain::{Entry, Setup, Transcript};
+use qjournal::Journal;
+use qplain::{NoMemory, Setup, Transcript};
 use qrules::{Items, RecordRow};
 use qstore::Store;
 
@@ -9,8 +15,31 @@ use qstore::Store;
 pub struct Outcome {
     pub setup: Setup,
     pub store: Store,
-    pub journal: Items<Entry>,
+    pub journal: Journal,
     pub transcripts: Items<Transcript>,
     pub records: Items<RecordRow>,
     pub differences: Items<Difference>,
+}
+
+/// What is left of a store that was played on by so many workers, with these transcripts.
+pub(crate) fn outcome_of(
+    store: JournaledStore,
+    workers: u64,
+    transcripts: Items<Transcript>,
+) -> Result<Outcome, NoMemory>
+    requires workers { IsWorkers workers }
+    requires each { All (IsOneOf workers) store.journal }
+    ensures { IfOk result (IsLeftOf store workers transcripts) }
+{
+    let records = store.record_rows()?;
+    let differences = store.audit(&records)?;
+    let (setup, store, journal) = store.into_parts();
+    Ok(Outcome {
+        setup,
+        store,
+        journal: Journal::new(workers, Items::new(journal)),
+        transcripts,
+        records: Items::new(records),
+        differences: Items::new(differences),
+    })
 }

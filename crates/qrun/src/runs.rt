@@ -1,34 +1,15 @@
 //! Runs: scripts played on a store of their own.
-ghost use Rattle.std.specs.Prelude.{◌≡◌, [], ◌∷◌, length, All, IfOk, OnOk, map, vec_len};
+ghost use Rattle.std.specs.Prelude.{◌≡◌, [], ◌∷◌, length, All, IfOk, IfErr, OnOk};
 ghost use Rattle.qplain.specs.Journal.{entries_of};
-ghost use Rattle.qstore.specs.Rows.{record_row_of};
-ghost use Rattle.qrun.specs.Journaled.{IsPlayed};
+ghost use Rattle.qrun.specs.Left.{IsOneOf};
 ghost use Rattle.qrun.specs.Runs.{AreTranscriptsOf, Belongs, FullIsToldFirst, IsFullOf, IsOutcomeOf, IsTranscriptOf, journaled_lines};
 
-use crate::Outcome;
 use crate::journaled_store::{JournaledStore, append};
-use qaudit::Difference;
+use crate::outcome::outcome_of;
+use crate::{Outcome, RunFault};
 use qplain::{CallFault, Line, NoMemory, Receipt, Setup, Transcript};
-use qrules::{Items, RecordRow};
+use qrules::Items;
 use std::alloc::Global;
-
-/// Why a run has no outcome.
-#[derive(Clone, Copy, Debug, PartialEq, Eq)]
-pub enum RunFault {
-    /// Memory was wanted and not there. The store is given up.
-    Memory,
-}
-
-impl RunFault {
-    /// The number under which it is reported.
-    pub fn number(self) -> u32
-        ensures { result ≡ 41 }
-    {
-        match self {
-            RunFault::Memory => 41,
-        }
-    }
-}
 
 /// Makes the calls of a worker's lines one after the other, and goes on after any answer.
 fn answers_of(
@@ -63,6 +44,7 @@ fn transcripts_of(
     ensures setting { store.new.setting ≡ store.old.setting }
     ensures transcripts { IfOk result (AreTranscriptsOf 1 (lines.items ∷ []) store.new.journal) }
     ensures belong { IfOk result (λ transcripts. All (Belongs transcripts) store.new.journal) }
+    ensures workers { OnOk result (All (IsOneOf 1) store.new.journal) }
 {
     let mut transcripts = Vec::with_capacity(alloc, 1)?;
     let answers = answers_of(alloc, store, 1, &lines)?;
@@ -75,32 +57,6 @@ fn transcripts_of(
     Ok(Items::new(transcripts))
 }
 
-/// What a run leaves of its store.
-fn outcome_of(
-    store: JournaledStore,
-    transcripts: Items<Transcript>,
-    records: Vec<RecordRow>,
-    differences: Vec<Difference>,
-) -> Outcome
-    ensures setup { result.setup ≡ store.setting }
-    ensures store { result.store ≡ store.stored }
-    ensures journal { result.journal ≡ store.journal }
-    ensures transcripts { result.transcripts ≡ transcripts }
-    ensures records { result.records ≡ records.items }
-    ensures differences { result.differences ≡ differences.items }
-    ensures played { IsPlayed store }
-{
-    let (setup, store, journal) = store.into_parts();
-    Outcome {
-        setup,
-        store,
-        journal: Items::new(journal),
-        transcripts,
-        records: Items::new(records),
-        differences: Items::new(differences),
-    }
-}
-
 /// Plays the lines of one worker on a store that has just begun.
 fn play_lines(
     alloc: Global,
@@ -111,9 +67,7 @@ fn play_lines(
     ensures { IfOk result (IsOutcomeOf store.setting (lines.items ∷ [])) }
 {
     let transcripts = transcripts_of(alloc, &mut store, lines)?;
-    let records = store.record_rows()?;
-    let differences = store.audit(&records)?;
-    Ok(outcome_of(store, transcripts, records, differences))
+    outcome_of(store, 1, transcripts)
 }
 
 /// Plays the lines of one worker on a new store of the setup.
@@ -130,7 +84,7 @@ fn play(alloc: Global, setup: Setup, lines: Vec<Line>, seed: u64) -> Result<Outc
 /// on after any answer.
 ///
 /// The hashes of names begin at `seed`, which may be any number; nothing of the outcome depends on it. O(lines), and
-/// what each call takes. After an Err the store is given up.
+/// what each call takes. After an Err, which is want of memory, the store is given up.
 pub fn run_lines(
     alloc: Global,
     setup: Setup,
@@ -138,9 +92,10 @@ pub fn run_lines(
     seed: u64,
 ) -> Result<Outcome, RunFault>
     ensures outcome { IfOk result (IsOutcomeOf setup (lines.items ∷ [])) }
+    ensures err { IfErr result (λ fault. fault ≡ RunFault.Memory) }
 {
     match play(alloc, setup, lines, seed) {
         Ok(outcome) => Ok(outcome),
-        Err(_) => Err(RunFault::Memory),
+        Err(refused) => Err(RunFault::from(refused)),
     }
 }

@@ -79,6 +79,7 @@ fn run_one<O: Write>(
     match run(alloc, config, scripts, seed) {
         Ok(outcome) => put_outcome(outcome, at, out),
         Err(RunFault::Memory) => Err(Ending::Memory),
+        Err(RunFault::Mismatch(_)) => unreachable!(),
     }
 }
 

@@ -1,5 +1,5 @@
 //! Runs of the scripts of a command line.
-ghost use Rattle.std.specs.Prelude.{◌≡◌, IfOk, vec_len};
+ghost use Rattle.std.specs.Prelude.{◌≡◌, IfOk, IfErr, vec_len};
 ghost use Rattle.qrun.specs.Runs.{IsOutcomeOf};
 
 use crate::{Config, Outcome, RunFault, Script};
@@ -10,7 +10,7 @@ use std::alloc::Global;
 /// on after any outcome.
 ///
 /// The caller owes one script. The hashes of names begin at `seed`, which may be any number; nothing of the outcome
-/// depends on it. O(lines), and what each call takes. After an Err the store is given up.
+/// depends on it. O(lines), and what each call takes. After an Err, which is want of memory, the store is given up.
 pub fn run(
     alloc: Global,
     config: Config,
@@ -19,6 +19,7 @@ pub fn run(
 ) -> Result<Outcome, RunFault>
     requires one { vec_len scripts ≡ 1 }
     ensures outcome { IfOk result (IsOutcomeOf config.setup scripts.items) }
+    ensures err { IfErr result (λ fault. fault ≡ RunFault.Memory) }
 {
     let Some(script) = scripts.pop() else {
         unreachable!()

@@ -1,5 +1,5 @@
 use Rattle.std.proofs.Common.{◌≡◌, [], ◌∷◌, ◌∙◌, refl}
-use Rattle.qrun.proofs.Coming.{all_belong, one_transcript, only_transcript}
+use Rattle.qrun.proofs.Coming.{all_belong, of_one, one_transcript, only_transcript}
 use Rattle.qrun.proofs.runs.transcripts_of.Goals as goal
 
 only : (c : goal.After-new-3) → c.new-3.result ≡ only_transcript c.args.lines.items c.in_ok-answers.answers.items ∷ []
@@ -14,3 +14,6 @@ returns-clause-transcripts c =
 
 pub returns-clause-belong : goal.returns-clause-belong
 returns-clause-belong c = rw (only c) (all_belong c.args.lines.items _ c.in_ok-answers.answers.items c.in_ok-answers.ensures.all)
+
+pub returns-clause-workers : goal.returns-clause-workers
+returns-clause-workers c = of_one _ c.in_ok-answers.ensures.all

@@ -1,5 +1,5 @@
 use Rattle.std.proofs.Common.{◌≡◌, ◌<◌, [], ◌∷◌, ◌++◌, length, refl, ap, ◌∙◌}
-use Rattle.qrun.specs.declared.journaled_store.TheConstants.{MAX_ENTRIES}
+use Rattle.qjournal.specs.declared.journal.TheConstants.{MAX_ENTRIES}
 use Rattle.qrun.specs.Journaled.{entry_of}
 use Rattle.qrun.specs.KeptJournaled.{journaled_of}
 use Rattle.qrun.proofs.Journaling.{carried_out, played_on}
@@ -8,10 +8,10 @@ use Rattle.qrun.proofs.journaled_store.JournaledStore.journal_call.Goals as goal
 pub invariant_of-self-2 : goal.invariant_of-self-2
 invariant_of-self-2 c =
     let few : length c.self.inside.journal.items < MAX_ENTRIES = rw (ap (λ j. j.journal) c.self.view_is) c.requires.few in
-    let entries : c.append.new.items.items ≡ c.self.inside.journal.items
-    ++ entry_of c.args.worker c.args.line.now c.in_ok-copy.copy ∷ [] =
-    c.append.ensures.items ∙ rw c.in_ok-reserve.ensures.items
-    (ap (λ line. c.self.inside.journal.items ++ entry_of c.args.worker line c.in_ok-copy.copy ∷ []) c.in_ok-cred.ensures) in
-    played_on (journaled_of c.self.inside) _ c.args.worker c.args.line.now c.in_ok-copy.copy c.self.invariant few refl entries
+    let entries : c.carry_out-receipt.new.journal.items ≡ c.self.inside.journal.items
+    ++ entry_of c.args.worker c.args.line.now c.in_ok-reply.reply ∷ [] =
+    c.carry_out-receipt.ensures.journal ∙ rw c.in_ok-reserve.ensures.items
+    (ap (λ line. c.self.inside.journal.items ++ entry_of c.args.worker line c.in_ok-reply.reply ∷ []) c.in_ok-cred.ensures) in
+    played_on (journaled_of c.self.inside) _ c.args.worker c.args.line.now c.in_ok-reply.reply c.self.invariant few refl entries
     (carried_out c.self.inside.store.state _ c.ready.new.self c.in_ok-ready.ready _ _ _ c.args.line.now
-    c.in_ok-ready.ensures.step c.commit-reply.ensures c.reply.ensures c.in_ok-copy.ensures)
+    c.in_ok-ready.ensures.step c.carry_out-receipt.ensures.done c.reply.ensures c.in_ok-reply.ensures)

@@ -1,0 +1,23 @@
+-- What is left of a journaled store that was played on. No public clause cites this module.
+use Rattle.std.specs.Prelude.{◌≡◌, ℕ, ◌<◌, ◌≤◌, List, [], map}
+use Rattle.qplain.specs.declared.entry.Entry.{Entry}
+use Rattle.qplain.specs.declared.transcript.Transcript.{Transcript}
+use Rattle.qstore.specs.Rows.{record_row_of}
+use Rattle.qrows.specs.Own.{differences_in}
+use Rattle.qrun.specs.declared.outcome.Outcome.{Outcome}
+use Rattle.qrun.specs.Journaled.{IsPlayed, Journaled}
+
+-- the entry is of one of so many workers
+abbrev pub IsOneOf : ℕ → Entry → Type 0
+IsOneOf workers e = (0 < e.worker) × (e.worker ≤ workers)
+
+-- the store's own parts, records and differences, of which there are none, beside so many workers and these transcripts
+pub record IsLeftOf (j : Journaled) (workers : ℕ) (transcripts : List Transcript) (o : Outcome) : Type 0 where
+  pub played : IsPlayed j
+  pub setup : o.setup ≡ j.setting
+  pub store : o.store ≡ j.stored
+  pub journal : o.journal ≡ record { workers = workers; entries = j.journal }
+  pub transcripts_are : o.transcripts ≡ transcripts
+  pub records : o.records ≡ map (record_row_of j.stored.state) j.stored.state.holders
+  pub differences : o.differences ≡ differences_in j.stored.state
+  pub agree : o.differences ≡ []
