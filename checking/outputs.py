@@ -1,9 +1,11 @@
-"""How the program uses its outputs: by how many calls of write, and what becomes of a run where a limit stops it."""
+"""How the program uses its outputs: by how many calls of write, and what becomes of a run, and of its journal, where a
+limit or a device stops it."""
 import subprocess
 
-from rows import BUILT, CHECKING, EMPTY, EXAMPLE, ROOT, command_lines, preloaded
+from rows import BUILT, CHECKING, EMPTY, EXAMPLE, ROOT, call, command_lines, journal_of, preloaded
 
 FULL = (4, b"quotafs: output\n")
+FIRST = CHECKING / "a0/create_write_stat"
 
 
 def long_lines(work):
@@ -58,7 +60,49 @@ def limits(work):
     yield "the deepest configuration with 2 MiB of stack", limited("-s 2048", words), field
 
 
+def content(file):
+    return file.read_bytes() if file.exists() else None
+
+
+def run_with_journal(file, script=f"{FIRST}.txt"):
+    return ["run", "--config", CHECKING / "a0/config.toml", "--journal", file, script]
+
+
+def journals(work):
+    """Journals that cannot be made or are refused, behind the whole outcome, and outputs that refuse before them."""
+    outcome, journal, file = content(CHECKING / f"{FIRST}.0.out"), content(CHECKING / f"{FIRST}.journal"), work / "kept"
+    for name, path in [("a full device", "/dev/full"), ("no folder", work / "none/journal"), ("a folder", work)]:
+        yield f"a journal to {name}", call(run_with_journal(path)), (4, outcome, FULL[1])
+    for before in [None, b"before\n" * 1_000]:
+        if before:
+            file.write_bytes(before)
+        with open("/dev/full", "wb") as full:
+            done = subprocess.run([BUILT, *run_with_journal(file)], stdout=full, stderr=subprocess.PIPE, timeout=60)
+        yield "an output that refuses before a journal", (done.returncode, done.stderr, content(file)), (*FULL, before)
+    yield "a journal over a longer file", (call(run_with_journal(file)), content(file)), ((0, outcome, b""), journal)
+    short = preloaded(work / "writes.so", run_with_journal(file), ROOT, "WRITES_TELL", WRITES_MOST="7")[0]
+    yield "a journal by short writes", (short, content(file)), ((0, outcome, b""), journal)
+    yield from long_journals(work)
+
+
+def long_journals(work):
+    """Journals that are longer than a limit, and than what is gathered before it is written."""
+    for lines in [100, 60_000]:
+        script, file = work / f"{lines}.stats", work / f"{lines}.journal"
+        script.write_bytes(b"0 0:0 stat /\n" * lines)
+        status, out, _ = call(run_with_journal(file, script))
+        journal = journal_of(script.read_bytes().splitlines(), out)
+        yield f"a journal of {lines} entries", (status, content(file)), (0, journal)
+        refused = call(run_with_journal("/dev/full", script))
+        yield f"a journal of {lines} entries to a full device", refused, (4, out, FULL[1])
+        shell = ["bash", "-c", 'ulimit -f 1 && exec "$@"', "bash", ROOT / "quotafs"]
+        done = subprocess.run([*shell, *run_with_journal(file, script)], capture_output=True, timeout=60)
+        answer = done.returncode, done.stdout, done.stderr, content(file)
+        yield f"a journal of {lines} entries to a file at its limit", answer, (4, out, FULL[1], journal[:1024])
+
+
 def checks(work):
     """Each check's name, its answer, and the wanted one."""
     yield from writes(work)
     yield from limits(work)
+    yield from journals(work)

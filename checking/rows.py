@@ -5,6 +5,10 @@
 - configs/THEME.rows: a line is a list of old and new pieces of configs/good.toml, in pairs, and last what is then told:
   a fault, or a line that the outcome of the empty script has.
 - scripts/THEME.rows: a line is the bytes of a script, and its fault.
+- ROW.journal beside ROW.txt is the whole journal of that run; that of any other row is put together of the script and
+  of the answers in ROW.MOMENT.out (`journal_of`).
+- journals/ROW.journal is a journal, and journals/ROW.0.out the whole text that its replay prints.
+- journals/THEME.rows: a line is the bytes of a journal, and its fault, or the place of a reply that does not fit.
 - renames/THEME.rows: a line is a caller, the two paths of a rename after renames/before.txt, the step of its call that
   decides, its answer, and what a stat of some paths answers then.
 - command_lines.rows: a line is the words, the status, the output and the error output, in the folder `a`. Two dots at
@@ -25,6 +29,7 @@ EMPTY = CHECKING / "a/empty.txt"
 WORKED = "a", "a0", "a0_group_blocks", "a0_group_inodes", "examples"
 FAILED = b"- failed OutOfMemory\n"
 MEMORY = (3, b"", b"quotafs: memory\n")
+HEAD = b"quotafs journal 1 workers 1\n"
 
 
 def call(words, program=BUILT, folder=ROOT, **further):
@@ -90,9 +95,10 @@ class Rename(Case):
 class Row(Case):
     """A script at a moment, and the whole text that it prints."""
 
-    def __init__(self, out, config, script, refuses, work):
+    def __init__(self, out, config, script, refuses, work, further=()):
         name, moment, _ = out.name.split(".")
-        self.head = ["run", "--config", config, "--at", moment]
+        self.config = config
+        self.head = ["run", "--config", config, "--at", moment, *further]
         self.lines = script.read_bytes().splitlines(keepends=True)
         self.shorter = {}
         self.work = work / f"{out.parent.name}.{name}.{moment}"
@@ -116,22 +122,99 @@ class Row(Case):
         return super().ending(answer)
 
 
-def outcomes(work):
-    """The scripts that are run to their end. The allocations of the worked examples are refused."""
+class JournalRow(Row):
+    """A run whose journal goes to its output, behind the outcome."""
+
+    def __init__(self, out, config, script, refuses, work):
+        super().__init__(out, config, script, refuses, work / "journaled", ["--journal", "/dev/stdout"])
+        self.name += ", journal"
+        self.outcome, whole = self.out, script.with_suffix(".journal")
+        self.journal = journal_of(self.lines, self.out)
+        self.out += whole.read_bytes() if whole.exists() else self.journal
+
+    def ending(self, answer):
+        no_file = 4, self.outcome, b"quotafs: output\n"
+        return "no journal" if answer == no_file else super().ending(answer)
+
+
+def entry_of(line, reply):
+    """The entry of a line of a script: `fill` as the write that it is, and data in lower case."""
+    moment, caller, verb, *words = line.split()
+    if verb == b"fill":
+        path, offset, count, byte = words
+        verb, words = b"write", [path, offset, byte * int(count) or b"-"]
+    if verb == b"write":
+        words[2] = words[2].lower()
+    return b" ".join([b"1", moment, caller, verb, *words, b"=>", reply]) + b"\n"
+
+
+def journal_of(lines, out):
+    """The journal of a script, none of whose lines has failed, by the answers in its outcome."""
+    told = out.splitlines()[1 : 1 + len(lines)]
+    replies = [line.removeprefix(b"%d " % place) for place, line in enumerate(told, 1)]
+    return HEAD + b"".join(entry_of(line, reply) for line, reply in zip(lines, replies, strict=True))
+
+
+class Replay(Case):
+    """The replay of a run's journal, which prints what the run does at moment 0."""
+
+    def __init__(self, row, work):
+        work.with_suffix(".replayed").write_bytes(row.journal)
+        words = ["replay", "--config", row.config, work.with_suffix(".replayed")]
+        super().__init__(f"{row.name}, replayed", words, 0, refuses=row.refuses)
+        self.run = ["run", "--config", row.config, row.words[-1]]
+
+    def is_right(self):
+        return self.answer == call(self.run) and self.answer[0] == 0
+
+
+def played():
+    """The scripts that are run to their end: the outcome, the configuration, the script, and whether the run's
+    allocations are refused, as those of the worked examples are."""
     for out in sorted(CHECKING.glob("*/*.out")):
         folder, script = out.parent, out.name.split(".")[0] + ".txt"
         refuses = folder.name in WORKED or script == "one_call_of_each_kind.txt"
         if folder.name == "examples":
-            yield Row(out, ROOT / "examples/farm.toml", ROOT / "examples" / script, refuses, work)
-        else:
-            yield Row(out, folder / "config.toml", folder / script, refuses, work)
+            yield out, ROOT / "examples/farm.toml", ROOT / "examples" / script, refuses
+        elif folder.name != "journals":
+            yield out, folder / "config.toml", folder / script, refuses
+
+
+def outcomes(work):
+    """The scripts that are run to their end."""
+    for row in played():
+        yield Row(*row, work)
+
+
+def journals(work):
+    """The same scripts with their journals, once each, and the replays of these."""
+    rows = {script: (out, config, script, refuses) for out, config, script, refuses in played()}
+    (work / "journaled").mkdir()
+    for number, row in enumerate(rows.values()):
+        run = JournalRow(*row, work)
+        yield run
+        yield Replay(run, work / str(number))
+
+
+def replays(work):
+    """Journals that are played, those that are refused, and those that do not fit."""
+    folder = CHECKING / "journals"
+    for journal in sorted(folder.glob("*.journal")):
+        words = ["replay", "--config", folder / "config.toml", journal]
+        yield Case(f"journals/{journal.stem}", words, 0, journal.with_suffix(".0.out").read_bytes(), refuses=True)
+    for name, number, (text, told), file in listed("journals/*.rows"):
+        (work / file).write_bytes(text.encode("latin-1"))
+        status, fault = (3, told) if told.startswith("mismatch ") else (2, f"journal: {told}")
+        words = ["replay", "--config", EXAMPLE, work / file]
+        yield Case(name, words, status, err=f"quotafs: {fault}\n".encode(), refuses=number == 1)
 
 
 def listed(pattern):
     """The name, the number and the content of each line of the tables, and a name of a file of its own."""
     for table in sorted(CHECKING.glob(pattern)):
         for number, line in enumerate(table.read_text().splitlines(), 1):
-            yield f"{table.parent.name}/{table.stem} {number}", number, json.loads(line), f"{table.stem}.{number}"
+            name = f"{table.parent.name}/{table.stem}"
+            yield f"{name} {number}", number, json.loads(line), f"{table.parent.name}.{table.stem}.{number}"
 
 
 def configs(work):

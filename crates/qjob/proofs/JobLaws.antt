@@ -15,7 +15,7 @@ use Rattle.clap.specs.declared.error.kind.ErrorKind.{ErrorKind}
 use Rattle.clap.specs.declared.error.kind.ErrorKind.TheVariants.{OutOfMemory}
 use Rattle.clap.specs.Words.{IsAmong, Kinds, Row, Text, fault_of, subcommand_of, all_of, first_of, one_of, rows_of}
 use Rattle.qjob.specs.declared.job.Job.{Job}
-use Rattle.qjob.specs.declared.job.Job.TheVariants.{Run}
+use Rattle.qjob.specs.declared.job.Job.TheVariants.{Run, Replay}
 use Rattle.qjob.specs.declared.line_fault.LineFault.{LineFault}
 use Rattle.qjob.specs.declared.line_fault.LineFault.TheVariants.{Line, Memory}
 use Rattle.qjob.specs.Jobs.{AreScriptsIn, FailsUnless, IsAskedBy, IsJobOf, IsMomentIn, IsNamedBy, IsRefusalOf, IsToldBy, Spells}
@@ -186,8 +186,11 @@ pub passed_on : {T : Type 0} (r : Result T LineFault) (P Q : Type 0) (fault : Li
 passed_on (Ok x) P Q fault is h weaker = tt
 passed_on (Err e) P Q fault is h weaker = rw is (unless_weaker P Q fault weaker h)
 
-pub its_moment : (name : Text) (rows : List Row) (job : Job) → IsNamedBy name rows job → (at : ℕ) × IsMomentIn rows at
-its_moment name rows (Run config at scripts) h = (at, h.2)
+pub its_moment : (rows : List Row) (job : Job) → IsNamedBy (codes "run") rows job → (at : ℕ) × IsMomentIn rows at
+its_moment rows (Run config at journal scripts) h = (at, h.2)
+its_moment rows (Replay config journal) h =
+    let same : codes "run" ≡ codes "replay" = h.0 in
+    absurd cc
 
 -- ---- the words
 

@@ -27,6 +27,14 @@ at = record (new_rule (codes "at")) {
   action = Some Set;
 }
 
+-- `--journal FILE`
+abbrev pub journal : Rule
+journal = record (new_rule (codes "journal")) {
+  long = Some (codes "journal");
+  value_names = 1;
+  action = Some Set;
+}
+
 -- one or more scripts
 abbrev pub scripts : Rule
 scripts = record (new_rule (codes "scripts")) {
@@ -36,9 +44,21 @@ scripts = record (new_rule (codes "scripts")) {
   action = Some Append;
 }
 
+-- the journal that is played
+abbrev pub played : Rule
+played = record (new_rule (codes "journal")) {
+  value_names = 1;
+  required = true;
+  action = Some Set;
+}
+
 -- `run`
 abbrev pub run : App
-run = with_rule (with_rule (with_rule (new_app (codes "run")) config) at) scripts
+run = with_rule (with_rule (with_rule (with_rule (new_app (codes "run")) config) at) journal) scripts
+
+-- `replay`
+abbrev pub replay : App
+replay = with_rule (with_rule (new_app (codes "replay")) config) played
 
 -- a command that does nothing of its own
 abbrev pub with_need : App → App
@@ -50,4 +70,4 @@ with_version a = record a { top = record a.top { has_version = true } }
 
 -- the command line
 abbrev pub quotafs : App
-quotafs = with_subcommand (with_need (with_version (new_app (codes "quotafs")))) run.top
+quotafs = with_subcommand (with_subcommand (with_need (with_version (new_app (codes "quotafs")))) run.top) replay.top

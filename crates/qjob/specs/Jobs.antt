@@ -1,11 +1,11 @@
 -- What a job names, as `clap`'s matches give it, and why words are none.
-use Rattle.std.specs.Prelude.{◌≡◌, ◌⊎◌, ◌<◌, ◌≤◌, ◌^◌, ℕ, Bool, true, false, List, [], map, Option, Some, None, ⊤, codes, length, string_bytes}
+use Rattle.std.specs.Prelude.{◌≡◌, ◌⊎◌, ◌<◌, ◌≤◌, ◌^◌, ℕ, Bool, true, false, List, [], map, Option, Some, None, ⊤, codes, length, string_bytes, option_map}
 use Rattle.std.specs.Str.Parse.{IsNumeral, digits_value, without_leading_plus}
 use Rattle.clap.specs.Words.{IsAmong, Kinds, Row, Text, all_of, fault_of, first_of, one_of, subcommand_of}
 use Rattle.clap.specs.declared.error.kind.ErrorKind.{ErrorKind}
 use Rattle.clap.specs.declared.error.kind.ErrorKind.TheVariants.{DisplayHelp, DisplayVersion}
 use Rattle.qjob.specs.declared.job.Job.{Job}
-use Rattle.qjob.specs.declared.job.Job.TheVariants.{Run}
+use Rattle.qjob.specs.declared.job.Job.TheVariants.{Run, Replay}
 use Rattle.qjob.specs.declared.line_fault.LineFault.{LineFault}
 use Rattle.qjob.specs.declared.line_fault.LineFault.TheVariants.{Line, Memory}
 use Rattle.qjob.specs.Commands.{quotafs}
@@ -24,10 +24,14 @@ AreScriptsIn rows scripts = (all_of (codes "scripts") rows ≡ Some scripts) × 
 
 -- the job of a subcommand of this name with these matches
 abbrev pub IsNamedBy : Text → List Row → Job → Type 0
-IsNamedBy name rows (Run config at scripts) = (name ≡ codes "run")
+IsNamedBy name rows (Run config at journal scripts) = (name ≡ codes "run")
     × (first_of (codes "config") rows ≡ Some (string_bytes config))
     × IsMomentIn rows at
+    × (first_of (codes "journal") rows ≡ option_map (λ s. string_bytes s) journal)
     × AreScriptsIn rows (map (λ s. string_bytes s) scripts.items)
+IsNamedBy name rows (Replay config journal) = (name ≡ codes "replay")
+    × (first_of (codes "config") rows ≡ Some (string_bytes config))
+    × (first_of (codes "journal") rows ≡ Some (string_bytes journal))
 
 -- the job of a subcommand's name and its matches
 abbrev pub IsJobOf : Option (Text × List Row) → Job → Type 0

@@ -1,5 +1,5 @@
 //! What a command line asks for.
-ghost use Rattle.std.specs.Prelude.{◌≡◌, ◌∷◌, [], ℕ, IfOk, IfErr, Some, List, map, codes, string_bytes};
+ghost use Rattle.std.specs.Prelude.{◌≡◌, ◌∷◌, [], ℕ, IfOk, IfErr, Some, List, map, option_map, codes, string_bytes};
 ghost use Rattle.clap.specs.Words.{first_of, found_of, kind_of, rows_of, subcommand_rows_of};
 ghost use Rattle.clap.specs.declared.error.kind.ErrorKind.TheVariants.{OutOfMemory};
 ghost use Rattle.qjob.specs.declared.line_fault.LineFault.TheVariants.{Memory};
@@ -17,11 +17,18 @@ mod command;
 /// What the program is asked to do. Files are named as they stand on the command line.
 #[derive(Debug, Drop)]
 pub enum Job {
-    /// To run the scripts on a store of the configuration, and to report at the moment, in seconds.
+    /// To run the scripts on a store of the configuration, to report at the moment, in seconds, and to write the
+    /// journal of the run where a file is named for it.
     Run {
         config: String,
         at: u64,
+        journal: Option<String>,
         scripts: Vec<String>,
+    },
+    /// To play the journal on a store of the configuration, and to report at moment 0.
+    Replay {
+        config: String,
+        journal: String,
     },
 }
 
@@ -60,6 +67,17 @@ fn named(alloc: Global, matches: &ArgMatches<'_>, id: &str) -> Result<String, Li
     match matches.get_str(id) {
         Some(text) => Ok(String::from_str(alloc, text)?),
         None => Err(missing(alloc)),
+    }
+}
+
+/// The first value of what may be left out.
+fn optional(alloc: Global, matches: &ArgMatches<'_>, id: &str) -> Result<Option<String>, AllocError>
+    ensures { IfOk result (λ o. first_of id.now (rows_of (found_of matches.now))
+        ≡ option_map (λ s. string_bytes s) o) }
+{
+    match matches.get_str(id) {
+        Some(text) => Ok(Some(String::from_str(alloc, text)?)),
+        None => Ok(None),
     }
 }
 
@@ -102,11 +120,24 @@ fn run(alloc: Global, matches: &ArgMatches<'_>) -> Result<Job, LineFault>
 {
     let config = named(alloc, matches, "config")?;
     let at = moment(alloc, matches)?;
+    let journal = optional(alloc, matches, "journal")?;
     let scripts = scripts(alloc, matches)?;
     Ok(Job::Run {
         config,
         at,
+        journal,
         scripts,
+    })
+}
+
+fn replay(alloc: Global, matches: &ArgMatches<'_>) -> Result<Job, LineFault>
+    ensures ok { IfOk result (IsNamedBy (codes "replay") (rows_of (found_of matches.now))) }
+    ensures err { IfErr result (FailsUnless
+        ((job : Job) × IsNamedBy (codes "replay") (rows_of (found_of matches.now)) job)) }
+{
+    Ok(Job::Replay {
+        config: named(alloc, matches, "config")?,
+        journal: named(alloc, matches, "journal")?,
     })
 }
 
@@ -116,6 +147,7 @@ fn job_of(alloc: Global, matches: &ArgMatches<'_>) -> Result<Job, LineFault>
 {
     match matches.subcommand() {
         Some(("run", matches)) => run(alloc, matches),
+        Some(("replay", matches)) => replay(alloc, matches),
         _ => Err(missing(alloc)),
     }
 }

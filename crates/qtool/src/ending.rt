@@ -20,9 +20,13 @@ pub(crate) enum Ending {
     TooManyScripts,
     /// What is wrong with the script of that number.
     Script(u64, TextFault),
+    /// What is wrong with the journal.
+    Journal(TextFault),
+    /// The journal's reply at that place is another than the store's.
+    Mismatch(u64),
     /// Memory was wanted and not there.
     Memory,
-    /// The output refused.
+    /// The output refused, or the file for the journal.
     Output,
 }
 
@@ -34,7 +38,7 @@ impl Ending {
     {
         match self {
             Ending::Line { help: true, .. } => 0,
-            Ending::Config(ConfigFault::Memory) | Ending::Memory => 3,
+            Ending::Config(ConfigFault::Memory) | Ending::Mismatch(_) | Ending::Memory => 3,
             Ending::Output => 4,
             _ => 2,
         }
@@ -72,6 +76,8 @@ impl Ending {
             Ending::Config(fault) => put_config(err, fault),
             Ending::TooManyScripts => put_fault(err, b"at most 16 scripts"),
             Ending::Script(number, fault) => put_script(err, *number, fault),
+            Ending::Journal(fault) => put_journal_fault(err, fault),
+            Ending::Mismatch(place) => put_mismatch(err, *place),
             Ending::Memory => put_fault(err, b"memory"),
             Ending::Output => put_fault(err, b"output"),
         }
@@ -99,13 +105,32 @@ fn put_named<'a, E: Write>(
 }
 
 fn put_script<E: Write>(err: &mut E, number: u64, fault: &TextFault) -> Result<(), RefusedWrite> {
+    let pieces = [Piece::Text(b"quotafs: script "), Piece::Number(number)];
+    put_pieces(err, &pieces)?;
+    put_text_fault(err, fault)
+}
+
+fn put_journal_fault<E: Write>(err: &mut E, fault: &TextFault) -> Result<(), RefusedWrite> {
+    put(err, b"quotafs: journal")?;
+    put_text_fault(err, fault)
+}
+
+/// Writes which line is at fault and why, behind the text's name.
+fn put_text_fault<E: Write>(err: &mut E, fault: &TextFault) -> Result<(), RefusedWrite> {
     let pieces = [
-        Piece::Text(b"quotafs: script "),
-        Piece::Number(number),
         Piece::Text(b": line "),
         Piece::Number(fault.line),
         Piece::Text(b": "),
         Piece::Text(fault.kind.words().as_bytes()),
+        Piece::Text(b"\n"),
+    ];
+    put_pieces(err, &pieces)
+}
+
+fn put_mismatch<E: Write>(err: &mut E, place: u64) -> Result<(), RefusedWrite> {
+    let pieces = [
+        Piece::Text(b"quotafs: mismatch at "),
+        Piece::Number(place),
         Piece::Text(b"\n"),
     ];
     put_pieces(err, &pieces)

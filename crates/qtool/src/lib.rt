@@ -2,17 +2,20 @@
 #![tactic(auto)]
 
 pub use files::{FileFault, Files};
+pub use finishing::{Refuser, write_run};
 pub use program::tool;
 pub use qconfig::{Config, ConfigFault};
 pub use qjob::{Job, LineFault};
+pub use qjournal::Journal;
 pub use qoutcome::{WriteFault, write_outcome};
 pub use qplain::{CallFault, Receipt, Transcript};
 pub use qrun::{Outcome, RunFault};
 pub use qscript::{MAX_LINES, Script};
 pub use qtext::{TextFault, TextKind};
-pub use runs::run;
+pub use runs::{replay, run};
 
 mod ending;
 mod files;
+mod finishing;
 mod program;
 mod runs;

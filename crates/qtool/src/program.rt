@@ -5,8 +5,8 @@ ghost use Rattle.qtool.specs.declared.ending.Ending.TheVariants.{Output};
 
 use crate::ending::Ending;
 use crate::{
-    Config, ConfigFault, FileFault, Files, Job, LineFault, Outcome, RunFault, Script, TextFault,
-    TextKind, run, write_outcome,
+    Config, ConfigFault, FileFault, Files, Job, Journal, LineFault, Outcome, Refuser, RunFault,
+    Script, TextFault, TextKind, replay, run, write_run,
 };
 use std::alloc::Global;
 use std::io::Write;
@@ -61,41 +61,88 @@ fn script<F: Files>(
     }
 }
 
-/// Runs the only script, and writes what came of it.
-fn run_one<O: Write>(
-    alloc: Global,
-    config: Config,
-    script: Script,
-    seed: u64,
-    at: u64,
-    out: &mut O,
-) -> Result<(), Ending>
-    ensures { IfErr result (λ ending. (ending ≡ Output) ⊎ (O.contents out.new ≡ O.contents out.old)) }
-{
+/// Reads the journal that is to be played.
+fn read_journal<F: Files>(alloc: Global, files: &mut F, name: &str) -> Result<Journal, Ending> {
+    let bytes = load(alloc, files, name)?;
+    match Journal::read(alloc, &bytes) {
+        Ok(journal) => Ok(journal),
+        Err(
+            TextFault {
+                kind: TextKind::Memory,
+                ..
+            },
+        ) => Err(Ending::Memory),
+        Err(fault) => Err(Ending::Journal(fault)),
+    }
+}
+
+/// The ending of a run that has no outcome.
+fn ending_of(fault: RunFault) -> Ending {
+    match fault {
+        RunFault::Memory => Ending::Memory,
+        RunFault::Mismatch(place) => Ending::Mismatch(place),
+    }
+}
+
+/// Runs the only script.
+fn run_one(alloc: Global, config: Config, script: Script, seed: u64) -> Result<Outcome, Ending> {
     let mut scripts = Vec::new(alloc);
     if scripts.push(script).is_err() {
         return Err(Ending::Memory);
     }
-    match run(alloc, config, scripts, seed) {
-        Ok(outcome) => put_outcome(outcome, at, out),
-        Err(RunFault::Memory) => Err(Ending::Memory),
-        Err(RunFault::Mismatch(_)) => unreachable!(),
-    }
+    run(alloc, config, scripts, seed).map_err(ending_of)
+}
+
+/// Reads the configuration and the scripts, in the order in which faults are told, and runs them.
+fn run_of<F: Files>(
+    alloc: Global,
+    seed: u64,
+    config: &str,
+    scripts: &[String],
+    files: &mut F,
+) -> Result<Outcome, Ending> {
+    let config = configuration(alloc, files, config)?;
+    let [name] = scripts else {
+        return Err(Ending::TooManyScripts);
+    };
+    let script = script(alloc, files, 1, name.as_str())?;
+    run_one(alloc, config, script, seed)
+}
+
+/// Reads the configuration and the journal, and plays it. The journal's memory is left to the system, too.
+fn replay_of<F: Files>(
+    alloc: Global,
+    seed: u64,
+    config: &str,
+    journal: &str,
+    files: &mut F,
+) -> Result<Outcome, Ending> {
+    let config = configuration(alloc, files, config)?;
+    let journal = read_journal(alloc, files, journal)?;
+    let played = replay(alloc, config, &journal, seed).map_err(ending_of);
+    mem::forget(journal);
+    played
 }
 
 /// Writes what came of a run. Its memory is left to the system: to give back each piece takes as long as a call.
-fn put_outcome<O: Write>(outcome: Outcome, at: u64, out: &mut O) -> Result<(), Ending>
+fn finish<F: Files, O: Write>(
+    outcome: Outcome,
+    at: u64,
+    journal: Option<&str>,
+    files: &mut F,
+    out: &mut O,
+) -> Result<(), Ending>
     ensures { IfErr result (λ ending. ending ≡ Output) }
 {
-    let written = write_outcome(&outcome, at, out);
+    let written = write_run(&outcome, at, journal, files, out);
     mem::forget(outcome);
-    if written.is_err() || out.flush().is_err() {
-        return Err(Ending::Output);
+    match written {
+        Ok(()) => Ok(()),
+        Err(Refuser::Output | Refuser::Journal) => Err(Ending::Output),
     }
-    Ok(())
 }
 
-/// Reads what the job names, in the order in which faults are told, runs it, and writes what came of it.
+/// Does what the job asks for: comes to an outcome, and only then writes.
 fn do_job<F: Files, O: Write>(
     alloc: Global,
     seed: u64,
@@ -105,25 +152,32 @@ fn do_job<F: Files, O: Write>(
 ) -> Result<(), Ending>
     ensures { IfErr result (λ ending. (ending ≡ Output) ⊎ (O.contents out.new ≡ O.contents out.old)) }
 {
-    let Job::Run {
-        config,
-        at,
-        scripts,
-    } = job;
-    let config = configuration(alloc, files, config.as_str())?;
-    let [name] = scripts.as_slice() else {
-        return Err(Ending::TooManyScripts);
-    };
-    let script = script(alloc, files, 1, name.as_str())?;
-    run_one(alloc, config, script, seed, *at, out)
+    match job {
+        Job::Run {
+            config,
+            at,
+            journal,
+            scripts,
+        } => {
+            let outcome = run_of(alloc, seed, config.as_str(), scripts.as_slice(), files)?;
+            let journal = journal.as_ref().map(String::as_str);
+            finish(outcome, *at, journal, files, out)
+        }
+        Job::Replay { config, journal } => {
+            let outcome = replay_of(alloc, seed, config.as_str(), journal.as_str(), files)?;
+            finish(outcome, 0, None, files, out)
+        }
+    }
 }
 
 /// The whole program: reads the words of the command line, its own name the first of them, reads the files that they
-/// name, runs the job, writes what came of it to the output, and answers the exit status.
+/// name, runs the scripts or plays the journal, writes what came of it to the output and then, where it is asked for,
+/// the journal of the run to a file, and answers the exit status.
 ///
-/// The first fault ends it with one line on the error output: 2 for the command line, the configuration or a script,
-/// 3 for want of memory, 4 for an output that refuses, also when it is flushed. Help and the version go to the output,
-/// with 0. The line is flushed, so that a buffered error output gets it by one write.
+/// The first fault ends it with one line on the error output: 2 for the command line, the configuration, a script or a
+/// journal, 3 for want of memory and for a journal that does not fit, 4 for an output or a file for the journal that
+/// refuses, also when it is flushed. Help and the version go to the output, with 0. The line is flushed, so that a
+/// buffered error output gets it by one write.
 ///
 /// The program ends behind it, so the memory of a run is not given back.
 ///

@@ -1,8 +1,11 @@
-//! Runs of the scripts of a command line.
-ghost use Rattle.std.specs.Prelude.{◌≡◌, IfOk, IfErr, vec_len};
+//! Runs of the scripts of a command line, and replays of a journal.
+ghost use Rattle.std.specs.Prelude.{◌≡◌, ℕ, Err, IfOk, IfErr, vec_len};
+ghost use Rattle.qplain.specs.State.{start};
+ghost use Rattle.qrun.specs.declared.run_fault.RunFault.TheVariants.{Mismatch};
+ghost use Rattle.qrun.specs.Replays.{IsMismatch, IsReplayOf};
 ghost use Rattle.qrun.specs.Runs.{IsOutcomeOf};
 
-use crate::{Config, Outcome, RunFault, Script};
+use crate::{Config, Journal, Outcome, RunFault, Script};
 use qrun::run_lines;
 use std::alloc::Global;
 
@@ -25,4 +28,22 @@ pub fn run(
         unreachable!()
     };
     run_lines(alloc, config.setup, script.into_lines(), seed)
+}
+
+/// Plays a journal again on a new store of the configuration, one entry after the other.
+///
+/// An outcome comes only of a journal whose replies are all the store's; else the first place with another reply is told.
+/// The hashes of names begin at `seed`, as for a run. O(entries), and what each call takes. After an Err the store is
+/// given up.
+pub fn replay(
+    alloc: Global,
+    config: Config,
+    journal: &Journal,
+    seed: u64,
+) -> Result<Outcome, RunFault>
+    ensures outcome { IfOk result (IsReplayOf config.setup journal.now) }
+    ensures mismatch { (place : ℕ) → result ≡ Err (Mismatch place)
+        → IsMismatch (start config.setup) journal.now.entries place }
+{
+    qrun::replay(alloc, config.setup, journal, seed)
 }

@@ -7,7 +7,7 @@ use std::io::{self, BufWriter, ErrorKind};
 use std::process::ExitCode;
 use std::random::RandomSource;
 
-/// As much output is gathered before it is written, in bytes.
+/// As much of the output, and of a file, is gathered before it is written, in bytes.
 const OUTPUT_BUFFER: usize = 262_144;
 
 /// As long a fault line goes out by one write, in bytes, so that lines of runs beside each other do not mix.
@@ -28,14 +28,16 @@ fn fault_of(error: &io::Error) -> FileFault {
 }
 
 impl Files for MachineFiles<'_> {
-    type Out = File;
+    type Out = BufWriter<File>;
 
     fn read(&mut self, name: &str) -> Result<Vec<u8>, FileFault> {
         fs::read(self.rt, name).map_err(|error| fault_of(&error))
     }
 
-    fn create(&mut self, name: &str) -> Result<File, FileFault> {
-        fs::create(self.rt, name).map_err(|error| fault_of(&error))
+    fn create(&mut self, name: &str) -> Result<BufWriter<File>, FileFault> {
+        let file = fs::create(self.rt, name).map_err(|error| fault_of(&error))?;
+        BufWriter::with_capacity(self.rt.alloc(), OUTPUT_BUFFER, file)
+            .map_err(|error| fault_of(&error))
     }
 }
 

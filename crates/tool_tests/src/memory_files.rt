@@ -1,5 +1,6 @@
 //! The program over files in memory.
 
+use crate::short::Short;
 use qtool::{FileFault, Files, tool};
 use std::alloc::{AllocError, Global};
 use std::io::Write;
@@ -29,15 +30,26 @@ totals blocks 1 of 10 inodes 2 of 6
 audit ok
 ";
 
-/// The files `a.toml` and `s.txt`, for one of which memory may be wanted and not there.
+/// The journal of the script.
+pub(crate) const JOURNAL: &[u8] = b"\
+quotafs journal 1 workers 1
+1 0 0:0 create /a => done 2 blocks +0 -0 inodes +1 -0
+1 0 0:0 write /a 0 78 => done 2 blocks +1 -0 inodes +0 -0
+1 0 0:0 stat /a => stat 2 file 0 0 1 1 1
+";
+
+/// The files `a.toml`, `s.txt` and `s.journal`, for one of which memory may be wanted and not there. Each new file takes
+/// so many bytes, and may refuse to be flushed.
 #[derive(Drop)]
-struct MemoryFiles<'a> {
-    alloc: Global,
-    short: &'a str,
+pub(crate) struct MemoryFiles<'a> {
+    pub(crate) alloc: Global,
+    pub(crate) short: &'a str,
+    pub(crate) left: usize,
+    pub(crate) flushes: bool,
 }
 
 impl Files for MemoryFiles<'_> {
-    type Out = Vec<u8>;
+    type Out = Short;
 
     fn read(&mut self, name: &str) -> Result<Vec<u8>, FileFault> {
         if name == self.short {
@@ -46,13 +58,17 @@ impl Files for MemoryFiles<'_> {
         let bytes = match name {
             "a.toml" => CONFIG,
             "s.txt" => SCRIPT,
+            "s.journal" => JOURNAL,
             _ => return Err(FileFault::Fails),
         };
         Vec::from_slice(self.alloc, bytes).map_err(|_| FileFault::Memory)
     }
 
-    fn create(&mut self, _name: &str) -> Result<Vec<u8>, FileFault> {
-        Err(FileFault::Fails)
+    fn create(&mut self, name: &str) -> Result<Short, FileFault> {
+        if name == self.short {
+            return Err(FileFault::Memory);
+        }
+        Ok(Short::new(self.alloc, self.left, self.flushes))
     }
 }
 
@@ -63,18 +79,27 @@ pub(crate) fn told_into<O: Write>(
     short: &str,
     out: &mut O,
 ) -> Result<(u8, Vec<u8>), AllocError> {
+    let files = MemoryFiles {
+        alloc,
+        short,
+        left: JOURNAL.len(),
+        flushes: true,
+    };
+    told_over(alloc, line, files, out)
+}
+
+/// The same over these files.
+pub(crate) fn told_over<O: Write>(
+    alloc: Global,
+    line: &str,
+    mut files: MemoryFiles<'_>,
+    out: &mut O,
+) -> Result<(u8, Vec<u8>), AllocError> {
     let mut words = Vec::new(alloc);
     for word in line.split(' ') {
         words.push(String::from_str(alloc, word)?)?;
     }
     let mut err = Vec::new(alloc);
-    let status = tool(
-        alloc,
-        7,
-        &words,
-        &mut MemoryFiles { alloc, short },
-        out,
-        &mut err,
-    );
+    let status = tool(alloc, 7, &words, &mut files, out, &mut err);
     Ok((status, err))
 }

@@ -1,10 +1,14 @@
-//! Outputs that refuse, and files for which there is no memory.
+//! Outputs and files for journals that refuse, and files for which there is no memory.
 
-use crate::memory_files::{OUTCOME, told_into};
+use crate::memory_files::{JOURNAL, MemoryFiles, OUTCOME, told_into, told_over};
 use crate::short::Short;
-use std::alloc::AllocError;
+use std::alloc::{AllocError, Global};
 
 const RUN: &str = "quotafs run --config a.toml s.txt";
+
+const RUN_WITH_JOURNAL: &str = "quotafs run --config a.toml --journal new.journal s.txt";
+
+const REPLAY: &str = "quotafs replay --config a.toml s.journal";
 
 #[test]
 fn a_refusing_output_holds_a_beginning(rt: HostRuntime) -> Result<(), AllocError> {
@@ -47,11 +51,56 @@ fn help_and_flushes_may_be_refused(rt: HostRuntime) -> Result<(), AllocError> {
     Ok(())
 }
 
+/// The status of a run, behind whose outcome the file for the journal takes so many bytes.
+fn status_of_journal(
+    alloc: Global,
+    left: usize,
+    flushes: bool,
+) -> Result<(u8, Vec<u8>), AllocError> {
+    let files = MemoryFiles {
+        alloc,
+        short: "",
+        left,
+        flushes,
+    };
+    let mut out = Vec::new(alloc);
+    let (status, _) = told_over(alloc, RUN_WITH_JOURNAL, files, &mut out)?;
+    Ok((status, out))
+}
+
+#[test]
+fn a_journal_that_is_refused_leaves_the_outcome_whole(rt: HostRuntime) -> Result<(), AllocError> {
+    for left in 0..JOURNAL.len() + 1 {
+        let taken = left == JOURNAL.len();
+        for flushes in [false, true] {
+            let (status, out) = status_of_journal(rt.alloc(), left, flushes)?;
+            assert_eq!(rt; status, if taken && flushes { 0 } else { 4 });
+            assert_eq!(rt; out.as_slice(), OUTCOME);
+        }
+    }
+    Ok(())
+}
+
+#[test]
+fn a_file_that_cannot_be_made_is_a_refused_output(rt: HostRuntime) -> Result<(), AllocError> {
+    let mut out = Vec::new(rt.alloc());
+    let (status, err) = told_into(rt.alloc(), RUN_WITH_JOURNAL, "new.journal", &mut out)?;
+    assert_eq!(rt; status, 4);
+    assert_eq!(rt; err.as_slice(), b"quotafs: output\n".as_slice());
+    assert_eq!(rt; out.as_slice(), OUTCOME);
+    Ok(())
+}
+
 #[test]
 fn want_of_memory_for_a_file_is_memory(rt: HostRuntime) -> Result<(), AllocError> {
-    for name in ["a.toml", "s.txt"] {
+    for (line, name) in [
+        (RUN, "a.toml"),
+        (RUN, "s.txt"),
+        (REPLAY, "a.toml"),
+        (REPLAY, "s.journal"),
+    ] {
         let mut out = Vec::new(rt.alloc());
-        let (status, err) = told_into(rt.alloc(), RUN, name, &mut out)?;
+        let (status, err) = told_into(rt.alloc(), line, name, &mut out)?;
         assert_eq!(rt; status, 3);
         assert_eq!(rt; err.as_slice(), b"quotafs: memory\n".as_slice());
         assert!(rt; out.is_empty());

@@ -35,6 +35,17 @@ fn at<'a>(alloc: Global) -> Arg<'a>
         .action(ArgAction::Set)
 }
 
+fn journal<'a>(alloc: Global) -> Arg<'a>
+    ensures rule { rule_of result ≡ line.journal }
+    ensures local { result.global ≡ false }
+{
+    Arg::new(alloc, "journal")
+        .long("journal")
+        .value_name("FILE")
+        .help("The file that the journal of the run is written to, after what is printed")
+        .action(ArgAction::Set)
+}
+
 fn scripts<'a>(alloc: Global) -> Arg<'a>
     ensures rule { rule_of result ≡ line.scripts }
     ensures local { result.global ≡ false }
@@ -45,6 +56,17 @@ fn scripts<'a>(alloc: Global) -> Arg<'a>
         .required(true)
         .num_args(1..)
         .action(ArgAction::Append)
+}
+
+fn played<'a>(alloc: Global) -> Arg<'a>
+    ensures rule { rule_of result ≡ line.played }
+    ensures local { result.global ≡ false }
+{
+    Arg::new(alloc, "journal")
+        .value_name("JOURNAL")
+        .help("The journal, as a run has written it")
+        .required(true)
+        .action(ArgAction::Set)
 }
 
 /// The command with one more argument.
@@ -86,7 +108,21 @@ fn run<'a>(alloc: Global) -> Result<Command<'a>, AllocError>
     );
     let command = with_arg(command, config(alloc))?;
     let command = with_arg(command, at(alloc))?;
+    let command = with_arg(command, journal(alloc))?;
     with_arg(command, scripts(alloc))
+}
+
+fn replay<'a>(alloc: Global) -> Result<Command<'a>, AllocError>
+    ensures app { IfOk result (λ c. app_of c ≡ line.replay) }
+    ensures local { IfOk result (λ c. (out-Command c).has_globals ≡ false) }
+{
+    let command = named(
+        alloc,
+        "replay",
+        "Plays a journal on a new store and prints what came of it",
+    );
+    let command = with_arg(command, config(alloc))?;
+    with_arg(command, played(alloc))
 }
 
 /// The whole command line.
@@ -97,5 +133,6 @@ pub(crate) fn command<'a>(alloc: Global) -> Result<Command<'a>, AllocError>
     let command = named(alloc, "quotafs", about)
         .version("0.1.0")
         .subcommand_required(true);
-    with_command(command, run(alloc)?)
+    let command = with_command(command, run(alloc)?)?;
+    with_command(command, replay(alloc)?)
 }

@@ -14,3 +14,9 @@ returns-in-Some-run-default-clause-err c =
     no_job_at (subcommand_rows_of c.args.matches.now) (codes "run") (rows_of (found_of c.in-Some-run-default.matches.now)) c.run.result
     (map_first _ _ _ ∙ sym (rw c.in-Some-run-default.is at c.subcommand.ensures.name) ∙ ap some_text c.in-Some-run-default.is-run)
     (sym (rw c.in-Some-run-default.is at c.subcommand.ensures.rows)) c.run.ensures.err
+
+pub returns-in-Some-replay-default-clause-err : goal.returns-in-Some-replay-default-clause-err
+returns-in-Some-replay-default-clause-err c =
+    no_job_at (subcommand_rows_of c.args.matches.now) (codes "replay") (rows_of (found_of c.in-Some-replay-default.matches.now)) c.replay.result
+    (map_first _ _ _ ∙ sym (rw c.in-Some-replay-default.is at c.subcommand.ensures.name) ∙ ap some_text c.in-Some-replay-default.is-replay)
+    (sym (rw c.in-Some-replay-default.is at c.subcommand.ensures.rows)) c.replay.ensures.err

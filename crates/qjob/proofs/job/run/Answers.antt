@@ -10,4 +10,4 @@ returns-in_err-at-clause-err c =
     let rows = rows_of (found_of c.args.matches.now) in
     passed_on c.from_residual-in_err-at.result ((at : ℕ) × IsMomentIn rows at) ((job : Job)
     × IsNamedBy (codes "run") rows job) c.in_err-at.field-0.0 c.from_residual-in_err-at.ensures.1
-    c.in_err-at.ensures.err (λ p. its_moment (codes "run") rows p.0 p.1)
+    c.in_err-at.ensures.err (λ p. its_moment rows p.0 p.1)

@@ -1,0 +1,2 @@
+-- What a writer holds that refuses to be flushed.
+pub mod Flushes

@@ -1,0 +1,83 @@
+//! What came of a run, written out: its outcome, and then its journal.
+ghost use Rattle.std.specs.Prelude.{◌≡◌, Err, IfOk, IfErr};
+ghost use Rattle.std.specs.Io.KnownBytes.{Appends};
+ghost use Rattle.qtext.specs.Written.{AppendsFront, Writes};
+ghost use Rattle.qjournal.specs.Spelling.{spelling};
+ghost use Rattle.qoutcome.specs.Outcomes.{outcome_text};
+ghost use Rattle.qtool.specs.declared.finishing.Refuser.TheVariants.{Output};
+
+use crate::{Files, Outcome, write_outcome};
+use qjournal::{Journal, write_journal};
+use qtext::RefusedWrite;
+use std::io::Write;
+
+/// What refused what came of a run.
+#[derive(Clone, Copy, Debug, PartialEq, Eq)]
+pub enum Refuser {
+    /// The output.
+    Output,
+    /// The file for the journal: it cannot be made, or refuses.
+    Journal,
+}
+
+/// Writes the outcome with the report at the moment, and flushes it.
+#[tactic(auto, using(crate::proofs::Flushes::refused_at_the_flush, qtext::proofs::Fronts::keeps_appends))]
+fn put_outcome<W: Write>(outcome: &Outcome, at: u64, out: &mut W) -> Result<(), RefusedWrite>
+    ensures { Writes (W.contents out.old) (W.contents out.new) result (outcome_text outcome.now at) }
+{
+    if write_outcome(outcome, at, out).is_err() || out.flush().is_err() {
+        return Err(RefusedWrite);
+    }
+    Ok(())
+}
+
+/// Writes the journal, and flushes it.
+#[tactic(auto, using(crate::proofs::Flushes::refused_at_the_flush, qtext::proofs::Fronts::keeps_appends))]
+fn put_journal<W: Write>(journal: &Journal, out: &mut W) -> Result<(), RefusedWrite>
+    ensures { Writes (W.contents out.old) (W.contents out.new) result (spelling journal.now) }
+{
+    if write_journal(journal, out).is_err() || out.flush().is_err() {
+        return Err(RefusedWrite);
+    }
+    Ok(())
+}
+
+/// Makes a file of that name, and writes the journal to it.
+fn keep_journal<F: Files>(
+    journal: &Journal,
+    files: &mut F,
+    name: &str,
+) -> Result<(), RefusedWrite> {
+    match files.create(name) {
+        Ok(mut file) => put_journal(journal, &mut file),
+        Err(_) => Err(RefusedWrite),
+    }
+}
+
+/// Writes what came of a run to the output, with the report at the moment, and flushes it; and then, where a file is
+/// named for it, writes the journal to a new file of that name, and flushes that.
+///
+/// An output that refuses leaves no journal: no file is made. Where the journal is refused, the outcome stands whole in
+/// the output, and of the journal there may be nothing, or some beginning. A program that is ended in between leaves the
+/// same.
+pub fn write_run<F: Files, O: Write>(
+    outcome: &Outcome,
+    at: u64,
+    journal: Option<&str>,
+    files: &mut F,
+    out: &mut O,
+) -> Result<(), Refuser>
+    ensures whole { (result ≡ Err Output → ⊥)
+        → Appends (O.contents out.old) (O.contents out.new) (outcome_text outcome.now at) }
+    ensures beginning { result ≡ Err Output
+        → AppendsFront (O.contents out.old) (O.contents out.new) (outcome_text outcome.now at) }
+    ensures no_file { result ≡ Err Output → files.new ≡ files.old }
+{
+    if put_outcome(outcome, at, out).is_err() {
+        return Err(Refuser::Output);
+    }
+    match journal {
+        Some(name) if keep_journal(&outcome.journal, files, name).is_err() => Err(Refuser::Journal),
+        _ => Ok(()),
+    }
+}
