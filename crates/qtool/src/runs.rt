@@ -1,8 +1,10 @@
 //! Runs of the scripts of a command line, and replays of a journal.
-ghost use Rattle.std.specs.Prelude.{◌≡◌, ℕ, Err, IfOk, IfErr, vec_len};
+ghost use Rattle.std.specs.Prelude.{◌≡◌, ℕ, List, Err, IfOk, IfErr, vec_len};
 ghost use Rattle.qplain.specs.State.{start};
+ghost use Rattle.qplain.specs.declared.line.Line.{Line};
+ghost use Rattle.qrun.specs.declared.outcome.Outcome.{Outcome};
 ghost use Rattle.qrun.specs.declared.run_fault.RunFault.TheVariants.{Mismatch};
-ghost use Rattle.qrun.specs.Replays.{IsMismatch, IsReplayOf};
+ghost use Rattle.qrun.specs.Replays.{GivesBack, IsMismatch, IsReplayOf};
 ghost use Rattle.qrun.specs.Runs.{IsOutcomeOf};
 
 use crate::{Config, Journal, Outcome, RunFault, Script};
@@ -44,6 +46,10 @@ pub fn replay(
     ensures outcome { IfOk result (IsReplayOf config.setup journal.now) }
     ensures mismatch { (place : ℕ) → result ≡ Err (Mismatch place)
         → IsMismatch (start config.setup) journal.now.entries place }
+
+    // The journal of a run under this configuration gives back what the run has left, but for the lines that failed.
+    ensures of_a_run { (scripts : List (List Line)) (run : Outcome) → IsOutcomeOf config.setup scripts run
+        → journal.now ≡ run.journal → GivesBack run result }
 {
     qrun::replay(alloc, config.setup, journal, seed)
 }
