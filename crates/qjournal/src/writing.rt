@@ -27,9 +27,9 @@ fn put_entry<W: Write>(out: &mut W, line: &mut TextLine, entry: &Entry) -> Resul
     line.clear();
     line.number(entry.worker);
     line.field(entry.moment);
-    line.text(b" ");
+    line.byte(b' ');
     put_caller(line, &entry.cred);
-    line.text(b" ");
+    line.byte(b' ');
     put_call(out, line, &entry.call)?;
     line.text(b" => ");
     put_reply(out, line, &entry.reply)

@@ -28,7 +28,7 @@ fn put_receipt<W: Write>(
 {
     line.clear();
     line.number(receipt.place);
-    line.text(b" ");
+    line.byte(b' ');
     put_reply(out, line, &receipt.reply)
 }
 

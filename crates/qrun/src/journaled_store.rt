@@ -48,7 +48,8 @@ fn are_same(one: &Reply, other: &Reply) -> bool
     one == other
 }
 
-/// Does what is ready, and journals it as this entry.
+/// Does what is ready, and journals it as this entry. Inlined, since what is ready is too large to be handed over.
+#[inline(always)]
 fn carry_out(store: &mut Store, journal: &mut Vec<Entry>, ready: Ready, entry: Entry) -> Receipt
     requires ready { IsReady store.old ready }
     requires room { vec_len journal.old < vec_capacity journal.old }

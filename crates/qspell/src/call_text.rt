@@ -83,7 +83,7 @@ fn put_write<W: Write>(
     ensures short { IfOk result (λ _. length line.new ≤ WORD_ROOM) }
 {
     put_at(out, line, b"write ", path, off)?;
-    line.text(b" ");
+    line.byte(b' ');
     put_input(out, line, bytes.input())?;
     line.put_full(out)
 }

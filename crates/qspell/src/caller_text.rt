@@ -19,7 +19,7 @@ fn put_groups(line: &mut TextLine, groups: &[u32])
     ensures short { length line.new ≤ length line.old + 21 * length groups.now }
 {
     for group in groups {
-        line.text(b",");
+        line.byte(b',');
         line.number(*group as u64);
     }
 }
@@ -31,7 +31,7 @@ pub fn put_caller(line: &mut TextLine, cred: &Cred)
     ensures short { length line.new ≤ length line.old + 377 }
 {
     line.number(cred.uid() as u64);
-    line.text(b":");
+    line.byte(b':');
     line.number(cred.gid() as u64);
     put_groups(line, cred.more());
 }

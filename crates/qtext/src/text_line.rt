@@ -76,9 +76,10 @@ impl TextLine {
     }
 
     /// Puts one byte behind what is there.
-    fn byte(&mut self, byte: u8)
+    pub fn byte(&mut self, byte: u8)
         requires { length self.old < LINE_ROOM }
-        ensures { self.new ≡ self.old ++ byte ∷ [] }
+        ensures byte { self.new ≡ self.old ++ byte ∷ [] }
+        ensures len { length self.new ≡ length self.old + 1 }
     {
         self.bytes[self.len] = byte;
         self.len += 1;

@@ -10,10 +10,10 @@ returns-in_err-put_at-clause-passes g c = refused _ _ _ c.args.line.now _ _ _ c.
 pub returns-in_err-put_input-clause-passes : goal.returns-in_err-put_input-clause-passes
 returns-in_err-put_input-clause-passes g c = passes_ends _ _ _ _ _ _ _ c.from_residual-in_err-put_input.ensures.0
     (behind _ _ c.args.line.now _ _ _ c.in_ok-put_at.ensures.passes)
-    (rw (c.text.ensures.text, c.input.ensures, append_assoc c.put_at.new.line (32 ∷ []) (data_text c.args.bytes.now)) at c.in_err-put_input.ensures.passes)
+    (rw (c.byte.ensures.byte, c.input.ensures, append_assoc c.put_at.new.line (32 ∷ []) (data_text c.args.bytes.now)) at c.in_err-put_input.ensures.passes)
 
 pub returns-clause-passes : goal.returns-clause-passes
 returns-clause-passes g c = passes_then _ _ _ _ _ _ _
     (partly_then _ _ _ _ _ _ (behind _ _ c.args.line.now _ _ _ c.in_ok-put_at.ensures.passes)
-    (rw (c.text.ensures.text, c.input.ensures, append_assoc c.put_at.new.line (32 ∷ []) (data_text c.args.bytes.now)) at c.in_ok-put_input.ensures.passes))
+    (rw (c.byte.ensures.byte, c.input.ensures, append_assoc c.put_at.new.line (32 ∷ []) (data_text c.args.bytes.now)) at c.in_ok-put_input.ensures.passes))
     c.put_full.ensures.passes

@@ -10,7 +10,7 @@ returns-clause-text c = rw (
   c.more.ensures.groups,
   c.number-2.ensures.text,
   c.gid.ensures,
-  c.text.ensures.text,
+  c.byte.ensures.byte,
   c.number.ensures.text,
   c.uid.ensures,
 ) (simp append_assoc)
