@@ -1,13 +1,11 @@
 -- What stands at a number, and what a name leads to.
-use Rattle.std.proofs.Common.{◌≡◌, ℕ, ◌==◌, Bool, true, false, not, cond, is_some, List, [], ◌∷◌, Option, Some, None, refl, ap, arith, tests}
+use Rattle.std.proofs.Common.{◌≡◌, ℕ, ◌==◌, Bool, true, false, not, cond, List, [], ◌∷◌, Option, Some, None, refl, arith, tests}
 use Rattle.std.specs.BTreeMap.{is_at}
 use Rattle.std.specs.List.{list_any}
 use Rattle.std.specs.Map.{lookup}
-use Rattle.std.proofs.lemmas.Bool.{and_parts, or_parts}
-use Rattle.qplain.specs.State.{Inode, NameKey, State, inode_at, is_dir, is_directory, name_key_cmp, named}
+use Rattle.std.proofs.lemmas.Bool.{or_parts}
+use Rattle.qplain.specs.State.{Inode, NameKey, State, is_dir, name_key_cmp, named}
 use Rattle.qplain.specs.Use.{is_empty}
-use Rattle.qlaws.specs.Laws.{IsLawful, leads}
-use Rattle.qlaws.proofs.Finding.{found-key}
 use Rattle.qlaws.proofs.Sweeping.{key-dir}
 
 -- where a directory stands an inode does, which is one
@@ -44,21 +42,3 @@ empty-none S number empty name = none-in number S.names (false-from (list_any (�
     false-from : (b : Bool) → not b ≡ true → b ≡ false
     false-from true h = cc
     false-from false h = refl
-
--- a name leads to an inode that is there
-pub led-there : {A : Type 0} (S : State) (lawful : IsLawful S) (dir : ℕ) (name : List ℕ) (number : ℕ) → named S dir name ≡ Some number
-    → inode_at S number ≡ None → A
-led-there S lawful dir name number led none =
-    let key = found-key (λ e. leads S e ≡ true) (is_at (name_key_cmp (dir, name))) S.names number lawful.parts.names.lead led in
-    let some : is_some (inode_at S number) ≡ true = (and_parts (is_directory S key.0.0) (is_some (inode_at S number)) key.2).1 in
-    let no : is_some (inode_at S number) ≡ false = ap is_some none in
-    cc
-
--- which is some
-pub led-inode : (S : State) (lawful : IsLawful S) (dir : ℕ) (name : List ℕ) (number : ℕ) → named S dir name ≡ Some number
-    → (inode : Inode) × inode_at S number ≡ Some inode
-led-inode S lawful dir name number led = by (inode_at S number) refl
-  where
-    by : (o : Option Inode) → inode_at S number ≡ o → (inode : Inode) × inode_at S number ≡ Some inode
-    by None none = led-there S lawful dir name number led none
-    by (Some inode) there = (inode, there)

@@ -3,11 +3,11 @@ use Rattle.std.specs.BTreeMap.{is_at}
 use Rattle.std.specs.Map.{lookup}
 use Rattle.qplain.specs.State.{name_key_cmp, named}
 use Rattle.qplain.specs.Use.{links_of}
+use Rattle.qlaws.proofs.Finding.{led-inode}
 use Rattle.qpath.specs.Paths.{name_in}
 use Rattle.qchange.proofs.ParentLinks.{parent-links}
 use Rattle.qchange.proofs.RenamedTrees.{no-names, tree-onto, tree-onto-none}
 use Rattle.qchange.proofs.Renamings.{leaves, moved-tree}
-use Rattle.qchange.proofs.Directories.{led-inode}
 use Rattle.qchange.proofs.parts.rename.Goals as goal
 
 pub move_node-requires-clause-from : goal.move_node-requires-clause-from
