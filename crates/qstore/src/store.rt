@@ -205,10 +205,9 @@ impl Store {
     /// Decides a call and makes every growth that it needs, and leaves the state as it was.
     ///
     /// `moment` is in seconds; above 2^40 the reply is EINVAL. A refusal is a reply, and wants no memory: EINVAL first,
-    /// then ENAMETOOLONG, the call's own tests, ENOSPC, EDQUOT. Err is want of memory alone. It comes after all
-    /// refusals, so only a create, a mkdir, a write, a read, a link, an unlink or a rmdir that would be granted meets
-    /// it, and it leaves the state as it was, too. The bytes of a write are not copied: the call and what is ready
-    /// share them.
+    /// then ENAMETOOLONG, the call's own tests, ENOSPC, EDQUOT. Err is want of memory alone, after all refusals, and
+    /// leaves the state as it was, too: only a granted create, mkdir, write, read, link, unlink, rmdir or rename meets
+    /// it. The bytes of a write are not copied: the call and what is ready share them.
     ///
     /// The `Ready` is for `commit` of this store, before any other `ready`, `apply` or `commit` of it. It may be
     /// dropped: the room of a create, a mkdir or a link serves the next of them in its directory, a write's blocks go
@@ -230,6 +229,7 @@ impl Store {
     /// Does what is ready, and gives the reply. It takes no memory and always succeeds.
     ///
     /// The caller owes that this store had no other `ready`, `apply` or `commit` since.
+    #[inline(always)]
     pub fn commit(&mut self, ready: Ready) -> Reply
         requires { IsReady self.old ready }
         ensures { (self.new.state, result) ≡ committed self.old ready }

@@ -1,4 +1,4 @@
-ghost use Rattle.std.specs.Prelude.{◌≡◌, ◌≤◌, ◌<◌, ◌+◌, ◌*◌, ◌∷◌, ◌++◌, [], length, decimal, codes, IfOk};
+ghost use Rattle.std.specs.Prelude.{◌≡◌, ◌≤◌, ◌<◌, ◌+◌, ◌*◌, ◌/◌, ◌%◌, ◌∷◌, ◌++◌, [], length, decimal, codes, IfOk};
 ghost use Rattle.hex.specs.Hex.{encode_lower};
 ghost use Rattle.qtext.specs.Pieces.{data_text};
 ghost use Rattle.qtext.specs.Written.{Passes, Writes};
@@ -85,15 +85,45 @@ impl TextLine {
         self.len += 1;
     }
 
+    /// Puts two decimal digits behind what is there.
+    fn pair(&mut self, n: u64)
+        requires small { n < 100 }
+        requires room { length self.old + 2 ≤ LINE_ROOM }
+        ensures text { self.new ≡ self.old ++ (48 + n / 10) ∷ (48 + n % 10) ∷ [] }
+        ensures len { length self.new ≡ length self.old + 2 }
+    {
+        self.byte(b'0' + (n / 10) as u8);
+        self.byte(b'0' + (n % 10) as u8);
+    }
+
+    /// Puts a number of one or two decimal digits behind what is there.
+    #[tactic(auto, using(std::proofs::lemmas::Fmt::decimal_digit, itoa::proofs::Decimal::decimal_two))]
+    fn small(&mut self, n: u64)
+        requires small { n < 100 }
+        requires room { length self.old + 2 ≤ LINE_ROOM }
+        ensures text { self.new ≡ self.old ++ decimal n }
+        ensures short { length self.new ≤ length self.old + 2 }
+    {
+        if n < 10 {
+            self.byte(b'0' + n as u8);
+        } else {
+            self.pair(n);
+        }
+    }
+
     /// Puts a number in decimal digits behind what is there.
-    #[tactic(auto, using(std::proofs::lemmas::Fmt::decimal_digit))]
     pub fn number(&mut self, n: u64)
         requires { length self.old + 20 ≤ LINE_ROOM }
         ensures text { self.new ≡ self.old ++ decimal n }
         ensures short { length self.new ≤ length self.old + 20 }
     {
-        if n < 10 {
-            self.byte(b'0' + n as u8);
+        if n < 100 {
+            self.small(n);
+            return;
+        }
+        if n < 10_000 {
+            self.small(n / 100);
+            self.pair(n % 100);
             return;
         }
         let mut buffer = Buffer::new();
