@@ -13,7 +13,6 @@ use Rattle.qstore.specs.Ready.{committed}
 use Rattle.qstore.specs.Stored.{Stored}
 use Rattle.qjournal.specs.declared.journal.TheConstants.{MAX_ENTRIES}
 use Rattle.qrun.specs.Journaled.{IsPlayed, Journaled, entry_of}
-use Rattle.qrun.specs.Replays.{line_of}
 
 -- one more entry, whose reply and state are the plain machine's
 pub played_on : (old new : Journaled) (worker : ℕ) (line : Line) (reply : Reply) → IsPlayed old
@@ -42,15 +41,3 @@ pub carried_out : (before after : State) (ready : Stored) (r : Ready) (reply sho
 carried_out before after ready r reply shown copy line stepped done told copied =
     let given : reply ≡ r.reply = ap (λ p. p.1) done in
     ap (λ x. (after, x)) (copied ∙ told ∙ sym given) ∙ done ∙ stepped
-
--- one more entry, whose reply was compared with the one that was ready
-pub played_again : (old new : Journaled) (e copy : Entry) (ready : Stored) (r : Ready) (reply : Reply) → IsPlayed old
-    → length old.journal < MAX_ENTRIES → new.setting ≡ old.setting → new.journal ≡ old.journal ++ copy ∷ [] → copy ≡ e
-    → committed ready r ≡ step old.stored.state e.cred e.moment e.call
-    → (new.stored.state, reply) ≡ committed ready r → r.reply ≡ e.reply → IsPlayed new
-played_again old new e copy ready r reply is few setting journal copied stepped done same =
-    let entries : new.journal ≡ old.journal ++ entry_of e.worker (line_of e) e.reply ∷ [] =
-    journal ∙ ap (λ x. old.journal ++ x ∷ []) copied in
-    let next : (new.stored.state, e.reply) ≡ step old.stored.state e.cred e.moment e.call =
-    ap (λ x. (new.stored.state, x)) (sym same ∙ sym (ap (λ p. p.1) done)) ∙ done ∙ stepped in
-    played_on old new e.worker (line_of e) e.reply is few setting entries next

@@ -4,8 +4,9 @@ use Rattle.qplain.specs.declared.entry.Entry.{Entry}
 use Rattle.qplain.specs.declared.line.Line.{Line}
 use Rattle.qplain.specs.declared.reply.Reply.{Reply}
 use Rattle.qplain.specs.Setups.{Setting}
-use Rattle.qplain.specs.State.{start}
+use Rattle.qplain.specs.State.{State, start}
 use Rattle.qplain.specs.Journal.{IsLegal, play}
+use Rattle.qplain.specs.Step.{step}
 use Rattle.qstore.specs.Stored.{Stored}
 use Rattle.qplain.specs.declared.receipt.Receipt.{Receipt}
 use Rattle.qlaws.specs.Laws.{IsLawful}
@@ -34,3 +35,8 @@ entry_of worker line reply =
 pub record IsJournaled (worker : ℕ) (line : Line) (receipt : Receipt) (old new : List Entry) : Type 0 where
   pub entry : new ≡ old ++ entry_of worker line receipt.reply ∷ []
   pub place : receipt.place ≡ length old + 1
+
+-- these entries are legal, and this is the reply that the plain machine gives to the line behind them
+pub record IsAnswered (S : State) (before : List Entry) (line : Line) (reply : Reply) : Type 0 where
+  pub legal : IsLegal S before
+  pub reply_is : reply ≡ (step (play S before) line.cred line.moment line.call).1

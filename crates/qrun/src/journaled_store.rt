@@ -6,8 +6,8 @@ ghost use Rattle.qstore.specs.Ready.{IsReady, committed};
 ghost use Rattle.qstore.specs.Rows.{record_row_of};
 ghost use Rattle.qrows.specs.Own.{differences_in, record_rows};
 ghost use Rattle.qrun.specs.declared.run_fault.RunFault.TheVariants.{Mismatch};
-ghost use Rattle.qrun.specs.Journaled.{IsJournaled, IsPlayed};
-ghost use Rattle.qrun.specs.Replays.{IsMismatch, IsMismatchAfter};
+ghost use Rattle.qrun.specs.Journaled.{IsAnswered, IsJournaled, IsPlayed};
+ghost use Rattle.qrun.specs.Replays.{IsMismatch, IsMismatchAfter, line_of};
 
 use crate::RunFault;
 use qaudit::Difference;
@@ -48,8 +48,18 @@ fn are_same(one: &Reply, other: &Reply) -> bool
     one == other
 }
 
-/// Does what is ready, and journals it as this entry. Inlined, since what is ready is too large to be handed over.
-#[inline(always)]
+/// The line of an entry, which shares what its call has.
+pub(crate) fn line_of(entry: &Entry) -> Result<Line, NoMemory>
+    ensures { IfOk result (λ line. line ≡ line_of entry.now) }
+{
+    Ok(Line {
+        cred: entry.cred.copy()?,
+        moment: entry.moment,
+        call: entry.call.copy()?,
+    })
+}
+
+/// Does what is ready, and journals it as this entry.
 fn carry_out(store: &mut Store, journal: &mut Vec<Entry>, ready: Ready, entry: Entry) -> Receipt
     requires ready { IsReady store.old ready }
     requires room { vec_len journal.old < vec_capacity journal.old }
@@ -95,11 +105,14 @@ impl JournaledStore {
         })
     }
 
-    /// Makes the call of a line and journals it, with all that it needs made before its first change.
+    /// Makes the call of a line and journals it, with all that it needs made before its first change. Runs and replays
+    /// come here, so that what is ready is made and carried out in one place and never copied.
     fn journal_call(&mut self, worker: u64, line: &Line) -> Result<Receipt, NoMemory>
         requires few { length self.old.journal < MAX_ENTRIES }
         ensures setting { self.new.setting ≡ self.old.setting }
         ensures ok { IfOk result (λ receipt. IsJournaled worker line.now receipt self.old.journal self.new.journal) }
+        ensures answered { IfOk result (λ receipt.
+            IsAnswered (start self.old.setting) self.old.journal line.now receipt.reply) }
         ensures err { OnErr result (self.new.journal ≡ self.old.journal) }
     {
         self.journal.reserve(1)?;
@@ -133,8 +146,8 @@ impl JournaledStore {
         }
     }
 
-    /// Makes the call of an entry again and journals it with its reply, which has to be the store's. An Err changes
-    /// nothing.
+    /// Makes the call of an entry again and journals it. A reply that is another than the entry's is told by its place,
+    /// and then the store is of no further use.
     fn replay_entry(&mut self, entry: &Entry) -> Result<(), RunFault>
         requires few { length self.old.journal < MAX_ENTRIES }
         ensures setting { self.new.setting ≡ self.old.setting }
@@ -142,14 +155,12 @@ impl JournaledStore {
         ensures mismatch { (place : ℕ) → result ≡ Err (Mismatch place)
             → IsMismatchAfter (start self.old.setting) self.old.journal entry.now place }
     {
-        self.journal.reserve(1)?;
-        let copy = entry.copy()?;
-        let ready = self.store.ready(&entry.cred, entry.moment, &entry.call)?;
-        if !are_same(ready.reply(), &entry.reply) {
-            return Err(RunFault::Mismatch(self.journal.len() as u64 + 1));
+        let line = line_of(entry)?;
+        let receipt = self.journal_call(entry.worker, &line)?;
+        if are_same(&receipt.reply, &entry.reply) {
+            return Ok(());
         }
-        carry_out(&mut self.store, &mut self.journal, ready, copy);
-        Ok(())
+        Err(RunFault::Mismatch(receipt.place))
     }
 
     /// Plays the entries again, one after the other, on a store that has just begun, up to the first whose reply is

@@ -8,24 +8,13 @@ ghost use Rattle.qrun.specs.declared.run_fault.RunFault.TheVariants.{Mismatch};
 ghost use Rattle.qrun.specs.Runs.{IsOutcomeOf};
 ghost use Rattle.qrun.specs.Replays.{GivesBack, IsMismatch, IsReplayOf, line_of, transcript_in, transcripts_in};
 
-use crate::journaled_store::JournaledStore;
+use crate::journaled_store::{JournaledStore, line_of};
 use crate::outcome::outcome_of;
 use crate::{Outcome, RunFault};
 use qjournal::Journal;
-use qplain::{Entry, Line, NoMemory, Receipt, Setup, Transcript};
+use qplain::{Entry, NoMemory, Receipt, Setup, Transcript};
 use qrules::Items;
 use std::alloc::Global;
-
-/// The line of an entry, which shares what its call has.
-fn line_of(entry: &Entry) -> Result<Line, NoMemory>
-    ensures { IfOk result (λ line. line ≡ line_of entry.now) }
-{
-    Ok(Line {
-        cred: entry.cred.copy()?,
-        moment: entry.moment,
-        call: entry.call.copy()?,
-    })
-}
 
 /// The transcript of a worker: its own entries, of which nothing is copied, and no others.
 fn transcript_of(alloc: Global, worker: u64, entries: &[Entry]) -> Result<Transcript, NoMemory>

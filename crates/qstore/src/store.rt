@@ -229,7 +229,6 @@ impl Store {
     /// Does what is ready, and gives the reply. It takes no memory and always succeeds.
     ///
     /// The caller owes that this store had no other `ready`, `apply` or `commit` since.
-    #[inline(always)]
     pub fn commit(&mut self, ready: Ready) -> Reply
         requires { IsReady self.old ready }
         ensures { (self.new.state, result) ≡ committed self.old ready }

@@ -36,8 +36,9 @@ impl Files for MachineFiles<'_> {
 
     fn create(&mut self, name: &str) -> Result<BufWriter<File>, FileFault> {
         let file = fs::create(self.rt, name).map_err(|error| fault_of(&error))?;
-        BufWriter::with_capacity(self.rt.alloc(), OUTPUT_BUFFER, file)
-            .map_err(|error| fault_of(&error))
+        BufWriter::with_capacity(self.rt.alloc(), OUTPUT_BUFFER, file).map_err(|error| fault_of(
+            &error,
+        ))
     }
 }
 
