@@ -107,17 +107,17 @@ impl JournaledStore {
 
     /// Makes the call of a line and journals it, with all that it needs made before its first change. Runs and replays
     /// come here, so that what is ready is made and carried out in one place and never copied.
-    fn journal_call(&mut self, worker: u64, line: &Line) -> Result<Receipt, NoMemory>
+    fn journal_call(&mut self, worker: u64, line: Line) -> Result<Receipt, NoMemory>
         requires few { length self.old.journal < MAX_ENTRIES }
         ensures setting { self.new.setting ≡ self.old.setting }
-        ensures ok { IfOk result (λ receipt. IsJournaled worker line.now receipt self.old.journal self.new.journal) }
+        ensures ok { IfOk result (λ receipt. IsJournaled worker line receipt self.old.journal self.new.journal) }
         ensures answered { IfOk result (λ receipt.
-            IsAnswered (start self.old.setting) self.old.journal line.now receipt.reply) }
+            IsAnswered (start self.old.setting) self.old.journal line receipt.reply) }
         ensures err { OnErr result (self.new.journal ≡ self.old.journal) }
     {
         self.journal.reserve(1)?;
-        let Line { cred, moment, call } = line.copy()?;
-        let ready = self.store.ready(&line.cred, line.moment, &line.call)?;
+        let Line { cred, moment, call } = line;
+        let ready = self.store.ready(&cred, moment, &call)?;
         let reply = ready.reply().copy()?;
         let entry = Entry {
             worker,
@@ -140,6 +140,9 @@ impl JournaledStore {
         if self.journal.len() >= MAX_ENTRIES {
             return Err(CallFault::JournalFull);
         }
+        let Ok(line) = line.copy() else {
+            return Err(CallFault::OutOfMemory);
+        };
         match self.journal_call(worker, line) {
             Ok(receipt) => Ok(receipt),
             Err(_) => Err(CallFault::OutOfMemory),
@@ -155,8 +158,7 @@ impl JournaledStore {
         ensures mismatch { (place : ℕ) → result ≡ Err (Mismatch place)
             → IsMismatchAfter (start self.old.setting) self.old.journal entry.now place }
     {
-        let line = line_of(entry)?;
-        let receipt = self.journal_call(entry.worker, &line)?;
+        let receipt = self.journal_call(entry.worker, line_of(entry)?)?;
         if are_same(&receipt.reply, &entry.reply) {
             return Ok(());
         }

@@ -9,9 +9,8 @@ pub invariant_of-self-2 : goal.invariant_of-self-2
 invariant_of-self-2 c =
     let few : length c.self.inside.journal.items < MAX_ENTRIES = rw (ap (λ j. j.journal) c.self.view_is) c.requires.few in
     let entries : c.carry_out-receipt.new.journal.items ≡ c.self.inside.journal.items
-    ++ entry_of c.args.worker c.args.line.now c.in_ok-reply.reply ∷ [] =
-    c.carry_out-receipt.ensures.journal ∙ rw c.in_ok-reserve.ensures.items
-    (ap (λ line. c.self.inside.journal.items ++ entry_of c.args.worker line c.in_ok-reply.reply ∷ []) c.in_ok-cred.ensures) in
-    played_on (journaled_of c.self.inside) _ c.args.worker c.args.line.now c.in_ok-reply.reply c.self.invariant few refl entries
-    (carried_out c.self.inside.store.state _ c.ready.new.self c.in_ok-ready.ready _ _ _ c.args.line.now
+    ++ entry_of c.args.worker c.args.line c.in_ok-reply.reply ∷ [] =
+    c.carry_out-receipt.ensures.journal ∙ ap (λ es. es ++ entry_of c.args.worker c.args.line c.in_ok-reply.reply ∷ []) c.in_ok-reserve.ensures.items in
+    played_on (journaled_of c.self.inside) _ c.args.worker c.args.line c.in_ok-reply.reply c.self.invariant few refl entries
+    (carried_out c.self.inside.store.state _ c.ready.new.self c.in_ok-ready.ready _ _ _ c.args.line
     c.in_ok-ready.ensures.step c.carry_out-receipt.ensures.done c.reply.ensures c.in_ok-reply.ensures)
