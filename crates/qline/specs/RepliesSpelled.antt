@@ -63,7 +63,7 @@ pub record IsChange (c : Change) : Type 0 where
 abbrev pub IsEmptyDirectory : Stat → Type 0
 IsEmptyDirectory s = s.dir ≡ true → (s.size ≡ 0) × (s.blocks ≡ 0)
 
--- where a reply is a stat, it is one that a directory may have
+-- where a reply is a directory's stat, it tells of no size and no blocks
 abbrev pub HasLawfulStat : Reply → Type 0
 HasLawfulStat (Done ino change) = Unit {0}
 HasLawfulStat (Bytes bytes) = Unit {0}

@@ -106,7 +106,7 @@ impl JournaledStore {
     }
 
     /// Makes the call of a line and journals it, with all that it needs made before its first change. Runs and replays
-    /// come here, so that what is ready is made and carried out in one place and never copied.
+    /// come here, so that there is one place where a call is made ready and carried out.
     fn journal_call(&mut self, worker: u64, line: Line) -> Result<Receipt, NoMemory>
         requires few { length self.old.journal < MAX_ENTRIES }
         ensures setting { self.new.setting ≡ self.old.setting }
