@@ -12,7 +12,8 @@ use Rattle.qjournal.specs.Journals.{IsJournal, IsWorkers, Written}
 use Rattle.qrun.specs.Journaled.{IsPlayed, Journaled}
 use Rattle.qrun.specs.Left.{IsLeftOf, IsOneOf}
 use Rattle.qrun.specs.Replays.{IsReplayOf, transcripts_in}
-use Rattle.qrun.specs.Runs.{AreTranscriptsOf, Belongs, FullIsToldFirst, IsFullOf, IsOutcomeOf, journaled_lines}
+use Rattle.qplain.specs.Transcripts.{Belongs, journaled_lines}
+use Rattle.qrun.specs.Runs.{AreTranscriptsOf, FullIsToldFirst, IsFullOf, IsOutcomeOf}
 use Rattle.qplain.specs.State.{start}
 use Rattle.qrun.proofs.Stats.{legal-fair}
 use Rattle.qrun.proofs.Telling.{IsOf}

@@ -15,7 +15,8 @@ use Rattle.qrows.specs.Own.{differences_in}
 use Rattle.qrun.specs.declared.outcome.Outcome.{Outcome}
 use Rattle.qrun.specs.declared.run_fault.RunFault.{RunFault}
 use Rattle.qrun.specs.declared.run_fault.RunFault.TheVariants.{Memory, Mismatch}
-use Rattle.qrun.specs.Runs.{AreTranscriptsOf, IsOutcomeOf, IsTranscriptOf, journaled_lines}
+use Rattle.qplain.specs.Transcripts.{journaled_lines}
+use Rattle.qrun.specs.Runs.{AreTranscriptsOf, IsOutcomeOf, IsTranscriptOf}
 use Rattle.qrun.specs.Replays.{GivesBack, IsAsBefore, IsMismatch, IsReplayOf, answer_of, granted_lines, line_of, transcript_in, without_failed}
 
 -- in a legal journal each reply is the plain machine's

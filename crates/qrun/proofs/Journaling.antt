@@ -12,7 +12,8 @@ use Rattle.qstore.specs.declared.ready.Ready.{Ready}
 use Rattle.qstore.specs.Ready.{committed}
 use Rattle.qstore.specs.Stored.{Stored}
 use Rattle.qjournal.specs.declared.journal.TheConstants.{MAX_ENTRIES}
-use Rattle.qrun.specs.Journaled.{IsPlayed, Journaled, entry_of}
+use Rattle.qplain.specs.Journal.{entry_of}
+use Rattle.qrun.specs.Journaled.{IsPlayed, Journaled}
 
 -- one more entry, whose reply and state are the plain machine's
 pub played_on : (old new : Journaled) (worker : ℕ) (line : Line) (reply : Reply) → IsPlayed old

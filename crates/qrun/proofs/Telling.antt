@@ -9,10 +9,12 @@ use Rattle.qplain.specs.Journal.{entries_of}
 use Rattle.qlaws.proofs.Playing.{own-one_more}
 use Rattle.qplain.specs.declared.call_fault.CallFault.{CallFault}
 use Rattle.qplain.specs.declared.receipt.Receipt.{Receipt}
-use Rattle.qrun.specs.Journaled.{IsJournaled, entry_of}
+use Rattle.qplain.specs.Journal.{entry_of}
+use Rattle.qrun.specs.Journaled.{IsJournaled}
 use Rattle.qplain.specs.declared.call_fault.CallFault.TheVariants.{JournalFull, OutOfMemory}
 use Rattle.qjournal.specs.declared.journal.TheConstants.{MAX_ENTRIES}
-use Rattle.qrun.specs.Runs.{FullIsToldFirst, IsFullBehind, IsFullOf, journaled_line, journaled_lines}
+use Rattle.qplain.specs.Transcripts.{journaled_line, journaled_lines}
+use Rattle.qrun.specs.Runs.{FullIsToldFirst, IsFullBehind, IsFullOf}
 
 -- the entry is the worker's
 abbrev pub IsOf : ℕ → Entry → Type 0

@@ -5,7 +5,7 @@ use Rattle.qplain.specs.declared.line.Line.{Line}
 use Rattle.qplain.specs.declared.reply.Reply.{Reply}
 use Rattle.qplain.specs.Setups.{Setting}
 use Rattle.qplain.specs.State.{State, start}
-use Rattle.qplain.specs.Journal.{IsLegal, play}
+use Rattle.qplain.specs.Journal.{IsLegal, entry_of, play}
 use Rattle.qplain.specs.Step.{step}
 use Rattle.qstore.specs.Stored.{Stored}
 use Rattle.qplain.specs.declared.receipt.Receipt.{Receipt}
@@ -25,11 +25,6 @@ pub record IsPlayed (j : Journaled) : Type 0 where
   pub legal : IsLegal (start j.setting) j.journal
   pub state : j.stored.state ≡ play (start j.setting) j.journal
   pub few : length j.journal ≤ MAX_ENTRIES
-
--- the entry of a worker's line that was given this reply
-abbrev pub entry_of : ℕ → Line → Reply → Entry
-entry_of worker line reply =
-    record { worker = worker; cred = line.cred; moment = line.moment; call = line.call; reply = reply }
 
 -- the receipt is that of the last entry, by which the journal grew
 pub record IsJournaled (worker : ℕ) (line : Line) (receipt : Receipt) (old new : List Entry) : Type 0 where

@@ -5,6 +5,7 @@ use Rattle.qplain.specs.declared.line.Line.{Line}
 use Rattle.qplain.specs.Setups.{Setting}
 use Rattle.qplain.specs.State.{start}
 use Rattle.qplain.specs.Journal.{IsLegal, entries_of, play}
+use Rattle.qplain.specs.Transcripts.{Belongs, journaled_lines}
 use Rattle.qstore.specs.Rows.{record_row_of}
 use Rattle.qrows.specs.Own.{differences_in}
 use Rattle.qplain.specs.declared.call_fault.CallFault.{CallFault}
@@ -13,19 +14,6 @@ use Rattle.qjournal.specs.declared.journal.TheConstants.{MAX_ENTRIES}
 use Rattle.qplain.specs.declared.receipt.Receipt.{Receipt}
 use Rattle.qplain.specs.declared.transcript.Transcript.{Transcript}
 use Rattle.qrun.specs.declared.outcome.Outcome.{Outcome}
-use Rattle.qrun.specs.Journaled.{entry_of}
-
--- the entry that a line's receipt stands for, with its place; a failed line stands for none
-abbrev pub journaled_line : ℕ → Line → Result Receipt CallFault → List (ℕ × Entry)
-journaled_line worker line (Ok receipt) = (receipt.place, entry_of worker line receipt.reply) ∷ []
-journaled_line worker line (Err fault) = []
-
--- the entries that a worker's receipts stand for, line by line
-unfoldable pub journaled_lines : ℕ → List Line → List (Result Receipt CallFault) → List (ℕ × Entry)
-journaled_lines worker (line ∷ lines) (answer ∷ answers) =
-    journaled_line worker line answer ++ journaled_lines worker lines answers
-journaled_lines worker [] answers = []
-journaled_lines worker (line ∷ lines) [] = []
 
 -- an answer tells of a full journal only where the journal is full
 abbrev pub IsFullOf : List Entry → Result Receipt CallFault → Type 0
@@ -60,10 +48,6 @@ AreTranscriptsOf worker (lines ∷ scripts) journal (t ∷ ts) = IsTranscriptOf 
     × AreTranscriptsOf (worker + 1) scripts journal ts
 AreTranscriptsOf worker [] journal (t ∷ ts) = ⊥
 AreTranscriptsOf worker (lines ∷ scripts) journal [] = ⊥
-
--- a transcript is that of the entry's worker
-abbrev pub Belongs : List Transcript → Entry → Type 0
-Belongs transcripts e = Contains (map (λ t. t.worker) transcripts) e.worker
 
 -- what a run of these scripts leaves, from this setup on; the journal has a worker for each and is no longer than it
 -- may be, no entry belongs to anyone else, and the differences are those of the store's own rows, of which there are

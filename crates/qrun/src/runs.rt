@@ -2,7 +2,8 @@
 ghost use Rattle.std.specs.Prelude.{◌≡◌, [], ◌∷◌, length, All, IfOk, IfErr, OnOk};
 ghost use Rattle.qplain.specs.Journal.{entries_of};
 ghost use Rattle.qrun.specs.Left.{IsOneOf};
-ghost use Rattle.qrun.specs.Runs.{AreTranscriptsOf, Belongs, FullIsToldFirst, IsFullOf, IsOutcomeOf, IsTranscriptOf, journaled_lines};
+ghost use Rattle.qplain.specs.Transcripts.{Belongs, journaled_lines};
+ghost use Rattle.qrun.specs.Runs.{AreTranscriptsOf, FullIsToldFirst, IsFullOf, IsOutcomeOf, IsTranscriptOf};
 
 use crate::journaled_store::{JournaledStore, append};
 use crate::outcome::outcome_of;

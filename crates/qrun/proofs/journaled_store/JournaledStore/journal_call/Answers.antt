@@ -1,6 +1,6 @@
 use Rattle.std.proofs.Common.{◌≡◌, ◌<◌, [], ◌∷◌, ◌++◌, length, refl, ap, ◌∙◌}
 use Rattle.qjournal.specs.declared.journal.TheConstants.{MAX_ENTRIES}
-use Rattle.qrun.specs.Journaled.{entry_of}
+use Rattle.qplain.specs.Journal.{entry_of}
 use Rattle.qrun.specs.KeptJournaled.{journaled_of}
 use Rattle.qrun.proofs.Journaling.{carried_out, played_on}
 use Rattle.qrun.proofs.journaled_store.JournaledStore.journal_call.Goals as goal
