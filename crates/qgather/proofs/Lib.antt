@@ -1,0 +1,3 @@
+-- What the proofs of more than one file share.
+pub mod Seeing
+pub mod Finding
