@@ -1,5 +1,5 @@
 -- What was found of a journal and its transcripts, one transcript after the other.
-use Rattle.std.proofs.Common.{◌≡◌, ℕ, ◌+◌, ◌<◌, ◌≤◌, ◌==◌, ◌⊎◌, inl, inr, Bool, true, false, nat_lt, cond, zero, suc, List, [], ◌∷◌, ◌++◌, length, map, take, slice_get, slice_index_or, get_or, All, Contains, Option, Some, None, refl, sym, ap, subst, ◌∙◌, add-one, arith, tests}
+use Rattle.std.proofs.Common.{◌≡◌, ℕ, ◌+◌, ◌<◌, ◌==◌, ◌⊎◌, inl, inr, Bool, true, false, nat_lt, cond, zero, suc, List, [], ◌∷◌, ◌++◌, length, map, take, slice_get, slice_index_or, All, Contains, Option, Some, None, refl, sym, ap, subst, ◌∙◌, add-one, arith, tests}
 use Rattle.std.proofs.Math.Seq.{take-length}
 use Rattle.std.proofs.lemmas.Option.{get_or_from_slice_get, slice_get-get_or}
 use Rattle.std.proofs.lemmas.List.Elements.{All-nil, All-push, recursion_from_All}
@@ -10,7 +10,7 @@ use Rattle.qplain.specs.Journal.{entries_of}
 use Rattle.qplain.specs.Transcripts.{Belongs}
 use Rattle.qgather.specs.Gathered.{FailsAt, HasMore, IsGathered, IsLeftOver, IsMismatch, IsTold, told_of}
 use Rattle.qgather.specs.Found.{AllBefore, IsBefore, IsFirstOther, IsFirstStrange, IsFound, IsStrange, IsUntold, earlier_of}
-use Rattle.qgather.proofs.Seeing.{below, own-told, receipts, take-more, there}
+use Rattle.qgather.proofs.Seeing.{below, own-told, receipts, take-more}
 
 -- ---- the earlier of two places
 
@@ -70,29 +70,35 @@ transcript-of (t ∷ ts) worker (suc k, less, e) =
     (suc later.0, later.1, later.2, later.3)
 
 -- where receipts are entries, the worker's own are told
-told_of-own : {journal : List Entry} (ts : List Transcript) (worker : ℕ) → Contains (map (λ t. t.worker) ts) worker
-    → All (λ t. receipts t ≡ entries_of journal t.worker) ts → told_of ts worker ≡ entries_of journal worker
-told_of-own ts worker has own = by ts has (recursion_from_All (λ t. receipts t ≡ entries_of journal t.worker) ts own)
+own-by : (journal : List Entry) (worker : ℕ) (ts : List Transcript) → Contains (map (λ t. t.worker) ts) worker
+    → AllByRecursion (λ t. receipts t ≡ entries_of journal t.worker) ts → told_of ts worker ≡ entries_of journal worker
+own-by journal worker [] (k, less, e) own = absurd (omega (arith, less))
+own-by journal worker (t ∷ ts) has own =
+    choose (t.worker == worker) refl (λ e. own.0 ∙ ap (entries_of journal) e) (λ other. own-by journal worker ts (rest other has) own.1)
   where
-    by : (ts : List Transcript) → Contains (map (λ t. t.worker) ts) worker → AllByRecursion (λ t. receipts t ≡ entries_of journal t.worker) ts
-        → told_of ts worker ≡ entries_of journal worker
-    by [] (k, less, e) own = absurd (omega (arith, less))
-    by (t ∷ ts) has own = choose (t.worker == worker) refl has
-      where
-        choose : (b : Bool) → (t.worker == worker) ≡ b → Contains (map (λ t. t.worker) (t ∷ ts)) worker
-            → cond b (receipts t) (told_of ts worker) ≡ entries_of journal worker
-        choose true e has = let same : t.worker ≡ worker = grind (arith, tests, e) in own.0 ∙ ap (entries_of journal) same
-        choose false e (zero, less, is) = absurd (grind (arith, tests, e, is))
-        choose false e (suc k, less, is) = by ts (k, omega (arith, less), is) own.1
+    choose : (b : Bool) → (t.worker == worker) ≡ b → (t.worker ≡ worker → receipts t ≡ entries_of journal worker)
+        → ((t.worker == worker) ≡ false → told_of ts worker ≡ entries_of journal worker)
+        → cond b (receipts t) (told_of ts worker) ≡ entries_of journal worker
+    choose true e here later = here (grind (arith, tests, e))
+    choose false e here later = later e
+
+    rest : (t.worker == worker) ≡ false → Contains (map (λ t. t.worker) (t ∷ ts)) worker → Contains (map (λ t. t.worker) ts) worker
+    rest e (zero, less, is) = absurd (grind (arith, tests, e, is))
+    rest e (suc k, less, is) = (k, omega (arith, less), is)
+
+told_of-own : (journal : List Entry) (ts : List Transcript) (worker : ℕ) → Contains (map (λ t. t.worker) ts) worker
+    → All (λ t. receipts t ≡ entries_of journal t.worker) ts → told_of ts worker ≡ entries_of journal worker
+told_of-own journal ts worker has own = own-by journal worker ts has (recursion_from_All (λ t. receipts t ≡ entries_of journal t.worker) ts own)
 
 -- where no transcript is the worker's, nothing is told
 told_of-strange : (ts : List Transcript) (worker : ℕ) → (Contains (map (λ t. t.worker) ts) worker → ⊥) → told_of ts worker ≡ []
 told_of-strange [] worker strange = refl
-told_of-strange (t ∷ ts) worker strange = by (t.worker == worker) refl
+told_of-strange (t ∷ ts) worker strange =
+    by (t.worker == worker) refl (told_of-strange ts worker (λ has. strange (suc has.0, (let less = has.1 in omega (arith, less)), has.2)))
   where
-    by : (b : Bool) → (t.worker == worker) ≡ b → cond b (receipts t) (told_of ts worker) ≡ []
-    by true e = absurd (strange (0, omega arith, grind (arith, tests, e)))
-    by false e = told_of-strange ts worker (λ has. strange (suc has.0, (let less = has.1 in omega (arith, less)), has.2))
+    by : (b : Bool) → (t.worker == worker) ≡ b → told_of ts worker ≡ [] → cond b (receipts t) (told_of ts worker) ≡ []
+    by true e later = absurd (strange (0, omega arith, grind (arith, tests, e)))
+    by false e later = later
 
 -- ---- what was found
 
@@ -113,8 +119,8 @@ found-first journal ts place first = record {
       there = strange.there;
       fails = λ told.
           let nothing : slice_get {X = ℕ × Entry} [] (length (entries_of (take strange.index journal) strange.entry.worker))
-              ≡ Some (length (take strange.index journal) + 1, strange.entry) =
-              subst (λ own. IsTold own (take strange.index journal) strange.entry) (told_of-strange ts strange.entry.worker strange.strange) told in
+          ≡ Some (length (take strange.index journal) + 1, strange.entry) =
+          subst (λ own. IsTold own (take strange.index journal) strange.entry) (told_of-strange ts strange.entry.worker strange.strange) told in
           absurd cc;
     }
 
@@ -177,17 +183,17 @@ gathered journal ts count place found end none = record {
 module _ (journal : List Entry) (ts : List Transcript) (count place : ℕ) (found : IsFound journal ts count (Some place)) where
   -- it is of no journal that tells the same
   pub not-gathered : IsGathered journal ts → ⊥
-  not-gathered gathered = by (found.here place refl)
+  not-gathered all = by (found.here place refl)
     where
       of : (index : ℕ) (e : Entry) → slice_get journal index ≡ Some e → IsTold (told_of ts e.worker) (take index journal) e
       of index e at =
-          let belongs : Belongs ts e = subst (Belongs ts) (get_or_from_slice_get journal index e e at) (gathered.belong index e (below journal index e at)) in
-          subst (λ own. IsTold own (take index journal) e) (sym (told_of-own ts e.worker belongs gathered.own)) (own-told journal index e at)
+          let belongs : Belongs ts e = subst (Belongs ts) (get_or_from_slice_get journal index e e at) (all.belong index e (below journal index e at)) in
+          subst (λ own. IsTold own (take index journal) e) (sym (told_of-own journal ts e.worker belongs all.own)) (own-told journal index e at)
 
       by : FailsAt journal ts place ⊎ IsLeftOver journal ts place → ⊥
       by (inl fails) = fails.fails (of fails.index fails.entry fails.there)
-      by (inr (behind, k, t, less, is, more)) =
-          let own : receipts t ≡ entries_of journal t.worker = subst (λ t. receipts t ≡ entries_of journal t.worker) is (gathered.own k t less) in
+      by (inr (behind, (k, t, less, is, more))) =
+          let own : receipts t ≡ entries_of journal t.worker = subst (λ t. receipts t ≡ entries_of journal t.worker) is (all.own k t less) in
           let same : length (receipts t) ≡ length (entries_of journal t.worker) = ap length own in
           omega (arith, same, more)
 
@@ -207,6 +213,6 @@ module _ (journal : List Entry) (ts : List Transcript) (count place : ℕ) (foun
           let own = transcript-of ts e.worker (found.known index e at before tt) in
           let t : Transcript = own.1 in
           let told : IsTold (receipts t) (take index journal) e =
-              subst (λ t. AllBefore journal (Some place) (λ e. e.worker ≡ t.worker) (λ k e. IsTold (receipts t) (take k journal) e))
-              (get_or_from_slice_get ts own.0 t t own.2) (all own.0 t (below ts own.0 t own.2)) index e at before (sym own.3) in
+          subst (λ t. AllBefore journal (Some place) (λ e. e.worker ≡ t.worker) (λ k e. IsTold (receipts t) (take k journal) e))
+          (get_or_from_slice_get ts own.0 t t own.2) (all own.0 t (below ts own.0 t own.2)) index e at before (sym own.3) in
           subst (λ own. IsTold own (take index journal) e) (sym (told_of-apart ts own.0 t apart own.2) ∙ ap (told_of ts) own.3) told

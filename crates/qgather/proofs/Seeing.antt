@@ -1,9 +1,8 @@
 -- A transcript's receipts beside its worker's entries, one after the other.
-use Rattle.std.proofs.Common.{◌≡◌, ℕ, ◌+◌, ◌<◌, ◌≤◌, ◌==◌, ◌⊎◌, Bool, true, false, nat_lt, cond, zero, suc, List, [], ◌∷◌, ◌++◌, length, take, drop, filter, slice_get, Option, Some, None, IfSome, Result, Ok, Err, IsOk, is_err, get_or, refl, sym, ap, subst, ◌∙◌, add-one, length-append, length-take-le, append_assoc, append-nil, inl, inr, arith, tests}
+use Rattle.std.proofs.Common.{◌≡◌, ℕ, ◌+◌, ◌<◌, ◌≤◌, ◌==◌, Bool, true, false, nat_lt, cond, zero, suc, List, [], ◌∷◌, ◌++◌, length, take, drop, filter, slice_get, Option, Some, None, IfSome, Result, Ok, Err, IsOk, is_err, get_or, refl, sym, ap, subst, ◌∙◌, add-one, length-append, length-take-le, append_assoc, append-nil, inl, inr, arith, tests}
 use Rattle.std.proofs.Math.Seq.{take-length}
 use Rattle.std.proofs.lemmas.Option.{slice_get-get_or, slice_get_past}
 use Rattle.std.specs.List.{enumerate_from}
-use Rattle.std.specs.Bool.{Decides}
 use Rattle.qplain.specs.declared.call_fault.CallFault.{CallFault}
 use Rattle.qplain.specs.declared.entry.Entry.{Entry}
 use Rattle.qplain.specs.declared.line.Line.{Line}
@@ -13,7 +12,7 @@ use Rattle.qplain.specs.Journal.{entries_of}
 use Rattle.qplain.specs.Transcripts.{journaled_line, journaled_lines}
 use Rattle.qlaws.proofs.Playing.{own-one_more}
 use Rattle.qgather.specs.Gathered.{HasMore, IsTold}
-use Rattle.qgather.specs.Found.{AllBefore, AreSeen, IsFirstOther, IsUntold}
+use Rattle.qgather.specs.Found.{AllBefore, AreSeen, IsFirstOther}
 
 -- ---- lists
 
@@ -39,7 +38,7 @@ behind [] ys = refl
 behind (x ∷ xs) ys = behind xs ys
 
 -- one more element
-take-more : {X : Type 0} (xs : List X) (i : ℕ) (x : X) → slice_get xs i ≡ Some x → take (suc i) xs ≡ take i xs ++ x ∷ []
+pub take-more : {X : Type 0} (xs : List X) (i : ℕ) (x : X) → slice_get xs i ≡ Some x → take (suc i) xs ≡ take i xs ++ x ∷ []
 take-more [] i x e = absurd cc
 take-more (y ∷ xs) zero x e = let same : y ≡ x = cc in ap (λ z. z ∷ []) same
 take-more (y ∷ xs) (suc i) x e = ap (λ rest. y ∷ rest) (take-more xs i x e)
@@ -172,7 +171,8 @@ other-numbered : (n worker : ℕ) (journal : List Entry) (e : Entry) → (e.work
 other-numbered n worker [] e other = rw other refl
 other-numbered n worker (x ∷ rest) e other = ap (λ own. cond (x.worker == worker) ((n, x) ∷ own) own) (other-numbered (n + 1) worker rest e other)
 
-pub other-one_more : (journal : List Entry) (e : Entry) (worker : ℕ) → (e.worker == worker) ≡ false → entries_of (journal ++ e ∷ []) worker ≡ entries_of journal worker
+pub other-one_more : (journal : List Entry) (e : Entry) (worker : ℕ) → (e.worker == worker) ≡ false
+    → entries_of (journal ++ e ∷ []) worker ≡ entries_of journal worker
 other-one_more journal e worker other = other-numbered 1 worker journal e other
 
 -- ---- what was seen
@@ -357,3 +357,8 @@ pub record IsNext (answers : List Answer) (seen next : ℕ) : Type 0 where
 pub passed-over : (journal : List Entry) (t : Transcript) (index seen next : ℕ) → AreSeen journal t index seen → length t.answers ≡ length t.lines
     → IsNext t.answers seen next → AreSeen journal t index next
 passed-over journal t index seen next are each is = passed journal t index seen next are is.within (is.skipped t.worker t.lines each)
+
+-- what is told by the slices is told by the transcript
+pub told-over : (t : Transcript) (lines : List Line) (answers : List Answer) (at : ℕ) (e : Entry) (place : ℕ) → lines ≡ t.lines → answers ≡ t.answers
+    → slice_get (from e.worker at lines answers) 0 ≡ Some (place, e) → slice_get (from e.worker at t.lines t.answers) 0 ≡ Some (place, e)
+told-over t lines answers at e place same same_too told = sym (λ i. slice_get (from e.worker at (same i) (same_too i)) 0) ∙ told

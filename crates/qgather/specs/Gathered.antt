@@ -1,12 +1,12 @@
 -- A journal beside the transcripts of its workers: whether they tell the same, and the first place where they do not.
-use Rattle.std.specs.Prelude.{◌≡◌, ℕ, ◌+◌, ◌<◌, ◌⊎◌, ◌==◌, if◌then◌else◌, List, [], ◌∷◌, length, slice_get, take, All, Any, Option, Some}
+use Rattle.std.specs.Prelude.{◌≡◌, ℕ, ◌+◌, ◌<◌, ◌⊎◌, ◌==◌, if◌then◌else◌, List, [], ◌∷◌, length, slice_get, take, All, Any, Some}
 use Rattle.qplain.specs.declared.entry.Entry.{Entry}
 use Rattle.qplain.specs.declared.transcript.Transcript.{Transcript}
 use Rattle.qplain.specs.Journal.{entries_of}
 use Rattle.qplain.specs.Transcripts.{Belongs, journaled_lines}
 
--- for each worker, its entries are its journaled lines, in order, with the same places; and no entry belongs to a worker
--- without a transcript
+-- for each worker, its entries are its journaled lines, in order, with the same places; and no entry belongs to a
+-- worker without a transcript
 pub record IsGathered (journal : List Entry) (transcripts : List Transcript) : Type 0 where
   pub own : All (λ t. journaled_lines t.worker t.lines t.answers ≡ entries_of journal t.worker) transcripts
   pub belong : All (Belongs transcripts) journal
@@ -21,8 +21,8 @@ told_of (t ∷ ts) worker =
 abbrev pub IsTold : List (ℕ × Entry) → List Entry → Entry → Type 0
 IsTold told before e = slice_get told (length (entries_of before e.worker)) ≡ Some (length before + 1, e)
 
--- the entry of this place, from 1, fails: its worker has no transcript, or that has no receipt of the same number, or one
--- that differs in place, caller, moment, call or reply
+-- the entry of this place, from 1, fails: its worker has no transcript, or that has no receipt of the same number, or
+-- one that differs in place, caller, moment, call or reply
 pub record FailsAt (journal : List Entry) (transcripts : List Transcript) (place : ℕ) : Type 0 where
   pub index : ℕ
   pub place_is : place ≡ index + 1

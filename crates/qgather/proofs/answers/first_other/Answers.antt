@@ -1,7 +1,6 @@
-use Rattle.std.proofs.Common.{◌≡◌, ◌≤◌, ◌<◌, ◌+◌, ◌∙◌, Some, sym, ap, subst, arith, length, drop, slice_get}
-use Rattle.qplain.specs.Transcripts.{journaled_lines}
+use Rattle.std.proofs.Common.{◌≤◌, ◌<◌, ◌+◌, ◌∙◌, Some, sym, ap, subst, arith, length}
 use Rattle.qgather.specs.Found.{AreSeen}
-use Rattle.qgather.proofs.Seeing.{IsNext, first-left, first-none, looked-at, other-seen, own-seen, passed-over}
+use Rattle.qgather.proofs.Seeing.{IsNext, first-left, first-none, looked-at, other-seen, own-seen, passed-over, told-over}
 use Rattle.qgather.proofs.answers.first_other.Goals.{then-entry-transcript+else-not-is_next, else-entry-transcript}
 use Rattle.qgather.proofs.answers.first_other.Goals as goal
 
@@ -17,15 +16,14 @@ loop-entry-preserved c =
         | then-entry-transcript+else-not-is_next w ↦
             let next = w.next_receipt-seen.result in
             let is : IsNext t.answers c.loop-entry.seen next =
-                subst (λ answers. IsNext answers c.loop-entry.seen next) c.as_slice-answers.ensures (record {
-                  within = w.next_receipt-seen.ensures.within;
-                  skipped = w.next_receipt-seen.ensures.skipped;
-                  receipt = w.next_receipt-seen.ensures.receipt;
-                }) in
-            let told = subst (λ lines. slice_get (journaled_lines e.worker (drop next lines) (drop next t.answers)) 0 ≡ Some (index + 1, e)) c.as_slice-lines.ensures
-                (subst (λ answers. slice_get (journaled_lines e.worker (drop next c.as_slice-lines.result.now) (drop next answers)) 0 ≡ Some (index + 1, e))
-                c.as_slice-answers.ensures
-                (w.is_next.ensures.0 w.if-not-is_next.false ∙ ap (λ place. Some (place, e)) c.loop-entry.invariant.0)) in
+            subst (λ answers. IsNext answers c.loop-entry.seen next) c.as_slice-answers.ensures (record {
+              within = w.next_receipt-seen.ensures.within;
+              skipped = w.next_receipt-seen.ensures.skipped;
+              receipt = w.next_receipt-seen.ensures.receipt;
+            }) in
+            let told = told-over t c.as_slice-lines.result.now c.as_slice-answers.result.now next e (index + 1)
+            c.as_slice-lines.ensures c.as_slice-answers.ensures
+            (w.is_next.ensures.0 w.if-not-is_next.false ∙ ap (λ place. Some (place, e)) c.loop-entry.invariant.0) in
             subst (λ n. AreSeen c.args.entries.now t (index + 1) n) (sym w.seen-is)
             (own-seen c.args.entries.now t index next e
             (passed-over c.args.entries.now t index c.loop-entry.seen next seen c.requires.each is)
@@ -42,11 +40,11 @@ returns-then-next_receipt-answers c =
     let index = c.loop-entry.entry-index in
     let next = c.next_receipt.result in
     let is : IsNext t.answers c.loop-entry.seen next =
-        subst (λ answers. IsNext answers c.loop-entry.seen next) c.as_slice-answers.ensures (record {
-          within = c.next_receipt.ensures.within;
-          skipped = c.next_receipt.ensures.skipped;
-          receipt = c.next_receipt.ensures.receipt;
-        }) in
+    subst (λ answers. IsNext answers c.loop-entry.seen next) c.as_slice-answers.ensures (record {
+      within = c.next_receipt.ensures.within;
+      skipped = c.next_receipt.ensures.skipped;
+      receipt = c.next_receipt.ensures.receipt;
+    }) in
     first-left c.args.entries.now t index next c.loop-entry.place
     (passed-over c.args.entries.now t index c.loop-entry.seen next c.loop-entry.invariant.1 c.requires.each is)
     (omega (arith, c.loop-entry-test.false, c.loop-entry.auto.entry-index-end)) c.loop-entry.invariant.0 c.requires.each
@@ -58,11 +56,11 @@ returns c =
     let index = c.loop-entry.entry-index in
     let next = c.next_receipt.result in
     let is : IsNext t.answers c.loop-entry.seen next =
-        subst (λ answers. IsNext answers c.loop-entry.seen next) c.as_slice-answers.ensures (record {
-          within = c.next_receipt.ensures.within;
-          skipped = c.next_receipt.ensures.skipped;
-          receipt = c.next_receipt.ensures.receipt;
-        }) in
+    subst (λ answers. IsNext answers c.loop-entry.seen next) c.as_slice-answers.ensures (record {
+      within = c.next_receipt.ensures.within;
+      skipped = c.next_receipt.ensures.skipped;
+      receipt = c.next_receipt.ensures.receipt;
+    }) in
     let past = subst (λ answers. length answers ≤ next) c.as_slice-answers.ensures c.if-next_receipt-answers.false in
     first-none c.args.entries.now t index next
     (passed-over c.args.entries.now t index c.loop-entry.seen next c.loop-entry.invariant.1 c.requires.each is)

@@ -1,4 +1,4 @@
-use Rattle.std.proofs.Common.{◌≡◌, ◌∙◌, sym, ap, subst, arith, slice_get, Some, IfSome, IsOk}
+use Rattle.std.proofs.Common.{subst, arith, IfSome, IsOk}
 use Rattle.qgather.proofs.Seeing.{first-told, looked-at, never-told}
 use Rattle.qgather.proofs.answers.is_next.Goals as goal
 

@@ -1,4 +1,4 @@
-use Rattle.std.proofs.Common.{◌≡◌, ◌∙◌, sym, subst, refl, arith}
+use Rattle.std.proofs.Common.{◌+◌, sym, subst, refl, arith}
 use Rattle.qgather.specs.Found.{IsFound}
 use Rattle.qgather.proofs.Finding.{found-first, found-next, gathered, mismatch, not-gathered}
 use Rattle.qgather.proofs.Seeing.{looked-at}
