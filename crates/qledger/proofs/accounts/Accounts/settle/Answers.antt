@@ -1,15 +1,15 @@
 use Rattle.std.proofs.Common.{sym, subst}
-use Rattle.qledger.specs.KeptHolders.{AreById}
-use Rattle.qledger.proofs.ById.{by_id-posted}
+use Rattle.qledger.specs.Books.{AreInRange}
+use Rattle.qledger.specs.Kept.{books_of}
+use Rattle.qledger.proofs.Booked.{in_range-settled}
 use Rattle.qledger.proofs.accounts.Accounts.settle.Goals as goal
 
 pub invariant_of-self : goal.invariant_of-self
 invariant_of-self c =
+    let a = c.self.inside in
+    let users = c.settle.ensures in
+    let groups = c.settle-2.ensures in
     let bill = c.args.bill.now in
-    record {
-      size = c.self.invariant.size;
-      most_inodes = c.self.invariant.most_inodes;
-      graces = c.self.invariant.graces;
-      users = subst AreById (sym c.settle.ensures) (by_id-posted bill.users c.self.inside.users c.self.invariant.users);
-      groups = subst AreById (sym c.settle-2.ensures) (by_id-posted bill.groups c.self.inside.groups c.self.invariant.groups);
-    }
+    subst AreInRange
+    (λ i. record (books_of a) { users = sym users i; groups = sym groups i; blocks = bill.blocks; inodes = bill.inodes })
+    (in_range-settled (books_of a) bill c.self.invariant)
