@@ -1,15 +1,22 @@
-use Rattle.std.proofs.Common.{sym, subst}
-use Rattle.qledger.specs.Books.{AreInRange}
+use Rattle.std.proofs.Common.{◌≤◌, List, length, sym, subst}
+use Rattle.qplain.specs.declared.principal.TheConstants.{MAX_PRINCIPALS}
+use Rattle.qledger.specs.declared.kept_holder.KeptHolder.{KeptHolder}
 use Rattle.qledger.specs.Kept.{books_of}
+use Rattle.qledger.specs.KeptHolders.{AreById}
 use Rattle.qledger.proofs.Booked.{in_range-settled}
 use Rattle.qledger.proofs.accounts.Accounts.settle.Goals as goal
 
 pub invariant_of-self : goal.invariant_of-self
 invariant_of-self c =
-    let a = c.self.inside in
-    let users = c.settle.ensures in
-    let groups = c.settle-2.ensures in
-    let bill = c.args.bill.now in
-    subst AreInRange
-    (λ i. record (books_of a) { users = sym users i; groups = sym groups i; blocks = bill.blocks; inodes = bill.inodes })
-    (in_range-settled (books_of a) bill c.self.invariant)
+    let is = in_range-settled (books_of c.self.inside) c.args.bill.now c.self.invariant in
+    let users = sym c.settle.ensures in
+    let groups = sym c.settle-2.ensures in
+    record {
+      size = is.size;
+      most_inodes = is.most_inodes;
+      graces = is.graces;
+      users = subst AreById users is.users;
+      groups = subst AreById groups is.groups;
+      few_users = subst (λ (os : List KeptHolder). length os ≤ MAX_PRINCIPALS) users is.few_users;
+      few_groups = subst (λ (os : List KeptHolder). length os ≤ MAX_PRINCIPALS) groups is.few_groups;
+    }
