@@ -35,6 +35,7 @@ impl Store {
         self.next = make(&mut self.tree, self.next, self.alloc, change, bytes);
         self.accounts.settle(&self.bill);
     }
+
     /// What `commit` of a ready call will do to a board. It takes no memory. O(1).
     ///
     /// The caller owes that this store had no other `ready`, `apply` or `commit` since.
