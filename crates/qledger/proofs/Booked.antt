@@ -1,12 +1,13 @@
 -- The books after a bill are those of the new state, with the ends that then stand.
 use Rattle.std.proofs.Common.{◌≡◌, ℕ, ◌+◌, ◌-◌, ◌≤◌, List, [], ◌∷◌, ◌++◌, map, All, Option, None, Some, IfSome, option_map, sym, ap, subst, ◌∙◌, refl, arith}
-use Rattle.std.proofs.lemmas.List.{map-append}
+use Rattle.std.proofs.lemmas.List.{length-map, map-append}
 use Rattle.std.proofs.lemmas.List.Elements.{All-cons, All-head, All-nil, All-tail}
 use Rattle.qrules.specs.declared.kind.Kind.{Kind}
 use Rattle.qrules.specs.declared.kind.Kind.TheVariants.{User, Group}
 use Rattle.qrules.specs.declared.record.TheConstants.{MAX_USE}
 use Rattle.qrules.specs.Sort.{Sort, Inodes, Blocks}
 use Rattle.qrules.specs.Account.{HasEnds}
+use Rattle.qplain.specs.declared.principal.TheConstants.{MAX_PRINCIPALS}
 use Rattle.qplain.specs.State.{Holder, Inode, State}
 use Rattle.qplain.specs.Use.{account_of, total_of}
 use Rattle.qplain.specs.Decision.{ends_after, with_ends_of}
@@ -180,4 +181,6 @@ in_range-settled b bill is = record {
   graces = is.graces;
   users = by_id-posted bill.users b.users is.users;
   groups = by_id-posted bill.groups b.groups is.groups;
+  few_users = subst (λ n. n ≤ MAX_PRINCIPALS) (sym (length-map b.users (posted bill.users))) is.few_users;
+  few_groups = subst (λ n. n ≤ MAX_PRINCIPALS) (sym (length-map b.groups (posted bill.groups))) is.few_groups;
 }

@@ -13,3 +13,4 @@ pub mod Relimits
 pub mod Booked
 pub mod Refusals
 pub mod Relimited
+pub mod Boards

@@ -1,10 +1,11 @@
 -- The accounts as a store keeps them, and when they are those of a state.
-use Rattle.std.specs.Prelude.{◌≡◌, ◌≤◌, ℕ, true, List, All}
+use Rattle.std.specs.Prelude.{◌≡◌, ◌≤◌, ℕ, true, List, length, All}
 use Rattle.qrules.specs.declared.kind.Kind.{Kind}
 use Rattle.qrules.specs.declared.kind.Kind.TheVariants.{User, Group}
 use Rattle.qrules.specs.declared.graces.Graces.{Graces}
 use Rattle.qrules.specs.Range.{are_graces_in_range}
 use Rattle.qrules.specs.Sort.{Inodes, Blocks}
+use Rattle.qplain.specs.declared.principal.TheConstants.{MAX_PRINCIPALS}
 use Rattle.qplain.specs.declared.setup.TheConstants.{MAX_BLOCKS, MAX_INODES}
 use Rattle.qplain.specs.State.{State}
 use Rattle.qplain.specs.Use.{total_of}
@@ -37,13 +38,15 @@ pub record AreBooksOf (S : State) (b : Books) : Type 0 where
   pub blocks : b.blocks ≡ total_of S Blocks
   pub inodes : b.inodes ≡ total_of S Inodes
 
--- the bounds and the graces are in their ranges, and no id of a kind stands twice
+-- the bounds and the graces are in their ranges, and of each kind there are no more than may be, and no id twice
 pub record AreInRange (b : Books) : Type 0 where
   pub size : b.size ≤ MAX_BLOCKS
   pub most_inodes : b.most_inodes ≤ MAX_INODES
   pub graces : are_graces_in_range b.graces ≡ true
   pub users : AreById b.users
   pub groups : AreById b.groups
+  pub few_users : length b.users ≤ MAX_PRINCIPALS
+  pub few_groups : length b.groups ≤ MAX_PRINCIPALS
 
 -- the records of this user and this group stand at these slots
 pub record HasSlots (b : Books) (slots : Slots) (uid gid : ℕ) : Type 0 where

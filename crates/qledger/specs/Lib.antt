@@ -7,4 +7,5 @@ pub mod Replacements
 pub mod Rows
 pub mod Ledgers
 pub mod Decisions
+pub mod Boards
 pub mod Kept

@@ -27,6 +27,8 @@ use qrules::{Graces, Kind, Limits, MAX_MOMENT, RecordRow};
 use std::alloc::Global;
 use std::marker::Model;
 
+mod boards;
+
 /// The quota records of users and groups, the totals, the bounds and the graces. Contracts see them as books.
 ///
 /// Blocks are of 4096 bytes. Nothing is recounted: what a call makes of the records and the totals is its bill, which

@@ -1,8 +1,12 @@
 //! What a granted call makes of the accounts.
-ghost use Rattle.std.specs.Prelude.{◌≡◌, None, Some};
+ghost use Rattle.std.specs.Prelude.{◌≡◌, ◌+◌, ◌<◌, ◌^◌, None, Some, IfSome};
+ghost use Rattle.std.specs.Option.{option_map};
 ghost use Rattle.qledger.specs.Bills.{no_bill};
+ghost use Rattle.qledger.specs.Boards.{placed_row};
 
-use qrules::Record;
+use crate::kept_holder::board_row;
+use qplain::PlacedRow;
+use qrules::{Kind, Record};
 
 /// A record as it will be, and where it stands.
 #[derive(Clone, Copy)]
@@ -63,5 +67,19 @@ impl Postings {
             from: None,
             to: Some(posting),
         }
+    }
+}
+
+/// The row of a posting's record in its place, behind so many rows of others, if there is a posting.
+pub(crate) fn placed(kind: Kind, before: usize, posting: Option<Posting>) -> Option<PlacedRow>
+    requires { IfSome posting (λ p. before + p.slot < 2 ^ 64) }
+    ensures { result ≡ option_map (placed_row kind before) posting }
+{
+    match posting {
+        Some(posting) => Some(PlacedRow {
+            place: before + posting.slot,
+            row: board_row(kind, posting.id, &posting.account),
+        }),
+        None => None,
     }
 }

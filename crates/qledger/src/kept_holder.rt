@@ -3,10 +3,11 @@ ghost use Rattle.std.specs.Prelude.{◌≡◌, ◌==◌, ◌≤◌, if◌then◌
 ghost use Rattle.qrules.specs.Grace.{unused, with_ends};
 ghost use Rattle.std.specs.Option.{option_map};
 ghost use Rattle.qrules.specs.Charge.{first_fault};
+ghost use Rattle.qledger.specs.Boards.{board_row};
 ghost use Rattle.qledger.specs.Ledgers.{holder_row, new_holder};
 
 use qplain::{NoMemory, Principal, Refusal};
-use qrules::{Graces, Kind, Limits, MAX_GRACE, PrincipalName, Record, RecordRow};
+use qrules::{BoardRow, Graces, Kind, Limits, MAX_GRACE, PrincipalName, Record, RecordRow};
 use std::alloc::Global;
 
 /// A user or a group, with its quota record.
@@ -48,21 +49,37 @@ pub(crate) fn new_holder(
     })
 }
 
+/// The row of a record as a board shows it.
+pub(crate) fn board_row(kind: Kind, id: u32, account: &Record) -> BoardRow
+    ensures { result ≡ board_row kind id account.now }
+{
+    BoardRow {
+        kind,
+        id,
+        blocks: account.blocks(),
+        inodes: account.inodes(),
+        limits: account.limits(),
+        block_end: account.block_end(),
+        inode_end: account.inode_end(),
+    }
+}
+
 impl KeptHolder {
     /// The row of this record.
     pub(crate) fn row(&self, alloc: Global, kind: Kind) -> Result<RecordRow, NoMemory>
         ensures { IfOk result (λ row. row ≡ holder_row kind self.now) }
     {
         let text = String::from_str(alloc, self.name.as_str())?;
+        let row = board_row(kind, self.id, &self.account);
         Ok(RecordRow {
             kind,
-            id: self.id,
+            id: row.id,
             name: PrincipalName::new(text),
-            blocks: self.account.blocks(),
-            inodes: self.account.inodes(),
-            limits: self.account.limits(),
-            block_end: self.account.block_end(),
-            inode_end: self.account.inode_end(),
+            blocks: row.blocks,
+            inodes: row.inodes,
+            limits: row.limits,
+            block_end: row.block_end,
+            inode_end: row.inode_end,
         })
     }
 

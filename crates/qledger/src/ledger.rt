@@ -8,13 +8,14 @@ ghost use Rattle.qrules.specs.declared.kind.Kind.{Kind};
 ghost use Rattle.qplain.specs.State.{Inode, State};
 ghost use Rattle.qledger.specs.KeptHolders.{AreById, IsSlotOf};
 ghost use Rattle.qledger.specs.Bills.{ArePlaced, post, posted};
+ghost use Rattle.qledger.specs.Boards.{row_in};
 ghost use Rattle.qledger.specs.Ledgers.{ArePosted, holder_row, IsFinal, IsHolderAt, IsLedgerReplacement, new_holder, refusal_of};
 
 use crate::bill::{Posting, Postings};
 use crate::claim::{Share, apart, weight_at};
-use crate::kept_holder::{KeptHolder, new_holder};
+use crate::kept_holder::{KeptHolder, board_row, new_holder};
 use qplain::{NoMemory, Principal, Refusal};
-use qrules::{Graces, Kind, Limits, MAX_GRACE, MAX_MOMENT, RecordRow};
+use qrules::{BoardRow, Graces, Kind, Limits, MAX_GRACE, MAX_MOMENT, RecordRow};
 use std::alloc::Global;
 use std::marker::Model;
 
@@ -249,5 +250,26 @@ impl Ledger {
             rows.push(holder.row(alloc, kind)?)?;
         }
         Ok(())
+    }
+
+    /// Appends the rows of these records as a board shows them.
+    pub(crate) fn push_board_rows(
+        &self,
+        kind: Kind,
+        rows: &mut Vec<BoardRow>,
+    ) -> Result<(), NoMemory>
+        ensures { OnOk result (rows.new.items ≡ rows.old.items ++ map (row_in kind) self.now) }
+    {
+        for holder in &self.holders {
+            rows.push(board_row(kind, holder.id, &holder.account))?;
+        }
+        Ok(())
+    }
+
+    /// How many they are.
+    pub(crate) fn len(&self) -> usize
+        ensures { result ≡ length self.now }
+    {
+        self.holders.len()
     }
 }

@@ -20,6 +20,7 @@ pub mod Quotas
 pub mod Calls
 pub mod Step
 pub mod Journal
+pub mod Boards
 pub mod Transcripts
 pub mod KeptCred
 pub mod KeptData

@@ -1,13 +1,14 @@
-//! What is decided, done. It takes no memory and always succeeds.
+//! What is decided, done, and told as it changes a board. It takes no memory and always succeeds.
 ghost use Rattle.std.specs.Prelude.{◌≡◌};
-ghost use Rattle.qstore.specs.Ready.{CanCarryOut, CanSettle, billed, effect};
+ghost use Rattle.qplain.specs.Boards.{IsEffectOf};
+ghost use Rattle.qstore.specs.Ready.{CanCarryOut, CanSettle, IsReady, billed, committed, effect};
 ghost use Rattle.qchange.specs.Changes.{CanChange, changed};
 ghost use Rattle.qstore.specs.Stored.{IsSound};
 
-use crate::ready::Plan;
+use crate::ready::{Plan, Ready};
 use crate::store::Store;
 use qchange::{TreeChange, make};
-use qplain::Data;
+use qplain::{Data, Effect};
 
 impl Store {
     /// Does what is decided.
@@ -33,5 +34,18 @@ impl Store {
     {
         self.next = make(&mut self.tree, self.next, self.alloc, change, bytes);
         self.accounts.settle(&self.bill);
+    }
+
+    /// What `commit` of a ready call will do to a board. It takes no memory. O(1).
+    ///
+    /// The caller owes that this store had no other `ready`, `apply` or `commit` since.
+    pub fn effect(&self, ready: &Ready) -> Effect
+        requires { IsReady self.now ready.now }
+        ensures { IsEffectOf self.now.state result (committed self.now ready.now).0 }
+    {
+        match ready.plan {
+            Plan::Change { .. } | Plan::Limits => self.accounts.effect(&self.bill),
+            Plan::Nothing | Plan::SetGraces { .. } => self.accounts.no_effect(),
+        }
     }
 }

@@ -1,15 +1,16 @@
-//! What audits and reports read: the records, the inodes and the names of a store, one row for each.
+//! What audits, reports and boards read: the records, the inodes and the names of a store, one row for each.
 ghost use Rattle.std.specs.Prelude.{◌≡◌, map, IfOk, IsPermutation, OnOk};
 ghost use Rattle.std.specs.Ordering.{nat_cmp};
 ghost use Rattle.std.specs.List.{AllPairs};
 ghost use Rattle.std.specs.List.Sorted.{IsStrictlySortedBy};
 ghost use Rattle.std.specs.Map.{keys_of};
 ghost use Rattle.qplain.specs.State.{name_key_cmp};
+ghost use Rattle.qplain.specs.Journal.{row_of};
 ghost use Rattle.qstore.specs.Rows.{StandsBefore, inode_row_of, name_row_of, record_row_of};
 
 use crate::store::Store;
 use qplain::NoMemory;
-use qrules::{InodeRow, NameRow, RecordRow};
+use qrules::{BoardRow, InodeRow, NameRow, RecordRow};
 
 impl Store {
     /// The quota records, each once: users by id, then groups by id. Uses are in blocks of 4096 bytes,
@@ -19,6 +20,13 @@ impl Store {
         ensures by_id { OnOk result (AllPairs StandsBefore self.now.state.holders) }
     {
         self.accounts.rows(self.alloc)
+    }
+
+    /// The rows of a board: the quota records, users by id, then groups by id. O(n). An Err leaves nothing made.
+    pub fn board_rows(&self) -> Result<Vec<BoardRow>, NoMemory>
+        ensures { IfOk result (λ rows. rows.items ≡ map (row_of self.now.state) self.now.state.holders) }
+    {
+        self.accounts.board_rows(self.alloc)
     }
 
     /// The inodes by number, each once, with its allocated blocks of 4096 bytes and the link count that is kept for it.

@@ -1,15 +1,22 @@
-use Rattle.std.proofs.Common.{sym, subst}
+use Rattle.std.proofs.Common.{◌≤◌, List, length, sym, subst}
+use Rattle.qplain.specs.declared.principal.TheConstants.{MAX_PRINCIPALS}
+use Rattle.qledger.specs.declared.kept_holder.KeptHolder.{KeptHolder}
+use Rattle.qledger.specs.Kept.{books_of}
 use Rattle.qledger.specs.KeptHolders.{AreById}
-use Rattle.qledger.proofs.ById.{by_id-posted}
+use Rattle.qledger.proofs.Booked.{in_range-settled}
 use Rattle.qledger.proofs.accounts.Accounts.settle.Goals as goal
 
 pub invariant_of-self : goal.invariant_of-self
 invariant_of-self c =
-    let bill = c.args.bill.now in
+    let is = in_range-settled (books_of c.self.inside) c.args.bill.now c.self.invariant in
+    let users = sym c.settle.ensures in
+    let groups = sym c.settle-2.ensures in
     record {
-      size = c.self.invariant.size;
-      most_inodes = c.self.invariant.most_inodes;
-      graces = c.self.invariant.graces;
-      users = subst AreById (sym c.settle.ensures) (by_id-posted bill.users c.self.inside.users c.self.invariant.users);
-      groups = subst AreById (sym c.settle-2.ensures) (by_id-posted bill.groups c.self.inside.groups c.self.invariant.groups);
+      size = is.size;
+      most_inodes = is.most_inodes;
+      graces = is.graces;
+      users = subst AreById users is.users;
+      groups = subst AreById groups is.groups;
+      few_users = subst (λ (os : List KeptHolder). length os ≤ MAX_PRINCIPALS) users is.few_users;
+      few_groups = subst (λ (os : List KeptHolder). length os ≤ MAX_PRINCIPALS) groups is.few_groups;
     }
