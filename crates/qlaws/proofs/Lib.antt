@@ -37,3 +37,5 @@ pub mod Relinking
 pub mod Bounding
 pub mod Walking
 pub mod Playing
+pub mod Answering
+pub mod Tallying

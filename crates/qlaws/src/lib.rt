@@ -2,6 +2,7 @@
 #![tactic(auto)]
 
 pub use examples::{more_worked_examples, worked_examples, worked_examples_of_names};
+pub use journals::{changes_are_small, journals_stay_lawful, tallies_add_up};
 pub use laws::{
     ends_stay, giving_back_is_granted, holders_keep_the_rules, inodes_stay_reached, limits_hold,
     numbers_go_on, refusals_change_nothing, rights_hold, setups_stay, stores_stay_lawful,
@@ -9,4 +10,5 @@ pub use laws::{
 };
 
 mod examples;
+mod journals;
 mod laws;
