@@ -1,5 +1,5 @@
 -- What journals leave, what their entries tell, and their tallies.
-use Rattle.std.proofs.Common.{◌≡◌, ℕ, ◌+◌, ◌-◌, ◌*◌, ◌^◌, ◌≤◌, ◌<◌, Bool, true, false, ◌&&◌, not, nat_le, cond, List, [], ◌∷◌, ◌++◌, length, length-append, All, Option, Some, None, refl, sym, ap, subst, ◌∙◌, tests, arith}
+use Rattle.std.proofs.Common.{◌≡◌, ℕ, ◌+◌, ◌-◌, ◌*◌, ◌≤◌, Bool, true, false, ◌&&◌, not, nat_le, cond, List, [], ◌∷◌, ◌++◌, length, length-append, All, Option, Some, None, refl, sym, ap, subst, ◌∙◌, tests, arith}
 use Rattle.std.proofs.Math.Nat.{mul_comm}
 use Rattle.std.proofs.lemmas.List.Elements.{All-nil, All-cons}
 use Rattle.std.proofs.lemmas.List.Sums.{sum_by-cons, sum_by-le, sum_by_push}
@@ -20,7 +20,7 @@ use Rattle.qplain.specs.State.{State, start}
 use Rattle.qplain.specs.Use.{total_of}
 use Rattle.qplain.specs.Decision.{refusal_between}
 use Rattle.qplain.specs.Attempt.{Attempt, Refuse, Answer, Becomes}
-use Rattle.qplain.specs.Journal.{IsLegal, change_of, play, played, tally_of}
+use Rattle.qplain.specs.Journal.{CanCount, IsLegal, change_of, counted, play, played, tally_of}
 use Rattle.qplain.specs.Calls.{attempt}
 use Rattle.qplain.specs.Step.{change_between, settle, settled, step}
 use Rattle.qlaws.specs.Laws.{IsLawful, KeepsSetup}
@@ -167,13 +167,8 @@ pub tallies_are_small : TalliesAreSmall
 tallies_are_small s journal setup legal = tally-within MAX_BLOCKS MAX_INODES journal (changes_are_small s journal setup legal).of_any
 
 -- the tally of a journal that goes on with one more entry
-pub tally-one_more : (journal : List Entry) (e : Entry) → tally_of (journal ++ e ∷ []) ≡ record {
-  blocks_charged = (tally_of journal).blocks_charged + (change_of e.reply).blocks_charged;
-  blocks_released = (tally_of journal).blocks_released + (change_of e.reply).blocks_released;
-  inodes_charged = (tally_of journal).inodes_charged + (change_of e.reply).inodes_charged;
-  inodes_released = (tally_of journal).inodes_released + (change_of e.reply).inodes_released;
-  calls = (tally_of journal).calls + 1;
-}
+pub tally-one_more : (journal : List Entry) (e : Entry)
+    → tally_of (journal ++ e ∷ []) ≡ counted (tally_of journal) (change_of e.reply)
 tally-one_more journal e = λ i. record {
   blocks_charged = sum_by_push (λ (x : Entry). (change_of x.reply).blocks_charged) journal e i;
   blocks_released = sum_by_push (λ (x : Entry). (change_of x.reply).blocks_released) journal e i;
@@ -182,15 +177,8 @@ tally-one_more journal e = λ i. record {
   calls = length-append journal (e ∷ []) i;
 }
 
--- the tally and a further change add up in 64 bits
-pub record HasRoom (t : Tallies) (c : Change) : Type 0 where
-  pub blocks_charged : t.blocks_charged + c.blocks_charged < 2 ^ 64
-  pub blocks_released : t.blocks_released + c.blocks_released < 2 ^ 64
-  pub inodes_charged : t.inodes_charged + c.inodes_charged < 2 ^ 64
-  pub inodes_released : t.inodes_released + c.inodes_released < 2 ^ 64
-  pub calls : t.calls + 1 < 2 ^ 64
-
-added : (t : Tallies) (c : Change) (calls : ℕ) → calls ≤ 65536 → IsTallyOf MAX_BLOCKS MAX_INODES calls t → IsWithin MAX_BLOCKS MAX_INODES c → HasRoom t c
+-- such a tally takes such a change
+added : (t : Tallies) (c : Change) (calls : ℕ) → calls ≤ 65536 → IsTallyOf MAX_BLOCKS MAX_INODES calls t → IsWithin MAX_BLOCKS MAX_INODES c → CanCount t c
 added t c calls few of_t of_c = record {
   blocks_charged = omega (arith, few, of_t.blocks_charged, of_c.blocks_charged);
   blocks_released = omega (arith, few, of_t.blocks_released, of_c.blocks_released);
@@ -199,10 +187,10 @@ added t c calls few of_t of_c = record {
   calls = omega (arith, few, of_t.calls);
 }
 
--- so do those of a legal journal of a store within the bounds of setups, and of its next call
+-- so does that of a legal journal of a store within the bounds of setups, and of its next call
 pub room-after : (S : State) (journal : List Entry) (cred : Caller) (moment : ℕ) (call : Call) → IsLawful S → S.size ≤ MAX_BLOCKS
     → S.most_inodes ≤ MAX_INODES → IsLegal S journal → length journal ≤ 65536
-    → HasRoom (tally_of journal) (change_of (step (play S journal) cred moment call).1)
+    → CanCount (tally_of journal) (change_of (step (play S journal) cred moment call).1)
 room-after S journal cred moment call lawful few_blocks few_inodes legal few =
     let after : State = play S journal in
     let sizes = size-played S journal in
@@ -214,10 +202,10 @@ room-after S journal cred moment call lawful few_blocks few_inodes legal few =
     added (tally_of journal) (change_of (step after cred moment call).1) (length journal) few small
     (within-larger after.size after.most_inodes MAX_BLOCKS MAX_INODES _ (omega (arith, sizes.0, few_blocks)) (omega (arith, sizes.1, few_inodes)) next)
 
--- so do those of a legal journal from a new store of a lawful setup
+-- so does that of a legal journal from a new store of a lawful setup
 pub tallies_have_room : (s : Setting) (journal : List Entry) (cred : Caller) (moment : ℕ) (call : Call) → IsLawfulSetup s
     → IsLegal (start s) journal → length journal ≤ 65536
-    → HasRoom (tally_of journal) (change_of (step (play (start s) journal) cred moment call).1)
+    → CanCount (tally_of journal) (change_of (step (play (start s) journal) cred moment call).1)
 tallies_have_room s journal cred moment call setup legal few =
     let bounds = setup-small s setup in
     room-after (start s) journal cred moment call (start_is_lawful s setup) bounds.0 bounds.1 legal few

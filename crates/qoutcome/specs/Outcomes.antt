@@ -7,6 +7,7 @@ use Rattle.qaudit.specs.Reports.{report_text}
 use Rattle.qplain.specs.declared.call_fault.CallFault.{CallFault}
 use Rattle.qplain.specs.declared.call_fault.CallFault.TheVariants.{JournalFull, OutOfMemory}
 use Rattle.qplain.specs.declared.receipt.Receipt.{Receipt}
+use Rattle.qplain.specs.declared.tallies.Tallies.{Tallies}
 use Rattle.qplain.specs.declared.transcript.Transcript.{Transcript}
 use Rattle.qrun.specs.declared.outcome.Outcome.{Outcome}
 use Rattle.qline.specs.Replies.{reply_text}
@@ -50,6 +51,12 @@ abbrev pub run_text : Outcome → ℕ → List ℕ
 run_text o moment = flat_map transcript_text o.transcripts
     ++ moment_text moment ++ report_text o.records moment ++ totals_text o
 
--- the outcome of a run: what it left as of a moment, and what an audit of it found
+-- the tallies: by how much the totals rose and fell over the whole journal, and how many calls it has
+abbrev pub tally_text : Tallies → List ℕ
+tally_text t = concat (codes "tally blocks +" ∷ decimal t.blocks_charged ∷ codes " -" ∷ decimal t.blocks_released
+    ∷ codes " inodes +" ∷ decimal t.inodes_charged ∷ codes " -" ∷ decimal t.inodes_released
+    ∷ codes " calls " ∷ decimal t.calls ∷ codes "\n" ∷ [])
+
+-- the outcome of a run: what it left as of a moment, the tallies of its journal, and what an audit of it found
 abbrev pub outcome_text : Outcome → ℕ → List ℕ
-outcome_text o moment = run_text o moment ++ audit_text o.differences
+outcome_text o moment = run_text o moment ++ tally_text o.tallies ++ audit_text o.differences

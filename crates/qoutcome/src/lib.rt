@@ -1,4 +1,4 @@
-//! Outcomes of runs as text: transcripts, the quota report, the totals and the audit.
+//! Outcomes of runs as text: transcripts, the quota report, the totals, the tallies and the audit.
 #![tactic(auto)]
 
 pub use audit_text::write_audit;

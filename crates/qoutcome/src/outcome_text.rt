@@ -3,12 +3,13 @@ ghost use Rattle.std.specs.Prelude.{◌≡◌, codes, decimal, ◌∷◌, []};
 ghost use Rattle.std.specs.List.{concat};
 ghost use Rattle.qaudit.specs.Reports.{report_text};
 ghost use Rattle.qtext.specs.Written.{Writes};
-ghost use Rattle.qoutcome.specs.Outcomes.{moment_text, outcome_text, run_text, totals_text};
+ghost use Rattle.qoutcome.specs.Outcomes.{moment_text, outcome_text, run_text, tally_text, totals_text};
 
 use crate::WriteFault;
 use crate::audit_text::write_audit;
 use crate::transcript_text::put_transcripts;
 use qaudit::report;
+use qplain::Tallies;
 use qrules::RecordRow;
 use qrun::Outcome;
 use qtext::{Piece, RefusedWrite, put_pieces};
@@ -42,6 +43,25 @@ fn put_totals<W: Write>(out: &mut W, outcome: &Outcome) -> Result<(), RefusedWri
     put_pieces(out, &pieces)
 }
 
+fn put_tally<W: Write>(out: &mut W, tallies: Tallies) -> Result<(), RefusedWrite>
+    ensures { Writes (W.contents out.old) (W.contents out.new) result (tally_text tallies) }
+{
+    let pieces = [
+        Piece::Text(b"tally blocks +"),
+        Piece::Number(tallies.blocks_charged),
+        Piece::Text(b" -"),
+        Piece::Number(tallies.blocks_released),
+        Piece::Text(b" inodes +"),
+        Piece::Number(tallies.inodes_charged),
+        Piece::Text(b" -"),
+        Piece::Number(tallies.inodes_released),
+        Piece::Text(b" calls "),
+        Piece::Number(tallies.calls),
+        Piece::Text(b"\n"),
+    ];
+    put_pieces(out, &pieces)
+}
+
 fn put_report<W: Write>(out: &mut W, rows: &[RecordRow], moment: u64) -> Result<(), RefusedWrite>
     ensures { Writes (W.contents out.old) (W.contents out.new) result (report_text rows.now moment) }
 {
@@ -62,8 +82,8 @@ fn put_run<W: Write>(outcome: &Outcome, moment: u64, out: &mut W) -> Result<(), 
     Ok(put_totals(out, outcome)?)
 }
 
-/// Writes what a run came to: each worker's transcript, the quota report as of the moment, the totals, and what an
-/// audit of the store found. It takes no memory.
+/// Writes what a run came to: each worker's transcript, the quota report as of the moment, the totals, the tallies of the
+/// journal, and what an audit of the store found. It takes no memory.
 ///
 /// Totals and bounds are in blocks of 4096 bytes and in inodes; the report is in KiB (profile, after repquota(8)).
 /// After an Err some beginning of the text went out.
@@ -75,5 +95,6 @@ pub fn write_outcome<W: Write>(
     ensures { Writes (W.contents out.old) (W.contents out.new) result (outcome_text outcome.now moment) }
 {
     put_run(outcome, moment, out)?;
+    put_tally(out, outcome.tallies)?;
     write_audit(outcome.differences.as_slice(), out)
 }

@@ -69,6 +69,7 @@ alone setting scripts j workers transcripts o left each same told belong = recor
   legal = rw (left.journal, sym same) left.played.legal;
   workers = ap (λ journal. journal.workers) left.journal ∙ each;
   few = rw left.journal left.played.few;
+  tallies = left.tallies;
   store = rw (left.store, left.journal, sym same) left.played.state;
   transcripts = rw (left.transcripts_are, left.journal) told;
   belong = rw (left.transcripts_are, left.journal) belong;
@@ -93,6 +94,7 @@ again setting written j o left same journal = record {
   setup = rw (left.setup, same) refl;
   legal = rw (sym same, sym journal) left.played.legal;
   journal = left.journal ∙ ap (λ entries. record { workers = written.workers; entries = entries }) journal;
+  tallies = left.tallies;
   store = rw (left.store, sym same, sym journal) left.played.state;
   transcripts = left.transcripts_are;
   records = rw left.store left.records;

@@ -9,7 +9,7 @@ use Rattle.qplain.specs.declared.receipt.Receipt.{Receipt}
 use Rattle.qplain.specs.declared.transcript.Transcript.{Transcript}
 use Rattle.qplain.specs.Setups.{Setting}
 use Rattle.qplain.specs.State.{State, start}
-use Rattle.qplain.specs.Journal.{IsLegal, play, played}
+use Rattle.qplain.specs.Journal.{IsLegal, play, played, tally_of}
 use Rattle.qstore.specs.Rows.{record_row_of}
 use Rattle.qrows.specs.Own.{differences_in}
 use Rattle.qrun.specs.declared.outcome.Outcome.{Outcome}
@@ -77,6 +77,7 @@ as_before : (setting : Setting) (scripts : List (List Line)) (old new : Outcome)
 as_before setting scripts old new run replay =
     let store : new.store.state ≡ old.store.state = replay.store ∙ sym run.store in
     record {
+      tallies = replay.tallies ∙ ap (λ journal. tally_of journal.entries) replay.journal ∙ sym run.tallies;
       store = store;
       transcripts = replay.transcripts
           ∙ ap (λ n. map (transcript_in old.journal.entries) (range_with_len 1 n)) run.workers

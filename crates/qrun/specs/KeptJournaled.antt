@@ -4,4 +4,4 @@ use Rattle.qrun.specs.Journaled.{Journaled}
 
 -- what the fields spell out
 abbrev pub journaled_of : Inside → Journaled
-journaled_of a = record { setting = a.setup; stored = a.store; journal = a.journal.items }
+journaled_of a = record { setting = a.setup; stored = a.store; journal = a.journal.items; tallies = a.tallies }

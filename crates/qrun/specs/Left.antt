@@ -2,6 +2,7 @@
 use Rattle.std.specs.Prelude.{◌≡◌, ℕ, ◌<◌, ◌≤◌, List, [], map}
 use Rattle.qplain.specs.declared.entry.Entry.{Entry}
 use Rattle.qplain.specs.declared.transcript.Transcript.{Transcript}
+use Rattle.qplain.specs.Journal.{tally_of}
 use Rattle.qstore.specs.Rows.{record_row_of}
 use Rattle.qrows.specs.Own.{differences_in}
 use Rattle.qrun.specs.declared.outcome.Outcome.{Outcome}
@@ -17,6 +18,7 @@ pub record IsLeftOf (j : Journaled) (workers : ℕ) (transcripts : List Transcri
   pub setup : o.setup ≡ j.setting
   pub store : o.store ≡ j.stored
   pub journal : o.journal ≡ record { workers = workers; entries = j.journal }
+  pub tallies : o.tallies ≡ tally_of o.journal.entries
   pub transcripts_are : o.transcripts ≡ transcripts
   pub records : o.records ≡ map (record_row_of j.stored.state) j.stored.state.holders
   pub differences : o.differences ≡ differences_in j.stored.state

@@ -9,7 +9,7 @@ use Rattle.qplain.specs.declared.receipt.Receipt.{Receipt}
 use Rattle.qplain.specs.declared.transcript.Transcript.{Transcript}
 use Rattle.qplain.specs.Setups.{Setting}
 use Rattle.qplain.specs.State.{State, start}
-use Rattle.qplain.specs.Journal.{IsLegal, entries_of, play, played}
+use Rattle.qplain.specs.Journal.{IsLegal, entries_of, play, played, tally_of}
 use Rattle.qstore.specs.Rows.{record_row_of}
 use Rattle.qrows.specs.Own.{differences_in}
 use Rattle.qjournal.specs.Journals.{Written}
@@ -51,12 +51,14 @@ pub record IsMismatch (S : State) (journal : List Entry) (place : ℕ) : Type 0 
   pub parts : journal ≡ before ++ entry ∷ after
   pub here : IsMismatchAfter S before entry place
 
--- what playing this journal again leaves, from this setup on: the journal is legal and stays as it is, each worker has
--- its own entries for a transcript, and the differences are those of the store's own rows, of which there are none
+-- what playing this journal again leaves, from this setup on: the journal is legal and stays as it is, the tallies are
+-- its own, each worker has its own entries for a transcript, and the differences are those of the store's own rows, of
+-- which there are none
 pub record IsReplayOf (setting : Setting) (written : Written) (o : Outcome) : Type 0 where
   pub setup : o.setup ≡ setting
   pub legal : IsLegal (start setting) written.entries
   pub journal : o.journal ≡ written
+  pub tallies : o.tallies ≡ tally_of o.journal.entries
   pub store : o.store.state ≡ play (start setting) written.entries
   pub transcripts : o.transcripts ≡ transcripts_in written
   pub records : o.records ≡ map (record_row_of o.store.state) o.store.state.holders
@@ -78,6 +80,7 @@ without_failed t = record t { lines = granted_lines t.lines t.answers; answers =
 
 -- what was played again is as it was, but for the lines that are in no journal
 pub record IsAsBefore (old new : Outcome) : Type 0 where
+  pub tallies : new.tallies ≡ old.tallies
   pub store : new.store.state ≡ old.store.state
   pub transcripts : new.transcripts ≡ map without_failed old.transcripts
   pub records : new.records ≡ old.records

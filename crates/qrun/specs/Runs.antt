@@ -4,7 +4,7 @@ use Rattle.qplain.specs.declared.entry.Entry.{Entry}
 use Rattle.qplain.specs.declared.line.Line.{Line}
 use Rattle.qplain.specs.Setups.{Setting}
 use Rattle.qplain.specs.State.{start}
-use Rattle.qplain.specs.Journal.{IsLegal, entries_of, play}
+use Rattle.qplain.specs.Journal.{IsLegal, entries_of, play, tally_of}
 use Rattle.qplain.specs.Transcripts.{Belongs, journaled_lines}
 use Rattle.qstore.specs.Rows.{record_row_of}
 use Rattle.qrows.specs.Own.{differences_in}
@@ -50,13 +50,14 @@ AreTranscriptsOf worker [] journal (t ∷ ts) = ⊥
 AreTranscriptsOf worker (lines ∷ scripts) journal [] = ⊥
 
 -- what a run of these scripts leaves, from this setup on; the journal has a worker for each and is no longer than it
--- may be, no entry belongs to anyone else, and the differences are those of the store's own rows, of which there are
--- none
+-- may be, the tallies are its own, no entry belongs to anyone else, and the differences are those of the store's own
+-- rows, of which there are none
 pub record IsOutcomeOf (setting : Setting) (scripts : List (List Line)) (o : Outcome) : Type 0 where
   pub setup : o.setup ≡ setting
   pub legal : IsLegal (start setting) o.journal.entries
   pub workers : o.journal.workers ≡ length scripts
   pub few : length o.journal.entries ≤ MAX_ENTRIES
+  pub tallies : o.tallies ≡ tally_of o.journal.entries
   pub store : o.store.state ≡ play (start setting) o.journal.entries
   pub transcripts : AreTranscriptsOf 1 scripts o.journal.entries o.transcripts
   pub belong : All (Belongs o.transcripts) o.journal.entries

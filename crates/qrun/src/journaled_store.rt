@@ -1,7 +1,8 @@
-//! A store with the journal of its calls.
+//! A store with the journal of its calls, and what is counted of them.
 ghost use Rattle.std.specs.Prelude.{◌≡◌, ℕ, ◌<◌, ◌≤◌, ◌+◌, ◌++◌, ◌∷◌, [], ◌↔◌, length, map, vec_len, vec_capacity, IfOk, OnErr, OnOk, Err};
 ghost use Rattle.std.specs.Bool.{Decides};
 ghost use Rattle.qplain.specs.State.{start};
+ghost use Rattle.qplain.specs.Journal.{tally_of};
 ghost use Rattle.qstore.specs.Ready.{IsReady, committed};
 ghost use Rattle.qstore.specs.Rows.{record_row_of};
 ghost use Rattle.qrows.specs.Own.{differences_in, record_rows};
@@ -12,20 +13,22 @@ ghost use Rattle.qrun.specs.Replays.{IsMismatch, IsMismatchAfter, line_of};
 use crate::RunFault;
 use qaudit::Difference;
 use qjournal::MAX_ENTRIES;
-use qplain::{CallFault, Entry, Line, NoMemory, Receipt, Reply, Setup};
+use qplain::{CallFault, Entry, Line, NoMemory, Receipt, Reply, Setup, Tallies};
 use qrows::audit;
 use qrules::RecordRow;
 use qstore::{Ready, Store};
 use std::alloc::Global;
 use std::marker::Model;
 
-/// A store with the journal of its calls and the setup that it began with. It is always what the journal leaves.
+/// A store with the journal of its calls, its tallies, and the setup that it began with. It is always what the journal
+/// leaves.
 #[derive(Drop)]
 pub(crate) struct JournaledStore {
     alloc: Global,
     setup: Setup,
     store: Store,
     journal: Vec<Entry>,
+    tallies: Tallies,
 }
 
 impl Model for JournaledStore {
@@ -95,13 +98,16 @@ impl JournaledStore {
         ensures journal { IfOk result (λ j. j.journal ≡ []) }
     {
         let store = Store::new(alloc, setup.copy(alloc)?, seed)?;
-        // A store that is asked for its blocks is lawful, and this one stands at its start.
+        // A store that is asked for its blocks is lawful, and this one stands at its start; so is a setup that is asked
+        // for its users.
         let _blocks = store.blocks();
+        let _users = setup.users();
         Ok(JournaledStore {
             alloc,
             setup,
             store,
             journal: Vec::new(alloc),
+            tallies: Tallies::new(),
         })
     }
 
@@ -119,6 +125,7 @@ impl JournaledStore {
         let Line { cred, moment, call } = line;
         let ready = self.store.ready(&cred, moment, &call)?;
         let reply = ready.reply().copy()?;
+        let change = reply.change();
         let entry = Entry {
             worker,
             cred,
@@ -126,6 +133,7 @@ impl JournaledStore {
             call,
             reply,
         };
+        self.tallies = self.tallies.with_call(change);
         let receipt = carry_out(&mut self.store, &mut self.journal, ready, entry);
         Ok(receipt)
     }
@@ -198,13 +206,14 @@ impl JournaledStore {
         audit(self.alloc, &self.store, records)
     }
 
-    /// The setup, the store and the journal.
-    pub(crate) fn into_parts(self) -> (Setup, Store, Vec<Entry>)
+    /// The setup, the store, the journal and its tallies.
+    pub(crate) fn into_parts(self) -> (Setup, Store, Vec<Entry>, Tallies)
         ensures setup { result.0 ≡ self.setting }
         ensures store { result.1 ≡ self.stored }
         ensures journal { result.2.items ≡ self.journal }
+        ensures tallies { result.3 ≡ tally_of self.journal }
         ensures played { IsPlayed self }
     {
-        (self.setup, self.store, self.journal)
+        (self.setup, self.store, self.journal, self.tallies)
     }
 }

@@ -5,17 +5,18 @@ ghost use Rattle.qrun.specs.Left.{IsLeftOf, IsOneOf};
 use crate::journaled_store::JournaledStore;
 use qaudit::Difference;
 use qjournal::Journal;
-use qplain::{NoMemory, Setup, Transcript};
+use qplain::{NoMemory, Setup, Tallies, Transcript};
 use qrules::{Items, RecordRow};
 use qstore::Store;
 
-/// What a run leaves: the setup that it began with, the store, its journal, what each worker was answered, the store's
-/// quota records, and what an audit of the store found.
+/// What a run leaves: the setup that it began with, the store, its journal and the tallies of it, what each worker was
+/// answered, the store's quota records, and what an audit of the store found.
 #[derive(Drop)]
 pub struct Outcome {
     pub setup: Setup,
     pub store: Store,
     pub journal: Journal,
+    pub tallies: Tallies,
     pub transcripts: Items<Transcript>,
     pub records: Items<RecordRow>,
     pub differences: Items<Difference>,
@@ -33,11 +34,12 @@ pub(crate) fn outcome_of(
 {
     let records = store.record_rows()?;
     let differences = store.audit(&records)?;
-    let (setup, store, journal) = store.into_parts();
+    let (setup, store, journal, tallies) = store.into_parts();
     Ok(Outcome {
         setup,
         store,
         journal: Journal::new(workers, Items::new(journal)),
+        tallies,
         transcripts,
         records: Items::new(records),
         differences: Items::new(differences),

@@ -27,6 +27,7 @@ quota at 0
 user    root             --          4          0          0          -          2          0          0          -
 group   root             --          4          0          0          -          2          0          0          -
 totals blocks 1 of 10 inodes 2 of 6
+tally blocks +1 -0 inodes +1 -0 calls 3
 audit ok
 ";
 
