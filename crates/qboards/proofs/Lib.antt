@@ -1,0 +1,2 @@
+-- Each step keeps the rule.
+mod Rules

@@ -1,0 +1,28 @@
+-- What readers have seen, and the rule over it. No public clause cites this module.
+use Rattle.std.specs.Prelude.{◌≡◌, ℕ, List, []}
+use mathlib.Core.Option.{some}
+use mathlib.Core.List.{IsPrefix}
+use lib.ListN.{get_elem?}
+use Rattle.logbook.specs.Pages.{Book}
+use Rattle.qhistory.specs.Past.{Past}
+use Rattle.qplain.specs.declared.board.Board.{Board}
+use Rattle.qplain.specs.State.{State}
+use Rattle.qplain.specs.Journal.{IsLegal}
+use Rattle.qboards.specs.declared.rule.View.{View}
+use Rattle.qboards.specs.Boards.{shown_of}
+
+-- who has seen nothing
+abbrev pub newcomer : View
+newcomer = record { seen = [] }
+
+-- this is the board of the history, which is legal, and begins with what each reader has seen
+abbrev pub Kept : Book → State → Past → Board → List View → Type 0
+Kept book S front shown views =
+    (front.book ≡ book) × (shown ≡ shown_of S front.log) × IsLegal S front.log
+    × ((reader : ℕ) (v : View) → get_elem? views reader ≡ some v → IsPrefix v.seen front.log)
+
+-- this history is then seen, which begins with all that had been seen
+abbrev pub Sight : Book → State → View → Past → Board → View → Type 0
+Sight book S v front shown w =
+    (w.seen ≡ front.log) × (front.book ≡ book) × IsPrefix v.seen front.log × IsLegal S front.log
+    × (shown ≡ shown_of S front.log)

@@ -1,0 +1,14 @@
+//! The boards of a shared store: what is published, under which rule, the side that publishes and the side that looks.
+#![tactic(auto)]
+
+pub use board_change::BoardChange;
+pub use look_fault::LookFault;
+pub use publisher::Publisher;
+pub use viewer::Viewer;
+
+mod board_change;
+mod look_fault;
+mod publisher;
+mod rule;
+mod sheet;
+mod viewer;

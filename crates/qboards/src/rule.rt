@@ -1,0 +1,58 @@
+//! The rule under which boards are published. It exists in the proofs alone.
+use crate::sheet::Sheet;
+use atomic_table::{Join, Split};
+use crossbeam_utils::rule::{Outcome, Protocol};
+use qhistory::{House, Origin};
+use qplain::Entry;
+use std::collections::LinkedList;
+use std::marker::PhantomData;
+
+/// The history that a reader has seen. No value of it is made.
+pub struct View {
+    pub seen: LinkedList<Entry>,
+}
+
+/// The rule: the board is that of its history, which is legal, and begins with all that each reader has seen.
+pub struct Publishing<K, N> {
+    origin: PhantomData<(K, N)>,
+}
+
+impl<K: Origin, N: House> Protocol<Sheet, View> for Publishing<K, N> {
+    ghost use Rattle.qplain.specs.State.{start};
+    ghost use Rattle.qboards.specs.Sheets.{board_in};
+    ghost use Rattle.qboards.specs.Views.{Kept, newcomer};
+
+    ghost holds = { λ s. Kept N.names.book (start K.setting) s.front (board_in s) };
+
+    ghost first = { newcomer };
+}
+
+/// The history of what is published is then seen.
+pub struct Sees<K, N> {
+    origin: PhantomData<(K, N)>,
+}
+
+impl<K: Origin, N: House> Outcome<Sheet, View> for Sees<K, N> {
+    ghost use Rattle.qplain.specs.State.{start};
+    ghost use Rattle.qboards.specs.Sheets.{board_in};
+    ghost use Rattle.qboards.specs.Views.{Sight};
+
+    ghost then = { λ v x y w. Sight N.names.book (start K.setting) v y.front (board_in y) w };
+}
+
+/// What the writing side tells a reader that has just sat down.
+pub struct Notes;
+
+impl Split<View> for Notes {
+    ghost left = { λ v. v };
+
+    ghost right = { λ v. v };
+}
+
+impl Join<View> for Notes {
+    ghost use Rattle.qboards.specs.Views.{newcomer};
+
+    ghost both = { λ v w. w };
+
+    ghost spent = { newcomer };
+}

@@ -1,0 +1,109 @@
+//! What is published: a board, with the history of which it is.
+ghost use Rattle.std.specs.Prelude.{◌≡◌, IfOk};
+ghost use Rattle.qplain.specs.Boards.{put};
+ghost use Rattle.qboards.specs.Boards.{changed_by};
+ghost use Rattle.qboards.specs.Sheets.{board_in};
+
+use crate::board_change::BoardChange;
+use left_right::Absorb;
+use qhistory::Front;
+use qplain::{Board, NoMemory, PlacedRow};
+use qrules::{BoardRow, Items};
+use std::alloc::{AllocError, Global};
+
+/// A board with its history, as a clause reads it. No value of it is made.
+pub struct Sealed {
+    pub board: Board,
+    pub front: Front,
+}
+
+/// A board, and the history of which it is.
+#[derive(Drop)]
+pub struct Sheet {
+    pub(crate) version: u64,
+    pub(crate) rows: Vec<BoardRow>,
+    pub(crate) blocks: u64,
+    pub(crate) inodes: u64,
+    pub(crate) front: Front,
+}
+
+/// The changes of one publication, and the history that it brings.
+#[derive(Drop)]
+pub struct Batch {
+    pub(crate) changes: Vec<BoardChange>,
+    pub(crate) front: Front,
+}
+
+/// Puts a row in its place, if there is one.
+fn put_row(rows: &mut Vec<BoardRow>, placed: Option<PlacedRow>)
+    ensures { rows.new.items ≡ put rows.old.items placed }
+{
+    if let Some(placed) = placed {
+        if placed.place < rows.len() {
+            rows[placed.place] = placed.row;
+        }
+    }
+}
+
+impl Sheet {
+    /// A sheet with a copy of this board.
+    pub(crate) fn with(alloc: Global, board: &Board, front: Front) -> Result<Sheet, NoMemory>
+        ensures front { IfOk result (λ s. s.front ≡ front) }
+        ensures board { IfOk result (λ s. board_in s ≡ board.now) }
+    {
+        let rows = Vec::from_slice(alloc, board.rows.as_slice())?;
+        Ok(Sheet {
+            version: board.version,
+            rows,
+            blocks: board.blocks,
+            inodes: board.inodes,
+            front,
+        })
+    }
+
+    /// Does a change to the board.
+    fn take_in(&mut self, change: &BoardChange)
+        ensures board { board_in self.new ≡ changed_by (board_in self.old) change.now }
+    {
+        put_row(&mut self.rows, change.effect.user_from);
+        put_row(&mut self.rows, change.effect.user_to);
+        put_row(&mut self.rows, change.effect.group_from);
+        put_row(&mut self.rows, change.effect.group_to);
+        self.version = change.version;
+        self.blocks = change.effect.blocks;
+        self.inodes = change.effect.inodes;
+    }
+
+    /// A copy of the board.
+    pub(crate) fn copy_board(&self, alloc: Global) -> Result<Board, NoMemory>
+        ensures { IfOk result (λ b. b ≡ board_in self.now) }
+    {
+        let rows = Vec::from_slice(alloc, self.rows.as_slice())?;
+        Ok(Board {
+            version: self.version,
+            rows: Items::new(rows),
+            blocks: self.blocks,
+            inodes: self.inodes,
+        })
+    }
+}
+
+impl Absorb<Batch> for Sheet {
+    ghost use Rattle.qboards.specs.Sheets.{after_batch, sealed_in};
+
+    type State = Sealed;
+
+    ghost state = { sealed_in };
+
+    ghost applied = { λ s b. after_batch s b.changes.items b.front };
+
+    ghost never_fails = { Unit {0} };
+
+    fn absorb_first(&mut self, operation: &Batch, _other: &Sheet) -> Result<(), AllocError> {
+        for change in operation.changes.iter() {
+            self.take_in(change);
+        }
+        self.front = operation.front.again();
+        Ok(())
+    }
+}

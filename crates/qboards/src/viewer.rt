@@ -1,0 +1,129 @@
+//! The reading side of the boards.
+ghost use Rattle.std.specs.Prelude.{◌≡◌, [], IfOk};
+ghost use mathlib.Core.List.{IsPrefix};
+ghost use Rattle.left_right.specs.Sides.{view as known};
+ghost use Rattle.qplain.specs.State.{start};
+ghost use Rattle.qplain.specs.Journal.{IsLegal};
+ghost use Rattle.qhistory.specs.Past.{past};
+ghost use Rattle.qboards.specs.Boards.{shown_of};
+
+use crate::look_fault::LookFault;
+use crate::publisher::Publisher;
+use crate::rule::{Publishing, Sees, View};
+use crate::sheet::Sheet;
+use core::mem::replace_with;
+use left_right::reader::Reader;
+use qhistory::{Front, House, Origin};
+use qplain::{Board, NoMemory};
+use std::alloc::Global;
+use std::marker::Model;
+use std::sync::Wait;
+
+pub(crate) type BoardReader<K, N> = Reader<Sheet, View, Publishing<K, N>>;
+
+/// The reading side of the boards, for one reader. Contracts see the history that it has seen, which is legal.
+#[derive(Drop)]
+pub struct Viewer<K: Origin, N: House> {
+    front: Front,
+    reader: BoardReader<K, N>,
+}
+
+impl<K: Origin, N: House> Model for Viewer<K, N> {
+    ghost use Rattle.std.specs.Prelude.{◌≡◌, List};
+    ghost use Rattle.left_right.specs.Sides.{view as known};
+    ghost use Rattle.qplain.specs.State.{start};
+    ghost use Rattle.qplain.specs.declared.entry.Entry.{Entry};
+    ghost use Rattle.qplain.specs.Journal.{IsLegal};
+
+    ghost Value = { List Entry };
+
+    ghost view = { λ v. v.front.log };
+
+    ghost invariant = { λ v. (v.front.book ≡ N.names.book) × IsLegal (start K.setting) v.front.log
+        × ((known v.reader.place).seen ≡ v.front.log) };
+}
+
+/// What was seen by a look, and a copy of the board.
+struct Looked {
+    front: Front,
+    board: Result<Board, LookFault>,
+}
+
+/// Copies the board that is handed out.
+fn look<K: Origin, N: House>(
+    reader: BoardReader<K, N>,
+    with: (Global, Front),
+) -> (BoardReader<K, N>, Looked)
+    requires seen { (known reader.place).seen ≡ with.1.log }
+    requires book { with.1.book ≡ N.names.book }
+    requires legal { IsLegal (start K.setting) with.1.log }
+    ensures seen { (known result.0.place).seen ≡ result.1.front.log }
+    ensures book { result.1.front.book ≡ N.names.book }
+    ensures legal { IsLegal (start K.setting) result.1.front.log }
+    ensures later { IsPrefix with.1.log result.1.front.log }
+    ensures board { IfOk result.1.board (λ b. b ≡ shown_of (start K.setting) result.1.front.log) }
+{
+    let (alloc, front) = with;
+    match reader.enter_as::<Sees<K, N>>() {
+        Ok(reading) => {
+            let sheet = reading.get();
+            let front = sheet.front.again();
+            let board = match sheet.copy_board(alloc) {
+                Ok(board) => Ok(board),
+                Err(_) => Err(LookFault::OutOfMemory),
+            };
+            (reading.leave(), Looked { front, board })
+        }
+        Err(back) => (
+            back,
+            Looked {
+                front,
+                board: Err(LookFault::NoBoard),
+            },
+        ),
+    }
+}
+
+impl<K: Origin, N: House> Viewer<K, N> {
+    /// A reader that has seen all of this history, whose board is published. Err where no place is free or memory is
+    /// wanting; then nothing was made.
+    pub fn new<R: Wait + Drop>(
+        publisher: &mut Publisher<K, N, R>,
+        front: Front,
+    ) -> Result<Viewer<K, N>, NoMemory>
+        requires book { front.book ≡ N.names.book }
+        requires legal { IsLegal (start K.setting) front.log }
+        requires published { publisher.old ≡ front.log }
+        ensures publisher { publisher.new ≡ publisher.old }
+        ensures seen { IfOk result (λ v. v ≡ front.log) }
+    {
+        let reader = publisher.reader()?;
+        Ok(Viewer { front, reader })
+    }
+
+    /// The beginning of the history that was seen.
+    pub fn front(&self) -> &Front
+        ensures front { result.now ≡ past N.names.book self.now }
+        ensures legal { IsLegal (start K.setting) self.now }
+    {
+        &self.front
+    }
+
+    /// The board that is published now. It takes no lock, and waits for nobody.
+    ///
+    /// NoBoard where none was handed out, OutOfMemory where its copy found no memory.
+    pub fn board(&mut self, alloc: Global) -> Result<Board, LookFault>
+        ensures board { IfOk result (λ b. b ≡ shown_of (start K.setting) self.new) }
+        ensures legal { IsLegal (start K.setting) self.new }
+        ensures seen { IsPrefix self.old self.new }
+    {
+        let front = self.front.again();
+        let Looked { front, board } = replace_with(
+            &mut self.reader,
+            (alloc, front),
+            |reader, with| look::<K, N>(reader, with),
+        );
+        self.front = front;
+        board
+    }
+}

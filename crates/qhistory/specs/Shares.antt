@@ -1,0 +1,32 @@
+-- What contracts see of shares, and what they come to together.
+use Rattle.std.specs.Prelude.{◌≡◌, ℕ, ◌==◌, ◌<◌, ◌≤◌, true, false, List, sum_by}
+use Rattle.std.specs.List.{list_any}
+use Rattle.qplain.specs.declared.entry.Entry.{Entry}
+use Rattle.qplain.specs.declared.tallies.Tallies.{Tallies}
+
+-- a worker's number, the beginning of the history that it has seen, and what it has counted
+pub record Shared : Type 0 where
+  pub worker : ℕ
+  pub seen : List Entry
+  pub sums : Tallies
+
+-- what these shares have counted together
+abbrev pub sums_of : List Shared → Tallies
+sums_of shares = record {
+  blocks_charged = sum_by (λ s. s.sums.blocks_charged) shares;
+  blocks_released = sum_by (λ s. s.sums.blocks_released) shares;
+  inodes_charged = sum_by (λ s. s.sums.inodes_charged) shares;
+  inodes_released = sum_by (λ s. s.sums.inodes_released) shares;
+  calls = sum_by (λ s. s.sums.calls) shares;
+}
+
+-- the shares of the first seats are there
+abbrev pub AreThere : List Shared → ℕ → Type 0
+AreThere shares seats = (k : ℕ) → 0 < k → k ≤ seats → list_any (λ s. s.worker == k) shares ≡ true
+
+-- this is the least of the seats whose share is not there
+pub record IsLeastMissing (shares : List Shared) (seats worker : ℕ) : Type 0 where
+  pub positive : 0 < worker
+  pub seat : worker ≤ seats
+  pub missing : list_any (λ s. s.worker == worker) shares ≡ false
+  pub before : (k : ℕ) → 0 < k → k < worker → list_any (λ s. s.worker == k) shares ≡ true

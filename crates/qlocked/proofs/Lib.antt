@@ -1,0 +1,2 @@
+-- A call and a publication keep a locked store sound.
+mod Keeping

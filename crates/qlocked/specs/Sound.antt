@@ -1,0 +1,27 @@
+-- What holds of a store whenever its lock is free.
+use Rattle.std.specs.Prelude.{◌≡◌, ◌≤◌, List, length, fold}
+use mathlib.Core.List.{IsPrefix}
+use Rattle.logbook.specs.Pages.{Book}
+use Rattle.qplain.specs.declared.entry.Entry.{Entry}
+use Rattle.qplain.specs.declared.tallies.Tallies.{Tallies}
+use Rattle.qplain.specs.Setups.{IsLawfulSetup, Setting}
+use Rattle.qplain.specs.State.{State, start}
+use Rattle.qplain.specs.Journal.{IsLegal, play, tally_of}
+use Rattle.qjournal.specs.declared.journal.TheConstants.{MAX_ENTRIES}
+use Rattle.qhistory.specs.Past.{Past, past}
+use Rattle.qboards.specs.declared.board_change.BoardChange.{BoardChange}
+use Rattle.qboards.specs.Boards.{changed_by, shown_of}
+
+-- The state is what the journal leaves when one thread plays it on the plain machine, and each reply is that machine's. The
+-- history is the journal, the tally is the journal's, and the journal is no longer than it may be. A beginning of it is
+-- published, and the changes that wait lead from that board to the journal's.
+pub record IsSound (book : Book) (setting : Setting) (state : State) (journal : List Entry) (whole : Past)
+    (tally : Tallies) (published : List Entry) (waiting : List BoardChange) : Type 0 where
+  pub lawful : IsLawfulSetup setting
+  pub state_is : state ≡ play (start setting) journal
+  pub legal : IsLegal (start setting) journal
+  pub few : length journal ≤ MAX_ENTRIES
+  pub whole_is : whole ≡ past book journal
+  pub tally_is : tally ≡ tally_of journal
+  pub goes_on : IsPrefix published journal
+  pub waits : fold changed_by (shown_of (start setting) published) waiting ≡ shown_of (start setting) journal

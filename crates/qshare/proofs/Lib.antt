@@ -1,0 +1,2 @@
+-- What a call leaves of a journal.
+mod Growing

@@ -1,0 +1,3 @@
+-- In reading order: what contracts see of seats, and the numbers of faults.
+pub mod Seats
+pub mod ShareFaults
