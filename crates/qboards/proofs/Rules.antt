@@ -21,7 +21,8 @@ All log views = (seat : ℕ) (v : View) → get_elem? views seat ≡ some v → 
 
 all_set : (log : List Entry) (views : List View) (seat : ℕ) (w : View) → All log views → IsPrefix w.seen log → All log (set views seat w)
 all_set log views seat w others mine j u e =
-    ⊎_elim (λ (t : (j ≡ seat) × (w ≡ u)). subst (λ (x : View). IsPrefix x.seen log) t.1 mine) (λ (t : (j ≢ seat) × (get_elem? views j ≡ some u)). others j u t.1) (at_set views seat j w u e)
+    ⊎_elim (λ (t : (j ≡ seat) × (w ≡ u)). subst (λ (x : View). IsPrefix x.seen log) t.1 mine)
+    (λ (t : (j ≢ seat) × (get_elem? views j ≡ some u)). others j u t.1) (at_set views seat j w u e)
 
 all_snoc : (log : List Entry) (views : List View) (w : View) → All log views → IsPrefix w.seen log → All log (views ++ w ∷ [])
 all_snoc log views w others mine j u e =
@@ -47,7 +48,8 @@ module _ (book : Book) (start : State) where
       let w : View = record { seen = x.front.log } in
       (w, (h.0, h.1, h.2, all_set x.front.log views seat w h.3 (prefix_self x.front.log)), (refl, h.0, mine, h.2, h.1))
 
-  pub brings : (seat : ℕ) (v : View) (x y : Sheet) → IsPrefix x.front.log y.front.log → y.front.book ≡ book → IsLegal start y.front.log → board_in y ≡ shown_of start y.front.log
+  pub brings : (seat : ℕ) (v : View) (x y : Sheet) → IsPrefix x.front.log y.front.log → y.front.book ≡ book
+      → IsLegal start y.front.log → board_in y ≡ shown_of start y.front.log
       → TurnsAt Holds seat v x y (λ v x y w. Sight book start v y.front (board_in y) w)
   brings seat v x y more named legal is views h at =
       let w : View = record { seen = y.front.log } in
@@ -61,5 +63,7 @@ module _ (book : Book) (start : State) where
 
   pub merges : (seat : ℕ) (v : View) (other : ℕ) (w : View) → Merges Holds seat v other w w newcomer
   merges seat v other w x views h at apart there =
-      let theirs : IsPrefix w.seen x.front.log = ⊎_elim (λ (t : (other ≡ seat) × (w ≡ w)). absurd (apart t.0)) (λ (t : (other ≢ seat) × (get_elem? views other ≡ some w)). h.3 other w t.1) (at_set views seat other w w there) in
+      let theirs : IsPrefix w.seen x.front.log =
+      ⊎_elim (λ (t : (other ≡ seat) × (w ≡ w)). absurd (apart t.0))
+      (λ (t : (other ≢ seat) × (get_elem? views other ≡ some w)). h.3 other w t.1) (at_set views seat other w w there) in
       (h.0, h.1, h.2, all_set x.front.log (set views seat w) other newcomer (all_set x.front.log views seat w h.3 theirs) (x.front.log, refl))

@@ -219,11 +219,6 @@ impl<K: Origin, N: House, R: Wait + Drop> Publisher<K, N, R> {
         })
     }
 
-    /// The handle by which waiting is done.
-    pub fn handle(&self) -> &R {
-        &self.pen.rt
-    }
-
     /// Publishes the board of this history, to which these changes lead.
     ///
     /// It waits for readers that still look at the board before the last one.

@@ -14,22 +14,26 @@ without k (x ∷ xs) = cond (x.worker == k) xs (x ∷ without k xs)
 later : (k : ℕ) (x : Shared) (xs : List Shared) → (x.worker == k) ≡ false → Has (x ∷ xs) k → Has xs k
 later k x xs is h = subst (λ (b : Bool). (b || list_any (λ s. s.worker == k) xs) ≡ true) is h
 
-shorter_step : (k : ℕ) (x : Shared) (xs : List Shared) (b : Bool) → (x.worker == k) ≡ b → Has (x ∷ xs) k → (Has xs k → suc (length (without k xs)) ≡ length xs) → suc (length (without k (x ∷ xs))) ≡ suc (length xs)
+shorter_step : (k : ℕ) (x : Shared) (xs : List Shared) (b : Bool) → (x.worker == k) ≡ b → Has (x ∷ xs) k
+    → (Has xs k → suc (length (without k xs)) ≡ length xs) → suc (length (without k (x ∷ xs))) ≡ suc (length xs)
 shorter_step k x xs true is h rest = subst (λ (b : Bool). suc (length (cond b xs (x ∷ without k xs))) ≡ suc (length xs)) (sym is) refl
-shorter_step k x xs false is h rest = subst (λ (b : Bool). suc (length (cond b xs (x ∷ without k xs))) ≡ suc (length xs)) (sym is) (ap suc (rest (later k x xs is h)))
+shorter_step k x xs false is h rest =
+    subst (λ (b : Bool). suc (length (cond b xs (x ∷ without k xs))) ≡ suc (length xs)) (sym is) (ap suc (rest (later k x xs is h)))
 
 shorter : (k : ℕ) (xs : List Shared) → Has xs k → suc (length (without k xs)) ≡ length xs
 shorter k [] h = absurd cc
 shorter k (x ∷ xs) h = shorter_step k x xs (x.worker == k) refl h (shorter k xs)
 
-others_step : (k j : ℕ) (x : Shared) (xs : List Shared) (b : Bool) → (x.worker == k) ≡ b → (d : Bool) → (x.worker == j) ≡ d → j ≢ k → Has (x ∷ xs) j → (Has xs j → Has (without k xs) j) → Has (without k (x ∷ xs)) j
+others_step : (k j : ℕ) (x : Shared) (xs : List Shared) (b : Bool) → (x.worker == k) ≡ b → (d : Bool) → (x.worker == j) ≡ d → j ≢ k
+    → Has (x ∷ xs) j → (Has xs j → Has (without k xs) j) → Has (without k (x ∷ xs)) j
 others_step k j x xs true is true at apart h rest = absurd (apart (grind (arith, tests, is, at)))
 others_step k j x xs true is false at apart h rest = subst (λ (b : Bool). Has (cond b xs (x ∷ without k xs)) j) (sym is) (later j x xs at h)
 others_step k j x xs false is true at apart h rest =
     let here : Has (x ∷ without k xs) j = subst (λ (b : Bool). (b || list_any (λ s. s.worker == j) (without k xs)) ≡ true) (sym at) refl in
     subst (λ (b : Bool). Has (cond b xs (x ∷ without k xs)) j) (sym is) here
 others_step k j x xs false is false at apart h rest =
-    let here : Has (x ∷ without k xs) j = subst (λ (b : Bool). (b || list_any (λ s. s.worker == j) (without k xs)) ≡ true) (sym at) (rest (later j x xs at h)) in
+    let here : Has (x ∷ without k xs) j =
+    subst (λ (b : Bool). (b || list_any (λ s. s.worker == j) (without k xs)) ≡ true) (sym at) (rest (later j x xs at h)) in
     subst (λ (b : Bool). Has (cond b xs (x ∷ without k xs)) j) (sym is) here
 
 others : (k j : ℕ) (xs : List Shared) → j ≢ k → Has xs j → Has (without k xs) j

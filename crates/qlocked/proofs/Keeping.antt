@@ -57,7 +57,8 @@ board-one_more : (S after : State) (journal : List Entry) (e : Entry) (effect : 
     → changed_by (shown_of S journal) (change version effect) ≡ shown_of S (journal ++ e ∷ [])
 board-one_more S after journal e effect version left does version_is =
     let len : length (journal ++ e ∷ []) ≡ length journal + 1 = length-append journal (e ∷ []) in
-    let rows : rows_after (map (row_of (play S journal)) (play S journal).holders) effect ≡ map (row_of (play S (journal ++ e ∷ []))) (play S (journal ++ e ∷ [])).holders =
+    let rows : rows_after (map (row_of (play S journal)) (play S journal).holders) effect
+    ≡ map (row_of (play S (journal ++ e ∷ []))) (play S (journal ++ e ∷ [])).holders =
     does.rows ∙ ap (λ (T : State). map (row_of T) T.holders) (sym left) in
     λ i. record {
       version = (version_is ∙ sym len) i;
@@ -67,11 +68,14 @@ board-one_more S after journal e effect version left does version_is =
     }
 
 -- one entry more, whose reply and state are the plain machine's
-pub grows : (book : Book) (setting : Setting) (state after : State) (journal : List Entry) (whole : Past) (tally : Tallies) (published : List Entry) (waiting : List BoardChange)
+pub grows : (book : Book) (setting : Setting) (state after : State) (journal : List Entry) (whole : Past) (tally : Tallies)
+    (published : List Entry) (waiting : List BoardChange)
     (worker version : ℕ) (line : Line) (reply : Reply) (effect : Effect)
-    → IsSound book setting state journal whole tally published waiting → length journal < MAX_ENTRIES → (after, reply) ≡ step state line.cred line.moment line.call
+    → IsSound book setting state journal whole tally published waiting → length journal < MAX_ENTRIES
+    → (after, reply) ≡ step state line.cred line.moment line.call
     → IsEffectOf state effect after → version ≡ length journal + 1
-    → IsSound book setting after (journal ++ entry_of worker line reply ∷ []) (longer whole (entry_of worker line reply)) (counted tally (change_of reply)) published (waiting ++ change version effect ∷ [])
+    → IsSound book setting after (journal ++ entry_of worker line reply ∷ []) (longer whole (entry_of worker line reply))
+    (counted tally (change_of reply)) published (waiting ++ change version effect ∷ [])
 grows book setting state after journal whole tally published waiting worker version line reply effect s room stepped does version_is =
     let e : Entry = entry_of worker line reply in
     let S : State = start setting in
@@ -94,7 +98,8 @@ grows book setting state after journal whole tally published waiting worker vers
     }
 
 -- all of the journal is published, and no change waits
-pub publishes : (book : Book) (setting : Setting) (state : State) (journal : List Entry) (whole : Past) (tally : Tallies) (published published' : List Entry) (waiting waiting' : List BoardChange)
+pub publishes : (book : Book) (setting : Setting) (state : State) (journal : List Entry) (whole : Past) (tally : Tallies)
+    (published published' : List Entry) (waiting waiting' : List BoardChange)
     → IsSound book setting state journal whole tally published waiting → published' ≡ whole.log → waiting' ≡ []
     → IsSound book setting state journal whole tally published' waiting'
 publishes book setting state journal whole tally published published' waiting waiting' s published_is none =
@@ -111,7 +116,8 @@ publishes book setting state journal whole tally published published' waiting wa
     }
 
 -- what is equal is as sound
-pub along : (book : Book) (setting : Setting) (state state' : State) (journal journal' : List Entry) (whole whole' : Past) (tally tally' : Tallies) (published published' : List Entry) (waiting waiting' : List BoardChange)
+pub along : (book : Book) (setting : Setting) (state state' : State) (journal journal' : List Entry) (whole whole' : Past)
+    (tally tally' : Tallies) (published published' : List Entry) (waiting waiting' : List BoardChange)
     → IsSound book setting state journal whole tally published waiting → state' ≡ state → journal' ≡ journal → whole' ≡ whole → tally' ≡ tally
     → published' ≡ published → waiting' ≡ waiting
     → IsSound book setting state' journal' whole' tally' published' waiting'

@@ -12,9 +12,9 @@ use Rattle.qhistory.specs.Past.{Past, past}
 use Rattle.qboards.specs.declared.board_change.BoardChange.{BoardChange}
 use Rattle.qboards.specs.Boards.{changed_by, shown_of}
 
--- The state is what the journal leaves when one thread plays it on the plain machine, and each reply is that machine's. The
--- history is the journal, the tally is the journal's, and the journal is no longer than it may be. A beginning of it is
--- published, and the changes that wait lead from that board to the journal's.
+-- The state is what the journal leaves when one thread plays it on the plain machine, and each reply is that machine's.
+-- The history is the journal, the tally is the journal's, and the journal is no longer than it may be. A beginning of
+-- it is published, and the changes that wait lead from that board to the journal's.
 pub record IsSound (book : Book) (setting : Setting) (state : State) (journal : List Entry) (whole : Past)
     (tally : Tallies) (published : List Entry) (waiting : List BoardChange) : Type 0 where
   pub lawful : IsLawfulSetup setting

@@ -137,11 +137,6 @@ impl<K: Origin, N: House, R: Wait + Drop> LockedStore<K, N, R> {
         }
     }
 
-    /// The allocator of what grows.
-    pub fn alloc(&self) -> Global {
-        self.alloc
-    }
-
     /// The number of seats.
     pub fn seats(&self) -> u64
         ensures { result ≡ N.names.ledgers.parts }
@@ -150,8 +145,9 @@ impl<K: Origin, N: House, R: Wait + Drop> LockedStore<K, N, R> {
     }
 
     /// Makes the call of a line and journals it, with all that it needs made before its first change.
-    fn journal_call(
+    fn journal_call<W: Wait>(
         &mut self,
+        rt: &W,
         worker: u64,
         mine: &mut Count<N>,
         line: Line,
@@ -181,7 +177,7 @@ impl<K: Origin, N: House, R: Wait + Drop> LockedStore<K, N, R> {
         let change = entry.reply.change();
         let tallies = self.tallies.with_call(change);
         let effect = self.store.effect(&ready);
-        add_entry(self.publisher.handle(), &mut self.whole, &entry);
+        add_entry(rt, &mut self.whole, &entry);
         let reply = self.store.commit(ready);
         self.books.count_call(mine, change, tallies);
         self.tallies = tallies;
@@ -192,8 +188,9 @@ impl<K: Origin, N: House, R: Wait + Drop> LockedStore<K, N, R> {
     /// Makes a call and journals it; what it does to the board waits to be published.
     ///
     /// Err is JournalFull, told first, where the journal has its 65,536 entries, or OutOfMemory; it changes nothing.
-    pub fn apply(
+    pub fn apply<W: Wait>(
         &mut self,
+        rt: &W,
         worker: u64,
         mine: &mut Count<N>,
         cred: &Cred,
@@ -216,7 +213,7 @@ impl<K: Origin, N: House, R: Wait + Drop> LockedStore<K, N, R> {
         let Ok(line) = copy_line(cred, moment, call) else {
             return Err(CallFault::OutOfMemory);
         };
-        match self.journal_call(worker, mine, line) {
+        match self.journal_call(rt, worker, mine, line) {
             Ok(receipt) => Ok(receipt),
             Err(_) => Err(CallFault::OutOfMemory),
         }
@@ -251,12 +248,14 @@ impl<K: Origin, N: House, R: Wait + Drop> LockedStore<K, N, R> {
     }
 
     /// Waits until the journal begins with what a seat has seen, which it does.
-    pub fn await_covered(&self, front: &Front)
+    pub fn await_covered<W: Wait>(&self, rt: &W, front: &Front)
         requires { front.now.book ≡ N.names.book }
         ensures begins { IsPrefix front.now.log self.now.journal }
         ensures few { length self.now.journal ≤ MAX_ENTRIES }
     {
-        for _ in self.publisher.handle().forever() {
+        // Whoever looks at the journal knows that it is no longer than it may be.
+        let _journal = &self.journal;
+        for _ in rt.forever() {
             if self.covers(front) {
                 return;
             }
@@ -265,16 +264,16 @@ impl<K: Origin, N: House, R: Wait + Drop> LockedStore<K, N, R> {
     }
 
     /// The journal begins with what each seat has seen.
-    fn see_all(&self, shares: &[Share<N>])
+    fn see_all<W: Wait>(&self, rt: &W, shares: &[Share<N>])
         ensures { All (λ s. IsPrefix s.seen self.now.journal) shares.now }
     {
         for share in shares {
-            self.await_covered(share.front());
+            self.await_covered(rt, share.front());
         }
     }
 
     /// What is left, for who hands in the shares of all seats: what they have counted is the journal's tally.
-    pub fn close(self, shares: Vec<Share<N>>) -> Ended
+    pub fn close<W: Wait>(self, rt: &W, shares: Vec<Share<N>>) -> Ended
         requires { N.names.ledgers.parts ≤ length shares.items }
         ensures setup { result.setup ≡ K.setting }
         ensures store { result.store.state ≡ play (start K.setting) result.journal.items }
@@ -285,7 +284,7 @@ impl<K: Origin, N: House, R: Wait + Drop> LockedStore<K, N, R> {
         ensures sums { result.tallies ≡ sums_of shares.items }
         ensures seen { All (λ s. IsPrefix s.seen result.journal.items) shares.items }
     {
-        self.see_all(&shares);
+        self.see_all(rt, &shares);
         let LockedStore {
             setup,
             store,

@@ -52,9 +52,9 @@ fn call_locked<K: Origin, N: House, R: Wait + Drop, W: Wait>(
     ensures full { IfErr result (λ f. f ≡ JournalFull → length seat.new.seen ≡ MAX_ENTRIES) }
     ensures stays_full { MAX_ENTRIES ≤ length seat.old.seen → result ≡ Err JournalFull }
 {
-    store.await_covered(seat.front());
+    store.await_covered(rt, seat.front());
     let worker = seat.worker;
-    let answer = store.apply(worker, &mut seat.count, cred, moment, call);
+    let answer = store.apply(rt, worker, &mut seat.count, cred, moment, call);
     store.publish();
     seat.catch_up(rt, store);
     answer
@@ -99,7 +99,7 @@ impl<K: Origin, N: House, R: Wait + Drop> Shared<K, N, R> {
     /// what they have counted is the journal's tally.
     ///
     /// An Err names the least worker whose share is not there, and gives store and shares back. It takes no memory.
-    pub fn end(self, shares: Vec<Share<N>>) -> Result<Ended, Missing<K, N, R>>
+    pub fn end<W: Wait>(self, rt: &W, shares: Vec<Share<N>>) -> Result<Ended, Missing<K, N, R>>
         ensures setup { IfOk result (λ e. e.setup ≡ K.setting) }
         ensures store { IfOk result (λ e. e.store.state ≡ play (start K.setting) e.journal.items) }
         ensures legal { IfOk result (λ e. IsLegal (start K.setting) e.journal.items) }
@@ -119,7 +119,7 @@ impl<K: Origin, N: House, R: Wait + Drop> Shared<K, N, R> {
                 shared: Shared::over(store),
                 shares,
             }),
-            None => Ok(store.close(shares)),
+            None => Ok(store.close(rt, shares)),
         }
     }
 }

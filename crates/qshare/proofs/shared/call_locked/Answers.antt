@@ -8,7 +8,8 @@ pub returns-clause-seen : goal.returns-clause-seen
 returns-clause-seen g c =
     let journal = c.args.store.now.journal in
     let begins : IsPrefix c.args.seat.now.seen journal = subst (λ p. IsPrefix p.log journal) c.front.ensures.front c.await_covered.ensures.begins in
-    let grown : IsPrefix journal c.apply-answer.new.self.journal = goes_on _ c.apply-answer.result _ _ _ c.apply-answer.ensures.journal c.apply-answer.ensures.err in
+    let grown : IsPrefix journal c.apply-answer.new.self.journal =
+    goes_on _ c.apply-answer.result _ _ _ c.apply-answer.ensures.journal c.apply-answer.ensures.err in
     let left : c.catch_up.new.self.seen ≡ c.apply-answer.new.self.journal = ap (λ s. s.seen) c.catch_up.ensures.seen ∙ c.publish.ensures.0 in
     subst (IsPrefix c.args.seat.now.seen) (sym left) (prefix_trans _ _ _ begins grown)
 

@@ -32,7 +32,8 @@ invariant_of-self-2 g c =
     subst (λ (T : State). IsEffectOf T effect (committed c.ready.new.self c.in_ok-ready.ready).0) c.in_ok-ready.ensures.state c.effect-effect.ensures in
     let does : IsEffectOf c.self.inside.store.state effect c.commit-reply.new.self.state =
     subst (λ (T : State). IsEffectOf c.self.inside.store.state effect T) (sym (ap (λ p. p.0) c.commit-reply.ensures)) told in
-    let place : c.write_down-place.result ≡ length journal + 1 = c.write_down-place.ensures.place ∙ ap (λ (l : List Entry). length l + 1) c.in_ok-reserve.ensures.items in
+    let place : c.write_down-place.result ≡ length journal + 1 =
+    c.write_down-place.ensures.place ∙ ap (λ (l : List Entry). length l + 1) c.in_ok-reserve.ensures.items in
     let grown = grows _ _ _ _ _ _ _ _ _ c.args.worker c.write_down-place.result c.args.line c.in_ok-reply.reply effect i.4 few stepped does place in (
       i.0,
       i.1,
@@ -44,5 +45,6 @@ invariant_of-self-2 g c =
           c.add_entry.ensures
           (c.count_call.ensures.books ∙ ap (λ x. counted c.self.inside.books x) c.change-change.ensures)
           refl
-          (c.write_down-place.ensures.waiting ∙ ap (λ (l : List BoardChange). l ++ change c.write_down-place.result effect ∷ []) c.in_ok-reserve-2.ensures.items),
+          (c.write_down-place.ensures.waiting
+          ∙ ap (λ (l : List BoardChange). l ++ change c.write_down-place.result effect ∷ []) c.in_ok-reserve-2.ensures.items),
     )
