@@ -28,7 +28,12 @@ EMPTY = CHECKING / "a/empty.txt"
 # The folders of the worked examples of the formats, and of examples/.
 WORKED = "a", "a0", "a0_group_blocks", "a0_group_inodes", "examples"
 FAILED = b"- failed OutOfMemory\n"
-MEMORY = (3, b"", b"quotafs: memory\n")
+# How a run may end without an outcome where an allocation is refused.
+WITHOUT = {
+    (3, b"", b"quotafs: memory\n"): "memory",
+    (3, b"", b"quotafs: no reader\n"): "no reader",
+    **{(3, b"", b"quotafs: worker %d not started\n" % worker): "not started" for worker in (1, 2)},
+}
 HEAD = b"quotafs journal 1 workers 1\n"
 
 
@@ -72,7 +77,7 @@ class Case:
 
     def ending(self, answer):
         """How a run ends in which one allocation was refused, or None where it may not end so."""
-        return {self.answer: "unchanged", MEMORY: "memory"}.get(answer)
+        return "unchanged" if answer == self.answer else WITHOUT.get(answer)
 
 
 class Change(Case):

@@ -16,38 +16,6 @@ use Rattle.qplain.specs.Transcripts.{Belongs, journaled_lines}
 use Rattle.qrun.specs.Runs.{AreTranscriptsOf, FullIsToldFirst, IsFullOf, IsOutcomeOf}
 use Rattle.qplain.specs.State.{start}
 use Rattle.qrun.proofs.Stats.{legal-fair}
-use Rattle.qrun.proofs.Telling.{IsOf}
-
--- the only worker's transcript
-abbrev pub only_transcript : List Line → List (Result Receipt CallFault) → Transcript
-only_transcript lines answers = record { worker = 1; lines = lines; answers = answers }
-
--- the transcripts of one worker
-pub one_transcript : (lines : List Line) (journal : List Entry) (answers : List (Result Receipt CallFault))
-    → length answers ≡ length lines → journaled_lines 1 lines answers ≡ entries_of journal 1
-    → All (IsFullOf journal) answers → FullIsToldFirst answers
-    → AreTranscriptsOf 1 (lines ∷ []) journal (only_transcript lines answers ∷ [])
-unfolding AreTranscriptsOf
-one_transcript lines journal answers each own full first = (
-  record {
-    worker_is = refl;
-    lines_are = refl;
-    each = each;
-    own = own;
-    full = full;
-    first = first;
-  },
-  tt,
-)
-
--- the entries of one worker belong to its transcript
-pub all_belong : (lines : List Line) (journal : List Entry) (answers : List (Result Receipt CallFault))
-    → All (IsOf 1) journal → All (Belongs (only_transcript lines answers ∷ [])) journal
-all_belong lines journal answers all k d less = (0, omega arith, sym (all k d less))
-
--- the entries of the only worker are of one of one
-pub of_one : (journal : List Entry) → All (IsOf 1) journal → All (IsOneOf 1) journal
-of_one journal all k d less = let own = all k d less in (omega (arith, own), omega (arith, own))
 
 -- the journal of a store that was played on by so many workers is one
 pub journal_left : (j : Journaled) (workers : ℕ) → IsPlayed j → IsWorkers workers → All (IsOneOf workers) j.journal

@@ -13,8 +13,8 @@ use Rattle.qplain.specs.Journal.{IsLegal, play, played, tally_of}
 use Rattle.qstore.specs.Rows.{record_row_of}
 use Rattle.qrows.specs.Own.{differences_in}
 use Rattle.qrun.specs.declared.outcome.Outcome.{Outcome}
-use Rattle.qrun.specs.declared.run_fault.RunFault.{RunFault}
-use Rattle.qrun.specs.declared.run_fault.RunFault.TheVariants.{Memory, Mismatch}
+use Rattle.qrun.specs.declared.replay_fault.ReplayFault.{ReplayFault}
+use Rattle.qrun.specs.declared.replay_fault.ReplayFault.TheVariants.{Memory, Mismatch}
 use Rattle.qplain.specs.Transcripts.{journaled_lines}
 use Rattle.qrun.specs.Runs.{AreTranscriptsOf, IsOutcomeOf, IsTranscriptOf}
 use Rattle.qrun.specs.Replays.{GivesBack, IsAsBefore, IsMismatch, IsReplayOf, answer_of, granted_lines, line_of, transcript_in, without_failed}
@@ -87,7 +87,7 @@ as_before setting scripts old new run replay =
     }
 
 -- and it meets no mismatch
-pub gives_back : (setting : Setting) (scripts : List (List Line)) (old : Outcome) (r : Result Outcome RunFault)
+pub gives_back : (setting : Setting) (scripts : List (List Line)) (old : Outcome) (r : Result Outcome ReplayFault)
     → IsOutcomeOf setting scripts old → IfOk r (IsReplayOf setting old.journal)
     → ((place : ℕ) → r ≡ Err (Mismatch place) → IsMismatch (start setting) old.journal.entries place) → GivesBack old r
 gives_back setting scripts old (Ok new) run replay mismatch = as_before setting scripts old new run replay

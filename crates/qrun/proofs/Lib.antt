@@ -1,7 +1,6 @@
--- One more call of a journaled store, one more line of a transcript, what a journal tells of directories, what a run comes to, a journal played
+-- One more call of a journaled store, what a journal tells of directories, what a run comes to, a journal played
 -- again, and that of a run.
 pub mod Journaling
-pub mod Telling
 pub mod Stats
 pub mod Coming
 pub mod Replaying

@@ -3,6 +3,6 @@
 pub mod Journaled
 pub mod Runs
 pub mod Replays
-pub mod RunFaults
+pub mod ReplayFaults
 pub mod KeptJournaled
 pub mod Left

@@ -14,8 +14,8 @@ use Rattle.qstore.specs.Rows.{record_row_of}
 use Rattle.qrows.specs.Own.{differences_in}
 use Rattle.qjournal.specs.Journals.{Written}
 use Rattle.qrun.specs.declared.outcome.Outcome.{Outcome}
-use Rattle.qrun.specs.declared.run_fault.RunFault.{RunFault}
-use Rattle.qrun.specs.declared.run_fault.RunFault.TheVariants.{Memory, Mismatch}
+use Rattle.qrun.specs.declared.replay_fault.ReplayFault.{ReplayFault}
+use Rattle.qrun.specs.declared.replay_fault.ReplayFault.TheVariants.{Memory, Mismatch}
 
 -- the line of an entry
 abbrev pub line_of : Entry → Line
@@ -87,7 +87,7 @@ pub record IsAsBefore (old new : Outcome) : Type 0 where
   pub differences : new.differences ≡ old.differences
 
 -- the replay gives back what the run has left, or memory was wanting
-abbrev pub GivesBack : Outcome → Result Outcome RunFault → Type 0
+abbrev pub GivesBack : Outcome → Result Outcome ReplayFault → Type 0
 GivesBack old (Ok new) = IsAsBefore old new
 GivesBack old (Err Memory) = Unit {0}
 GivesBack old (Err (Mismatch place)) = ⊥

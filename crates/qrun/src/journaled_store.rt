@@ -2,18 +2,18 @@
 ghost use Rattle.std.specs.Prelude.{◌≡◌, ℕ, ◌<◌, ◌≤◌, ◌+◌, ◌++◌, ◌∷◌, [], ◌↔◌, length, map, vec_len, vec_capacity, IfOk, OnErr, OnOk, Err};
 ghost use Rattle.std.specs.Bool.{Decides};
 ghost use Rattle.qplain.specs.State.{start};
-ghost use Rattle.qplain.specs.Journal.{tally_of};
+ghost use Rattle.qplain.specs.Journal.{IsLegal, play, tally_of};
 ghost use Rattle.qstore.specs.Ready.{IsReady, committed};
 ghost use Rattle.qstore.specs.Rows.{record_row_of};
 ghost use Rattle.qrows.specs.Own.{differences_in, record_rows};
-ghost use Rattle.qrun.specs.declared.run_fault.RunFault.TheVariants.{Mismatch};
+ghost use Rattle.qrun.specs.declared.replay_fault.ReplayFault.TheVariants.{Mismatch};
 ghost use Rattle.qrun.specs.Journaled.{IsAnswered, IsJournaled, IsPlayed};
 ghost use Rattle.qrun.specs.Replays.{IsMismatch, IsMismatchAfter, line_of};
 
-use crate::RunFault;
+use crate::ReplayFault;
 use qaudit::Difference;
 use qjournal::MAX_ENTRIES;
-use qplain::{CallFault, Entry, Line, NoMemory, Receipt, Reply, Setup, Tallies};
+use qplain::{Entry, Line, NoMemory, Receipt, Reply, Setup, Tallies};
 use qrows::audit;
 use qrules::RecordRow;
 use qstore::{Ready, Store};
@@ -23,7 +23,7 @@ use std::marker::Model;
 /// A store with the journal of its calls, its tallies, and the setup that it began with. It is always what the journal
 /// leaves.
 #[derive(Drop)]
-pub(crate) struct JournaledStore {
+pub struct JournaledStore {
     alloc: Global,
     setup: Setup,
     store: Store,
@@ -111,8 +111,33 @@ impl JournaledStore {
         })
     }
 
-    /// Makes the call of a line and journals it, with all that it needs made before its first change. Runs and replays
-    /// come here, so that there is one place where a call is made ready and carried out.
+    /// A store that was played on elsewhere, with its setup, its journal and the tallies of it.
+    pub fn of(
+        alloc: Global,
+        setup: Setup,
+        store: Store,
+        journal: Vec<Entry>,
+        tallies: Tallies,
+    ) -> JournaledStore
+        requires legal { IsLegal (start setup) journal.items }
+        requires store { store.state ≡ play (start setup) journal.items }
+        requires few { length journal.items ≤ MAX_ENTRIES }
+        requires tallies { tallies ≡ tally_of journal.items }
+        ensures { result
+            ≡ record { setting = setup; stored = store; journal = journal.items; tallies = tallies } }
+    {
+        // A setup that is asked for its users is lawful.
+        let _users = setup.users();
+        JournaledStore {
+            alloc,
+            setup,
+            store,
+            journal,
+            tallies,
+        }
+    }
+
+    /// Makes the call of a line and journals it, with all that it needs made before its first change.
     fn journal_call(&mut self, worker: u64, line: Line) -> Result<Receipt, NoMemory>
         requires few { length self.old.journal < MAX_ENTRIES }
         ensures setting { self.new.setting ≡ self.old.setting }
@@ -138,28 +163,9 @@ impl JournaledStore {
         Ok(receipt)
     }
 
-    /// One call of a worker, journaled. An Err changes nothing; a full journal is told before want of memory.
-    pub(crate) fn call(&mut self, worker: u64, line: &Line) -> Result<Receipt, CallFault>
-        ensures setting { self.new.setting ≡ self.old.setting }
-        ensures ok { IfOk result (λ receipt. IsJournaled worker line.now receipt self.old.journal self.new.journal) }
-        ensures err { OnErr result (self.new.journal ≡ self.old.journal) }
-        ensures full { (result ≡ Err CallFault.JournalFull) ↔ (length self.old.journal ≡ MAX_ENTRIES) }
-    {
-        if self.journal.len() >= MAX_ENTRIES {
-            return Err(CallFault::JournalFull);
-        }
-        let Ok(line) = line.copy() else {
-            return Err(CallFault::OutOfMemory);
-        };
-        match self.journal_call(worker, line) {
-            Ok(receipt) => Ok(receipt),
-            Err(_) => Err(CallFault::OutOfMemory),
-        }
-    }
-
     /// Makes the call of an entry again and journals it. A reply that is another than the entry's is told by its place,
     /// and then the store is of no further use.
-    fn replay_entry(&mut self, entry: &Entry) -> Result<(), RunFault>
+    fn replay_entry(&mut self, entry: &Entry) -> Result<(), ReplayFault>
         requires few { length self.old.journal < MAX_ENTRIES }
         ensures setting { self.new.setting ≡ self.old.setting }
         ensures ok { OnOk result (self.new.journal ≡ self.old.journal ++ entry.now ∷ []) }
@@ -170,12 +176,12 @@ impl JournaledStore {
         if are_same(&receipt.reply, &entry.reply) {
             return Ok(());
         }
-        Err(RunFault::Mismatch(receipt.place))
+        Err(ReplayFault::Mismatch(receipt.place))
     }
 
     /// Plays the entries again, one after the other, on a store that has just begun, up to the first whose reply is
     /// another than the store's.
-    pub(crate) fn replay(&mut self, entries: &[Entry]) -> Result<(), RunFault>
+    pub(crate) fn replay(&mut self, entries: &[Entry]) -> Result<(), ReplayFault>
         requires fresh { self.old.journal ≡ [] }
         requires few { length entries.now ≤ MAX_ENTRIES }
         ensures setting { self.new.setting ≡ self.old.setting }

@@ -1,14 +1,13 @@
-//! Runs: the lines of a script played on a store of their own, with its journal. Replays: a journal played again.
+//! Outcomes of runs and of replays, and journals played again.
 #![tactic(auto)]
 
-pub use outcome::Outcome;
+pub use journaled_store::JournaledStore;
+pub use outcome::{Outcome, outcome_of};
 pub use qjournal::MAX_ENTRIES;
 pub use replays::replay;
-pub use run_fault::RunFault;
-pub use runs::run_lines;
+pub use replay_fault::ReplayFault;
 
 mod journaled_store;
 mod outcome;
 mod replays;
-mod run_fault;
-mod runs;
+mod replay_fault;

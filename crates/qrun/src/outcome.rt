@@ -23,7 +23,7 @@ pub struct Outcome {
 }
 
 /// What is left of a store that was played on by so many workers, with these transcripts.
-pub(crate) fn outcome_of(
+pub fn outcome_of(
     store: JournaledStore,
     workers: u64,
     transcripts: Items<Transcript>,

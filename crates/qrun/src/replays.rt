@@ -4,13 +4,13 @@ ghost use Rattle.qplain.specs.declared.line.Line.{Line};
 ghost use Rattle.qplain.specs.State.{start};
 ghost use Rattle.qjournal.specs.declared.journal.TheConstants.{MAX_ENTRIES};
 ghost use Rattle.qrun.specs.declared.outcome.Outcome.{Outcome};
-ghost use Rattle.qrun.specs.declared.run_fault.RunFault.TheVariants.{Mismatch};
+ghost use Rattle.qrun.specs.declared.replay_fault.ReplayFault.TheVariants.{Mismatch};
 ghost use Rattle.qrun.specs.Runs.{IsOutcomeOf};
 ghost use Rattle.qrun.specs.Replays.{GivesBack, IsMismatch, IsReplayOf, line_of, transcript_in, transcripts_in};
 
 use crate::journaled_store::{JournaledStore, line_of};
 use crate::outcome::outcome_of;
-use crate::{Outcome, RunFault};
+use crate::{Outcome, ReplayFault};
 use qjournal::Journal;
 use qplain::{Entry, NoMemory, Receipt, Setup, Transcript};
 use qrules::Items;
@@ -58,7 +58,7 @@ fn play_again(
     setup: Setup,
     journal: &Journal,
     seed: u64,
-) -> Result<Outcome, RunFault>
+) -> Result<Outcome, ReplayFault>
     ensures replay { IfOk result (IsReplayOf setup journal.now) }
     ensures mismatch { (place : ℕ) → result ≡ Err (Mismatch place)
         → IsMismatch (start setup) journal.now.entries place }
@@ -80,7 +80,7 @@ pub fn replay(
     setup: Setup,
     journal: &Journal,
     seed: u64,
-) -> Result<Outcome, RunFault>
+) -> Result<Outcome, ReplayFault>
     ensures replay { IfOk result (IsReplayOf setup journal.now) }
     ensures mismatch { (place : ℕ) → result ≡ Err (Mismatch place)
         → IsMismatch (start setup) journal.now.entries place }

@@ -24,6 +24,10 @@ pub(crate) enum Ending {
     Journal(TextFault),
     /// The journal's reply at that place is another than the store's.
     Mismatch(u64),
+    /// The thread of that worker was refused.
+    NotStarted(u64),
+    /// There was no reader for the boards.
+    NoReader,
     /// Memory was wanted and not there.
     Memory,
     /// The output refused, or the file for the journal.
@@ -38,7 +42,11 @@ impl Ending {
     {
         match self {
             Ending::Line { help: true, .. } => 0,
-            Ending::Config(ConfigFault::Memory) | Ending::Mismatch(_) | Ending::Memory => 3,
+            Ending::Config(ConfigFault::Memory)
+            | Ending::Mismatch(_)
+            | Ending::NotStarted(_)
+            | Ending::NoReader
+            | Ending::Memory => 3,
             Ending::Output => 4,
             _ => 2,
         }
@@ -78,6 +86,8 @@ impl Ending {
             Ending::Script(number, fault) => put_script(err, *number, fault),
             Ending::Journal(fault) => put_journal_fault(err, fault),
             Ending::Mismatch(place) => put_mismatch(err, *place),
+            Ending::NotStarted(worker) => put_not_started(err, *worker),
+            Ending::NoReader => put_fault(err, b"no reader"),
             Ending::Memory => put_fault(err, b"memory"),
             Ending::Output => put_fault(err, b"output"),
         }
@@ -132,6 +142,15 @@ fn put_mismatch<E: Write>(err: &mut E, place: u64) -> Result<(), RefusedWrite> {
         Piece::Text(b"quotafs: mismatch at "),
         Piece::Number(place),
         Piece::Text(b"\n"),
+    ];
+    put_pieces(err, &pieces)
+}
+
+fn put_not_started<E: Write>(err: &mut E, worker: u64) -> Result<(), RefusedWrite> {
+    let pieces = [
+        Piece::Text(b"quotafs: worker "),
+        Piece::Number(worker),
+        Piece::Text(b" not started\n"),
     ];
     put_pieces(err, &pieces)
 }

@@ -9,9 +9,10 @@ pub use qjob::{Job, LineFault};
 pub use qjournal::Journal;
 pub use qoutcome::{WriteFault, write_outcome};
 pub use qplain::{CallFault, Receipt, Transcript};
-pub use qrun::{Outcome, RunFault};
+pub use qrun::{Outcome, ReplayFault};
 pub use qscript::{MAX_LINES, Script};
 pub use qtext::{TextFault, TextKind};
+pub use qworkers::RunFault;
 pub use runs::{replay, run};
 
 mod ending;

@@ -1,16 +1,23 @@
 //! The whole program over files, output and fault lines.
-ghost use Rattle.std.specs.Prelude.{◌≡◌, ◌⊎◌, IfErr};
+ghost use Rattle.std.specs.Prelude.{◌≡◌, ◌≤◌, ◌⊎◌, length, IfErr, IfOk};
+ghost use Rattle.qjournal.specs.declared.journal.TheConstants.{MAX_WORKERS};
 ghost use Rattle.qtool.specs.Endings.{IsStatus, IsUntouchedAt};
+ghost use Rattle.qtool.specs.Jobs.{HasScript};
 ghost use Rattle.qtool.specs.declared.ending.Ending.TheVariants.{Output};
 
 use crate::ending::Ending;
 use crate::{
-    Config, ConfigFault, FileFault, Files, Job, Journal, LineFault, Outcome, Refuser, RunFault,
-    Script, TextFault, TextKind, replay, run, write_run,
+    Config, ConfigFault, FileFault, Files, Job, Journal, LineFault, Outcome, Refuser, ReplayFault,
+    RunFault, Script, TextFault, TextKind, replay, run, write_run,
 };
+use qjournal::MAX_WORKERS;
+use qplain::Line;
+use qrules::Items;
 use std::alloc::Global;
 use std::io::Write;
 use std::mem;
+use std::sync::Wait;
+use std::thread::Threads;
 
 /// The ending of a file that cannot be read.
 fn unreadable(alloc: Global, name: &str) -> Ending {
@@ -76,37 +83,61 @@ fn read_journal<F: Files>(alloc: Global, files: &mut F, name: &str) -> Result<Jo
     }
 }
 
-/// The ending of a run that has no outcome.
-fn ending_of(fault: RunFault) -> Ending {
+/// The ending of a replay that has no outcome.
+fn ending_of_replay(fault: ReplayFault) -> Ending {
     match fault {
-        RunFault::Memory => Ending::Memory,
-        RunFault::Mismatch(place) => Ending::Mismatch(place),
+        ReplayFault::Memory => Ending::Memory,
+        ReplayFault::Mismatch(place) => Ending::Mismatch(place),
     }
 }
 
-/// Runs the only script.
-fn run_one(alloc: Global, config: Config, script: Script, seed: u64) -> Result<Outcome, Ending> {
-    let mut scripts = Vec::new(alloc);
-    if scripts.push(script).is_err() {
-        return Err(Ending::Memory);
+/// The ending of a run that has no outcome.
+fn ending_of_run(fault: RunFault) -> Ending {
+    match fault {
+        RunFault::Memory => Ending::Memory,
+        RunFault::NotStarted(worker) => Ending::NotStarted(worker),
+        RunFault::Mismatch(place) => Ending::Mismatch(place),
+        RunFault::NoReader => Ending::NoReader,
     }
-    run(alloc, config, scripts, seed).map_err(ending_of)
+}
+
+/// Reads the lines of the scripts, each script before the next file is opened.
+fn read_scripts<F: Files>(
+    alloc: Global,
+    files: &mut F,
+    names: &[String],
+) -> Result<Vec<Items<Line>>, Ending>
+    ensures each { IfOk result (λ scripts. length scripts.items ≡ length names.now) }
+{
+    let mut scripts = Vec::new(alloc);
+    let mut number = 0u64;
+    for name in names {
+        number += 1;
+        let script = script(alloc, files, number, name.as_str())?;
+        if scripts.push(Items::new(script.into_lines())).is_err() {
+            return Err(Ending::Memory);
+        }
+    }
+    Ok(scripts)
 }
 
 /// Reads the configuration and the scripts, in the order in which faults are told, and runs them.
-fn run_of<F: Files>(
+fn run_of<F: Files, R: Threads + Wait + Sync>(
+    rt: &R,
     alloc: Global,
     seed: u64,
     config: &str,
-    scripts: &[String],
+    names: &[String],
     files: &mut F,
-) -> Result<Outcome, Ending> {
+) -> Result<Outcome, Ending>
+    requires some { 1 ≤ length names.now }
+{
     let config = configuration(alloc, files, config)?;
-    let [name] = scripts else {
+    if names.len() as u64 > MAX_WORKERS {
         return Err(Ending::TooManyScripts);
-    };
-    let script = script(alloc, files, 1, name.as_str())?;
-    run_one(alloc, config, script, seed)
+    }
+    let scripts = read_scripts(alloc, files, names)?;
+    run(rt, alloc, config, scripts, seed).map_err(ending_of_run)
 }
 
 /// Reads the configuration and the journal, and plays it. The journal's memory is left to the system, too.
@@ -119,7 +150,7 @@ fn replay_of<F: Files>(
 ) -> Result<Outcome, Ending> {
     let config = configuration(alloc, files, config)?;
     let journal = read_journal(alloc, files, journal)?;
-    let played = replay(alloc, config, &journal, seed).map_err(ending_of);
+    let played = replay(alloc, config, &journal, seed).map_err(ending_of_replay);
     mem::forget(journal);
     played
 }
@@ -143,13 +174,15 @@ fn finish<F: Files, O: Write>(
 }
 
 /// Does what the job asks for: comes to an outcome, and only then writes.
-fn do_job<F: Files, O: Write>(
+fn do_job<F: Files, O: Write, R: Threads + Wait + Sync>(
+    rt: &R,
     alloc: Global,
     seed: u64,
     job: &Job,
     files: &mut F,
     out: &mut O,
 ) -> Result<(), Ending>
+    requires some { HasScript job.now }
     ensures { IfErr result (λ ending. (ending ≡ Output) ⊎ (O.contents out.new ≡ O.contents out.old)) }
 {
     match job {
@@ -159,7 +192,7 @@ fn do_job<F: Files, O: Write>(
             journal,
             scripts,
         } => {
-            let outcome = run_of(alloc, seed, config.as_str(), scripts.as_slice(), files)?;
+            let outcome = run_of(rt, alloc, seed, config.as_str(), scripts.as_slice(), files)?;
             let journal = journal.as_ref().map(String::as_str);
             finish(outcome, *at, journal, files, out)
         }
@@ -183,7 +216,8 @@ fn do_job<F: Files, O: Write>(
 ///
 /// `seed` is any number, best one that nobody knows beforehand: where it is known, names can be searched that collide,
 /// and then calls take long. Neither the output nor the status depends on it.
-pub fn tool<F: Files, O: Write, E: Write>(
+pub fn tool<F: Files, O: Write, E: Write, R: Threads + Wait + Sync>(
+    rt: &R,
     alloc: Global,
     seed: u64,
     words: &[String],
@@ -195,7 +229,7 @@ pub fn tool<F: Files, O: Write, E: Write>(
     ensures untouched { IsUntouchedAt result (O.contents out.old) (O.contents out.new) }
 {
     let done = match Job::read(alloc, words) {
-        Ok(job) => do_job(alloc, seed, &job, files, out),
+        Ok(job) => do_job(rt, alloc, seed, &job, files, out),
         Err(LineFault::Line { help, text }) => Err(Ending::Line { help, text }),
         Err(LineFault::Memory) => Err(Ending::Memory),
     };

@@ -1,35 +1,37 @@
 //! Runs of the scripts of a command line, and replays of a journal.
-ghost use Rattle.std.specs.Prelude.{◌≡◌, ℕ, List, Err, IfOk, IfErr, vec_len};
+ghost use Rattle.std.specs.Prelude.{◌≡◌, ◌<◌, ◌≤◌, ℕ, List, Err, IfOk, length};
+ghost use Rattle.qjournal.specs.declared.journal.TheConstants.{MAX_WORKERS};
 ghost use Rattle.qplain.specs.declared.line.Line.{Line};
 ghost use Rattle.qplain.specs.State.{start};
 ghost use Rattle.qrun.specs.declared.outcome.Outcome.{Outcome};
-ghost use Rattle.qrun.specs.declared.run_fault.RunFault.TheVariants.{Mismatch};
+ghost use Rattle.qrun.specs.declared.replay_fault.ReplayFault.TheVariants.{Mismatch};
 ghost use Rattle.qrun.specs.Replays.{GivesBack, IsMismatch, IsReplayOf};
 ghost use Rattle.qrun.specs.Runs.{IsOutcomeOf};
 
-use crate::{Config, Journal, Outcome, RunFault, Script};
-use qrun::run_lines;
+use crate::{Config, Journal, Outcome, ReplayFault, RunFault};
+use qplain::Line;
+use qrules::Items;
 use std::alloc::Global;
+use std::sync::Wait;
+use std::thread::Threads;
 
-/// Runs scripts on a new store of the configuration: worker k makes the calls of script k one after the other, and goes
-/// on after any outcome.
+/// Runs the lines of scripts on a new store of the configuration: worker k makes the calls of script k one after the
+/// other, in a thread of its own, and goes on after any answer. Which of the legal journals comes is open.
 ///
-/// The caller owes one script. The hashes of names begin at `seed`, which may be any number; nothing of the outcome
-/// depends on it. O(lines), and what each call takes. After an Err, which is want of memory, the store is given up.
-pub fn run(
+/// The caller owes 1 to 16 scripts. The hashes of names begin at `seed`, which may be any number; nothing of the outcome
+/// depends on it. O(lines), and what each call takes. After an Err all workers that were started have been joined, and
+/// the store is given up.
+pub fn run<R: Threads + Wait + Sync>(
+    rt: &R,
     alloc: Global,
     config: Config,
-    mut scripts: Vec<Script>,
+    scripts: Vec<Items<Line>>,
     seed: u64,
 ) -> Result<Outcome, RunFault>
-    requires one { vec_len scripts ≡ 1 }
+    requires few { (0 < length scripts.items) × (length scripts.items ≤ MAX_WORKERS) }
     ensures outcome { IfOk result (IsOutcomeOf config.setup scripts.items) }
-    ensures err { IfErr result (λ fault. fault ≡ RunFault.Memory) }
 {
-    let Some(script) = scripts.pop() else {
-        unreachable!()
-    };
-    run_lines(alloc, config.setup, script.into_lines(), seed)
+    qworkers::run(rt, alloc, config.setup, scripts, seed)
 }
 
 /// Plays a journal again on a new store of the configuration, one entry after the other.
@@ -42,7 +44,7 @@ pub fn replay(
     config: Config,
     journal: &Journal,
     seed: u64,
-) -> Result<Outcome, RunFault>
+) -> Result<Outcome, ReplayFault>
     ensures outcome { IfOk result (IsReplayOf config.setup journal.now) }
     ensures mismatch { (place : ℕ) → result ≡ Err (Mismatch place)
         → IsMismatch (start config.setup) journal.now.entries place }

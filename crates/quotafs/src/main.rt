@@ -86,5 +86,5 @@ fn main(rt: HostRuntime) -> ExitCode {
     };
     let mut files = MachineFiles { rt: &rt };
     let seed = seed(&rt);
-    ExitCode::from(tool(alloc, seed, &words, &mut files, &mut out, &mut err))
+    ExitCode::from(tool(&rt, alloc, seed, &words, &mut files, &mut out, &mut err))
 }

@@ -4,6 +4,8 @@ use crate::short::Short;
 use qtool::{FileFault, Files, tool};
 use std::alloc::{AllocError, Global};
 use std::io::Write;
+use std::sync::Wait;
+use std::thread::Threads;
 
 /// 10 blocks and 6 inodes for user 0 alone.
 const CONFIG: &[u8] = br#"
@@ -74,7 +76,8 @@ impl Files for MemoryFiles<'_> {
 }
 
 /// The status and the error output of the program that writes its output to this writer, and wants memory for a file.
-pub(crate) fn told_into<O: Write>(
+pub(crate) fn told_into<O: Write, R: Threads + Wait + Sync>(
+    rt: &R,
     alloc: Global,
     line: &str,
     short: &str,
@@ -86,11 +89,12 @@ pub(crate) fn told_into<O: Write>(
         left: JOURNAL.len(),
         flushes: true,
     };
-    told_over(alloc, line, files, out)
+    told_over(rt, alloc, line, files, out)
 }
 
 /// The same over these files.
-pub(crate) fn told_over<O: Write>(
+pub(crate) fn told_over<O: Write, R: Threads + Wait + Sync>(
+    rt: &R,
     alloc: Global,
     line: &str,
     mut files: MemoryFiles<'_>,
@@ -101,6 +105,6 @@ pub(crate) fn told_over<O: Write>(
         words.push(String::from_str(alloc, word)?)?;
     }
     let mut err = Vec::new(alloc);
-    let status = tool(alloc, 7, &words, &mut files, out, &mut err);
+    let status = tool(rt, alloc, 7, &words, &mut files, out, &mut err);
     Ok((status, err))
 }

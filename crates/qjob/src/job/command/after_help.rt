@@ -29,7 +29,8 @@ Statuses:
   0  done, also where calls were refused
   2  the command line, the configuration, a script or the journal is at fault,
      or unreadable
-  3  memory is wanting, or a replay comes to another reply than its journal
+  3  memory or a thread is wanting, or a replay comes to another reply than its
+     journal
   4  the output refuses, or the file for the journal
 
 docs/FORMATS.md has all formats, docs/RULES.md all rules of the calls.";

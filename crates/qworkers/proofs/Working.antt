@@ -1,0 +1,64 @@
+-- One more line of a worker's script.
+use Rattle.std.proofs.Common.{◌≡◌, ℕ, suc, ◌+◌, ◌≤◌, List, [], ◌∷◌, ◌++◌, length, All, Result, Ok, Err, IfOk, IfErr, refl, sym, ap, ◌∙◌, arith, le_trans}
+use Rattle.std.proofs.lemmas.List.{length-append}
+use Rattle.std.proofs.lemmas.List.Elements.{All-head, All-nil, All-push, All-tail}
+use mathlib.Core.List.{IsPrefix}
+use Rattle.qplain.specs.declared.call_fault.CallFault.{CallFault}
+use Rattle.qplain.specs.declared.call_fault.CallFault.TheVariants.{JournalFull, OutOfMemory}
+use Rattle.qplain.specs.declared.entry.Entry.{Entry}
+use Rattle.qplain.specs.declared.line.Line.{Line}
+use Rattle.qplain.specs.declared.receipt.Receipt.{Receipt}
+use Rattle.qplain.specs.Journal.{entry_of}
+use Rattle.qjournal.specs.declared.journal.TheConstants.{MAX_ENTRIES}
+use Rattle.qhistory.proofs.Fronts.{prefix_length}
+use Rattle.qlocked.specs.Histories.{IsAt}
+use Rattle.qrun.specs.Runs.{FullIsToldFirst, IsFullBehind}
+use Rattle.qworkers.specs.Work.{HasSeenFull}
+
+-- the first answers of a worker whose seat has seen this much
+pub record AreAnswers (count : ℕ) (seen : List Entry) (answers : List (Result Receipt CallFault)) : Type 0 where
+  pub each : length answers ≡ count
+  pub full : All (HasSeenFull seen) answers
+  pub first : FullIsToldFirst answers
+
+pub no_answers : (seen : List Entry) → AreAnswers 0 seen []
+unfolding FullIsToldFirst
+no_answers seen = record { each = refl; full = All-nil (HasSeenFull seen); first = tt }
+
+-- a further answer tells of a full journal where the journal is full behind one before it
+first_push : (answers : List (Result Receipt CallFault)) (answer : Result Receipt CallFault) → FullIsToldFirst answers
+    → All (λ a. IsFullBehind a → answer ≡ Err JournalFull) answers → FullIsToldFirst (answers ++ answer ∷ [])
+unfolding FullIsToldFirst
+first_push [] answer first behind = (λ full. All-nil (λ a. a ≡ Err JournalFull), tt)
+first_push (a ∷ later) answer first behind =
+    let Then : Result Receipt CallFault → Type 0 = λ a. IsFullBehind a → answer ≡ Err JournalFull in (
+      λ full. All-push (λ a. a ≡ Err JournalFull) later answer (first.0 full) (All-head Then a later behind full),
+      first_push later answer first.1 (All-tail Then a later behind),
+    )
+
+-- who is answered so has seen as much
+now_seen : (seen : List Entry) (worker : ℕ) (line : Line) (answer : Result Receipt CallFault)
+    → IfOk answer (λ r. IsAt seen r.place (entry_of worker line r.reply))
+    → IfErr answer (λ f. f ≡ JournalFull → length seen ≡ MAX_ENTRIES) → HasSeenFull seen answer
+now_seen seen worker line (Ok r) stands full behind =
+    let long : length seen ≡ length stands.0 + suc (length stands.1) = ap length stands.2 ∙ length-append stands.0 (entry_of worker line r.reply ∷ stands.1) in
+    omega (arith, long, stands.3, behind)
+now_seen seen worker line (Err JournalFull) stands full behind = omega (arith, full refl)
+now_seen seen worker line (Err OutOfMemory) stands full behind = absurd behind
+
+-- one more answer
+pub one_more : (count : ℕ) (old new : List Entry) (answers after : List (Result Receipt CallFault)) (worker : ℕ) (line : Line)
+    (answer : Result Receipt CallFault) → AreAnswers count old answers → IsPrefix old new
+    → IfOk answer (λ r. IsAt new r.place (entry_of worker line r.reply))
+    → IfErr answer (λ f. f ≡ JournalFull → length new ≡ MAX_ENTRIES)
+    → (MAX_ENTRIES ≤ length old → answer ≡ Err JournalFull) → after ≡ answers ++ answer ∷ []
+    → AreAnswers (count + 1) new after
+one_more count old new answers after worker line answer so_far more stands full stays is =
+    let longer : length (answers ++ answer ∷ []) ≡ length answers + 1 = length-append answers (answer ∷ []) in
+    let grown : length old ≤ length new = prefix_length old new more in
+    record {
+      each = rw (is, longer, so_far.each) refl;
+      full = rw is (All-push (HasSeenFull new) answers answer (λ k d less behind. le_trans (so_far.full k d less behind) grown)
+          (now_seen new worker line answer stands full));
+      first = rw is (first_push answers answer so_far.first (λ k d less behind. stays (so_far.full k d less behind)));
+    }

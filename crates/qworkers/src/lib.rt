@@ -1,0 +1,13 @@
+//! Runs: 1 to 16 scripts, each played by a worker in a thread of its own, on one shared store.
+#![tactic(auto)]
+
+pub use gate::{Gate, NoGate};
+pub use run_fault::RunFault;
+pub use runs::{run, run_with};
+
+mod crew;
+mod gate;
+mod run_fault;
+mod runs;
+mod telling;
+mod worker;

@@ -1,0 +1,38 @@
+//! What workers have done, told as transcripts.
+ghost use Rattle.std.specs.Prelude.{IfOk};
+ghost use Rattle.qworkers.specs.Told.{AreTold};
+ghost use Rattle.qworkers.specs.Work.{AreWorks};
+
+use crate::worker::Work;
+use qhistory::{House, Share};
+use qplain::{Line, NoMemory, Transcript};
+use qrules::Items;
+use std::alloc::Global;
+
+/// The shares of the workers, and their transcripts: each has its script, which was lent to its thread.
+#[tactic(auto, using(crate::proofs::ToldSoFar::told_first, crate::proofs::ToldSoFar::told_next, crate::proofs::ToldSoFar::told_last, crate::proofs::ToldSoFar::no_more))]
+pub(crate) fn tell_all<N: House>(
+    alloc: Global,
+    scripts: Vec<Items<Line>>,
+    works: Vec<Work<N>>,
+) -> Result<(Vec<Share<N>>, Vec<Transcript>), NoMemory>
+    requires { AreWorks scripts.items works.items }
+    ensures { IfOk result (λ told. AreTold scripts.items told.0.items told.1.items) }
+{
+    let mut shares = Vec::with_capacity(alloc, works.len())?;
+    let mut transcripts = Vec::with_capacity(alloc, works.len())?;
+    let mut rest = scripts.into_iter();
+    for work in works {
+        let Some(lines) = rest.next() else {
+            break;
+        };
+        let Work { share, answers } = work;
+        transcripts.push_reserved(Transcript {
+            worker: share.worker(),
+            lines,
+            answers: Items::new(answers),
+        });
+        shares.push_reserved(share);
+    }
+    Ok((shares, transcripts))
+}

@@ -1,0 +1,40 @@
+//! What the tests begin with.
+use qconfig::Config;
+use qplain::{Line, Setup};
+use qrules::Items;
+use qscript::Script;
+use std::alloc::Global;
+use std::test::Fail;
+
+/// Ten blocks and six inodes, and nobody has a limit.
+const CONFIG: &str = "size = '40k'
+nr_inodes = 6
+block_grace = 100
+inode_grace = 100
+user = [{ id = 0, name = 'root' }, { id = 1001, name = 'bob' }]
+group = [{ id = 0, name = 'root' }]
+";
+
+/// The setup of a small store.
+pub(crate) fn setup(alloc: Global) -> Result<Setup, Fail> {
+    match Config::read(alloc, CONFIG) {
+        Ok(config) => Ok(config.setup),
+        Err(_) => Err(Fail::from("the configuration")),
+    }
+}
+
+/// The lines of a script.
+pub(crate) fn lines(alloc: Global, text: &[u8]) -> Result<Items<Line>, Fail> {
+    match Script::read(alloc, text) {
+        Ok(script) => Ok(Items::new(script.into_lines())),
+        Err(_) => Err(Fail::from("the script")),
+    }
+}
+
+/// The script that makes the first three files.
+pub(crate) const FIRST_FILES: &[u8] =
+    b"0 1001:0 create /a\n0 1001:0 create /b\n0 1001:0 create /c\n";
+
+/// The script that makes three others.
+pub(crate) const OTHER_FILES: &[u8] =
+    b"0 1001:0 create /d\n0 1001:0 create /e\n0 1001:0 create /f\n";

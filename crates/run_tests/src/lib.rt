@@ -1,0 +1,12 @@
+//! Tests of shared stores and of runs in threads that the built program cannot show: a library with no function of its
+//! own.
+#![tactic(auto)]
+
+#[cfg(test)]
+mod gathers;
+#[cfg(test)]
+mod given;
+#[cfg(test)]
+mod seats;
+#[cfg(test)]
+mod turns;

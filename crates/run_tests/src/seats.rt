@@ -1,0 +1,97 @@
+//! Three seats of one store, in one thread: a share that is missing at the end, and the end.
+ghost use Rattle.std.specs.Prelude.{◌≡◌};
+
+use crate::given::{FIRST_FILES, lines, setup};
+use qhistory::{House, Origin, Share};
+use qplain::{Setup, Tallies};
+use qshare::{Missing, Opened, Seat, Shared};
+use std::alloc::Global;
+use std::marker::Brand;
+use std::process::Abort;
+use std::sync::Wait;
+use std::test::Fail;
+
+/// Makes the first files with these seats, one each.
+fn make_files<K: Origin, N: House, R: Wait + Drop, W: Wait>(
+    rt: &W,
+    alloc: Global,
+    shared: &Shared<K, N, R>,
+    seats: &mut [Seat<K, N>],
+) -> Result<(), Fail> {
+    let lines = lines(alloc, FIRST_FILES)?;
+    let lines = lines.as_slice();
+    for at in 0..seats.len() {
+        if at < lines.len() {
+            let line = &lines[at];
+            if shared
+                .call(rt, &mut seats[at], &line.cred, line.moment, &line.call)
+                .is_err()
+            {
+                return Err(Fail::from("a receipt"));
+            }
+        }
+    }
+    Ok(())
+}
+
+/// The end of a store whose second share is handed in too late.
+fn end_twice<K: Origin, N: House, R: Wait + Abort>(
+    rt: &R,
+    alloc: Global,
+    opened: Opened<K>,
+) -> Result<(), Fail>
+    requires { opened ≡ N.names }
+{
+    let Ok((shared, mut seats)) = opened.named::<N, &R>(rt) else {
+        return Err(Fail::from("a store"));
+    };
+    make_files(rt, alloc, &shared, &mut seats)?;
+    let mut shares: Vec<Share<N>> = Vec::new(alloc);
+    for seat in seats {
+        shares.push(seat.finish())?;
+    }
+    let second = shares.remove(1);
+    let Err(Missing {
+        worker,
+        shared,
+        mut shares,
+    }) = shared.end(rt, shares)
+    else {
+        return Err(Fail::from("a missing share"));
+    };
+    assert_eq!(rt; (worker, shares.len()), (2, 2));
+    shares.push(second)?;
+    let Ok(ended) = shared.end(rt, shares) else {
+        return Err(Fail::from("an end"));
+    };
+    let tallies = Tallies {
+        blocks_charged: 0,
+        blocks_released: 0,
+        inodes_charged: 3,
+        inodes_released: 0,
+        calls: 3,
+    };
+    assert_eq!(rt; ended.tallies, tallies);
+    assert_eq!(rt; ended.journal.len(), 3);
+    Ok(())
+}
+
+/// Opens a store for three seats.
+fn open<K: Origin, R: Wait + Abort>(
+    rt: &R,
+    alloc: Global,
+    setup: Setup,
+) -> Result<(), Fail>
+    requires { setup ≡ K.setting }
+{
+    let Ok(opened) = Opened::<K>::new(alloc, setup, 3, 0) else {
+        return Err(Fail::from("a store"));
+    };
+    end_twice::<K, Brand, R>(rt, alloc, opened)
+}
+
+#[test]
+fn three_seats_end_together(rt: HostRuntime) -> Result<(), Fail> {
+    let setup = setup(rt.alloc())?;
+    open::<Brand, _>(&rt, rt.alloc(), setup)
+}
