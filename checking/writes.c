@@ -24,8 +24,11 @@ ssize_t write(int to, const void *bytes, size_t size) {
 
 ssize_t __write(int to, const void *bytes, size_t size) { return write(to, bytes, size); }
 
-__attribute__((destructor)) static void end(void) {
+/* A program with threads ends by `_exit`, and runs no destructor. */
+void _exit(int status) {
     const char *tell = getenv("WRITES_TELL");
     if (tell)
         dprintf(atoi(tell), "%ld %ld", calls[STDOUT_FILENO], calls[STDERR_FILENO]);
+    for (;;)
+        syscall(SYS_exit_group, status);
 }

@@ -2,12 +2,10 @@
 #![tactic(auto)]
 
 pub use board_change::BoardChange;
-pub use look_fault::LookFault;
 pub use publisher::Publisher;
 pub use viewer::Viewer;
 
 mod board_change;
-mod look_fault;
 mod publisher;
 mod rule;
 mod sheet;

@@ -7,14 +7,13 @@ ghost use Rattle.qplain.specs.Journal.{IsLegal};
 ghost use Rattle.qhistory.specs.Past.{past};
 ghost use Rattle.qboards.specs.Boards.{shown_of};
 
-use crate::look_fault::LookFault;
 use crate::publisher::Publisher;
 use crate::rule::{Publishing, Sees, View};
 use crate::sheet::Sheet;
 use core::mem::replace_with;
 use left_right::reader::Reader;
 use qhistory::{Front, House, Origin};
-use qplain::{Board, NoMemory};
+use qplain::{Board, LookFault, NoMemory};
 use std::alloc::Global;
 use std::marker::Model;
 use std::sync::Wait;

@@ -4,6 +4,7 @@ pub mod Paths
 pub mod Principals
 pub mod Setups
 pub mod CallFaults
+pub mod LookFaults
 pub mod Numbers
 pub mod State
 pub mod Use

@@ -50,6 +50,9 @@ fn end_twice<K: Origin, N: House, R: Wait + Abort>(
     for seat in seats {
         shares.push(seat.finish())?;
     }
+    if shares.len() < 2 {
+        return Err(Fail::from("three shares"));
+    }
     let second = shares.remove(1);
     let Err(Missing {
         worker,

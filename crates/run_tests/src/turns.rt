@@ -14,6 +14,7 @@ use std::thread::Threads;
 
 /// A gate for two workers that lets one line go at a time, in turn. Whoever has looked too often in vain is let through,
 /// and that is noted.
+#[derive(Drop)]
 struct Turns {
     /// The worker whose line goes first.
     first: u64,
