@@ -1,68 +1,83 @@
-//! Journals held against transcripts that were written by hand.
+//! Journals held against a transcript that was written by hand.
+ghost use Rattle.std.specs.Prelude.{◌≡◌, length, IfOk};
 
-use crate::given::lines;
+use crate::given::{FIRST_FILES, lines};
 use qgather::{Mismatch, gather};
-use qplain::{CallFault, Entry, Line, Receipt, Refusal, Reply, Transcript};
+use qplain::{CallFault, Entry, Receipt, Refusal, Reply, Transcript};
 use qrules::Items;
 use std::alloc::Global;
 use std::test::Fail;
 
-/// The entry of a worker's line that was refused.
-fn refused(worker: u64, line: &Line, refusal: Refusal) -> Result<Entry, Fail> {
-    Ok(Entry {
-        worker,
-        cred: line.cred.copy()?,
-        moment: line.moment,
-        call: line.call.copy()?,
-        reply: Reply::Refused(refusal),
-    })
+/// The journal in which each of these workers, up to three, makes the next of the first files, and is refused so.
+fn journal(alloc: Global, workers: &[u64], refusal: Refusal) -> Result<Vec<Entry>, Fail> {
+    let lines = lines(alloc, FIRST_FILES)?;
+    let lines = lines.as_slice();
+    let mut journal: Vec<Entry> = Vec::new(alloc);
+    for at in 0..workers.len() {
+        if at < lines.len() {
+            let line = &lines[at];
+            journal.push(Entry {
+                worker: workers[at],
+                cred: line.cred.copy()?,
+                moment: line.moment,
+                call: line.call.copy()?,
+                reply: Reply::Refused(refusal),
+            })?;
+        }
+    }
+    Ok(journal)
 }
 
-/// The transcript of a worker whose lines were all refused so, from the first place on.
-fn transcript(
-    alloc: Global,
-    worker: u64,
-    lines: Items<Line>,
-    refusal: Refusal,
-) -> Result<Transcript, Fail> {
+/// The transcript of the first worker, who makes the first files at the places 1 to 3, and is refused so each time.
+fn transcript(alloc: Global, refusal: Refusal) -> Result<Transcript, Fail>
+    ensures each { IfOk result (λ t. length t.answers ≡ length t.lines) }
+{
+    let lines = lines(alloc, FIRST_FILES)?;
     let mut answers: Vec<Result<Receipt, CallFault>> = Vec::new(alloc);
-    for place in 0..lines.as_slice().len() as u64 {
-        let reply = Reply::Refused(refusal);
+    for before in 0..lines.as_slice().len() {
         answers.push(Ok(Receipt {
-            place: place.wrapping_add(1),
-            reply,
+            place: (before as u64).wrapping_add(1),
+            reply: Reply::Refused(refusal),
         }))?;
     }
     Ok(Transcript {
-        worker,
+        worker: 1,
         lines,
         answers: Items::new(answers),
     })
 }
 
+/// Holds the journal of these workers, who were told that a name is there, against the transcript with this refusal.
+fn told(
+    alloc: Global,
+    workers: &[u64],
+    refusal: Refusal,
+) -> Result<Result<(), Mismatch>, Fail> {
+    let journal = journal(alloc, workers, Refusal::EEXIST)?;
+    let transcript = transcript(alloc, refusal)?;
+    let transcripts = vec![in alloc; transcript]?;
+    Ok(gather(&journal, &transcripts))
+}
+
 #[test]
 fn another_reply_is_no_match(rt: HostRuntime) -> Result<(), Fail> {
-    let alloc = rt.alloc();
-    let lines = lines(alloc, b"0 1001:0 create /a\n")?;
-    let journal = vec![in alloc; refused(1, &lines.as_slice()[0], Refusal::EEXIST)?]?;
-    let same = vec![in alloc; transcript(alloc, 1, crate::given::lines(alloc, b"0 1001:0 create /a\n")?, Refusal::EEXIST)?]?;
-    assert_eq!(rt; gather(&journal, &same), Ok(()));
-    let other = vec![in alloc; transcript(alloc, 1, lines, Refusal::ENOSPC)?]?;
-    assert_eq!(rt; gather(&journal, &other), Err(Mismatch { place: 1 }));
-    assert_eq!(rt; gather(&[], &other), Err(Mismatch { place: 1 }));
+    let same = told(rt.alloc(), &[1, 1, 1], Refusal::EEXIST)?;
+    assert_eq!(rt; same, Ok(()));
+    let other = told(rt.alloc(), &[1, 1, 1], Refusal::ENOSPC)?;
+    assert_eq!(rt; other, Err(Mismatch { place: 1 }));
     Ok(())
 }
 
 #[test]
 fn an_entry_of_nobody_is_no_match(rt: HostRuntime) -> Result<(), Fail> {
-    let alloc = rt.alloc();
-    let lines = lines(alloc, b"0 1001:0 create /a\n0 1001:0 create /b\n")?;
-    let journal = vec![in alloc;
-        refused(1, &lines.as_slice()[0], Refusal::EEXIST)?,
-        refused(1, &lines.as_slice()[1], Refusal::EEXIST)?,
-        refused(2, &lines.as_slice()[0], Refusal::EEXIST)?,
-    ]?;
-    let transcripts = vec![in alloc; transcript(alloc, 1, lines, Refusal::EEXIST)?]?;
-    assert_eq!(rt; gather(&journal, &transcripts), Err(Mismatch { place: 3 }));
+    let found = told(rt.alloc(), &[1, 1, 2], Refusal::EEXIST)?;
+    assert_eq!(rt; found, Err(Mismatch { place: 3 }));
+    Ok(())
+}
+
+#[test]
+fn a_receipt_that_is_left_over_is_no_match(rt: HostRuntime) -> Result<(), Fail> {
+    let found = told(rt.alloc(), &[1], Refusal::EEXIST)?;
+    assert_eq!(rt; found, Err(Mismatch { place: 2 }));
     Ok(())
 }
