@@ -1,5 +1,5 @@
 -- A list of one transcript.
-use Rattle.std.specs.Prelude.{◌≡◌, List, [], ◌∷◌, Unit, tt, ◌==◌, subst, sym}
+use Rattle.std.proofs.Common.{◌≡◌, List, [], ◌∷◌, ◌==◌, subst, sym}
 use Rattle.std.specs.List.{IsDistinct}
 use Rattle.qplain.specs.declared.transcript.Transcript.{Transcript}
 

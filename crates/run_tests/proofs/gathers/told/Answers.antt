@@ -1,4 +1,4 @@
-use Rattle.std.specs.Prelude.{◌∙◌}
+use Rattle.std.proofs.Common.{◌∙◌}
 use Rattle.run_tests.proofs.Alone.{one_apart}
 use Rattle.run_tests.proofs.gathers.told.Goals as goal
 
