@@ -4,10 +4,10 @@
 pub use journaled_store::JournaledStore;
 pub use outcome::{Outcome, outcome_of};
 pub use qjournal::MAX_ENTRIES;
-pub use replays::replay;
 pub use replay_fault::ReplayFault;
+pub use replays::replay;
 
 mod journaled_store;
 mod outcome;
-mod replays;
 mod replay_fault;
+mod replays;

@@ -13,8 +13,8 @@ seat_is zero k d less = absurd (omega (arith, less))
 seat_is (suc n) k d less =
     let many : length (seats_of n) ≡ n = seats_many n in
     below_more (λ i. slice_index_or (seats_of n ++ new_seat (n + 1) ∷ []) i d ≡ new_seat (i + 1)) n
-        (λ i low. get_or_append_left (seats_of n) (new_seat (n + 1) ∷ []) d i (omega (arith, low, many)) ∙ seat_is n i d low)
-        (get_or_push (seats_of n) (new_seat (n + 1)) d n many) k (omega (arith, less))
+    (λ i low. get_or_append_left (seats_of n) (new_seat (n + 1) ∷ []) d i (omega (arith, low, many)) ∙ seat_is n i d low)
+    (get_or_push (seats_of n) (new_seat (n + 1)) d n many) k (omega (arith, less))
 
 -- the seat behind these
 pub seat_next : (n : ℕ) (before rest : List Seated) (seat : Seated) → before ++ seat ∷ rest ≡ seats_of n
@@ -25,7 +25,7 @@ seat_next n before rest seat parts =
     let low : length before < n = omega (arith, long, many) in
     let here : slice_index_or (before ++ seat ∷ rest) (length before) seat ≡ seat = get_or_at before seat rest seat (length before) refl in
     let there : slice_index_or (before ++ seat ∷ rest) (length before) seat ≡ new_seat (length before + 1) =
-            ap (λ xs. slice_index_or xs (length before) seat) parts ∙ seat_is n (length before) seat low in
+    ap (λ xs. slice_index_or xs (length before) seat) parts ∙ seat_is n (length before) seat low in
     (ap (λ s. s.worker) (sym here ∙ there), low)
 
 -- no seat is left

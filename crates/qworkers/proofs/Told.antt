@@ -72,7 +72,7 @@ unfolding AreToldFrom
 there_from worker [] [] [] told k from less = absurd (omega (arith, from, less))
 there_from worker (l ∷ scripts) (s ∷ shares) (t ∷ ts) told k from less =
     one_there k worker s shares told.0.work.worker_is from
-        (λ later. there_from (worker + 1) scripts shares ts told.1 k later (omega (arith, less))) (s.worker == k) refl
+    (λ later. there_from (worker + 1) scripts shares ts told.1 k later (omega (arith, less))) (s.worker == k) refl
 there_from worker [] (s ∷ shares) ts told k from less = absurd told
 there_from worker [] [] (t ∷ ts) told k from less = absurd told
 there_from worker (l ∷ scripts) [] ts told k from less = absurd told
@@ -136,7 +136,7 @@ unfolding AreToldFrom
 each_told worker [] [] [] told = All-nil (λ (t : Transcript). length t.answers ≡ length t.lines)
 each_told worker (l ∷ scripts) (s ∷ shares) (t ∷ ts) told =
     All-cons (λ (t : Transcript). length t.answers ≡ length t.lines) t ts (told.0.work.each ∙ ap length (sym told.0.lines_are))
-        (each_told (worker + 1) scripts shares ts told.1)
+    (each_told (worker + 1) scripts shares ts told.1)
 each_told worker [] (s ∷ shares) ts told = absurd told
 each_told worker [] [] (t ∷ ts) told = absurd told
 each_told worker (l ∷ scripts) [] ts told = absurd told
@@ -179,7 +179,7 @@ within_told low high worker [] [] [] told from most = All-nil (λ w. (low ≤ w)
 within_told low high worker (l ∷ scripts) (s ∷ shares) (t ∷ ts) told from most =
     let own : t.worker ≡ worker = told.0.worker_is in
     All-cons (λ w. (low ≤ w) × (w < high)) t.worker (map (λ t. t.worker) ts) (omega (arith, own, from), omega (arith, own, most))
-        (within_told low high (worker + 1) scripts shares ts told.1 (omega (arith, from)) (omega (arith, most)))
+    (within_told low high (worker + 1) scripts shares ts told.1 (omega (arith, from)) (omega (arith, most)))
 within_told low high worker [] (s ∷ shares) ts told from most = absurd told
 within_told low high worker [] [] (t ∷ ts) told from most = absurd told
 within_told low high worker (l ∷ scripts) [] ts told from most = absurd told
@@ -191,7 +191,7 @@ pub one_of : (scripts : List (List Line)) (shares : List Shared) (ts : List Tran
 one_of scripts shares ts journal told belong k d less =
     let many : length ts ≡ length scripts = (as_many 1 scripts shares ts told).1 in
     let within = All-contains (λ w. (1 ≤ w) × (w < 1 + length scripts)) (map (λ t. t.worker) ts) _
-            (within_told 1 (1 + length scripts) 1 scripts shares ts told (omega arith) (omega arith)) (belong k d less) in
+    (within_told 1 (1 + length scripts) 1 scripts shares ts told (omega arith) (omega arith)) (belong k d less) in
     (omega (arith, within.0), omega (arith, within.1, many))
 
 -- what is left of a store whose journal was held against what was told
@@ -200,4 +200,4 @@ pub gathered_told : (setting : Setting) (journal : List Entry) (ts : List Transc
     → workers ≡ length ts → j.setting ≡ setting → j.journal ≡ journal → IsLeftOf j workers ts o → IsOutcomeOf setting (lines_of ts) o
 gathered_told setting journal ts shares j workers o told seen few gathered many from is left =
     alone setting (lines_of ts) j workers ts o left (many ∙ (as_many 1 (lines_of ts) shares ts told).1) from
-        (rw is (transcripts_from 1 (lines_of ts) shares ts journal told seen few gathered.own)) (rw is gathered.belong)
+    (rw is (transcripts_from 1 (lines_of ts) shares ts journal told seen few gathered.own)) (rw is gathered.belong)

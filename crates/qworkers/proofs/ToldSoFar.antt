@@ -17,7 +17,7 @@ AreWorksFrom worker (lines ∷ scripts) [] = ⊥
 -- the same, by their places
 works_from : (worker : ℕ) (scripts : List (List Line)) (works : List Done) → length works ≡ length scripts
     → ((k : ℕ) (d : Done) (lines : List Line) → k < length scripts
-        → IsWork (worker + k) (length (slice_index_or scripts k lines)) (slice_index_or works k d))
+    → IsWork (worker + k) (length (slice_index_or scripts k lines)) (slice_index_or works k d))
     → AreWorksFrom worker scripts works
 unfolding AreWorksFrom
 works_from worker [] [] many each = tt
@@ -25,7 +25,7 @@ works_from worker (lines ∷ scripts) (d ∷ works) many each = (
   subst (λ w. IsWork w (length lines) d) (omega arith) (each 0 d lines (omega arith)),
   works_from (worker + 1) scripts works (omega (arith, many))
       (λ k e other less. subst (λ w. IsWork w (length (slice_index_or scripts k other)) (slice_index_or works k e)) (omega arith)
-          (each (suc k) e other (omega (arith, less)))),
+      (each (suc k) e other (omega (arith, less)))),
 )
 works_from worker [] (d ∷ works) many each = absurd (omega (arith, many))
 works_from worker (lines ∷ scripts) [] many each = absurd (omega (arith, many))

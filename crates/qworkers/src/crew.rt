@@ -5,11 +5,11 @@ ghost use Rattle.qshare.specs.Seats.{seats_of};
 ghost use Rattle.qworkers.specs.Work.{AreWorks};
 
 use crate::gate::Gate;
+use crate::run_fault::RunFault;
 use crate::worker::{Plays, Work, Worker, play};
 use qhistory::{House, Origin};
 use qplain::Line;
 use qrules::Items;
-use crate::run_fault::RunFault;
 use qshare::{Seat, Shared};
 use std::alloc::Global;
 use std::sync::Wait;

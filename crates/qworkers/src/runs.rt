@@ -24,11 +24,7 @@ use std::sync::Wait;
 use std::thread::Threads;
 
 /// Holds the journal against the transcripts, and makes the outcome.
-fn conclude(
-    alloc: Global,
-    ended: Ended,
-    transcripts: Vec<Transcript>,
-) -> Result<Outcome, RunFault>
+fn conclude(alloc: Global, ended: Ended, transcripts: Vec<Transcript>) -> Result<Outcome, RunFault>
     requires legal { IsLegal (start ended.setup) ended.journal.items }
     requires store { ended.store.state ≡ play (start ended.setup) ended.journal.items }
     requires few { length ended.journal.items ≤ MAX_ENTRIES }

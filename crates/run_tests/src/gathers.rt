@@ -48,11 +48,7 @@ fn transcript(alloc: Global, refusal: Refusal) -> Result<Transcript, Fail>
 }
 
 /// Holds the journal of these workers, who were told that a name is there, against the transcript with this refusal.
-fn told(
-    alloc: Global,
-    workers: &[u64],
-    refusal: Refusal,
-) -> Result<Result<(), Mismatch>, Fail> {
+fn told(alloc: Global, workers: &[u64], refusal: Refusal) -> Result<Result<(), Mismatch>, Fail> {
     let journal = journal(alloc, workers, Refusal::EEXIST)?;
     let transcript = transcript(alloc, refusal)?;
     let transcripts = vec![in alloc; transcript]?;

@@ -54,11 +54,13 @@ fn end_twice<K: Origin, N: House, R: Wait + Abort>(
         return Err(Fail::from("three shares"));
     }
     let second = shares.remove(1);
-    let Err(Missing {
-        worker,
-        shared,
-        mut shares,
-    }) = shared.end(rt, shares)
+    let Err(
+        Missing {
+            worker,
+            shared,
+            mut shares,
+        },
+    ) = shared.end(rt, shares)
     else {
         return Err(Fail::from("a missing share"));
     };
@@ -80,11 +82,7 @@ fn end_twice<K: Origin, N: House, R: Wait + Abort>(
 }
 
 /// Opens a store for three seats.
-fn open<K: Origin, R: Wait + Abort>(
-    rt: &R,
-    alloc: Global,
-    setup: Setup,
-) -> Result<(), Fail>
+fn open<K: Origin, R: Wait + Abort>(rt: &R, alloc: Global, setup: Setup) -> Result<(), Fail>
     requires { setup ≡ K.setting }
 {
     let Ok(opened) = Opened::<K>::new(alloc, setup, 3, 0) else {

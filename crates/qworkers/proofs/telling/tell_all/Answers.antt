@@ -17,17 +17,22 @@ loop-work-preserved g c =
     let so_far = subst (λ rest. IsToldSoFar scripts shares ts rest (done ∷ into_iter_items c.next.new.self)) c.in-Some-next.ensures.cases.0 worked in (
       rw (c.push_reserved-in-loop-work.ensures.items, c.push_reserved.ensures.items, c.worker.ensures, c.new.ensures)
           (told_next scripts shares ts c.in-Some-next.lines (into_iter_items c.next-in-loop-work.new.self) done (into_iter_items c.next.new.self) so_far),
-      omega (arith, c.push_reserved-in-loop-work.ensures.len, c.push_reserved-in-loop-work.ensures.capacity, c.in-Some.ensures.steps.1,
-          c.loop-work.invariant.1),
+      omega (
+        arith,
+        c.push_reserved-in-loop-work.ensures.len,
+        c.push_reserved-in-loop-work.ensures.capacity,
+        c.in-Some.ensures.steps.1,
+        c.loop-work.invariant.1,
+      ),
       omega (arith, c.push_reserved.ensures.len, c.push_reserved.ensures.capacity, c.in-Some.ensures.steps.1, c.loop-work.invariant.2),
     )
 
 pub returns : goal.returns
 returns g c = elim c.match-next.branch [
-    in-None w ↦ told_ended c.args.scripts.items c.loop-work.shares.items c.loop-work.transcripts.items (into_iter_items c.loop-work.rest)
-        (into_iter_items c.loop-work.work-iterator) (sym c.loop-work.work-iterator.rest.ok.0 ∙ w.in-None.ensures.steps.0) c.loop-work.invariant.0
-    | in-Some+in_default w ↦ absurd (no_script c.args.scripts.items c.loop-work.shares.items c.loop-work.transcripts.items (into_iter_items c.loop-work.rest)
-        w.in-Some.work (into_iter_items c.next.new.self) (sym c.loop-work.rest.rest.ok.0 ∙ w.in_default.ensures.cases.0)
-        (subst (IsToldSoFar c.args.scripts.items c.loop-work.shares.items c.loop-work.transcripts.items (into_iter_items c.loop-work.rest))
-            w.in-Some.ensures.steps.0 c.loop-work.invariant.0))
-  ]
+  | in-None w ↦ told_ended c.args.scripts.items c.loop-work.shares.items c.loop-work.transcripts.items (into_iter_items c.loop-work.rest)
+      (into_iter_items c.loop-work.work-iterator) (sym c.loop-work.work-iterator.rest.ok.0 ∙ w.in-None.ensures.steps.0) c.loop-work.invariant.0
+  | in-Some+in_default w ↦ absurd (no_script c.args.scripts.items c.loop-work.shares.items c.loop-work.transcripts.items (into_iter_items c.loop-work.rest)
+      w.in-Some.work (into_iter_items c.next.new.self) (sym c.loop-work.rest.rest.ok.0 ∙ w.in_default.ensures.cases.0)
+      (subst (IsToldSoFar c.args.scripts.items c.loop-work.shares.items c.loop-work.transcripts.items (into_iter_items c.loop-work.rest))
+      w.in-Some.ensures.steps.0 c.loop-work.invariant.0))
+]

@@ -10,7 +10,7 @@ pub bounds-scripts-len : goal.bounds-scripts-len
 bounds-scripts-len g c =
     let seated = c.loop-seat.invariant.0 in
     let next = seat_next (length c.captures.scripts.now) seated.0 (into_iter_items c.next.new.self) c.in-Some.seat
-            (ap (λ xs. seated.0 ++ xs) (sym c.in-Some.ensures.steps.0) ∙ seated.1) in
+    (ap (λ xs. seated.0 ++ xs) (sym c.in-Some.ensures.steps.0) ∙ seated.1) in
     omega (arith, next.1, seated.2, c.len-in-loop-seat.ensures)
 
 pub loop-seat-preserved : goal.loop-seat-preserved
@@ -30,21 +30,21 @@ loop-seat-preserved g c =
       omega (arith, pushed.capacity, pushed.len, c.in-Some.ensures.steps.1, c.loop-seat.invariant.1),
       λ k d lines less.
           subst (λ hs. ((slice_index_or hs k d).promise.worker ≡ k + 1)
-              × ((slice_index_or hs k d).promise.lines ≡ length (slice_index_or scripts k lines))) (sym pushed.items)
+          × ((slice_index_or hs k d).promise.lines ≡ length (slice_index_or scripts k lines))) (sym pushed.items)
           (below_more
-            (λ i. ((slice_index_or (running.items ++ handle ∷ []) i d).promise.worker ≡ i + 1)
-                × ((slice_index_or (running.items ++ handle ∷ []) i d).promise.lines ≡ length (slice_index_or scripts i lines)))
-            (length running.items)
-            (λ i low. subst (λ h. (h.promise.worker ≡ i + 1) × (h.promise.lines ≡ length (slice_index_or scripts i lines)))
-              (sym (get_or_append_left running.items (handle ∷ []) d i low)) (c.loop-seat.invariant.2 i d lines (omega (arith, low, running.ok.0))))
-            (subst (λ h. (h.promise.worker ≡ length running.items + 1) × (h.promise.lines ≡ length (slice_index_or scripts (length running.items) lines)))
-              (sym (get_or_push running.items handle d (length running.items) refl)) (
-                omega (arith, ap (λ p. p.worker) c.in-Ok.ensures.ok, c.worker.ensures, next.0, seated.2, running.ok.0),
-                ap (λ p. p.lines) c.in-Ok.ensures.ok ∙ ap length (c.as_slice-lines.ensures ∙ c.index-scripts-len.is
-                    ∙ ap (λ i. slice_index_or scripts i c.index-scripts-len.result) (c.len-in-loop-seat.ensures ∙ running.ok.0)
-                    ∙ get_or_default scripts (length running.items) c.index-scripts-len.result lines (omega (arith, next.1, seated.2, running.ok.0))),
-              ))
-            k (omega (arith, less, pushed.len, running.ok.0))),
+          (λ i. ((slice_index_or (running.items ++ handle ∷ []) i d).promise.worker ≡ i + 1)
+          × ((slice_index_or (running.items ++ handle ∷ []) i d).promise.lines ≡ length (slice_index_or scripts i lines)))
+          (length running.items)
+          (λ i low. subst (λ h. (h.promise.worker ≡ i + 1) × (h.promise.lines ≡ length (slice_index_or scripts i lines)))
+          (sym (get_or_append_left running.items (handle ∷ []) d i low)) (c.loop-seat.invariant.2 i d lines (omega (arith, low, running.ok.0))))
+          (subst (λ h. (h.promise.worker ≡ length running.items + 1) × (h.promise.lines ≡ length (slice_index_or scripts (length running.items) lines)))
+          (sym (get_or_push running.items handle d (length running.items) refl)) (
+            omega (arith, ap (λ p. p.worker) c.in-Ok.ensures.ok, c.worker.ensures, next.0, seated.2, running.ok.0),
+            ap (λ p. p.lines) c.in-Ok.ensures.ok ∙ ap length (c.as_slice-lines.ensures ∙ c.index-scripts-len.is
+                ∙ ap (λ i. slice_index_or scripts i c.index-scripts-len.result) (c.len-in-loop-seat.ensures ∙ running.ok.0)
+                ∙ get_or_default scripts (length running.items) c.index-scripts-len.result lines (omega (arith, next.1, seated.2, running.ok.0))),
+          ))
+          k (omega (arith, less, pushed.len, running.ok.0))),
     )
 
 pub returns-in-Ok-join_promised : goal.returns-in-Ok-join_promised
@@ -64,5 +64,5 @@ returns-in-Ok-join_promised g c =
           let worker : h.promise.worker ≡ k + 1 = ap (λ x. x.promise.worker) at.1.handle_is ∙ inv.0 in
           let many : h.promise.lines ≡ length (slice_index_or scripts k lines) = ap (λ x. x.promise.lines) at.1.handle_is ∙ inv.1 in
           subst (λ n. IsWork (k + 1) n (slice_index_or works.items k d)) many
-              (subst (λ m. IsWork m h.promise.lines (slice_index_or works.items k d)) worker at.1.kept);
+          (subst (λ m. IsWork m h.promise.lines (slice_index_or works.items k d)) worker at.1.kept);
     }
