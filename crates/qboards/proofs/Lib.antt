@@ -1,2 +1,4 @@
--- Each step keeps the rule.
+-- Each step keeps the rule; boards are whole; rows are found.
 mod Rules
+mod Balanced
+mod Found

@@ -2,10 +2,12 @@
 #![tactic(auto)]
 
 pub use board_change::BoardChange;
+pub use laws::boards_are_whole;
 pub use publisher::Publisher;
 pub use viewer::Viewer;
 
 mod board_change;
+mod laws;
 mod publisher;
 mod rule;
 mod sheet;

@@ -1,14 +1,17 @@
 //! What is published: a board, with the history of which it is.
-ghost use Rattle.std.specs.Prelude.{◌≡◌, IfOk};
+ghost use Rattle.std.specs.Prelude.{◌≡◌, IfErr, IfOk, None, Some};
 ghost use Rattle.qplain.specs.Boards.{put};
+ghost use Rattle.qplain.specs.declared.look_fault.LookFault.TheVariants.{ESRCH};
+ghost use Rattle.std.specs.List.{find};
 ghost use Rattle.qboards.specs.Boards.{changed_by};
 ghost use Rattle.qboards.specs.Sheets.{board_in};
+ghost use Rattle.qboards.specs.Whole.{is_row_of, row_in};
 
 use crate::board_change::BoardChange;
 use left_right::Absorb;
 use qhistory::Front;
-use qplain::{Board, NoMemory, PlacedRow};
-use qrules::{BoardRow, Items};
+use qplain::{Board, LookFault, NoMemory, PlacedRow};
+use qrules::{BoardRow, Items, Kind};
 use std::alloc::{AllocError, Global};
 
 /// A board with its history, as a clause reads it. No value of it is made.
@@ -43,6 +46,29 @@ fn put_row(rows: &mut Vec<BoardRow>, placed: Option<PlacedRow>)
             rows[placed.place] = placed.row;
         }
     }
+}
+
+/// Whether the row is that of this user or group.
+fn is_row_of(row: &BoardRow, kind: Kind, id: u32) -> bool
+    ensures { result ≡ is_row_of kind id row.now }
+{
+    let same = match kind {
+        Kind::User => matches!(row.kind, Kind::User),
+        Kind::Group => matches!(row.kind, Kind::Group),
+    };
+    same && row.id == id
+}
+
+/// The row of a user or group, if there is one.
+fn find_row(rows: &[BoardRow], kind: Kind, id: u32) -> Option<BoardRow>
+    ensures { result ≡ find (is_row_of kind id) rows.now }
+{
+    for row in rows {
+        if is_row_of(row, kind, id) {
+            return Some(*row);
+        }
+    }
+    None
 }
 
 impl Sheet {
@@ -85,6 +111,20 @@ impl Sheet {
             blocks: self.blocks,
             inodes: self.inodes,
         })
+    }
+}
+
+impl Sheet {
+    /// The row of a user or group under the board's version. Err is ESRCH, where there is none.
+    pub(crate) fn record(&self, kind: Kind, id: u32) -> Result<(u64, BoardRow), LookFault>
+        ensures ok { IfOk result (λ r. (r.0 ≡ (board_in self.now).version)
+            × (row_in (board_in self.now) kind id ≡ Some r.1)) }
+        ensures err { IfErr result (λ f. (f ≡ ESRCH) × (row_in (board_in self.now) kind id ≡ None)) }
+    {
+        match find_row(self.rows.as_slice(), kind, id) {
+            Some(row) => Ok((self.version, row)),
+            None => Err(LookFault::ESRCH),
+        }
     }
 }
 

@@ -88,6 +88,19 @@ fn write_down(
     place
 }
 
+/// Makes room for one change more: for that one alone where none waits, since a publication takes the list away.
+fn make_room(waiting: &mut Vec<BoardChange>) -> Result<(), NoMemory>
+    ensures same { waiting.new.items ≡ waiting.old.items }
+    ensures room { IfOk result (λ _. vec_len waiting.new < vec_capacity waiting.new) }
+{
+    if waiting.is_empty() {
+        waiting.reserve_exact(1)?;
+    } else {
+        waiting.reserve(1)?;
+    }
+    Ok(())
+}
+
 /// The line of a caller's call, which shares what the call has.
 fn copy_line(cred: &Cred, moment: u64, call: &Call) -> Result<Line, NoMemory>
     ensures { IfOk result (λ line. line ≡ line_of cred.now moment call.now) }
@@ -163,7 +176,7 @@ impl<K: Origin, N: House, R: Wait + Drop> LockedStore<K, N, R> {
         ensures err { OnErr result ((self.new ≡ self.old) × (mine.new ≡ mine.old)) }
     {
         self.journal.reserve(1)?;
-        self.waiting.reserve(1)?;
+        make_room(&mut self.waiting)?;
         let Line { cred, moment, call } = line;
         let ready = self.store.ready(&cred, moment, &call)?;
         let reply = ready.reply().copy()?;
@@ -206,6 +219,7 @@ impl<K: Origin, N: House, R: Wait + Drop> LockedStore<K, N, R> {
         ensures published { self.new.published ≡ self.old.published }
         ensures err { OnErr result ((self.new ≡ self.old) × (mine.new ≡ mine.old)) }
         ensures full { (result ≡ Err CallFault.JournalFull) ↔ (length self.old.journal ≡ MAX_ENTRIES) }
+        ensures stays_full { MAX_ENTRIES ≤ length self.old.journal → result ≡ Err CallFault.JournalFull }
     {
         if self.journal.len() >= MAX_ENTRIES {
             return Err(CallFault::JournalFull);

@@ -96,7 +96,7 @@ fn new_seats<K: Origin, N: House, R: Wait + Drop>(
         let Ok(viewer) = store.viewer() else {
             return Err(ShareFault::NoReader);
         };
-        seats.push_reserved(Seat::new(before + 1, viewer, all.split_off()));
+        seats.push_reserved(Seat::new(alloc, before + 1, viewer, all.split_off()));
     }
     Ok(seats)
 }

@@ -21,7 +21,7 @@ use std::sync::{Mutex, Wait};
 /// and each journaled reply is that machine's: this is the invariant of what lies under it.
 #[derive(Drop)]
 pub struct Shared<K: Origin, N: House, R: Wait + Drop> {
-    lock: Mutex<LockedStore<K, N, R>>,
+    pub(crate) lock: Mutex<LockedStore<K, N, R>>,
 }
 
 /// The share of this worker is not there. The store and the shares are given back.

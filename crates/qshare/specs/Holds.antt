@@ -1,0 +1,9 @@
+-- What a contract sees of a lock that is held.
+use Rattle.std.specs.Prelude.{ℕ, List}
+use Rattle.qplain.specs.declared.entry.Entry.{Entry}
+
+-- the journal, how much of it is published, and for how many calls more it may be held
+pub record Holding : Type 0 where
+  pub journal : List Entry
+  pub published : List Entry
+  pub room : ℕ
