@@ -46,5 +46,5 @@ invariant_of-self-2 g c =
           (c.count_call.ensures.books ∙ ap (λ x. counted c.self.inside.books x) c.change-change.ensures)
           refl
           (c.write_down-place.ensures.waiting
-          ∙ ap (λ (l : List BoardChange). l ++ change c.write_down-place.result effect ∷ []) c.in_ok-reserve-2.ensures.items),
+          ∙ ap (λ (l : List BoardChange). l ++ change c.write_down-place.result effect ∷ []) c.make_room.ensures.same),
     )
