@@ -104,7 +104,7 @@ impl<'a, K: Origin, N: House, R: Wait + Drop> Held<'a, K, N, R> {
     /// The seat has then seen the whole journal: a legal history, which begins with all that it had seen and has each
     /// call that was made through this hold.
     pub fn release<W: Wait>(self, rt: &W, seat: &mut Seat<K, N>)
-        ensures seen { seat.new ≡ record seat.old { seen = self.journal } }
+        ensures seen { seat.new ≡ record seat.old { seen = self.entry.journal } }
         ensures begins { IsPrefix seat.old.seen seat.new.seen }
         ensures legal { IsLegal (start K.setting) seat.new.seen }
     {

@@ -1,5 +1,5 @@
 -- One more line of a worker's script.
-use Rattle.std.proofs.Common.{◌≡◌, ℕ, suc, ◌+◌, ◌≤◌, List, [], ◌∷◌, ◌++◌, length, All, Result, Ok, Err, IfOk, IfErr, refl, sym, ap, ◌∙◌, arith, le_trans}
+use Rattle.std.proofs.Common.{◌≡◌, ◌↔◌, ℕ, suc, ◌+◌, ◌≤◌, List, [], ◌∷◌, ◌++◌, length, All, Result, Ok, Err, IfOk, IfErr, refl, sym, ap, append-nil, ◌∙◌, arith, le_trans}
 use Rattle.std.proofs.lemmas.List.{length-append}
 use Rattle.std.proofs.lemmas.List.Elements.{All-head, All-nil, All-push, All-tail}
 use mathlib.Core.List.{IsPrefix}
@@ -13,13 +13,7 @@ use Rattle.qjournal.specs.declared.journal.TheConstants.{MAX_ENTRIES}
 use Rattle.qhistory.proofs.Fronts.{prefix_length}
 use Rattle.qlocked.specs.Histories.{IsAt}
 use Rattle.qrun.specs.Runs.{FullIsToldFirst, IsFullBehind}
-use Rattle.qworkers.specs.Work.{HasSeenFull}
-
--- the first answers of a worker whose seat has seen this much
-pub record AreAnswers (count : ℕ) (seen : List Entry) (answers : List (Result Receipt CallFault)) : Type 0 where
-  pub each : length answers ≡ count
-  pub full : All (HasSeenFull seen) answers
-  pub first : FullIsToldFirst answers
+use Rattle.qworkers.specs.Work.{AreAnswers, HasSeenFull}
 
 pub no_answers : (seen : List Entry) → AreAnswers 0 seen []
 unfolding FullIsToldFirst
@@ -62,3 +56,28 @@ one_more count old new answers after worker line answer so_far more stands full 
           (now_seen new worker line answer stands full));
       first = rw is (first_push answers answer so_far.first (λ k d less behind. stays (so_far.full k d less behind)));
     }
+
+-- one more answer under a lock that is held, where this much is journaled
+pub one_more_held : (count : ℕ) (old new : List Entry) (answers after : List (Result Receipt CallFault)) (worker : ℕ) (line : Line)
+    (answer : Result Receipt CallFault) → AreAnswers count old answers
+    → IfOk answer (λ r. new ≡ old ++ entry_of worker line r.reply ∷ [])
+    → IfOk answer (λ r. r.place ≡ length old + 1)
+    → IfErr answer (λ f. new ≡ old)
+    → ((answer ≡ Err JournalFull) ↔ (length old ≡ MAX_ENTRIES))
+    → (MAX_ENTRIES ≤ length old → answer ≡ Err JournalFull) → after ≡ answers ++ answer ∷ []
+    → AreAnswers (count + 1) new after
+one_more_held count old new answers after worker line (Ok r) so_far journal place same full stays is =
+    one_more count old new answers after worker line (Ok r) so_far (entry_of worker line r.reply ∷ [], sym journal)
+    (old, [], journal, place) tt stays is
+one_more_held count old new answers after worker line (Err fault) so_far journal place same full stays is =
+    one_more count old new answers after worker line (Err fault) so_far ([], append-nil old ∙ sym same)
+    tt (λ told. ap length same ∙ full.0 (ap Err told)) stays is
+
+-- who sees more has seen all that was told
+pub seen_more : (count : ℕ) (old new : List Entry) (answers : List (Result Receipt CallFault)) → AreAnswers count old answers
+    → IsPrefix old new → AreAnswers count new answers
+seen_more count old new answers so_far more = record {
+  each = so_far.each;
+  full = λ k d less behind. le_trans (so_far.full k d less behind) (prefix_length old new more);
+  first = so_far.first;
+}

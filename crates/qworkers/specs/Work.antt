@@ -17,6 +17,12 @@ pub record Done : Type 0 where
 abbrev pub HasSeenFull : List Entry → Result Receipt CallFault → Type 0
 HasSeenFull seen answer = IsFullBehind answer → MAX_ENTRIES ≤ length seen
 
+-- the first answers of a worker whose seat has seen this much
+pub record AreAnswers (count : ℕ) (seen : List Entry) (answers : List (Result Receipt CallFault)) : Type 0 where
+  pub each : length answers ≡ count
+  pub full : All (HasSeenFull seen) answers
+  pub first : FullIsToldFirst answers
+
 -- the worker's share, and an answer to each of so many lines: once the journal is full, each further one is told so
 pub record IsWork (worker lines : ℕ) (d : Done) : Type 0 where
   pub worker_is : d.share.worker ≡ worker

@@ -1,11 +1,15 @@
-//! All workers of a run: a thread for each.
-ghost use Rattle.std.specs.Prelude.{◌≡◌, length, IfOk};
+//! All threads of a run: one for each worker, and one that looks at the boards.
+ghost use Rattle.std.specs.Prelude.{◌≡◌, ◌<◌, ◌≤◌, length, IfOk};
 ghost use denote.Param.Send.{IsSend, IsSync};
 ghost use Rattle.qshare.specs.Seats.{seats_of};
+ghost use Rattle.qshare.specs.declared.held.TheConstants.{MAX_BATCH};
+ghost use Rattle.qworkers.specs.Watching.{IsWatchOf};
 ghost use Rattle.qworkers.specs.Work.{AreWorks};
 
 use crate::gate::Gate;
+use crate::options::Options;
 use crate::run_fault::RunFault;
+use crate::watcher::{Watch, watch_all};
 use crate::worker::{Plays, Work, Worker, play};
 use qhistory::{House, Origin};
 use qplain::Line;
@@ -16,7 +20,14 @@ use std::sync::Wait;
 use std::thread;
 use std::thread::Threads;
 
-/// Plays each script in a thread of its own, and joins them once all are started.
+/// What the threads of a run have done.
+#[derive(Drop)]
+pub(crate) struct Played<N: House> {
+    pub(crate) works: Vec<Work<N>>,
+    pub(crate) watch: Option<Watch<N>>,
+}
+
+/// Plays each script in a thread of its own; once all are started the watcher looks, in its own, and all are joined.
 ///
 /// Where a start is refused, no later one is made, and those before are waited for; the worker is named.
 pub(crate) fn play_all<K, N, G, R, W>(
@@ -24,26 +35,32 @@ pub(crate) fn play_all<K, N, G, R, W>(
     alloc: Global,
     shared: &Shared<K, N, W>,
     gate: &G,
+    options: Options,
     seats: Vec<Seat<K, N>>,
+    watcher: Option<Seat<K, N>>,
     scripts: &[Items<Line>],
-) -> Result<Vec<Work<N>>, RunFault>
+) -> Result<Played<N>, RunFault>
 where
-    K: Origin + Send + Sync,
-    N: House + Send + Sync,
+    K: Origin + Send + Sync + 'static,
+    N: House + Send + Sync + 'static,
     G: Gate + Sync,
     R: Threads + Wait + Sync,
     W: Wait + Drop + Send,
     requires seats { seats.items ≡ seats_of (length scripts.now) }
-    ensures { IfOk result (λ works. AreWorks scripts.now works.items) }
+    requires batch { (0 < options.batch) × (options.batch ≤ MAX_BATCH) }
+    ensures works { IfOk result (λ p. AreWorks scripts.now p.works.items) }
+    ensures watch { IfOk result (λ p. IsWatchOf options.boards watcher p.watch) }
 {
     thread::scope(
         thread::scope_env(),
         rt,
-        |scope| -> Result<Vec<Work<N>>, RunFault>
+        |scope| -> Result<Played<N>, RunFault>
             requires marks { IsSync R.row × IsSync G.row × IsSend K.row × IsSync K.row × IsSend N.row
                 × IsSync N.row × IsSend W.row }
             requires seats { seats.items ≡ seats_of (length scripts.now) }
-            ensures { IfOk result (λ works. AreWorks scripts.entry.now works.items) }
+            requires batch { (0 < options.batch) × (options.batch ≤ MAX_BATCH) }
+            ensures works { IfOk result (λ p. AreWorks scripts.entry.now p.works.items) }
+            ensures watch { IfOk result (λ p. IsWatchOf options.entry.boards watcher.entry p.watch) }
         {
             let mut running = Vec::with_capacity(alloc, seats.len())?;
             for seat in seats {
@@ -57,6 +74,7 @@ where
                     shared,
                     gate,
                     lines,
+                    batch: options.batch as usize,
                     seat,
                     answers: Vec::with_capacity(alloc, lines.len())?,
                 };
@@ -65,8 +83,9 @@ where
                     Err(_) => return Err(RunFault::NotStarted(plays.worker)),
                 }
             }
+            let watch = watch_all(rt, alloc, watcher, options.boards)?;
             match thread::join_promised(rt, running) {
-                Ok(works) => Ok(works),
+                Ok(works) => Ok(Played { works, watch }),
                 Err(_) => Err(RunFault::Memory),
             }
         },

@@ -2,12 +2,15 @@
 #![tactic(auto)]
 
 pub use gate::{Gate, NoGate};
+pub use options::Options;
 pub use run_fault::RunFault;
 pub use runs::{run, run_with};
 
 mod crew;
 mod gate;
+mod options;
 mod run_fault;
 mod runs;
 mod telling;
+mod watcher;
 mod worker;

@@ -1,8 +1,10 @@
 //! What workers have done, told as transcripts.
-ghost use Rattle.std.specs.Prelude.{IfOk};
+ghost use Rattle.std.specs.Prelude.{◌≡◌, ◌++◌, IfOk};
 ghost use Rattle.qworkers.specs.Told.{AreTold};
+ghost use Rattle.qworkers.specs.Watching.{looks_in, shares_in};
 ghost use Rattle.qworkers.specs.Work.{AreWorks};
 
+use crate::watcher::{Look, Watch};
 use crate::worker::Work;
 use qhistory::{House, Share};
 use qplain::{Line, NoMemory, Transcript};
@@ -35,4 +37,23 @@ pub(crate) fn tell_all<N: House>(
         shares.push_reserved(share);
     }
     Ok((shares, transcripts))
+}
+
+/// The shares of all seats, that of the watcher last, and what its looks were given.
+pub(crate) fn hand_in<N: House>(
+    alloc: Global,
+    shares: Vec<Share<N>>,
+    watch: Option<Watch<N>>,
+) -> Result<(Vec<Share<N>>, Vec<Look>), NoMemory>
+    ensures shares { IfOk result (λ r. r.0.items ≡ shares.items ++ shares_in watch) }
+    ensures looks { IfOk result (λ r. r.1.items ≡ looks_in watch) }
+{
+    let mut shares = shares;
+    match watch {
+        Some(Watch { share, looks }) => {
+            shares.push(share)?;
+            Ok((shares, looks))
+        }
+        None => Ok((shares, Vec::new(alloc))),
+    }
 }

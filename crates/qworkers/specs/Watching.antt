@@ -1,0 +1,40 @@
+-- What looks at the boards of a run are, beside its workers. No public clause cites this module.
+use Rattle.std.specs.Prelude.{◌≡◌, ℕ, ◌+◌, ◌==◌, List, [], ◌∷◌, length, if◌then◌else◌, Option, Some, None, Result}
+use Rattle.qplain.specs.declared.board.Board.{Board}
+use Rattle.qplain.specs.declared.look_fault.LookFault.{LookFault}
+use Rattle.qhistory.specs.Shares.{Shared}
+use Rattle.qshare.specs.Seats.{Seated, new_seat}
+
+-- a watcher's share, and what each of its looks was given
+pub record Watched : Type 0 where
+  pub share : Shared
+  pub looks : List (Result Board LookFault)
+
+-- the share of this watcher, and so many looks
+pub record IsWatch (worker boards : ℕ) (w : Watched) : Type 0 where
+  pub worker_is : w.share.worker ≡ worker
+  pub each : length w.looks ≡ boards
+
+-- how many seats a run has: one for each script, and one more where boards are looked at
+abbrev pub seats_for : ℕ → ℕ → ℕ
+seats_for scripts boards = if boards == 0 then scripts else scripts + 1
+
+-- the seat behind those of the scripts, where boards are looked at
+abbrev pub watcher_for : ℕ → ℕ → Option Seated
+watcher_for scripts boards = if boards == 0 then None else Some (new_seat (scripts + 1))
+
+-- who has a seat has looked so many times, and nobody else
+abbrev pub IsWatchOf : ℕ → Option Seated → Option Watched → Type 0
+IsWatchOf boards None watch = watch ≡ None
+IsWatchOf boards (Some seat) None = ⊥
+IsWatchOf boards (Some seat) (Some w) = IsWatch seat.worker boards w
+
+-- the share of who has looked
+abbrev pub shares_in : Option Watched → List Shared
+shares_in None = []
+shares_in (Some w) = w.share ∷ []
+
+-- what the looks were given
+abbrev pub looks_in : Option Watched → List (Result Board LookFault)
+looks_in None = []
+looks_in (Some w) = w.looks

@@ -1,0 +1,121 @@
+//! Who looks at the boards of a run: a seat, and the thread in which it looks.
+ghost use Rattle.std.specs.Prelude.{◌≡◌, ◌≤◌, vec_len, vec_capacity, IfOk};
+ghost use Rattle.qshare.specs.Seats.{seats_of};
+ghost use Rattle.qworkers.specs.Watching.{IsWatch, IsWatchOf, seats_for, watcher_for};
+
+use crate::run_fault::RunFault;
+use qhistory::{House, Origin, Share};
+use qplain::{Board, LookFault};
+use qshare::Seat;
+use std::alloc::Global;
+use std::marker::Model;
+use std::thread;
+use std::thread::{Promise, Threads};
+
+/// What a look at the boards was given.
+pub(crate) type Look = Result<Board, LookFault>;
+
+/// What a watcher has done: its share, and what each of its looks was given.
+#[derive(Drop)]
+pub(crate) struct Watch<N: House> {
+    pub(crate) share: Share<N>,
+    pub(crate) looks: Vec<Look>,
+}
+
+impl<N: House> Model for Watch<N> {
+    ghost use Rattle.qworkers.specs.Watching.{Watched};
+
+    ghost Value = { Watched };
+
+    ghost view = { λ w. record { share = w.share; looks = w.looks.items } };
+}
+
+/// That this watcher looks so many times.
+#[derive(Clone, Copy)]
+pub(crate) struct Watches {
+    pub(crate) worker: u64,
+    pub(crate) boards: u64,
+}
+
+impl<N: House> Promise<Watch<N>> for Watches {
+    ghost use Rattle.qworkers.specs.Watching.{IsWatch};
+
+    ghost kept_by = { λ p w. IsWatch p.worker p.boards w };
+}
+
+/// The seats of the workers, one for each script, and that of the watcher, which is the last, where boards are wanted.
+pub(crate) fn part_seats<K: Origin, N: House>(
+    seats: Vec<Seat<K, N>>,
+    scripts: usize,
+    boards: u64,
+) -> (Vec<Seat<K, N>>, Option<Seat<K, N>>)
+    requires { seats.items ≡ seats_of (seats_for scripts boards) }
+    ensures workers { result.0.items ≡ seats_of scripts }
+    ensures watcher { result.1 ≡ watcher_for scripts boards }
+{
+    let mut seats = seats;
+    if boards == 0 {
+        return (seats, None);
+    }
+    let watcher = seats.pop();
+    (seats, watcher)
+}
+
+/// Looks so many times, one after the other. No look waits.
+fn look_on<K: Origin, N: House>(seat: Seat<K, N>, looks: Vec<Look>, boards: u64) -> Watch<N>
+    requires room { (vec_len looks ≡ 0) × (boards ≤ vec_capacity looks) }
+    ensures { IsWatch seat.worker boards result }
+{
+    let mut seat = seat;
+    let mut looks = looks;
+    for _ in 0..boards {
+        looks.push_reserved(seat.board());
+    }
+    Watch {
+        share: seat.finish(),
+        looks,
+    }
+}
+
+/// Looks so many times in a thread of its own, and waits until it has done so.
+fn watch<K, N, R>(
+    rt: &R,
+    alloc: Global,
+    seat: Seat<K, N>,
+    boards: u64,
+) -> Result<Watch<N>, RunFault>
+where
+    K: Origin + Send + Sync + 'static,
+    N: House + Send + Sync + 'static,
+    R: Threads,
+    ensures { IfOk result (IsWatch seat.worker boards) }
+{
+    let looks = Vec::with_capacity(alloc, boards as usize)?;
+    let watches = Watches {
+        worker: seat.worker(),
+        boards,
+    };
+    match thread::spawn_with(rt, watches, move || look_on(seat, looks, boards)) {
+        Ok(handle) => Ok(handle.join(rt)),
+        Err(_) => Err(RunFault::NotStarted(watches.worker)),
+    }
+}
+
+/// The same for a seat that may be none.
+pub(crate) fn watch_all<K, N, R>(
+    rt: &R,
+    alloc: Global,
+    watcher: Option<Seat<K, N>>,
+    boards: u64,
+) -> Result<Option<Watch<N>>, RunFault>
+where
+    K: Origin + Send + Sync + 'static,
+    N: House + Send + Sync + 'static,
+    R: Threads,
+    ensures { IfOk result (IsWatchOf boards watcher) }
+{
+    match watcher {
+        Some(seat) => Ok(Some(watch(rt, alloc, seat, boards)?)),
+        None => Ok(None),
+    }
+}
