@@ -1,0 +1,2 @@
+//! Boards held against a journal.
+#![tactic(auto)]
