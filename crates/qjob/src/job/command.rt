@@ -46,6 +46,32 @@ fn journal<'a>(alloc: Global) -> Arg<'a>
         .action(ArgAction::Set)
 }
 
+fn boards<'a>(alloc: Global) -> Arg<'a>
+    ensures rule { rule_of result ≡ line.boards }
+    ensures local { result.global ≡ false }
+{
+    Arg::new(alloc, "boards")
+        .long("boards")
+        .value_name("N")
+        .help("The number of boards that one more thread takes while the scripts run, at most 1000")
+        .value_parser(value_parser!(u64).range(0..=1000))
+        .default_value("0")
+        .action(ArgAction::Set)
+}
+
+fn batch<'a>(alloc: Global) -> Arg<'a>
+    ensures rule { rule_of result ≡ line.batch }
+    ensures local { result.global ≡ false }
+{
+    Arg::new(alloc, "batch")
+        .long("batch")
+        .value_name("N")
+        .help("The number of lines that a worker makes under one lock, from 1 to 64")
+        .value_parser(value_parser!(u64).range(1..=64))
+        .default_value("1")
+        .action(ArgAction::Set)
+}
+
 fn scripts<'a>(alloc: Global) -> Arg<'a>
     ensures rule { rule_of result ≡ line.scripts }
     ensures local { result.global ≡ false }
@@ -109,6 +135,8 @@ fn run<'a>(alloc: Global) -> Result<Command<'a>, AllocError>
     let command = with_arg(command, config(alloc))?;
     let command = with_arg(command, at(alloc))?;
     let command = with_arg(command, journal(alloc))?;
+    let command = with_arg(command, boards(alloc))?;
+    let command = with_arg(command, batch(alloc))?;
     with_arg(command, scripts(alloc))
 }
 
