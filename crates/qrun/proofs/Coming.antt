@@ -17,7 +17,7 @@ use Rattle.qrun.specs.Replays.{IsReplayOf, transcripts_in}
 use Rattle.qplain.specs.Transcripts.{Belongs, journaled_lines}
 use Rattle.qrun.specs.Runs.{AreTranscriptsOf, FullIsToldFirst, IsFullOf, IsOutcomeOf}
 use Rattle.qplain.specs.State.{start}
-use Rattle.qcheck.specs.Boards.{AreLawful, boards_in}
+use Rattle.qcheck.specs.LawfulBoards.{AreLawful, boards_in}
 use Rattle.qrun.proofs.Stats.{legal-fair}
 
 -- the journal of a store that was played on by so many workers is one

@@ -1,0 +1,2 @@
+-- Boards seen one after the other.
+pub mod Seeing
