@@ -72,9 +72,13 @@ played = record (new_rule (codes "journal")) {
   action = Some Set;
 }
 
+-- a command with the options of how its store is shared
+abbrev pub with_sharing : App → App
+with_sharing a = with_rule (with_rule a boards) batch
+
 -- `run`
 abbrev pub run : App
-run = with_rule (with_rule (with_rule (with_rule (with_rule (with_rule (new_app (codes "run")) config) at) journal) boards) batch) scripts
+run = with_rule (with_sharing (with_rule (with_rule (with_rule (new_app (codes "run")) config) at) journal)) scripts
 
 -- `replay`
 abbrev pub replay : App

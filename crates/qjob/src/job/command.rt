@@ -123,6 +123,16 @@ fn named<'a>(alloc: Global, name: &'a str, about: &'a str) -> Command<'a>
         .after_help(AFTER_HELP)
 }
 
+/// The command with the options of how its store is shared.
+fn with_sharing<'a>(alloc: Global, command: Command<'a>) -> Result<Command<'a>, AllocError>
+    ensures app { IfOk result (λ c. app_of c ≡ line.with_sharing (app_of command.entry)) }
+    ensures local { (out-Command command.entry).has_globals ≡ false
+        → IfOk result (λ c. (out-Command c).has_globals ≡ false) }
+{
+    let command = with_arg(command, boards(alloc))?;
+    with_arg(command, batch(alloc))
+}
+
 fn run<'a>(alloc: Global) -> Result<Command<'a>, AllocError>
     ensures app { IfOk result (λ c. app_of c ≡ line.run) }
     ensures local { IfOk result (λ c. (out-Command c).has_globals ≡ false) }
@@ -135,8 +145,7 @@ fn run<'a>(alloc: Global) -> Result<Command<'a>, AllocError>
     let command = with_arg(command, config(alloc))?;
     let command = with_arg(command, at(alloc))?;
     let command = with_arg(command, journal(alloc))?;
-    let command = with_arg(command, boards(alloc))?;
-    let command = with_arg(command, batch(alloc))?;
+    let command = with_sharing(alloc, command)?;
     with_arg(command, scripts(alloc))
 }
 
