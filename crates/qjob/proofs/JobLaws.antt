@@ -18,7 +18,7 @@ use Rattle.qjob.specs.declared.job.Job.{Job}
 use Rattle.qjob.specs.declared.job.Job.TheVariants.{Run, Replay}
 use Rattle.qjob.specs.declared.line_fault.LineFault.{LineFault}
 use Rattle.qjob.specs.declared.line_fault.LineFault.TheVariants.{Line, Memory}
-use Rattle.qjob.specs.Jobs.{AreScriptsIn, FailsUnless, IsAskedBy, IsJobOf, IsMomentIn, IsNamedBy, IsRefusalOf, IsToldBy, Spells}
+use Rattle.qjob.specs.Jobs.{AreBoardsIn, AreScriptsIn, FailsUnless, IsAskedBy, IsBatchIn, IsJobOf, IsMomentIn, IsNamedBy, IsNumberAt, IsRefusalOf, IsToldBy, Spells}
 use Rattle.qjob.specs.Commands.{quotafs}
 
 -- ---- the row of an id is that of its entry
@@ -134,35 +134,34 @@ no_scripts rows fault empty h =
 abbrev pub ReadsNumber : Text → Result ℕ ParseIntError → Type 0
 ReadsNumber t r = ParsesUnsigned 64 10 t r × ExplainsUnsignedError 10 t r × HasUnsignedDigitsIfOk t r
 
--- the moment that was read
-pub moment_read : (f : Found) (r : Option ℕ) (at : ℕ) → (one_text f (codes "at") ≡ None → r ≡ None)
-    → ((t : Text) → one_text f (codes "at") ≡ Some t → ReadsOne ReadsNumber t r) → r ≡ Some at → at ≤ 2 ^ 40
-    → IsMomentIn (rows_of f) at
-moment_read f r at none value got small = go (one_text f (codes "at")) refl
+-- the number that was read
+pub number_read : (f : Found) (id : Text) (least most : ℕ) (r : Option ℕ) (n : ℕ) → (one_text f id ≡ None → r ≡ None)
+    → ((t : Text) → one_text f id ≡ Some t → ReadsOne ReadsNumber t r) → r ≡ Some n → least ≤ n → n ≤ most
+    → IsNumberAt id least most (rows_of f) n
+number_read f id least most r n none value got enough small = go (one_text f id) refl
   where
-    go : (o : Option Text) → one_text f (codes "at") ≡ o → IsMomentIn (rows_of f) at
+    go : (o : Option Text) → one_text f id ≡ o → IsNumberAt id least most (rows_of f) n
     go None is =
         let no : r ≡ None = none is in
         absurd cc
     go (Some t) is =
-        let read : ReadsNumber t (Ok at) = rw got at (value t is) in
-        (t, sym (one_in_rows f (codes "at")) ∙ is, (read.0.0.0, read.0.1), small)
+        let read : ReadsNumber t (Ok n) = rw got at (value t is) in
+        (t, sym (one_in_rows f id) ∙ is, (read.0.0.0, read.0.1), enough, small)
 
--- no moment was read, or one that is too large
-pub no_moment : (f : Found) (r : Option ℕ) (fault : LineFault)
-    → ((t : Text) → one_text f (codes "at") ≡ Some t → ReadsOne ReadsNumber t r)
-    → ((n : ℕ) → r ≡ Some n → 2 ^ 40 < n) → FailsUnless ⊥ fault
-    → FailsUnless ((at : ℕ) × IsMomentIn (rows_of f) at) fault
-no_moment f r fault value large h =
-    unless_weaker ⊥ ((at : ℕ) × IsMomentIn (rows_of f) at) fault
-    (λ m. go m.0 m.1.0 r refl (value m.1.0 (one_in_rows f (codes "at") ∙ m.1.1)) m.1.2 m.1.3) h
+-- no number was read, or one that is out of its bounds
+pub no_number : (f : Found) (id : Text) (least most : ℕ) (r : Option ℕ) (fault : LineFault)
+    → ((t : Text) → one_text f id ≡ Some t → ReadsOne ReadsNumber t r) → most < 2 ^ 64
+    → ((n : ℕ) → r ≡ Some n → least ≤ n → n ≤ most → ⊥) → FailsUnless ⊥ fault
+    → FailsUnless ((n : ℕ) × IsNumberAt id least most (rows_of f) n) fault
+no_number f id least most r fault value range out h =
+    unless_weaker ⊥ ((n : ℕ) × IsNumberAt id least most (rows_of f) n) fault
+    (λ m. go m.0 m.1.0 r refl (value m.1.0 (one_in_rows f id ∙ m.1.1)) m.1.2 m.1.3 m.1.4) h
   where
-    go : (at : ℕ) (t : Text) (o : Option ℕ) → r ≡ o → ReadsOne ReadsNumber t o → Spells t at → at ≤ 2 ^ 40 → ⊥
-    go at t (Some n) is read spelled small =
-        let over : 2 ^ 40 < n = large n is in
-        let same : n ≡ at = read.0.1 ∙ sym spelled.1 in
-        omega arith
-    go at t None is read spelled small =
+    go : (n : ℕ) (t : Text) (o : Option ℕ) → r ≡ o → ReadsOne ReadsNumber t o → Spells t n → least ≤ n → n ≤ most → ⊥
+    go n t (Some k) is read spelled enough small =
+        let same : k ≡ n = read.0.1 ∙ sym spelled.1 in
+        out k is (rw same enough) (rw same small)
+    go n t None is read spelled enough small =
         let value_small : digits_value 10 (without_leading_plus t) < 2 ^ 64 = rw (← spelled.1) (omega arith) in
         read.1.0 (spelled.0, value_small)
 
@@ -186,9 +185,11 @@ pub passed_on : {T : Type 0} (r : Result T LineFault) (P Q : Type 0) (fault : Li
 passed_on (Ok x) P Q fault is h weaker = tt
 passed_on (Err e) P Q fault is h weaker = rw is (unless_weaker P Q fault weaker h)
 
-pub its_moment : (rows : List Row) (job : Job) → IsNamedBy (codes "run") rows job → (at : ℕ) × IsMomentIn rows at
-its_moment rows (Run config at journal scripts) h = (at, h.2)
-its_moment rows (Replay config journal) h =
+-- a run has its numbers
+pub its_numbers : (rows : List Row) (job : Job) → IsNamedBy (codes "run") rows job
+    → ((at : ℕ) × IsMomentIn rows at) × ((boards : ℕ) × AreBoardsIn rows boards) × ((batch : ℕ) × IsBatchIn rows batch)
+its_numbers rows (Run config at journal boards batch scripts) h = ((at, h.2), (boards, h.4), (batch, h.5))
+its_numbers rows (Replay config journal) h =
     let same : codes "run" ≡ codes "replay" = h.0 in
     absurd cc
 

@@ -35,6 +35,26 @@ journal = record (new_rule (codes "journal")) {
   action = Some Set;
 }
 
+-- `--boards N`, from 0 to 1000, and 0 where it is not given
+abbrev pub boards : Rule
+boards = record (new_rule (codes "boards")) {
+  long = Some (codes "boards");
+  value_names = 1;
+  parser = Some (Unsigned 0 1000);
+  defaults = codes "0" ∷ [];
+  action = Some Set;
+}
+
+-- `--batch N`, from 1 to 64, and 1 where it is not given
+abbrev pub batch : Rule
+batch = record (new_rule (codes "batch")) {
+  long = Some (codes "batch");
+  value_names = 1;
+  parser = Some (Unsigned 1 64);
+  defaults = codes "1" ∷ [];
+  action = Some Set;
+}
+
 -- one or more scripts
 abbrev pub scripts : Rule
 scripts = record (new_rule (codes "scripts")) {
@@ -52,9 +72,13 @@ played = record (new_rule (codes "journal")) {
   action = Some Set;
 }
 
+-- a command with the options of how its store is shared
+abbrev pub with_sharing : App → App
+with_sharing a = with_rule (with_rule a boards) batch
+
 -- `run`
 abbrev pub run : App
-run = with_rule (with_rule (with_rule (with_rule (new_app (codes "run")) config) at) journal) scripts
+run = with_rule (with_sharing (with_rule (with_rule (with_rule (new_app (codes "run")) config) at) journal)) scripts
 
 -- `replay`
 abbrev pub replay : App

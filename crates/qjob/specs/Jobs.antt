@@ -14,9 +14,22 @@ use Rattle.qjob.specs.Commands.{quotafs}
 abbrev pub Spells : Text → ℕ → Type 0
 Spells text n = IsNumeral 10 (without_leading_plus text) × (n ≡ digits_value 10 (without_leading_plus text))
 
+-- the number that the word at this option spells, from the least to the most
+abbrev pub IsNumberAt : Text → ℕ → ℕ → List Row → ℕ → Type 0
+IsNumberAt option least most rows n =
+    (text : Text) × (one_of option rows ≡ Some text) × Spells text n × (least ≤ n) × (n ≤ most)
+
 -- the moment is the number at `--at`, at most 2^40
 abbrev pub IsMomentIn : List Row → ℕ → Type 0
-IsMomentIn rows at = (text : Text) × (one_of (codes "at") rows ≡ Some text) × Spells text at × (at ≤ 2 ^ 40)
+IsMomentIn rows at = IsNumberAt (codes "at") 0 (2 ^ 40) rows at
+
+-- how many boards are taken is the number at `--boards`, at most 1000
+abbrev pub AreBoardsIn : List Row → ℕ → Type 0
+AreBoardsIn rows boards = IsNumberAt (codes "boards") 0 1000 rows boards
+
+-- how many lines go under one lock is the number at `--batch`, from 1 to 64
+abbrev pub IsBatchIn : List Row → ℕ → Type 0
+IsBatchIn rows batch = IsNumberAt (codes "batch") 1 64 rows batch
 
 -- the scripts are those that are named, at least one
 abbrev pub AreScriptsIn : List Row → List Text → Type 0
@@ -24,10 +37,12 @@ AreScriptsIn rows scripts = (all_of (codes "scripts") rows ≡ Some scripts) × 
 
 -- the job of a subcommand of this name with these matches
 abbrev pub IsNamedBy : Text → List Row → Job → Type 0
-IsNamedBy name rows (Run config at journal scripts) = (name ≡ codes "run")
+IsNamedBy name rows (Run config at journal boards batch scripts) = (name ≡ codes "run")
     × (first_of (codes "config") rows ≡ Some (string_bytes config))
     × IsMomentIn rows at
     × (first_of (codes "journal") rows ≡ option_map (λ s. string_bytes s) journal)
+    × AreBoardsIn rows boards
+    × IsBatchIn rows batch
     × AreScriptsIn rows (map (λ s. string_bytes s) scripts.items)
 IsNamedBy name rows (Replay config journal) = (name ≡ codes "replay")
     × (first_of (codes "config") rows ≡ Some (string_bytes config))

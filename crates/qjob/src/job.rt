@@ -3,7 +3,7 @@ ghost use Rattle.std.specs.Prelude.{◌≡◌, ◌∷◌, [], ℕ, IfOk, IfErr, 
 ghost use Rattle.clap.specs.Words.{first_of, found_of, kind_of, rows_of, subcommand_rows_of};
 ghost use Rattle.clap.specs.declared.error.kind.ErrorKind.TheVariants.{OutOfMemory};
 ghost use Rattle.qjob.specs.declared.line_fault.LineFault.TheVariants.{Memory};
-ghost use Rattle.qjob.specs.Jobs.{AreScriptsIn, FailsUnless, IsAskedBy, IsJobOf, IsMomentIn, IsNamedBy, IsRefusalOf, IsToldBy};
+ghost use Rattle.qjob.specs.Jobs.{AreScriptsIn, FailsUnless, IsAskedBy, IsJobOf, IsNamedBy, IsNumberAt, IsRefusalOf, IsToldBy};
 
 use crate::LineFault;
 use clap::error::ErrorKind;
@@ -14,15 +14,23 @@ use std::alloc::{AllocError, Global};
 
 mod command;
 
+/// As many boards are taken at most.
+const MAX_BOARDS: u64 = 1000;
+
+/// As many lines go under one lock at most.
+const MAX_BATCH: u64 = 64;
+
 /// What the program is asked to do. Files are named as they stand on the command line.
 #[derive(Debug, Drop)]
 pub enum Job {
-    /// To run the scripts on a store of the configuration, to report at the moment, in seconds, and to write the
-    /// journal of the run where a file is named for it.
+    /// To run the scripts on a store of the configuration, each up to so many lines at a time, while so many boards are
+    /// taken, to report at the moment, in seconds, and to write the journal of the run where a file is named for it.
     Run {
         config: String,
         at: u64,
         journal: Option<String>,
+        boards: u64,
+        batch: u64,
         scripts: Vec<String>,
     },
     /// To play the journal on a store of the configuration, and to report at moment 0.
@@ -103,12 +111,20 @@ fn scripts(alloc: Global, matches: &ArgMatches<'_>) -> Result<Vec<String>, LineF
     }
 }
 
-fn moment(alloc: Global, matches: &ArgMatches<'_>) -> Result<u64, LineFault>
-    ensures ok { IfOk result (IsMomentIn (rows_of (found_of matches.now))) }
-    ensures err { IfErr result (FailsUnless ((at : ℕ) × IsMomentIn (rows_of (found_of matches.now)) at)) }
+/// The number at an option that is given, or has a default, within these bounds.
+fn number(
+    alloc: Global,
+    matches: &ArgMatches<'_>,
+    id: &str,
+    least: u64,
+    most: u64,
+) -> Result<u64, LineFault>
+    ensures ok { IfOk result (IsNumberAt id.now least most (rows_of (found_of matches.now))) }
+    ensures err { IfErr result (FailsUnless
+        ((n : ℕ) × IsNumberAt id.now least most (rows_of (found_of matches.now)) n)) }
 {
-    match matches.get_one::<u64>("at") {
-        Some(at) if at <= MAX_MOMENT => Ok(at),
+    match matches.get_one::<u64>(id) {
+        Some(number) if least <= number && number <= most => Ok(number),
         _ => Err(missing(alloc)),
     }
 }
@@ -119,13 +135,17 @@ fn run(alloc: Global, matches: &ArgMatches<'_>) -> Result<Job, LineFault>
         ((job : Job) × IsNamedBy (codes "run") (rows_of (found_of matches.now)) job)) }
 {
     let config = named(alloc, matches, "config")?;
-    let at = moment(alloc, matches)?;
+    let at = number(alloc, matches, "at", 0, MAX_MOMENT)?;
     let journal = optional(alloc, matches, "journal")?;
+    let boards = number(alloc, matches, "boards", 0, MAX_BOARDS)?;
+    let batch = number(alloc, matches, "batch", 1, MAX_BATCH)?;
     let scripts = scripts(alloc, matches)?;
     Ok(Job::Run {
         config,
         at,
         journal,
+        boards,
+        batch,
         scripts,
     })
 }
@@ -154,7 +174,9 @@ fn job_of(alloc: Global, matches: &ArgMatches<'_>) -> Result<Job, LineFault>
 
 impl Job {
     /// Reads the program's words, its own name the first of them, by one `clap` command: the job that its matches name,
-    /// with the moment that the word at `--at` spells, in seconds from 0 to 2^40, and 0 where there is none.
+    /// with the moment that the word at `--at` spells, in seconds from 0 to 2^40, and 0 where there is none, the boards
+    /// at `--boards`, from 0 to 1000, and 0 where there is none, and the lines at `--batch`, from 1 to 64, and 1 where
+    /// there is none.
     ///
     /// A request for help or for the version is a fault, too, whose text is for the output. Want of memory may come in place of any answer.
     pub fn read(alloc: Global, words: &[String]) -> Result<Job, LineFault>

@@ -12,6 +12,7 @@ use Rattle.qplain.specs.declared.transcript.Transcript.{Transcript}
 use Rattle.qrun.specs.declared.outcome.Outcome.{Outcome}
 use Rattle.qline.specs.Replies.{reply_text}
 use Rattle.qoutcome.specs.Audits.{audit_text}
+use Rattle.qoutcome.specs.Boards.{boards_text}
 
 -- the word of a call that is not journaled
 abbrev pub call_fault_text : CallFault → List ℕ
@@ -46,10 +47,13 @@ totals_text o = concat (codes "totals blocks " ∷ decimal (total_of o.store.sta
 abbrev pub moment_text : ℕ → List ℕ
 moment_text moment = concat (codes "quota at " ∷ decimal moment ∷ codes "\n" ∷ [])
 
--- the transcripts, the quota report as of a moment, and the totals
+-- what the workers were answered, and then what the looks at the boards were given
+abbrev pub told_text : Outcome → List ℕ
+told_text o = flat_map transcript_text o.transcripts ++ boards_text o.boards
+
+-- what was told while it ran, the quota report as of a moment, and the totals
 abbrev pub run_text : Outcome → ℕ → List ℕ
-run_text o moment = flat_map transcript_text o.transcripts
-    ++ moment_text moment ++ report_text o.records moment ++ totals_text o
+run_text o moment = told_text o ++ moment_text moment ++ report_text o.records moment ++ totals_text o
 
 -- the tallies: by how much the totals rose and fell over the whole journal, and how many calls it has
 abbrev pub tally_text : Tallies → List ℕ

@@ -1,4 +1,4 @@
-//! Outcomes of runs as text: transcripts, the quota report, the totals, the tallies and the audit.
+//! Outcomes of runs as text: transcripts, boards, the quota report, the totals, the tallies and the audit.
 #![tactic(auto)]
 
 pub use audit_text::write_audit;
@@ -6,5 +6,6 @@ pub use outcome_text::write_outcome;
 pub use qspell::WriteFault;
 
 mod audit_text;
+mod boards_text;
 mod outcome_text;
 mod transcript_text;

@@ -3,10 +3,11 @@ ghost use Rattle.std.specs.Prelude.{◌≡◌, codes, decimal, ◌∷◌, []};
 ghost use Rattle.std.specs.List.{concat};
 ghost use Rattle.qaudit.specs.Reports.{report_text};
 ghost use Rattle.qtext.specs.Written.{Writes};
-ghost use Rattle.qoutcome.specs.Outcomes.{moment_text, outcome_text, run_text, tally_text, totals_text};
+ghost use Rattle.qoutcome.specs.Outcomes.{moment_text, outcome_text, run_text, tally_text, told_text, totals_text};
 
 use crate::WriteFault;
 use crate::audit_text::write_audit;
+use crate::boards_text::put_boards;
 use crate::transcript_text::put_transcripts;
 use qaudit::report;
 use qplain::Tallies;
@@ -71,19 +72,29 @@ fn put_report<W: Write>(out: &mut W, rows: &[RecordRow], moment: u64) -> Result<
     }
 }
 
-/// Writes the transcripts, the report as of the moment, and the totals.
+/// Writes the transcripts, and then the boards.
+#[tactic(auto, using(qtext::proofs::Fronts::front_of_first, qtext::proofs::Fronts::writes_then))]
+fn put_told<W: Write>(out: &mut W, outcome: &Outcome) -> Result<(), RefusedWrite>
+    ensures { Writes (W.contents out.old) (W.contents out.new) result (told_text outcome.now) }
+{
+    put_transcripts(out, outcome.transcripts.as_slice())?;
+    put_boards(out, outcome.boards.as_slice())
+}
+
+/// Writes the transcripts, the boards, the report as of the moment, and the totals.
 #[tactic(auto, using(qtext::proofs::Fronts::front_of_first, qtext::proofs::Fronts::writes_then))]
 fn put_run<W: Write>(outcome: &Outcome, moment: u64, out: &mut W) -> Result<(), WriteFault>
     ensures { Writes (W.contents out.old) (W.contents out.new) result (run_text outcome.now moment) }
 {
-    put_transcripts(out, outcome.transcripts.as_slice())?;
+    put_told(out, outcome)?;
     put_moment(out, moment)?;
     put_report(out, outcome.records.as_slice(), moment)?;
     Ok(put_totals(out, outcome)?)
 }
 
-/// Writes what a run came to: each worker's transcript, the quota report as of the moment, the totals, the tallies of the
-/// journal, and what an audit of the store found. It takes no memory.
+/// Writes what a run came to: each worker's transcript, what the looks at the boards were given where there were any, the
+/// quota report as of the moment, the totals, the tallies of the journal, and what an audit of the store found. It takes
+/// no memory.
 ///
 /// Totals and bounds are in blocks of 4096 bytes and in inodes; the report is in KiB (profile, after repquota(8)).
 /// After an Err some beginning of the text went out.

@@ -1,7 +1,9 @@
 -- What a run of one worker comes to, put together of its parts.
 use Rattle.std.proofs.Common.{◌≡◌, ℕ, List, [], ◌∷◌, length, All, Result, Ok, Err, IfOk, sym, ap, refl, ◌∙◌, arith}
+use Rattle.qplain.specs.declared.board.Board.{Board}
 use Rattle.qplain.specs.declared.entry.Entry.{Entry}
 use Rattle.qplain.specs.declared.line.Line.{Line}
+use Rattle.qplain.specs.declared.look_fault.LookFault.{LookFault}
 use Rattle.qplain.specs.Setups.{Setting}
 use Rattle.qplain.specs.Journal.{entries_of}
 use Rattle.qplain.specs.declared.call_fault.CallFault.{CallFault}
@@ -15,6 +17,7 @@ use Rattle.qrun.specs.Replays.{IsReplayOf, transcripts_in}
 use Rattle.qplain.specs.Transcripts.{Belongs, journaled_lines}
 use Rattle.qrun.specs.Runs.{AreTranscriptsOf, FullIsToldFirst, IsFullOf, IsOutcomeOf}
 use Rattle.qplain.specs.State.{start}
+use Rattle.qcheck.specs.LawfulBoards.{AreLawful, boards_in}
 use Rattle.qrun.proofs.Stats.{legal-fair}
 
 -- the journal of a store that was played on by so many workers is one
@@ -30,9 +33,10 @@ journal_left j workers played lawful each = record {
 
 -- what is left of a store that was played on
 pub alone : (setting : Setting) (scripts : List (List Line)) (j : Journaled) (workers : ℕ) (transcripts : List Transcript)
-    (o : Outcome) → IsLeftOf j workers transcripts o → workers ≡ length scripts → j.setting ≡ setting → AreTranscriptsOf 1 scripts j.journal transcripts
-    → All (Belongs transcripts) j.journal → IsOutcomeOf setting scripts o
-alone setting scripts j workers transcripts o left each same told belong = record {
+    (boards : List (Result Board LookFault)) (o : Outcome) → IsLeftOf j workers transcripts boards o → workers ≡ length scripts
+    → j.setting ≡ setting → AreTranscriptsOf 1 scripts j.journal transcripts → All (Belongs transcripts) j.journal
+    → AreLawful (start setting) j.journal (boards_in boards) → IsOutcomeOf setting scripts o
+alone setting scripts j workers transcripts boards o left each same told belong lawful = record {
   setup = rw (left.setup, same) refl;
   legal = rw (left.journal, sym same) left.played.legal;
   workers = ap (λ journal. journal.workers) left.journal ∙ each;
@@ -41,6 +45,7 @@ alone setting scripts j workers transcripts o left each same told belong = recor
   store = rw (left.store, left.journal, sym same) left.played.state;
   transcripts = rw (left.transcripts_are, left.journal) told;
   belong = rw (left.transcripts_are, left.journal) belong;
+  boards = rw (left.boards_are, left.journal) lawful;
   records = rw left.store left.records;
   differences = rw left.store left.differences;
   agree = left.agree;
@@ -48,15 +53,17 @@ alone setting scripts j workers transcripts o left each same told belong = recor
 
 -- the same, if anything is left
 pub left_alone : {E : Type 0} (setting : Setting) (scripts : List (List Line)) (j : Journaled) (workers : ℕ)
-    (transcripts : List Transcript) (r : Result Outcome E) → IfOk r (IsLeftOf j workers transcripts) → workers ≡ length scripts → j.setting ≡ setting
+    (transcripts : List Transcript) (boards : List (Result Board LookFault)) (r : Result Outcome E)
+    → IfOk r (IsLeftOf j workers transcripts boards) → workers ≡ length scripts → j.setting ≡ setting
     → AreTranscriptsOf 1 scripts j.journal transcripts → All (Belongs transcripts) j.journal
-    → IfOk r (IsOutcomeOf setting scripts)
-left_alone setting scripts j workers transcripts (Ok o) left each same told belong =
-    alone setting scripts j workers transcripts o left each same told belong
-left_alone setting scripts j workers transcripts (Err fault) left each same told belong = tt
+    → AreLawful (start setting) j.journal (boards_in boards) → IfOk r (IsOutcomeOf setting scripts)
+left_alone setting scripts j workers transcripts boards (Ok o) left each same told belong lawful =
+    alone setting scripts j workers transcripts boards o left each same told belong lawful
+left_alone setting scripts j workers transcripts boards (Err fault) left each same told belong lawful = tt
 
 -- what is left of a store on which a journal was played again
-pub again : (setting : Setting) (written : Written) (j : Journaled) (o : Outcome) → IsLeftOf j written.workers (transcripts_in written) o
+pub again : (setting : Setting) (written : Written) (j : Journaled) (o : Outcome)
+    → IsLeftOf j written.workers (transcripts_in written) [] o
     → j.setting ≡ setting → j.journal ≡ written.entries → IsReplayOf setting written o
 again setting written j o left same journal = record {
   setup = rw (left.setup, same) refl;
@@ -65,6 +72,7 @@ again setting written j o left same journal = record {
   tallies = left.tallies;
   store = rw (left.store, sym same, sym journal) left.played.state;
   transcripts = left.transcripts_are;
+  boards = left.boards_are;
   records = rw left.store left.records;
   differences = rw left.store left.differences;
   agree = left.agree;

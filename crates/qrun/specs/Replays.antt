@@ -52,8 +52,8 @@ pub record IsMismatch (S : State) (journal : List Entry) (place : ℕ) : Type 0 
   pub here : IsMismatchAfter S before entry place
 
 -- what playing this journal again leaves, from this setup on: the journal is legal and stays as it is, the tallies are
--- its own, each worker has its own entries for a transcript, and the differences are those of the store's own rows, of
--- which there are none
+-- its own, each worker has its own entries for a transcript, no look was taken at the boards, and the differences are
+-- those of the store's own rows, of which there are none
 pub record IsReplayOf (setting : Setting) (written : Written) (o : Outcome) : Type 0 where
   pub setup : o.setup ≡ setting
   pub legal : IsLegal (start setting) written.entries
@@ -61,6 +61,7 @@ pub record IsReplayOf (setting : Setting) (written : Written) (o : Outcome) : Ty
   pub tallies : o.tallies ≡ tally_of o.journal.entries
   pub store : o.store.state ≡ play (start setting) written.entries
   pub transcripts : o.transcripts ≡ transcripts_in written
+  pub boards : o.boards ≡ []
   pub records : o.records ≡ map (record_row_of o.store.state) o.store.state.holders
   pub differences : o.differences ≡ differences_in o.store.state
   pub agree : o.differences ≡ []
@@ -78,7 +79,7 @@ granted_lines (line ∷ lines) [] = []
 abbrev pub without_failed : Transcript → Transcript
 without_failed t = record t { lines = granted_lines t.lines t.answers; answers = filter is_ok t.answers }
 
--- what was played again is as it was, but for the lines that are in no journal
+-- what was played again is as it was, but for the lines that are in no journal, and the boards, which are not given back
 pub record IsAsBefore (old new : Outcome) : Type 0 where
   pub tallies : new.tallies ≡ old.tallies
   pub store : new.store.state ≡ old.store.state

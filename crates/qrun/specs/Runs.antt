@@ -6,6 +6,7 @@ use Rattle.qplain.specs.Setups.{Setting}
 use Rattle.qplain.specs.State.{start}
 use Rattle.qplain.specs.Journal.{IsLegal, entries_of, play, tally_of}
 use Rattle.qplain.specs.Transcripts.{Belongs, journaled_lines}
+use Rattle.qcheck.specs.LawfulBoards.{AreLawful, boards_in}
 use Rattle.qstore.specs.Rows.{record_row_of}
 use Rattle.qrows.specs.Own.{differences_in}
 use Rattle.qplain.specs.declared.call_fault.CallFault.{CallFault}
@@ -50,8 +51,8 @@ AreTranscriptsOf worker [] journal (t ∷ ts) = ⊥
 AreTranscriptsOf worker (lines ∷ scripts) journal [] = ⊥
 
 -- what a run of these scripts leaves, from this setup on; the journal has a worker for each and is no longer than it
--- may be, the tallies are its own, no entry belongs to anyone else, and the differences are those of the store's own
--- rows, of which there are none
+-- may be, the tallies are its own, no entry belongs to anyone else, the boards that were shown are its own and never
+-- fall, and the differences are those of the store's own rows, of which there are none
 pub record IsOutcomeOf (setting : Setting) (scripts : List (List Line)) (o : Outcome) : Type 0 where
   pub setup : o.setup ≡ setting
   pub legal : IsLegal (start setting) o.journal.entries
@@ -61,6 +62,7 @@ pub record IsOutcomeOf (setting : Setting) (scripts : List (List Line)) (o : Out
   pub store : o.store.state ≡ play (start setting) o.journal.entries
   pub transcripts : AreTranscriptsOf 1 scripts o.journal.entries o.transcripts
   pub belong : All (Belongs o.transcripts) o.journal.entries
+  pub boards : AreLawful (start setting) o.journal.entries (boards_in o.boards)
   pub records : o.records ≡ map (record_row_of o.store.state) o.store.state.holders
   pub differences : o.differences ≡ differences_in o.store.state
   pub agree : o.differences ≡ []

@@ -5,12 +5,13 @@ ghost use Rattle.qrun.specs.Left.{IsLeftOf, IsOneOf};
 use crate::journaled_store::JournaledStore;
 use qaudit::Difference;
 use qjournal::Journal;
-use qplain::{NoMemory, Setup, Tallies, Transcript};
+use qplain::{Board, LookFault, NoMemory, Setup, Tallies, Transcript};
 use qrules::{Items, RecordRow};
 use qstore::Store;
 
 /// What a run leaves: the setup that it began with, the store, its journal and the tallies of it, what each worker was
-/// answered, the store's quota records, and what an audit of the store found.
+/// answered, what its looks at the boards were given, in order, the store's quota records, and what an audit of the
+/// store found.
 #[derive(Drop)]
 pub struct Outcome {
     pub setup: Setup,
@@ -18,19 +19,21 @@ pub struct Outcome {
     pub journal: Journal,
     pub tallies: Tallies,
     pub transcripts: Items<Transcript>,
+    pub boards: Items<Result<Board, LookFault>>,
     pub records: Items<RecordRow>,
     pub differences: Items<Difference>,
 }
 
-/// What is left of a store that was played on by so many workers, with these transcripts.
+/// What is left of a store that was played on by so many workers, with these transcripts and these looks at its boards.
 pub fn outcome_of(
     store: JournaledStore,
     workers: u64,
     transcripts: Items<Transcript>,
+    boards: Items<Result<Board, LookFault>>,
 ) -> Result<Outcome, NoMemory>
     requires workers { IsWorkers workers }
     requires each { All (IsOneOf workers) store.journal }
-    ensures { IfOk result (IsLeftOf store workers transcripts) }
+    ensures { IfOk result (IsLeftOf store workers transcripts boards) }
 {
     let records = store.record_rows()?;
     let differences = store.audit(&records)?;
@@ -41,6 +44,7 @@ pub fn outcome_of(
         journal: Journal::new(workers, Items::new(journal)),
         tallies,
         transcripts,
+        boards,
         records: Items::new(records),
         differences: Items::new(differences),
     })

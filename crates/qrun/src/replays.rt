@@ -66,7 +66,8 @@ fn play_again(
     let mut store = JournaledStore::new(alloc, setup, seed)?;
     store.replay(journal.entries())?;
     let transcripts = transcripts_of(alloc, journal)?;
-    Ok(outcome_of(store, journal.workers(), transcripts)?)
+    let no_boards = Items::new(Vec::new(alloc));
+    Ok(outcome_of(store, journal.workers(), transcripts, no_boards)?)
 }
 
 /// Plays a journal again on a new store of the setup, one entry after the other, whoever's they are.

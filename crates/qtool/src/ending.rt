@@ -18,6 +18,8 @@ pub(crate) enum Ending {
     Config(ConfigFault),
     /// There are more scripts than workers.
     TooManyScripts,
+    /// There are as many scripts as workers, and boards are to be taken beside them.
+    TooManyWithBoards,
     /// What is wrong with the script of that number.
     Script(u64, TextFault),
     /// What is wrong with the journal.
@@ -83,6 +85,7 @@ impl Ending {
             Ending::File(name) => put_named(err, b"cannot read ", name.as_bytes()),
             Ending::Config(fault) => put_config(err, fault),
             Ending::TooManyScripts => put_fault(err, b"at most 16 scripts"),
+            Ending::TooManyWithBoards => put_fault(err, b"at most 15 scripts with boards"),
             Ending::Script(number, fault) => put_script(err, *number, fault),
             Ending::Journal(fault) => put_journal_fault(err, fault),
             Ending::Mismatch(place) => put_mismatch(err, *place),

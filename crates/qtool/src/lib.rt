@@ -12,7 +12,7 @@ pub use qplain::{CallFault, Receipt, Transcript};
 pub use qrun::{Outcome, ReplayFault};
 pub use qscript::{MAX_LINES, Script};
 pub use qtext::{TextFault, TextKind};
-pub use qworkers::RunFault;
+pub use qworkers::{Options, RunFault};
 pub use runs::{replay, run};
 
 mod ending;

@@ -1,14 +1,14 @@
 //! The whole program over files, output and fault lines.
-ghost use Rattle.std.specs.Prelude.{◌≡◌, ◌≤◌, ◌⊎◌, length, IfErr, IfOk};
+ghost use Rattle.std.specs.Prelude.{◌≡◌, ◌<◌, ◌≤◌, ◌⊎◌, ◌↔◌, length, Err, IfErr, IfOk, OnOk};
 ghost use Rattle.qjournal.specs.declared.journal.TheConstants.{MAX_WORKERS};
 ghost use Rattle.qtool.specs.Endings.{IsStatus, IsUntouchedAt};
-ghost use Rattle.qtool.specs.Jobs.{HasScript};
-ghost use Rattle.qtool.specs.declared.ending.Ending.TheVariants.{Output};
+ghost use Rattle.qtool.specs.Jobs.{HasBatch, HasScript, HasSeats};
+ghost use Rattle.qtool.specs.declared.ending.Ending.TheVariants.{Output, TooManyScripts, TooManyWithBoards};
 
 use crate::ending::Ending;
 use crate::{
-    Config, ConfigFault, FileFault, Files, Job, Journal, LineFault, Outcome, Refuser, ReplayFault,
-    RunFault, Script, TextFault, TextKind, replay, run, write_run,
+    Config, ConfigFault, FileFault, Files, Job, Journal, LineFault, Options, Outcome, Refuser,
+    ReplayFault, RunFault, Script, TextFault, TextKind, replay, run, write_run,
 };
 use qjournal::MAX_WORKERS;
 use qplain::Line;
@@ -121,6 +121,21 @@ fn read_scripts<F: Files>(
     Ok(scripts)
 }
 
+/// Tests that there is a seat for each script, and one more where boards are taken.
+fn test_seats(scripts: u64, boards: u64) -> Result<(), Ending>
+    ensures seats { OnOk result (HasSeats scripts boards) }
+    ensures too_many { result ≡ Err TooManyScripts ↔ MAX_WORKERS < scripts }
+    ensures with_boards { result ≡ Err TooManyWithBoards ↔ (scripts ≡ MAX_WORKERS) × (0 < boards) }
+{
+    if scripts > MAX_WORKERS {
+        return Err(Ending::TooManyScripts);
+    }
+    if scripts == MAX_WORKERS && boards > 0 {
+        return Err(Ending::TooManyWithBoards);
+    }
+    Ok(())
+}
+
 /// Reads the configuration and the scripts, in the order in which faults are told, and runs them.
 fn run_of<F: Files, R: Threads + Wait + Sync>(
     rt: &R,
@@ -128,16 +143,16 @@ fn run_of<F: Files, R: Threads + Wait + Sync>(
     seed: u64,
     config: &str,
     names: &[String],
+    options: Options,
     files: &mut F,
 ) -> Result<Outcome, Ending>
     requires some { 1 ≤ length names.now }
+    requires batch { (1 ≤ options.batch) × (options.batch ≤ 64) }
 {
     let config = configuration(alloc, files, config)?;
-    if names.len() as u64 > MAX_WORKERS {
-        return Err(Ending::TooManyScripts);
-    }
+    test_seats(names.len() as u64, options.boards)?;
     let scripts = read_scripts(alloc, files, names)?;
-    run(rt, alloc, config, scripts, seed).map_err(ending_of_run)
+    run(rt, alloc, config, scripts, options, seed).map_err(ending_of_run)
 }
 
 /// Reads the configuration and the journal, and plays it. The journal's memory is left to the system, too.
@@ -183,6 +198,7 @@ fn do_job<F: Files, O: Write, R: Threads + Wait + Sync>(
     out: &mut O,
 ) -> Result<(), Ending>
     requires some { HasScript job.now }
+    requires batch { HasBatch job.now }
     ensures { IfErr result (λ ending. (ending ≡ Output) ⊎ (O.contents out.new ≡ O.contents out.old)) }
 {
     match job {
@@ -190,9 +206,16 @@ fn do_job<F: Files, O: Write, R: Threads + Wait + Sync>(
             config,
             at,
             journal,
+            boards,
+            batch,
             scripts,
         } => {
-            let outcome = run_of(rt, alloc, seed, config.as_str(), scripts.as_slice(), files)?;
+            let options = Options {
+                boards: *boards,
+                batch: *batch,
+            };
+            let names = scripts.as_slice();
+            let outcome = run_of(rt, alloc, seed, config.as_str(), names, options, files)?;
             let journal = journal.as_ref().map(String::as_str);
             finish(outcome, *at, journal, files, out)
         }

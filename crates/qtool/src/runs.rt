@@ -1,16 +1,17 @@
 //! Runs of the scripts of a command line, and replays of a journal.
 ghost use Rattle.std.specs.Prelude.{◌≡◌, ◌<◌, ◌≤◌, ℕ, List, Err, IfOk, length};
-ghost use Rattle.qjournal.specs.declared.journal.TheConstants.{MAX_WORKERS};
 ghost use Rattle.qplain.specs.declared.line.Line.{Line};
 ghost use Rattle.qplain.specs.State.{start};
 ghost use Rattle.qrun.specs.declared.outcome.Outcome.{Outcome};
 ghost use Rattle.qrun.specs.declared.replay_fault.ReplayFault.TheVariants.{Mismatch};
 ghost use Rattle.qrun.specs.Replays.{GivesBack, IsMismatch, IsReplayOf};
 ghost use Rattle.qrun.specs.Runs.{IsOutcomeOf};
+ghost use Rattle.qtool.specs.Jobs.{HasSeats};
 
-use crate::{Config, Journal, Outcome, ReplayFault, RunFault};
+use crate::{Config, Journal, Options, Outcome, ReplayFault, RunFault};
 use qplain::Line;
 use qrules::Items;
+use qworkers::{NoGate, run_with};
 use std::alloc::Global;
 use std::sync::Wait;
 use std::thread::Threads;
@@ -18,7 +19,9 @@ use std::thread::Threads;
 /// Runs the lines of scripts on a new store of the configuration: worker k makes the calls of script k one after the
 /// other, in a thread of its own, and goes on after any answer. Which of the legal journals comes is open.
 ///
-/// The caller owes 1 to 16 scripts. The hashes of names begin at `seed`, which may be any number; nothing of the outcome
+/// `options` says how many boards one more thread takes meanwhile, and how many lines a worker makes under one lock.
+///
+/// The caller owes 1 to 16 scripts, and with boards at most 15. The hashes of names begin at `seed`, which may be any number; nothing of the outcome
 /// depends on it. O(lines), and what each call takes. After an Err all workers that were started have been joined, and
 /// the store is given up.
 pub fn run<R: Threads + Wait + Sync>(
@@ -26,12 +29,15 @@ pub fn run<R: Threads + Wait + Sync>(
     alloc: Global,
     config: Config,
     scripts: Vec<Items<Line>>,
+    options: Options,
     seed: u64,
 ) -> Result<Outcome, RunFault>
-    requires few { (0 < length scripts.items) × (length scripts.items ≤ MAX_WORKERS) }
+    requires some { 0 < length scripts.items }
+    requires seats { HasSeats (length scripts.items) options.boards }
+    requires batch { (1 ≤ options.batch) × (options.batch ≤ 64) }
     ensures outcome { IfOk result (IsOutcomeOf config.setup scripts.items) }
 {
-    qworkers::run(rt, alloc, config.setup, scripts, seed)
+    run_with(rt, alloc, config.setup, scripts, options, seed, &NoGate)
 }
 
 /// Plays a journal again on a new store of the configuration, one entry after the other.

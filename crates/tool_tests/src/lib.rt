@@ -4,6 +4,8 @@
 #[cfg(test)]
 mod audits;
 #[cfg(test)]
+mod boards;
+#[cfg(test)]
 mod memory_files;
 #[cfg(test)]
 mod outputs;

@@ -8,7 +8,7 @@ use std::sync::Wait;
 use std::thread::Threads;
 
 /// 10 blocks and 6 inodes for user 0 alone.
-const CONFIG: &[u8] = br#"
+pub(crate) const CONFIG: &[u8] = br#"
 size = "40k"
 nr_inodes = 6
 block_grace = 100

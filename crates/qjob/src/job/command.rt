@@ -46,6 +46,32 @@ fn journal<'a>(alloc: Global) -> Arg<'a>
         .action(ArgAction::Set)
 }
 
+fn boards<'a>(alloc: Global) -> Arg<'a>
+    ensures rule { rule_of result ≡ line.boards }
+    ensures local { result.global ≡ false }
+{
+    Arg::new(alloc, "boards")
+        .long("boards")
+        .value_name("N")
+        .help("The boards that one more thread takes while the scripts run, at most 1000")
+        .value_parser(value_parser!(u64).range(0..=1000))
+        .default_value("0")
+        .action(ArgAction::Set)
+}
+
+fn batch<'a>(alloc: Global) -> Arg<'a>
+    ensures rule { rule_of result ≡ line.batch }
+    ensures local { result.global ≡ false }
+{
+    Arg::new(alloc, "batch")
+        .long("batch")
+        .value_name("N")
+        .help("The lines for which a worker takes the lock at a time, from 1 to 64")
+        .value_parser(value_parser!(u64).range(1..=64))
+        .default_value("1")
+        .action(ArgAction::Set)
+}
+
 fn scripts<'a>(alloc: Global) -> Arg<'a>
     ensures rule { rule_of result ≡ line.scripts }
     ensures local { result.global ≡ false }
@@ -97,6 +123,16 @@ fn named<'a>(alloc: Global, name: &'a str, about: &'a str) -> Command<'a>
         .after_help(AFTER_HELP)
 }
 
+/// The command with the options of how its store is shared.
+fn with_sharing<'a>(alloc: Global, command: Command<'a>) -> Result<Command<'a>, AllocError>
+    ensures app { IfOk result (λ c. app_of c ≡ line.with_sharing (app_of command.entry)) }
+    ensures local { (out-Command command.entry).has_globals ≡ false
+        → IfOk result (λ c. (out-Command c).has_globals ≡ false) }
+{
+    let command = with_arg(command, boards(alloc))?;
+    with_arg(command, batch(alloc))
+}
+
 fn run<'a>(alloc: Global) -> Result<Command<'a>, AllocError>
     ensures app { IfOk result (λ c. app_of c ≡ line.run) }
     ensures local { IfOk result (λ c. (out-Command c).has_globals ≡ false) }
@@ -109,6 +145,7 @@ fn run<'a>(alloc: Global) -> Result<Command<'a>, AllocError>
     let command = with_arg(command, config(alloc))?;
     let command = with_arg(command, at(alloc))?;
     let command = with_arg(command, journal(alloc))?;
+    let command = with_sharing(alloc, command)?;
     with_arg(command, scripts(alloc))
 }
 
