@@ -3,7 +3,7 @@
 use crate::given::{FIRST_FILES, OTHER_FILES, lines, setup};
 use qplain::{CallFault, Receipt, Refusal, Reply};
 use qrun::Outcome;
-use qworkers::{Gate, run_with};
+use qworkers::{Gate, Options, run_with};
 use std::alloc::Global;
 use std::hint::spin_loop;
 use std::sync::Wait;
@@ -97,7 +97,11 @@ fn run_in_turns<R: Threads + Wait + Sync>(
         in_vain: AtomicU64::new(0),
     };
     let scripts = vec![in alloc; lines(alloc, FIRST_FILES)?, lines(alloc, OTHER_FILES)?]?;
-    let Ok(outcome) = run_with(rt, alloc, setup(alloc)?, scripts, 0, &gate) else {
+    let options = Options {
+        boards: 0,
+        batch: 1,
+    };
+    let Ok(outcome) = run_with(rt, alloc, setup(alloc)?, scripts, options, 0, &gate) else {
         return Err(Fail::from("an outcome"));
     };
     if gate.in_vain.load(SeqCst) != 0 {
