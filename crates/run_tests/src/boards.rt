@@ -1,5 +1,4 @@
 //! Boards held against a journal: some that were written by hand, and those of a run.
-ghost use Rattle.std.specs.Prelude.{◌≡◌, ◌<◌, ◌≤◌, length};
 
 use crate::given::{lines, setup};
 use qcheck::{BoardFault, check_boards, check_looks};
