@@ -2,8 +2,9 @@
 
 The boards are held against the journal here, too: each has the totals that the replies of as many entries make."""
 import re
+import subprocess
 
-from rows import CHECKING, EMPTY, EXAMPLE, Case, played
+from rows import CHECKING, EMPTY, EXAMPLE, ROOT, Case, played
 from workers import SIX_FILES, SIX_REPLIES, Workers, comes_again, replies_of, run
 
 LOOKS = re.compile(rb"^boards (\d+)\n((?:board .*\n)*)(?=quota at )", re.M)
@@ -145,11 +146,26 @@ def in_batches(work, batch):
     return comes_again(answer, again) and journal.count(b"\n") == 1 + 3 * 200 and alone == run(work, one)
 
 
+def example():
+    """Whether examples/boards shows what it says of every run: a file has two blocks or none."""
+    done = subprocess.run([ROOT / "examples/boards"], capture_output=True, timeout=60)
+    *lines, totals = done.stdout.splitlines() or [b""]
+    told = [re.fullmatch(rb" *(\d+) board (\d+) blocks (\d+) inodes (\d+)", line) for line in lines]
+    if (done.returncode, done.stderr, totals) != (0, b"", b"totals blocks 0 of 1024 inodes 1 of 64") or not all(told):
+        return False
+    boards = [tuple(map(int, line.groups())) for line in told]
+    versions = [version for _, version, _, _ in boards]
+    fit = all(blocks % 2 == 0 and blocks <= 2 * (inodes - 1) <= 30 for _, _, blocks, inodes in boards)
+    rise = versions == sorted(set(versions)) and versions[-1] <= 15 * 600
+    return fit and rise and sum(times for times, *_ in boards) == 1_000
+
+
 def checks(work):
     """Each check's name, and whether what it says holds."""
     yield "two workers, six files, batches of 64, 50 runs", all(holds_files(work) for _ in range(50)), True
     runs = [crowd(work, *options) for options in [(), (), ("--batch", "64"), ("--batch", "7")]]
     yield "15 workers and 1000 boards", all(right for right, _ in runs), True
     yield "15 workers and 1000 boards: other versions", any(len(versions) > 1 for _, versions in runs), True
+    yield "examples/boards", example(), True
     for batch in [1, 2, 63, 64]:
         yield f"batches of {batch}", in_batches(work, batch), True
