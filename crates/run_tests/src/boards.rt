@@ -15,7 +15,7 @@ use std::thread::Threads;
 const CALLS: &[u8] = b"0 1001:0 create /a\n0 1001:0 write /a 0 78\n0 1001:0 stat /a\n";
 
 /// A file that comes and goes.
-const BUSY: &[u8] =
+const COMES_AND_GOES: &[u8] =
     b"0 1001:0 create /a\n0 1001:0 write /a 0 78\n0 1001:0 stat /a\n0 1001:0 unlink /a\n";
 
 /// The journal of these calls. Its replies, at which no check looks, are not a store's.
@@ -90,7 +90,8 @@ fn a_look_without_a_board_is_passed_over(rt: HostRuntime) -> Result<(), Fail> {
     let setup = setup(alloc)?;
     let journal = journal(alloc)?;
     let shown: Result<Board, LookFault> = Ok(board(alloc, 3, 1, 1)?);
-    let looks = vec![in alloc; Err(LookFault::NoBoard), shown]?;
+    let failed: Result<Board, LookFault> = Err(LookFault::NoBoard);
+    let looks = vec![in alloc; failed, shown]?;
     let found = check_looks(alloc, &setup, &journal, &looks, 0);
     assert_eq!(rt; found, Ok(()));
     Ok(())
@@ -98,7 +99,7 @@ fn a_look_without_a_board_is_passed_over(rt: HostRuntime) -> Result<(), Fail> {
 
 /// A script in which a file comes and goes so often.
 fn busy(alloc: Global, times: usize) -> Result<Items<Line>, Fail> {
-    let given = lines(alloc, BUSY)?;
+    let given = lines(alloc, COMES_AND_GOES)?;
     let mut script: Vec<Line> = Vec::new(alloc);
     for _ in 0..times {
         for line in given.as_slice() {

@@ -26,7 +26,9 @@ enum Story {
 }
 
 const CREATE: &[u8] = b"0 1001:0 create /a\n";
+
 const WRITE: &[u8] = b"0 1001:0 write /a 0 78\n";
+
 const STAT: &[u8] = b"0 1001:0 stat /a\n";
 
 /// The version, the blocks and the inodes of the board that a seat is shown.
