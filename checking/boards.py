@@ -12,7 +12,6 @@ SHOWN = re.compile(rb"board (\d+) blocks (\d+) inodes (\d+)\n")
 DONE = re.compile(rb"done \d+ blocks \+(\d+) -(\d+) inodes \+(\d+) -(\d+)")
 FIRST, FAILED_LOOK = b"board 0 blocks 0 inodes 1\n", b"board - failed OutOfMemory\n"
 NO_TEXT = (CHECKING / "a/empty.0.out").read_bytes()
-TOO_MANY = b"quotafs: at most %d scripts%s\n"
 
 
 def parted(outcome):
@@ -85,15 +84,12 @@ class Shown(Workers):
 
 
 def fixed(_):
-    """What no schedule changes: boards of a store without a call, one script in batches, and too many scripts."""
+    """What no schedule changes: boards of a store without a call, and one script in batches. Numbers that are refused
+    stand in command_lines.rows."""
     head = ["run", "--config", EXAMPLE]
     told = NO_TEXT.replace(b"quota at ", b"boards 2\n" + FIRST * 2 + b"quota at ", 1)
     yield NoCalls("two boards of an empty script", [*head, "--boards", "2", EMPTY], 0, told, refuses=True)
     yield Case("no boards", [*head, "--boards", "0", EMPTY], 0, NO_TEXT)
-    for boards, count, fault in [("1", 16, (15, b" with boards")), ("1", 17, (16, b"")), ("0", 17, (16, b""))]:
-        words = [*head, "--boards", boards, *["none.txt"] * count]
-        name = f"{count} scripts, --boards {boards}"
-        yield Case(name, words, 2, err=TOO_MANY % fault, refuses=True)
     many = NO_TEXT.replace(b"worker 1\n", b"".join(b"worker %d\n" % worker for worker in range(1, 17)), 1)
     yield Case("16 scripts, --boards 0", [*head, "--boards", "0", *[EMPTY] * 16], 0, many)
     for out, config, script, _ in played():
