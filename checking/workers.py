@@ -13,15 +13,25 @@ FULL = b"- failed JournalFull\n"
 TWO = HEAD.replace(b"workers 1", b"workers 2")
 
 
-def run(work, scripts):
+# Two workers' scripts that create three files each, where five have room.
+SIX_FILES = [b"".join(b"0 1001:0,100 create /%c\n" % name for name in names) for names in [b"abc", b"def"]]
+SIX_REPLIES = [*(DONE % ino for ino in range(2, 7)), NO_SPACE]
+
+
+def run(work, scripts, *options):
     """The answer of a run of these scripts, its journal, and what a replay of that answers."""
     names = []
     for number, script in enumerate(scripts, 1):
         names.append(work / f"worker.{number}")
         names[-1].write_bytes(script)
     journal = work / "workers.journal"
-    answer = call(["run", "--config", EXAMPLE, "--journal", journal, *names])
+    answer = call(["run", "--config", EXAMPLE, "--journal", journal, *options, *names])
     return answer, journal.read_bytes(), call(["replay", "--config", EXAMPLE, journal])
+
+
+def replies_of(journal):
+    """The replies of a journal in its order."""
+    return [line.partition(b" => ")[2] for line in journal.splitlines()[1:]]
 
 
 def comes_again(answer, again):
@@ -32,12 +42,12 @@ def comes_again(answer, again):
 class Workers(Case):
     """Two workers whose journal goes to the output, behind the outcome: which of several comes is open."""
 
-    def __init__(self, name, work, scripts):
+    def __init__(self, name, work, scripts, *options):
         self.work, self.counts = work, [script.count(b"\n") for script in scripts]
         names = [work / f"{name.replace(' ', '_')}.{number}" for number in (1, 2)]
         for path, script in zip(names, scripts):
             path.write_bytes(script)
-        words = ["run", "--config", EXAMPLE, "--journal", "/dev/stdout", *names]
+        words = ["run", "--config", EXAMPLE, "--journal", "/dev/stdout", *options, *names]
         super().__init__(name, words, 0, refuses=True)
 
     def is_whole(self, outcome):
@@ -98,10 +108,8 @@ def beside_empty(_):
 
 def places_files(work):
     """Two workers that create three files each, where five have room: whether the journal has them in its order."""
-    scripts = [b"".join(b"0 1001:0,100 create /%c\n" % name for name in names) for names in [b"abc", b"def"]]
-    answer, journal, again = run(work, scripts)
-    replies = [line.partition(b" => ")[2] for line in journal.splitlines()[1:]]
-    return comes_again(answer, again) and replies == [*(DONE % ino for ino in range(2, 7)), NO_SPACE]
+    answer, journal, again = run(work, SIX_FILES)
+    return comes_again(answer, again) and replies_of(journal) == SIX_REPLIES
 
 
 def checks(work):

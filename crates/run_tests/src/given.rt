@@ -31,6 +31,15 @@ pub(crate) fn lines(alloc: Global, text: &[u8]) -> Result<Items<Line>, Fail> {
     }
 }
 
+/// The line of a script of one line.
+pub(crate) fn line(alloc: Global, text: &[u8]) -> Result<Line, Fail> {
+    let mut lines = lines(alloc, text)?.into_vec();
+    match lines.pop() {
+        Some(line) => Ok(line),
+        None => Err(Fail::from("a line")),
+    }
+}
+
 /// The script that makes the first three files.
 pub(crate) const FIRST_FILES: &[u8] =
     b"0 1001:0 create /a\n0 1001:0 create /b\n0 1001:0 create /c\n";

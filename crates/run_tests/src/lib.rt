@@ -3,9 +3,13 @@
 #![tactic(auto)]
 
 #[cfg(test)]
+mod boards;
+#[cfg(test)]
 mod gathers;
 #[cfg(test)]
 mod given;
+#[cfg(test)]
+mod looks;
 #[cfg(test)]
 mod seats;
 #[cfg(test)]

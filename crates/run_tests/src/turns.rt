@@ -1,9 +1,9 @@
-//! Workers who are let through in turns: they are under way side by side, and take the lock line by line.
+//! Workers who are let through in turns: they are under way side by side, and take the lock line by line or in batches.
 
 use crate::given::{FIRST_FILES, OTHER_FILES, lines, setup};
 use qplain::{CallFault, Receipt, Refusal, Reply};
 use qrun::Outcome;
-use qworkers::{Gate, run_with};
+use qworkers::{Gate, Options, run_with};
 use std::alloc::Global;
 use std::hint::spin_loop;
 use std::sync::Wait;
@@ -12,13 +12,13 @@ use std::sync::atomic::Ordering::SeqCst;
 use std::test::Fail;
 use std::thread::Threads;
 
-/// A gate for two workers that lets one line go at a time, in turn. Whoever has looked too often in vain is let through,
-/// and that is noted.
+/// A gate for two workers that lets one line, or one batch, go at a time, in turn. Whoever has looked too often in vain
+/// is let through, and that is noted.
 #[derive(Drop)]
 struct Turns {
-    /// The worker whose line goes first.
+    /// The worker who goes first.
     first: u64,
-    /// How many lines have gone.
+    /// How many lines, or batches, have gone.
     gone: AtomicU64,
     /// How many were let through in vain.
     in_vain: AtomicU64,
@@ -85,11 +85,13 @@ fn tells(outcome: &Outcome, worker: usize, expected: &[(u64, Option<u64>)]) -> b
     true
 }
 
-/// A run of two workers who make three files each, where one line goes at a time and this worker's goes first.
+/// A run of two workers who make three files each, where this worker goes first: one line goes at a time, or all lines
+/// of a worker under one lock.
 fn run_in_turns<R: Threads + Wait + Sync>(
     rt: &R,
     alloc: Global,
     first: u64,
+    together: bool,
 ) -> Result<Outcome, Fail> {
     let gate = Turns {
         first,
@@ -97,7 +99,11 @@ fn run_in_turns<R: Threads + Wait + Sync>(
         in_vain: AtomicU64::new(0),
     };
     let scripts = vec![in alloc; lines(alloc, FIRST_FILES)?, lines(alloc, OTHER_FILES)?]?;
-    let Ok(outcome) = run_with(rt, alloc, setup(alloc)?, scripts, 0, &gate) else {
+    let options = Options {
+        boards: 0,
+        batch: if together { 64 } else { 1 },
+    };
+    let Ok(outcome) = run_with(rt, alloc, setup(alloc)?, scripts, options, 0, &gate) else {
         return Err(Fail::from("an outcome"));
     };
     if gate.in_vain.load(SeqCst) != 0 {
@@ -110,9 +116,20 @@ fn run_in_turns<R: Threads + Wait + Sync>(
 fn gates_take_turns(rt: HostRuntime) -> Result<(), Fail> {
     let even = [(1, Some(2)), (3, Some(4)), (5, Some(6))];
     let odd = [(2, Some(3)), (4, Some(5)), (6, None)];
-    let outcome = run_in_turns(&rt, rt.alloc(), 1)?;
+    let outcome = run_in_turns(&rt, rt.alloc(), 1, false)?;
     assert!(rt; tells(&outcome, 0, &even) && tells(&outcome, 1, &odd));
-    let outcome = run_in_turns(&rt, rt.alloc(), 2)?;
+    let outcome = run_in_turns(&rt, rt.alloc(), 2, false)?;
     assert!(rt; tells(&outcome, 0, &odd) && tells(&outcome, 1, &even));
+    Ok(())
+}
+
+#[test]
+fn gates_take_turns_in_batches(rt: HostRuntime) -> Result<(), Fail> {
+    let before = [(1, Some(2)), (2, Some(3)), (3, Some(4))];
+    let behind = [(4, Some(5)), (5, Some(6)), (6, None)];
+    let outcome = run_in_turns(&rt, rt.alloc(), 1, true)?;
+    assert!(rt; tells(&outcome, 0, &before) && tells(&outcome, 1, &behind));
+    let outcome = run_in_turns(&rt, rt.alloc(), 2, true)?;
+    assert!(rt; tells(&outcome, 0, &behind) && tells(&outcome, 1, &before));
     Ok(())
 }
