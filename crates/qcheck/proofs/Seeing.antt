@@ -1,7 +1,7 @@
 -- Boards that are seen one after the other beside a journal.
-use Rattle.std.proofs.Common.{◌≡◌, ℕ, ◌+◌, ◌-◌, ◌<◌, ◌≤◌, Bool, true, false, List, [], ◌∷◌, ◌++◌, length, map, take, drop, get_or, slice_range, All, Decides, Result, Ok, Err, IfOk, refl, sym, ap, subst, ◌∙◌, add-one, drop-cons, arith}
+use Rattle.std.proofs.Common.{◌≡◌, ℕ, ◌+◌, ◌-◌, ◌<◌, ◌≤◌, Bool, true, false, List, [], ◌∷◌, ◌++◌, length, take, drop, get_or, slice_range, append-nil, append_assoc, length-append, All, Decides, Result, Ok, Err, IfOk, refl, sym, ap, subst, ◌∙◌, add-one, drop-cons, arith}
 use Rattle.std.proofs.Math.Seq.{take-add, take-suc}
-use Rattle.std.proofs.lemmas.List.{get_or_push, length_push, length-take-le, take-append-drop}
+use Rattle.std.proofs.lemmas.List.{get_or_append_left, get_or_push, length_push, length-take-le, take-append-drop}
 use Rattle.std.proofs.lemmas.List.Elements.{All-nil, All-push}
 use Rattle.std.proofs.lemmas.List.Sums.{fold-append}
 use Rattle.qplain.specs.declared.board.Board.{Board}
@@ -10,7 +10,7 @@ use Rattle.qplain.specs.declared.look_fault.LookFault.{LookFault}
 use Rattle.qplain.specs.Journal.{board_of, play, played}
 use Rattle.qplain.specs.State.{State}
 use Rattle.qcheck.specs.declared.checker.Checker.{Checker}
-use Rattle.qcheck.specs.LawfulBoards.{AreLawful, FailsAt, FailsBehind, IsBoardOf, NeverFall, boards_in}
+use Rattle.qcheck.specs.LawfulBoards.{AreLawful, FailsAt, IsBoardOf, NeverFall, boards_in}
 use Rattle.qcheck.specs.Seen.{IsJudged, IsSeen, last_version}
 
 -- ---- entries
@@ -136,15 +136,25 @@ boards_in-append (Err fault ∷ looks) others = boards_in-append looks others
 module _ (looks : List (Result Board LookFault)) (i : ℕ) (d look : Result Board LookFault) (less : i < length looks)
     (is : look ≡ get_or looks i d) where
   -- the boards of the first looks and of one more
-  pub more-looks : boards_in (take (i + 1) looks) ≡ boards_in (take i looks) ++ boards_in (look ∷ [])
+  more-looks : boards_in (take (i + 1) looks) ≡ boards_in (take i looks) ++ boards_in (look ∷ [])
   more-looks =
       let longer : take (i + 1) looks ≡ take i looks ++ look ∷ [] = rw (add-one, is) (take-suc looks i d less) in
       ap boards_in longer ∙ boards_in-append (take i looks) (look ∷ [])
 
+  -- are one more where it has shown one
+  pub shown-more : (b : Board) → look ≡ Ok b → boards_in (take (i + 1) looks) ≡ boards_in (take i looks) ++ b ∷ []
+  shown-more b shown = more-looks ∙ ap (λ l. boards_in (take i looks) ++ boards_in (l ∷ [])) shown
+
+  -- and the same where it has not
+  pub none-more : (fault : LookFault) → look ≡ Err fault → boards_in (take (i + 1) looks) ≡ boards_in (take i looks)
+  none-more fault failed =
+      more-looks ∙ ap (λ l. boards_in (take i looks) ++ boards_in (l ∷ [])) failed ∙ append-nil (boards_in (take i looks))
+
   -- the first board that fails is among those that were shown
-  pub look-fails : (S : State) (journal : List Entry) (b : Board) (index : ℕ) → look ≡ Ok b
-      → FailsBehind S journal (boards_in (take i looks)) b index → FailsAt S journal (boards_in looks) index
-  look-fails S journal b index shown here =
+  pub fails-shown : (S : State) (journal : List Entry) (b : Board) (index : ℕ) → look ≡ Ok b
+      → index ≡ length (boards_in (take i looks)) + 1 → AreLawful S journal (boards_in (take i looks))
+      → (AreLawful S journal (boards_in (take i looks) ++ b ∷ []) → ⊥) → FailsAt S journal (boards_in looks) index
+  fails-shown S journal b index shown same lawful fails =
       let next : drop i looks ≡ look ∷ drop (i + 1) looks = rw (add-one, is, drop-cons looks i d) refl in
       let all : looks ≡ take i looks ++ Ok b ∷ drop (i + 1) looks =
       sym (take-append-drop i looks) ∙ ap (λ rest. take i looks ++ rest) (next ∙ ap (λ l. l ∷ drop (i + 1) looks) shown) in
@@ -153,5 +163,28 @@ module _ (looks : List (Result Board LookFault)) (i : ℕ) (d look : Result Boar
         board = b;
         after = boards_in (drop (i + 1) looks);
         parts = ap boards_in all ∙ boards_in-append (take i looks) (Ok b ∷ drop (i + 1) looks);
-        here = here;
+        here = record { lawful = lawful; fails = fails; index_is = same };
       }
+
+-- ---- boards of which one fails
+
+front : {X : Type 0} (P : X → Type 0) (xs ys : List X) → All P (xs ++ ys) → All P xs
+front P xs ys all k d less =
+    let longer = length-append xs ys in
+    subst P (get_or_append_left xs ys d k less) (all k d (omega (arith, less, longer)))
+
+rising-front : (version : ℕ) (boards later : List Board) → NeverFall version (boards ++ later) → NeverFall version boards
+unfolding NeverFall
+rising-front version [] later rising = tt
+rising-front version (b ∷ boards) later rising = (rising.0, rising-front b.version boards later rising.1)
+
+-- are not lawful
+pub not-lawful : (S : State) (journal : List Entry) (boards : List Board) (index : ℕ) → FailsAt S journal boards index
+    → AreLawful S journal boards → ⊥
+not-lawful S journal boards index at lawful =
+    let first = at.before ++ at.board ∷ [] in
+    let parts : boards ≡ first ++ at.after = at.parts ∙ sym (append_assoc at.before (at.board ∷ []) at.after) in
+    at.here.fails (record {
+      each = front (IsBoardOf S journal) first at.after (subst (All (IsBoardOf S journal)) parts lawful.each);
+      rising = rising-front 0 first at.after (subst (NeverFall 0) parts lawful.rising);
+    })
