@@ -54,15 +54,12 @@ module _ (S : State) (journal : List Entry) (seen : List Board) (b : Board) wher
       (lawful.each (length seen) b (omega (arith, length_push seen b)))
 
   -- a board of a version that falls, or of one that the journal has not, is not lawful
-  pub fallen : (c : Checker) → IsSeen S journal seen c → b.version < c.version → AreLawful S journal (seen ++ b ∷ []) → ⊥
-  fallen c is falls lawful =
-      let rises = last-rising 0 seen b lawful.rising in
-      absurd (omega (arith, falls, rises, is.last))
-
-  pub beyond : length journal < b.version → AreLawful S journal (seen ++ b ∷ []) → ⊥
-  beyond past lawful =
-      let within = (last-shown lawful).within in
-      absurd (omega (arith, past, within))
+  pub out-of-reach : (c : Checker) (reach : Bool) → IsSeen S journal seen c
+      → Decides reach ((c.version ≤ b.version) × (b.version ≤ length journal)) → reach ≡ false → AreLawful S journal (seen ++ b ∷ []) → ⊥
+  out-of-reach c reach is reaches not lawful =
+      let rises : c.version ≤ b.version = subst (λ n. n ≤ b.version) (sym is.last) (last-rising 0 seen b lawful.rising) in
+      let yes : reach ≡ true = reaches.1 (rises, (last-shown lawful).within) in
+      absurd cc
 
   -- what is said of a board when the store stands where its version leads
   pub judged : (old new : Checker) (shown : Bool) → IsSeen S journal seen old → old.version ≤ b.version → b.version ≤ length journal
