@@ -56,6 +56,13 @@ impl Checker {
         Ok(Checker { store, version: 0 })
     }
 
+    /// Whether it can go on to where so many entries lead.
+    fn can_go_on(&self, entries: &[Entry], version: u64) -> bool
+        ensures { Decides result ((self.now.version ≤ version) × (version ≤ length entries.now)) }
+    {
+        self.version <= version && version <= entries.len() as u64
+    }
+
     /// Goes on to where so many entries lead.
     fn go_on(&mut self, entries: &[Entry], version: u64) -> Result<(), NoMemory>
         requires on { self.old.version ≤ version }
@@ -77,7 +84,7 @@ impl Checker {
         ensures { (S : State) (seen : List Board) → IsSeen S entries.now seen self.old
             → IfOk result (IsJudged S entries.now seen board.now self.new) }
     {
-        if board.version < self.version || board.version > entries.len() as u64 {
+        if !self.can_go_on(entries, board.version) {
             return Ok(false);
         }
         self.go_on(entries, board.version)?;
