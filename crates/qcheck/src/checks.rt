@@ -24,6 +24,8 @@ pub fn check_boards(
     ensures ok { OnOk result (AreLawful (start setup.now) entries.now boards.now) }
     ensures board { (index : ℕ) → result ≡ Err (BoardFault.Board index)
         → FailsAt (start setup.now) entries.now boards.now index }
+    ensures lawful { AreLawful (start setup.now) entries.now boards.now
+        → (index : ℕ) → result ≡ Err (BoardFault.Board index) → ⊥ }
 {
     let mut checker = Checker::new(alloc, setup, seed)?;
     let mut index = 0u64;
@@ -49,6 +51,8 @@ pub fn check_looks(
     ensures ok { OnOk result (AreLawful (start setup.now) entries.now (boards_in looks.now)) }
     ensures board { (index : ℕ) → result ≡ Err (BoardFault.Board index)
         → FailsAt (start setup.now) entries.now (boards_in looks.now) index }
+    ensures lawful { AreLawful (start setup.now) entries.now (boards_in looks.now)
+        → (index : ℕ) → result ≡ Err (BoardFault.Board index) → ⊥ }
 {
     let mut checker = Checker::new(alloc, setup, seed)?;
     let mut index = 0u64;
