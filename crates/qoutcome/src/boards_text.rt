@@ -33,26 +33,27 @@ fn put_board<W: Write>(out: &mut W, board: &Board) -> Result<(), RefusedWrite>
     put_pieces(out, &pieces)
 }
 
+fn put_no_board<W: Write>(out: &mut W, fault: LookFault) -> Result<(), RefusedWrite>
+    ensures { Writes (W.contents out.old) (W.contents out.new) result (look_text (Err fault)) }
+{
+    let pieces = [
+        Piece::Text(b"board - failed "),
+        Piece::Text(fault_word(fault)),
+        Piece::Text(b"\n"),
+    ];
+    put_pieces(out, &pieces)
+}
+
 fn put_look<W: Write>(out: &mut W, look: &Result<Board, LookFault>) -> Result<(), RefusedWrite>
     ensures { Writes (W.contents out.old) (W.contents out.new) result (look_text look.now) }
 {
     match look {
         Ok(board) => put_board(out, board),
-        Err(fault) => {
-            let pieces = [
-                Piece::Text(b"board - failed "),
-                Piece::Text(fault_word(*fault)),
-                Piece::Text(b"\n"),
-            ];
-            put_pieces(out, &pieces)
-        }
+        Err(fault) => put_no_board(out, *fault),
     }
 }
 
-fn put_looks<W: Write>(
-    out: &mut W,
-    looks: &[Result<Board, LookFault>],
-) -> Result<(), RefusedWrite>
+fn put_looks<W: Write>(out: &mut W, looks: &[Result<Board, LookFault>]) -> Result<(), RefusedWrite>
     ensures { Writes (W.contents out.old) (W.contents out.new) result (flat_map look_text looks.now) }
 {
     for look in looks {

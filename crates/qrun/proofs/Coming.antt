@@ -1,21 +1,17 @@
 -- What a run of one worker comes to, put together of its parts.
-use Rattle.std.proofs.Common.{◌≡◌, ℕ, List, [], ◌∷◌, length, All, Result, Ok, Err, IfOk, sym, ap, refl, ◌∙◌, arith}
+use Rattle.std.proofs.Common.{◌≡◌, ℕ, List, [], length, All, Result, Ok, Err, IfOk, sym, ap, refl, ◌∙◌}
 use Rattle.qplain.specs.declared.board.Board.{Board}
-use Rattle.qplain.specs.declared.entry.Entry.{Entry}
 use Rattle.qplain.specs.declared.line.Line.{Line}
 use Rattle.qplain.specs.declared.look_fault.LookFault.{LookFault}
 use Rattle.qplain.specs.Setups.{Setting}
-use Rattle.qplain.specs.Journal.{entries_of}
-use Rattle.qplain.specs.declared.call_fault.CallFault.{CallFault}
-use Rattle.qplain.specs.declared.receipt.Receipt.{Receipt}
 use Rattle.qrun.specs.declared.outcome.Outcome.{Outcome}
 use Rattle.qplain.specs.declared.transcript.Transcript.{Transcript}
 use Rattle.qjournal.specs.Journals.{IsJournal, IsWorkers, Written}
 use Rattle.qrun.specs.Journaled.{IsPlayed, Journaled}
 use Rattle.qrun.specs.Left.{IsLeftOf, IsOneOf}
 use Rattle.qrun.specs.Replays.{IsReplayOf, transcripts_in}
-use Rattle.qplain.specs.Transcripts.{Belongs, journaled_lines}
-use Rattle.qrun.specs.Runs.{AreTranscriptsOf, FullIsToldFirst, IsFullOf, IsOutcomeOf}
+use Rattle.qplain.specs.Transcripts.{Belongs}
+use Rattle.qrun.specs.Runs.{AreTranscriptsOf, IsOutcomeOf}
 use Rattle.qplain.specs.State.{start}
 use Rattle.qcheck.specs.LawfulBoards.{AreLawful, boards_in}
 use Rattle.qrun.proofs.Stats.{legal-fair}

@@ -16,8 +16,8 @@ IsOneOf workers e = (0 < e.worker) × (e.worker ≤ workers)
 
 -- the store's own parts, records and differences, of which there are none, beside so many workers, these transcripts
 -- and what these looks at the boards were given
-pub record IsLeftOf (j : Journaled) (workers : ℕ) (transcripts : List Transcript) (boards : List (Result Board LookFault))
-    (o : Outcome) : Type 0 where
+pub record IsLeftOf (j : Journaled) (workers : ℕ) (transcripts : List Transcript)
+    (boards : List (Result Board LookFault)) (o : Outcome) : Type 0 where
   pub played : IsPlayed j
   pub setup : o.setup ≡ j.setting
   pub store : o.store ≡ j.stored

@@ -79,7 +79,8 @@ granted_lines (line ∷ lines) [] = []
 abbrev pub without_failed : Transcript → Transcript
 without_failed t = record t { lines = granted_lines t.lines t.answers; answers = filter is_ok t.answers }
 
--- what was played again is as it was, but for the lines that are in no journal, and the boards, which are not given back
+-- what was played again is as it was, but for the lines that are in no journal, and the boards, which are not given
+-- back
 pub record IsAsBefore (old new : Outcome) : Type 0 where
   pub tallies : new.tallies ≡ old.tallies
   pub store : new.store.state ≡ old.store.state

@@ -5,5 +5,5 @@ use Rattle.qrun.proofs.replays.play_again.Goals as goal
 pub returns-clause-replay : goal.returns-clause-replay
 returns-clause-replay c =
     again c.args.setup c.args.journal.now c.replay.new.self c.in_ok-outcome_of.field-0
-    (rw (c.in_ok-transcripts.ensures, c.workers.ensures, c.no_boards.ensures, c.new.ensures.items) at c.in_ok-outcome_of.ensures)
+    (rw (c.in_ok-transcripts.ensures, c.workers.ensures, c.new-no_boards.ensures, c.new-2.ensures.items) at c.in_ok-outcome_of.ensures)
     (c.in_ok-replay.ensures.setting ∙ c.in_ok-store.ensures.setting) (c.in_ok-replay.ensures.ok ∙ c.entries.ensures.entries)
