@@ -1,5 +1,6 @@
 -- Seats by their places.
-use Rattle.std.proofs.Common.{◌≡◌, ℕ, zero, suc, ◌+◌, ◌<◌, List, [], ◌∷◌, ◌++◌, length, slice_index_or, below_more, refl, sym, ap, ◌∙◌, length-append, arith}
+use Rattle.std.proofs.Common.{◌≡◌, ℕ, zero, suc, ◌+◌, ◌-◌, ◌<◌, add-one, take, List, [], ◌∷◌, ◌++◌, length, slice_index_or, below_more, refl, sym, ap, ◌∙◌, length-append, arith}
+use Rattle.std.proofs.Math.Seq.{take-append_seam}
 use Rattle.std.proofs.lemmas.List.{get_or_append_left, get_or_at, get_or_push}
 use Rattle.qshare.specs.Seats.{Seated, new_seat, seats_of}
 
@@ -27,6 +28,18 @@ seat_next n before rest seat parts =
     let there : slice_index_or (before ++ seat ∷ rest) (length before) seat ≡ new_seat (length before + 1) =
     ap (λ xs. slice_index_or xs (length before) seat) parts ∙ seat_is n (length before) seat low in
     (ap (λ s. s.worker) (sym here ∙ there), low)
+
+-- the last seat, and those before it
+pub last_seat : (n len : ℕ) (all : List Seated) (d : Seated) → all ≡ seats_of (n + 1) → len ≡ length all
+    → (take (len - 1) all ≡ seats_of n) × (slice_index_or all (len - 1) d ≡ new_seat (n + 1))
+last_seat n len all d is many =
+    let whole : all ≡ seats_of (suc n) = is ∙ ap seats_of (add-one n) in
+    let at : len - 1 ≡ n = omega (arith, many, ap length is, seats_many (n + 1)) in
+    let before : take n (seats_of n ++ new_seat (n + 1) ∷ []) ≡ seats_of n =
+    ap (λ k. take k (seats_of n ++ new_seat (n + 1) ∷ [])) (sym (seats_many n)) ∙ take-append_seam (seats_of n) (new_seat (n + 1) ∷ []) in (
+      (λ i. take (at i) (whole i)) ∙ before,
+      (λ i. slice_index_or (whole i) (at i) d) ∙ seat_is (suc n) n d (omega arith),
+    )
 
 -- no seat is left
 pub seats_ended : (n : ℕ) (before rest : List Seated) → before ++ rest ≡ seats_of n → length rest ≡ 0 → length before ≡ n

@@ -3,10 +3,12 @@ use Rattle.std.proofs.Common.{◌≡◌, ℕ, zero, suc, ◌+◌, ◌<◌, ◌�
 use Rattle.std.proofs.lemmas.List.Elements.{All-cons, All-contains, All-head, All-nil, All-tail}
 use Rattle.std.specs.List.{list_any, AllByRecursion, IsDistinct}
 use mathlib.Core.List.{IsPrefix}
+use Rattle.qplain.specs.declared.board.Board.{Board}
 use Rattle.qplain.specs.declared.call_fault.CallFault.{CallFault}
 use Rattle.qplain.specs.declared.call_fault.CallFault.TheVariants.{JournalFull}
 use Rattle.qplain.specs.declared.entry.Entry.{Entry}
 use Rattle.qplain.specs.declared.line.Line.{Line}
+use Rattle.qplain.specs.declared.look_fault.LookFault.{LookFault}
 use Rattle.qplain.specs.declared.receipt.Receipt.{Receipt}
 use Rattle.qplain.specs.declared.transcript.Transcript.{Transcript}
 use Rattle.qplain.specs.Journal.{entries_of}
@@ -16,6 +18,8 @@ use Rattle.qhistory.specs.Shares.{AreThere, Shared}
 use Rattle.qhistory.proofs.Fronts.{prefix_length}
 use Rattle.qrun.specs.Runs.{AreTranscriptsOf, IsFullBehind, IsFullOf, IsOutcomeOf, IsTranscriptOf}
 use Rattle.qplain.specs.Setups.{Setting}
+use Rattle.qplain.specs.State.{start}
+use Rattle.qcheck.specs.LawfulBoards.{AreLawful, boards_in}
 use Rattle.qgather.specs.Gathered.{IsGathered}
 use Rattle.qrun.specs.declared.outcome.Outcome.{Outcome}
 use Rattle.qrun.specs.Journaled.{Journaled}
@@ -194,10 +198,12 @@ one_of scripts shares ts journal told belong k d less =
     (within_told 1 (1 + length scripts) 1 scripts shares ts told (omega arith) (omega arith)) (belong k d less) in
     (omega (arith, within.0), omega (arith, within.1, many))
 
--- what is left of a store whose journal was held against what was told
-pub gathered_told : (setting : Setting) (journal : List Entry) (ts : List Transcript) (shares : List Shared) (j : Journaled) (workers : ℕ) (o : Outcome)
+-- what is left of a store whose journal was held against what was told, and against what looks were given
+pub gathered_told : (setting : Setting) (journal : List Entry) (ts : List Transcript) (shares : List Shared)
+    (looks : List (Result Board LookFault)) (j : Journaled) (workers : ℕ) (o : Outcome)
     → AreTold (lines_of ts) shares ts → All (λ s. IsPrefix s.seen journal) shares → length journal ≤ MAX_ENTRIES → IsGathered journal ts
-    → workers ≡ length ts → j.setting ≡ setting → j.journal ≡ journal → IsLeftOf j workers ts o → IsOutcomeOf setting (lines_of ts) o
-gathered_told setting journal ts shares j workers o told seen few gathered many from is left =
-    alone setting (lines_of ts) j workers ts o left (many ∙ (as_many 1 (lines_of ts) shares ts told).1) from
-    (rw is (transcripts_from 1 (lines_of ts) shares ts journal told seen few gathered.own)) (rw is gathered.belong)
+    → AreLawful (start setting) journal (boards_in looks)
+    → workers ≡ length ts → j.setting ≡ setting → j.journal ≡ journal → IsLeftOf j workers ts looks o → IsOutcomeOf setting (lines_of ts) o
+gathered_told setting journal ts shares looks j workers o told seen few gathered lawful many from is left =
+    alone setting (lines_of ts) j workers ts looks o left (many ∙ (as_many 1 (lines_of ts) shares ts told).1) from
+    (rw is (transcripts_from 1 (lines_of ts) shares ts journal told seen few gathered.own)) (rw is gathered.belong) (rw is lawful)

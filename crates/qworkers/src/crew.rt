@@ -60,7 +60,7 @@ where
             requires seats { seats.items ≡ seats_of (length scripts.now) }
             requires batch { (0 < options.batch) × (options.batch ≤ MAX_BATCH) }
             ensures works { IfOk result (λ p. AreWorks scripts.entry.now p.works.items) }
-            ensures watch { IfOk result (λ p. IsWatchOf options.entry.boards watcher.entry p.watch) }
+            ensures watch { IfOk result (λ p. IsWatchOf options.boards watcher p.watch) }
         {
             let mut running = Vec::with_capacity(alloc, seats.len())?;
             for seat in seats {

@@ -135,8 +135,8 @@ where
     let (seats, watcher) = part_seats(seats, scripts.len(), options.boards);
     let played = play_all(rt, alloc, &shared, gate, options, seats, watcher, &scripts)?;
     let Played { works, watch } = played;
-    let (shares, transcripts) = tell_all(alloc, scripts, works)?;
-    let (shares, looks) = hand_in(alloc, shares, watch)?;
+    let (own, transcripts) = tell_all(alloc, scripts, works)?;
+    let (shares, looks) = hand_in(alloc, own, watch)?;
     match shared.end(rt, shares) {
         Ok(ended) => conclude(alloc, ended, transcripts, looks, seed),
         Err(_) => unreachable!(),

@@ -78,7 +78,7 @@ fn look_on<K: Origin, N: House>(seat: Seat<K, N>, looks: Vec<Look>, boards: u64)
 }
 
 /// Looks so many times in a thread of its own, and waits until it has done so.
-fn watch<K, N, R>(
+fn look_beside<K, N, R>(
     rt: &R,
     alloc: Global,
     seat: Seat<K, N>,
@@ -115,7 +115,7 @@ where
     ensures { IfOk result (IsWatchOf boards watcher) }
 {
     match watcher {
-        Some(seat) => Ok(Some(watch(rt, alloc, seat, boards)?)),
+        Some(seat) => Ok(Some(look_beside(rt, alloc, seat, boards)?)),
         None => Ok(None),
     }
 }

@@ -2,6 +2,7 @@ use Rattle.std.proofs.Common.{◌≡◌, ℕ, ◌+◌, ◌<◌, List, [], ◌∷
 use Rattle.std.proofs.lemmas.List.{get_or_append_left, get_or_default, get_or_push}
 use Rattle.std.specs.Vec.Iter.{into_iter_items}
 use Rattle.qplain.specs.declared.line.Line.{Line}
+use Rattle.qworkers.specs.Watching.{IsWatchOf}
 use Rattle.qworkers.specs.Work.{IsWork}
 use Rattle.qworkers.proofs.Seating.{seat_next, seats_ended}
 use Rattle.qworkers.proofs.crew.fn.play_all.scope.Goals as goal
@@ -45,6 +46,7 @@ loop-seat-preserved g c =
                 ∙ get_or_default scripts (length running.items) c.index-scripts-len.result lines (omega (arith, next.1, seated.2, running.ok.0))),
           ))
           k (omega (arith, less, pushed.len, running.ok.0))),
+      c.loop-seat.invariant.3,
     )
 
 pub returns-in-Ok-join_promised : goal.returns-in-Ok-join_promised
@@ -55,14 +57,17 @@ returns-in-Ok-join_promised g c =
     let all : length seated.0 ≡ length scripts = seats_ended (length scripts) seated.0 (into_iter_items c.loop-seat.seat-iterator) seated.1 left in
     let works = c.in-Ok-join_promised.works in
     record {
-      many = omega (arith, works.ok.0, c.in-Ok-join_promised.ensures.len, seated.2, all);
-      each = λ k d lines less.
-          let low : k < c.loop-seat.running.len = omega (arith, less, all, seated.2) in
-          let at = c.in-Ok-join_promised.ensures.each k d low in
-          let h = at.1.handle in
-          let inv = c.loop-seat.invariant.2 k h lines low in
-          let worker : h.promise.worker ≡ k + 1 = ap (λ x. x.promise.worker) at.1.handle_is ∙ inv.0 in
-          let many : h.promise.lines ≡ length (slice_index_or scripts k lines) = ap (λ x. x.promise.lines) at.1.handle_is ∙ inv.1 in
-          subst (λ n. IsWork (k + 1) n (slice_index_or works.items k d)) many
-          (subst (λ m. IsWork m h.promise.lines (slice_index_or works.items k d)) worker at.1.kept);
+      works = record {
+        many = omega (arith, works.ok.0, c.in-Ok-join_promised.ensures.len, seated.2, all);
+        each = λ k d lines less.
+            let low : k < c.loop-seat.running.len = omega (arith, less, all, seated.2) in
+            let at = c.in-Ok-join_promised.ensures.each k d low in
+            let h = at.1.handle in
+            let inv = c.loop-seat.invariant.2 k h lines low in
+            let worker : h.promise.worker ≡ k + 1 = ap (λ x. x.promise.worker) at.1.handle_is ∙ inv.0 in
+            let many : h.promise.lines ≡ length (slice_index_or scripts k lines) = ap (λ x. x.promise.lines) at.1.handle_is ∙ inv.1 in
+            subst (λ n. IsWork (k + 1) n (slice_index_or works.items k d)) many
+            (subst (λ m. IsWork m h.promise.lines (slice_index_or works.items k d)) worker at.1.kept);
+      };
+      watch = subst (λ w. IsWatchOf c.captures.options-boards w c.in_ok-watch.watch) c.loop-seat.invariant.3 c.in_ok-watch.ensures;
     }

@@ -12,3 +12,4 @@ invariant-loop-seat g l =
     × ((k : ℕ) (d : _) (lines : List Line) → k < vec_len l.running
     → ((slice_index_or l.running.items k d).promise.worker ≡ k + 1)
     × ((slice_index_or l.running.items k d).promise.lines ≡ length (slice_index_or l.scripts k lines)))
+    × (l.watcher ≡ l.initial.watcher)

@@ -1,7 +1,7 @@
 use Rattle.std.proofs.Common.{◌≡◌, ◌≤◌, length}
 use Rattle.std.specs.Vec.{vec_capacity, vec_len}
-use Rattle.qworkers.proofs.Working.{AreAnswers}
-use Rattle.qworkers.proofs.worker.play_lines.Given as goal
+use Rattle.qworkers.specs.Work.{AreAnswers}
+use Rattle.qworkers.proofs.worker.play_each.Given as goal
 
 abbrev pub invariant-loop-before : goal.invariant-loop-before
 invariant-loop-before g l = AreAnswers l.before l.seat.seen l.answers.items × (vec_len l.answers ≡ l.before)

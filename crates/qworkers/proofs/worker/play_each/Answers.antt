@@ -1,7 +1,8 @@
 use Rattle.std.proofs.Common.{arith, sym, subst, ◌∙◌}
 use Rattle.std.proofs.lemmas.List.{nil_from_length}
-use Rattle.qworkers.proofs.Working.{AreAnswers, no_answers, one_more}
-use Rattle.qworkers.proofs.worker.play_lines.Goals as goal
+use Rattle.qworkers.proofs.Working.{no_answers, one_more}
+use Rattle.qworkers.specs.Work.{AreAnswers}
+use Rattle.qworkers.proofs.worker.play_each.Goals as goal
 
 pub loop-before-init : goal.loop-before-init
 loop-before-init g c = (
