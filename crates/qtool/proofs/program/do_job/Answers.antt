@@ -3,7 +3,7 @@ use Rattle.qtool.specs.Jobs.{HasBatch, HasScript}
 use Rattle.qtool.proofs.program.do_job.Goals as goal
 
 pub run_of-requires-clause-some : goal.run_of-requires-clause-some
-run_of-requires-clause-some g c κs within = rw c.as_slice.ensures.value (subst HasScript c.in-Run.is c.requires.some)
+run_of-requires-clause-some g c κs within = rw c.as_slice-names.ensures.value (subst HasScript c.in-Run.is c.requires.some)
 
 pub run_of-requires-clause-batch : goal.run_of-requires-clause-batch
 run_of-requires-clause-batch g c κs within = subst HasBatch c.in-Run.is c.requires.batch
