@@ -1,11 +1,10 @@
 -- Transcripts put together one after the other, and what all of them say.
-use Rattle.std.proofs.Common.{◌≡◌, ℕ, zero, suc, ◌+◌, ◌<◌, ◌≤◌, ◌==◌, ◌||◌, true, false, Bool, List, [], ◌∷◌, ◌++◌, length, map, All, Contains, Result, Ok, Err, refl, sym, ap, subst, ◌∙◌, arith, tests, le_trans}
+use Rattle.std.proofs.Common.{◌≡◌, ℕ, suc, ◌+◌, ◌<◌, ◌≤◌, ◌==◌, ◌||◌, true, false, Bool, List, [], ◌∷◌, ◌++◌, length, map, All, Result, refl, sym, ap, subst, ◌∙◌, arith, tests}
 use Rattle.std.proofs.lemmas.List.Elements.{All-cons, All-contains, All-head, All-nil, All-tail}
 use Rattle.std.specs.List.{list_any, AllByRecursion, IsDistinct}
 use mathlib.Core.List.{IsPrefix}
 use Rattle.qplain.specs.declared.board.Board.{Board}
 use Rattle.qplain.specs.declared.call_fault.CallFault.{CallFault}
-use Rattle.qplain.specs.declared.call_fault.CallFault.TheVariants.{JournalFull}
 use Rattle.qplain.specs.declared.entry.Entry.{Entry}
 use Rattle.qplain.specs.declared.line.Line.{Line}
 use Rattle.qplain.specs.declared.look_fault.LookFault.{LookFault}
@@ -16,7 +15,7 @@ use Rattle.qplain.specs.Transcripts.{Belongs, journaled_lines}
 use Rattle.qjournal.specs.declared.journal.TheConstants.{MAX_ENTRIES}
 use Rattle.qhistory.specs.Shares.{AreThere, Shared}
 use Rattle.qhistory.proofs.Fronts.{prefix_length}
-use Rattle.qrun.specs.Runs.{AreTranscriptsOf, IsFullBehind, IsFullOf, IsOutcomeOf, IsTranscriptOf}
+use Rattle.qrun.specs.Runs.{AreTranscriptsOf, IsFullBehind, IsFullOf, IsOutcomeOf}
 use Rattle.qplain.specs.Setups.{Setting}
 use Rattle.qplain.specs.State.{start}
 use Rattle.qcheck.specs.LawfulBoards.{AreLawful, boards_in}

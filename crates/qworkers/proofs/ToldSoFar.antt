@@ -1,9 +1,9 @@
 -- What workers have done, told one after the other.
-use Rattle.std.proofs.Common.{◌≡◌, ℕ, zero, suc, ◌+◌, ◌<◌, List, [], ◌∷◌, ◌++◌, length, slice_index_or, refl, sym, ap, subst, ◌∙◌, append-nil, append_assoc, length-append, arith}
+use Rattle.std.proofs.Common.{◌≡◌, ℕ, suc, ◌+◌, ◌<◌, List, [], ◌∷◌, ◌++◌, length, slice_index_or, refl, sym, subst, ◌∙◌, append-nil, append_assoc, length-append, arith}
 use Rattle.qplain.specs.declared.line.Line.{Line}
 use Rattle.qplain.specs.declared.transcript.Transcript.{Transcript}
 use Rattle.qhistory.specs.Shares.{Shared}
-use Rattle.qworkers.specs.Told.{AreTold, AreToldFrom, IsTold}
+use Rattle.qworkers.specs.Told.{AreTold}
 use Rattle.qworkers.specs.Work.{AreWorks, Done, IsWork}
 use Rattle.qworkers.proofs.Told.{none_told, one_more_told}
 

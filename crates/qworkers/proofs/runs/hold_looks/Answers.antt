@@ -1,4 +1,4 @@
-use Rattle.std.proofs.Common.{◌≡◌, [], arith, subst, sym, tests, ◌∙◌}
+use Rattle.std.proofs.Common.{◌≡◌, [], arith, subst, sym, tests}
 use Rattle.std.proofs.lemmas.List.{nil_from_length}
 use Rattle.qplain.specs.State.{start}
 use Rattle.qcheck.specs.LawfulBoards.{AreLawful, boards_in}

@@ -1,4 +1,4 @@
-use Rattle.std.proofs.Common.{◌+◌, arith, subst, sym, ◌∙◌}
+use Rattle.std.proofs.Common.{arith, subst, ◌∙◌}
 use Rattle.qworkers.specs.Work.{AreAnswers}
 use Rattle.qworkers.proofs.Working.{one_more_held, room_left, same_worker}
 use Rattle.qworkers.proofs.worker.play_held.Goals as goal

@@ -1,7 +1,6 @@
-use Rattle.std.proofs.Common.{◌≡◌, ℕ, ◌+◌, ◌<◌, List, [], ◌∷◌, ◌++◌, length, slice_index_or, below_more, refl, sym, ap, subst, ◌∙◌, append_assoc, length-append, arith}
+use Rattle.std.proofs.Common.{◌≡◌, ◌+◌, ◌<◌, [], ◌∷◌, ◌++◌, length, slice_index_or, below_more, refl, sym, ap, subst, ◌∙◌, append_assoc, length-append, arith}
 use Rattle.std.proofs.lemmas.List.{get_or_append_left, get_or_default, get_or_push}
 use Rattle.std.specs.Vec.Iter.{into_iter_items}
-use Rattle.qplain.specs.declared.line.Line.{Line}
 use Rattle.qworkers.specs.Watching.{IsWatchOf}
 use Rattle.qworkers.specs.Work.{IsWork}
 use Rattle.qworkers.proofs.Seating.{seat_next, seats_ended}
