@@ -37,7 +37,8 @@ unreachable-requires g c =
     let there : AreThere (own ++ shares_in watch) (seats_for (length scripts) boards) =
     all_seats_there (length scripts) boards own watch (all_there scripts own c.in_ok-own.transcripts.items c.in_ok-own.ensures) looked in
     let all : AreThere c.in_ok-shares.shares.items g.N.House.names.ledgers.parts =
-    subst (AreThere c.in_ok-shares.shares.items) (sym c.requires.seats) (subst (λ xs. AreThere xs (seats_for (length scripts) boards)) (sym c.in_ok-shares.ensures.shares) there) in
+    subst (AreThere c.in_ok-shares.shares.items) (sym c.requires.seats)
+    (subst (λ xs. AreThere xs (seats_for (length scripts) boards)) (sym c.in_ok-shares.ensures.shares) there) in
     let wrong : false ≡ true = c.in-Err-end.ensures.all all in
     absurd cc
 
