@@ -38,8 +38,8 @@ pub struct Batch {
 }
 
 /// Puts a row in its place, if there is one.
-fn put_row(rows: &mut Vec<BoardRow>, placed: Option<PlacedRow>)
-    ensures { rows.new.items ≡ put rows.old.items placed }
+fn put_row(rows: &mut Vec<BoardRow>, placed: &Option<PlacedRow>)
+    ensures { rows.new.items ≡ put rows.old.items placed.now }
 {
     if let Some(placed) = placed {
         if placed.place < rows.len() {
@@ -91,10 +91,10 @@ impl Sheet {
     fn take_in(&mut self, change: &BoardChange)
         ensures board { board_in self.new ≡ changed_by (board_in self.old) change.now }
     {
-        put_row(&mut self.rows, change.effect.user_from);
-        put_row(&mut self.rows, change.effect.user_to);
-        put_row(&mut self.rows, change.effect.group_from);
-        put_row(&mut self.rows, change.effect.group_to);
+        put_row(&mut self.rows, &change.effect.user_from);
+        put_row(&mut self.rows, &change.effect.user_to);
+        put_row(&mut self.rows, &change.effect.group_from);
+        put_row(&mut self.rows, &change.effect.group_to);
         self.version = change.version;
         self.blocks = change.effect.blocks;
         self.inodes = change.effect.inodes;
