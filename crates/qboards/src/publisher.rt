@@ -64,7 +64,6 @@ impl<K: Origin, N: House, R: Wait + Drop> Model for Publisher<K, N, R> {
 
 /// Puts a batch into the log of `left_right`, which has room for it: the one batch that may stand there beside it has
 /// made room for two. No clause says so.
-#[inline(always)]
 fn put<K: Origin, N: House, R: Wait>(
     writer: BoardWriter<K, N>,
     rt: &R,
@@ -86,7 +85,6 @@ fn put<K: Origin, N: House, R: Wait>(
 }
 
 /// Publishes what waits in the log, with which the board is that of this history.
-#[inline(always)]
 fn show<K: Origin, N: House, R: Wait>(
     writer: BoardWriter<K, N>,
     rt: &R,
@@ -107,7 +105,6 @@ fn show<K: Origin, N: House, R: Wait>(
 }
 
 /// Publishes a batch, with which the board is that of the batch's history.
-#[inline(always)]
 fn publish_next<K: Origin, N: House, R: Wait>(
     writer: BoardWriter<K, N>,
     rt: &R,
@@ -130,7 +127,6 @@ fn publish_next<K: Origin, N: House, R: Wait>(
 }
 
 /// The same in place.
-#[inline(always)]
 fn publish_here<K: Origin, N: House, R: Wait>(rt: &R, writer: &mut BoardWriter<K, N>, batch: Batch)
     requires none { drop writer.old.behind writer.old.log.items ≡ [] }
     requires book { batch.front.book ≡ N.names.book }
