@@ -37,9 +37,9 @@ impl<'a, K: Origin, N: House, R: Wait + Drop> Model for Held<'a, K, N, R> {
     ghost Value = { Holding };
 
     ghost view = { λ h. record {
-        journal = (mutex_guard_value h.store).journal;
-        published = (mutex_guard_value h.store).published;
-        room = h.room;
+      journal = (mutex_guard_value h.store).journal;
+      published = (mutex_guard_value h.store).published;
+      room = h.room;
     } };
 
     ghost invariant = { λ h. h.room ≤ MAX_BATCH };
