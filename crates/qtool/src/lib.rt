@@ -4,11 +4,12 @@
 pub use files::{FileFault, Files};
 pub use finishing::{Refuser, write_run};
 pub use program::tool;
+pub use qcheck::{BoardFault, check_boards};
 pub use qconfig::{Config, ConfigFault};
 pub use qjob::{Job, LineFault};
 pub use qjournal::Journal;
 pub use qoutcome::{WriteFault, write_outcome};
-pub use qplain::{CallFault, Receipt, Transcript};
+pub use qplain::{Board, CallFault, LookFault, Receipt, Transcript};
 pub use qrun::{Outcome, ReplayFault};
 pub use qscript::{MAX_LINES, Script};
 pub use qtext::{TextFault, TextKind};
