@@ -2,7 +2,7 @@
 ghost use Rattle.std.specs.Prelude.{◌≡◌, [], Err, IfOk, None};
 ghost use mathlib.Core.List.{IsPrefix};
 ghost use Rattle.left_right.specs.Sides.{view as known};
-ghost use Rattle.qplain.specs.declared.look_fault.LookFault.TheVariants.{ESRCH, OutOfMemory};
+ghost use Rattle.qplain.specs.declared.look_fault.LookFault.TheVariants.{ESRCH, NoBoard, OutOfMemory};
 ghost use Rattle.qplain.specs.Setups.{IsLawfulSetup};
 ghost use Rattle.qplain.specs.State.{start};
 ghost use Rattle.qplain.specs.Journal.{IsLegal};
@@ -67,6 +67,7 @@ fn look<K: Origin, N: House>(
     ensures later { IsPrefix with.1.log result.1.front.log }
     ensures board { IfOk result.1.shown (λ b. b ≡ shown_of (start K.setting) result.1.front.log) }
     ensures there { result.1.shown ≡ Err ESRCH → ⊥ }
+    ensures nothing { result.1.shown ≡ Err NoBoard → result.1.front ≡ with.1 }
 {
     let (alloc, front) = with;
     match reader.enter_as::<Sees<K, N>>() {
@@ -89,6 +90,28 @@ fn look<K: Origin, N: House>(
     }
 }
 
+/// Sees the history of the board that is handed out, where one is.
+fn see<K: Origin, N: House>(
+    reader: BoardReader<K, N>,
+    front: Front,
+) -> (BoardReader<K, N>, Front)
+    requires seen { (known reader.place).seen ≡ front.log }
+    requires book { front.book ≡ N.names.book }
+    requires legal { IsLegal (start K.setting) front.log }
+    ensures seen { (known result.0.place).seen ≡ result.1.log }
+    ensures book { result.1.book ≡ N.names.book }
+    ensures legal { IsLegal (start K.setting) result.1.log }
+    ensures later { IsPrefix front.log result.1.log }
+{
+    match reader.enter_as::<Sees<K, N>>() {
+        Ok(reading) => {
+            let front = reading.get().front.again();
+            (reading.leave(), front)
+        }
+        Err(back) => (back, front),
+    }
+}
+
 /// Copies one row of the board that is handed out.
 fn look_up<K: Origin, N: House>(
     reader: BoardReader<K, N>,
@@ -105,6 +128,7 @@ fn look_up<K: Origin, N: House>(
     ensures none { result.1.shown ≡ Err ESRCH
         → row_in (shown_of (start K.setting) result.1.front.log) with.1 with.2 ≡ None }
     ensures memory { result.1.shown ≡ Err OutOfMemory → ⊥ }
+    ensures nothing { result.1.shown ≡ Err NoBoard → result.1.front ≡ with.0 }
 {
     let (front, kind, id) = with;
     match reader.enter_as::<Sees<K, N>>() {
@@ -150,6 +174,14 @@ impl<K: Origin, N: House> Viewer<K, N> {
         &self.front
     }
 
+    /// Sees the history of the board that is published now, where one is handed out. It takes no lock, and waits for nobody.
+    pub fn look(&mut self)
+        ensures { IsPrefix self.old self.new }
+    {
+        let front = self.front.again();
+        self.front = replace_with(&mut self.reader, front, |reader, front| see::<K, N>(reader, front));
+    }
+
     /// The board that is published now. It takes no lock, and waits for nobody.
     ///
     /// NoBoard where none was handed out, OutOfMemory where its copy found no memory. ESRCH never comes.
@@ -159,6 +191,7 @@ impl<K: Origin, N: House> Viewer<K, N> {
         ensures legal { IsLegal (start K.setting) self.new }
         ensures seen { IsPrefix self.old self.new }
         ensures there { result ≡ Err ESRCH → ⊥ }
+        ensures nothing { result ≡ Err NoBoard → self.new ≡ self.old }
     {
         let front = self.front.again();
         let Looked { front, shown } = replace_with(
@@ -181,6 +214,7 @@ impl<K: Origin, N: House> Viewer<K, N> {
         ensures memory { result ≡ Err OutOfMemory → ⊥ }
         ensures legal { IsLegal (start K.setting) self.new }
         ensures seen { IsPrefix self.old self.new }
+        ensures nothing { result ≡ Err NoBoard → self.new ≡ self.old }
     {
         let front = self.front.again();
         let Looked { front, shown } = replace_with(

@@ -1,6 +1,7 @@
 //! The one history of a store, of which beginnings are seen. It exists in the proofs alone: what is shared of it when a
 //! program runs is one word, its length.
 ghost use Rattle.std.specs.Prelude.{◌≡◌, ◌<◌, ◌^◌, length, MatchBool, IsTrue, []};
+ghost use Rattle.std.specs.Bool.{Decides};
 ghost use mathlib.Core.List.{IsPrefix};
 ghost use Rattle.qhistory.specs.Laws.{head_of};
 ghost use Rattle.qhistory.specs.Past.{longer};
@@ -9,6 +10,7 @@ use crate::law::{Add, Law, Look, Nothing};
 use logbook::{Offer, Seen, Start, Word};
 use qplain::Entry;
 use std::marker::Model;
+use std::sync::Wait;
 
 /// A beginning of a history, which was seen. It has no bytes but its length. Contracts see the history's name and the entries.
 #[derive(Drop)]
@@ -76,6 +78,20 @@ impl Front {
     }
 }
 
+/// Adds an entry.
+fn add_to<R: Wait>(rt: &R, front: &mut Front, head: &Word<Entry, u64, Law>, entry: &Entry)
+    requires head { head.now ≡ head_of front.old.book }
+    requires room { length front.old.log < 2 ^ 62 }
+    ensures { front.new ≡ longer front.old entry.now }
+{
+    for _ in rt.forever() {
+        if front.add(head, entry) {
+            return;
+        }
+    }
+    unreachable!()
+}
+
 /// The whole history, for who alone adds to it.
 #[derive(Drop)]
 pub struct Whole {
@@ -113,19 +129,32 @@ impl Whole {
         self.front.again()
     }
 
-    /// Adds an entry. It always does; no clause of `logbook` says that nobody else adds.
-    pub fn add(&mut self, entry: &Entry) -> bool
+    /// Adds an entry. The first try does; no clause of `logbook` says that nobody else adds.
+    pub fn add<R: Wait>(&mut self, rt: &R, entry: &Entry)
         requires { length self.old.log < 2 ^ 62 }
-        ensures { MatchBool result (self.new ≡ longer self.old entry.now) (self.new ≡ self.old) }
+        ensures { self.new ≡ longer self.old entry.now }
     {
-        self.front.add(&self.head, entry)
+        add_to(rt, &mut self.front, &self.head, entry)
     }
 
-    /// Whether this is all of it, so that it begins with what anyone has seen. It always is.
-    pub fn covers(&self, other: &Front) -> bool
-        requires { other.now.book ≡ self.now.book }
-        ensures { IsTrue result → IsPrefix other.now.log self.now.log }
+    /// Waits until this begins with what was seen. It does at once; no clause of `logbook` says that nobody else adds.
+    pub fn await_seen<R: Wait>(&self, rt: &R, seen: &Front)
+        requires { seen.now.book ≡ self.now.book }
+        ensures { IsPrefix seen.now.log self.now.log }
     {
-        self.front.covers(&self.head, other)
+        for _ in rt.forever() {
+            if self.front.covers(&self.head, seen) {
+                return;
+            }
+        }
+        unreachable!()
+    }
+
+    /// Whether all of it was seen.
+    pub fn is_all(&self, seen: &Front) -> bool
+        requires { IsPrefix seen.now.log self.now.log }
+        ensures { Decides result (seen.now.log ≡ self.now.log) }
+    {
+        seen.len == self.front.len
     }
 }

@@ -1,5 +1,6 @@
 //! The value under a store's lock.
-ghost use Rattle.std.specs.Prelude.{◌≡◌, ◌<◌, ◌≤◌, ◌++◌, ◌∷◌, ◌+◌, ◌↔◌, [], length, fold, vec_len, vec_capacity, Err, All, IsTrue, IfOk, OnErr};
+ghost use Rattle.std.specs.Prelude.{◌≡◌, ◌<◌, ◌≤◌, ◌++◌, ◌∷◌, ◌+◌, ◌↔◌, [], length, fold, vec_len, vec_capacity, Err, All, IfOk, OnErr};
+ghost use Rattle.std.specs.Bool.{Decides};
 ghost use mathlib.Core.List.{IsPrefix};
 ghost use Rattle.qplain.specs.Journal.{IsLegal, change_of, counted, entry_of, no_tally, play, tally_of};
 ghost use Rattle.qplain.specs.State.{start};
@@ -51,19 +52,6 @@ impl<K: Origin, N: House, R: Wait + Drop> Model for LockedStore<K, N, R> {
     ghost invariant = { λ d. (d.setup ≡ K.setting) × (d.seats ≡ N.names.ledgers.parts)
         × (d.rest ≡ record { sums = no_tally; parts = 0 }) × (d.tallies ≡ d.books)
         × IsSound N.names.book K.setting d.store.state d.journal.items d.whole d.books d.publisher d.waiting.items };
-}
-
-/// Adds an entry to the whole history. The first try adds it; no clause of `logbook` says that nobody else adds.
-fn add_entry<R: Wait>(rt: &R, whole: &mut Whole, entry: &Entry)
-    requires { length whole.old.log ≤ MAX_ENTRIES }
-    ensures { whole.new ≡ longer whole.old entry.now }
-{
-    for _ in rt.forever() {
-        if whole.add(entry) {
-            return;
-        }
-    }
-    unreachable!()
 }
 
 /// Journals an entry, for which there is room, and lets what it does to the board wait. The place is told.
@@ -190,7 +178,7 @@ impl<K: Origin, N: House, R: Wait + Drop> LockedStore<K, N, R> {
         let change = entry.reply.change();
         let tallies = self.tallies.with_call(change);
         let effect = self.store.effect(&ready);
-        add_entry(rt, &mut self.whole, &entry);
+        self.whole.add(rt, &entry);
         let reply = self.store.commit(ready);
         self.books.count_call(mine, change, tallies);
         self.tallies = tallies;
@@ -241,13 +229,12 @@ impl<K: Origin, N: House, R: Wait + Drop> LockedStore<K, N, R> {
         self.publisher.publish(changes, self.whole.front());
     }
 
-    /// Whether the journal begins with what a seat has seen. It always does; no clause of `logbook` says that nobody else
-    /// adds to the history.
-    pub fn covers(&self, front: &Front) -> bool
-        requires { front.now.book ≡ N.names.book }
-        ensures { IsTrue result → IsPrefix front.now.log self.now.journal }
+    /// Whether a seat has seen the whole journal.
+    pub fn is_seen(&self, front: &Front) -> bool
+        requires { IsPrefix front.now.log self.now.journal }
+        ensures { Decides result (front.now.log ≡ self.now.journal) }
     {
-        self.whole.covers(front)
+        self.whole.is_all(front)
     }
 
     /// A viewer that has seen the whole journal, where all of it is published. Err, where no place for a reader is free or
@@ -269,12 +256,7 @@ impl<K: Origin, N: House, R: Wait + Drop> LockedStore<K, N, R> {
     {
         // Whoever looks at the journal knows that it is no longer than it may be.
         let _journal = &self.journal;
-        for _ in rt.forever() {
-            if self.covers(front) {
-                return;
-            }
-        }
-        unreachable!()
+        self.whole.await_seen(rt, front);
     }
 
     /// The journal begins with what each seat has seen.

@@ -59,8 +59,7 @@ fn first_board(store: &Store) -> Result<Board, NoMemory>
     })
 }
 
-/// The writing side of the boards of a new store, with a place for a reader more than there are seats: a seat sits down
-/// anew before it gives up its old place.
+/// The writing side of the boards of a new store, with a place for each seat's reader.
 fn first_publisher<K: Origin, N: House, R: Wait + Drop>(
     alloc: Global,
     rt: R,
@@ -70,11 +69,11 @@ fn first_publisher<K: Origin, N: House, R: Wait + Drop>(
 ) -> Result<Publisher<K, N, R>, NoMemory>
     requires store { store.now.state ≡ start K.setting }
     requires front { front.now ≡ past N.names.book [] }
-    requires seats { seats ≤ MAX_SEATS }
+    requires seats { (0 < seats) × (seats ≤ MAX_SEATS) }
     ensures { IfOk result (λ p. p ≡ []) }
 {
     let board = first_board(store)?;
-    Publisher::new(alloc, rt, &board, front, seats as usize + 1)
+    Publisher::new(alloc, rt, &board, front, seats as usize)
 }
 
 /// The seats of a new store, numbered from 1.

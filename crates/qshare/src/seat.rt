@@ -1,7 +1,7 @@
 //! A worker's own access to a shared store.
 ghost use Rattle.std.specs.Prelude.{◌≡◌, ◌≤◌, [], length, Err, IfOk, None};
 ghost use mathlib.Core.List.{IsPrefix};
-ghost use Rattle.qplain.specs.declared.look_fault.LookFault.TheVariants.{ESRCH, OutOfMemory};
+ghost use Rattle.qplain.specs.declared.look_fault.LookFault.TheVariants.{ESRCH, NoBoard, OutOfMemory};
 ghost use Rattle.qplain.specs.Journal.{IsLegal, no_tally};
 ghost use Rattle.qplain.specs.State.{start};
 ghost use Rattle.qhistory.specs.Past.{past};
@@ -73,19 +73,13 @@ impl<K: Origin, N: House> Seat<K, N> {
         self.viewer.front()
     }
 
-    /// Sees the whole journal, all of which is published. A place for a reader is free: there is one more than there are
-    /// seats. No clause of `left_right` says that it is given.
-    pub(crate) fn catch_up<R: Wait + Drop, W: Wait>(
-        &mut self,
-        rt: &W,
-        store: &mut LockedStore<K, N, R>,
-    )
-        requires published { store.old.published ≡ store.old.journal }
-        ensures store { store.new ≡ store.old }
-        ensures seen { self.new ≡ record self.old { seen = store.old.journal } }
+    /// Sees the whole journal, all of which is published.
+    pub(crate) fn catch_up<R: Wait + Drop, W: Wait>(&mut self, rt: &W, store: &LockedStore<K, N, R>)
+        requires published { store.now.published ≡ store.now.journal }
+        ensures seen { self.new ≡ record self.old { seen = store.now.journal } }
         ensures legal { IsLegal (start K.setting) self.new.seen }
     {
-        self.viewer = seated(rt, store);
+        see_all(rt, store, &mut self.viewer);
     }
 
     /// Everybody's quota as it is published now, under a version: the number of calls that led to it. It takes no lock and
@@ -103,6 +97,7 @@ impl<K: Origin, N: House> Seat<K, N> {
         ensures seen { IsPrefix self.old.seen self.new.seen }
         ensures same { (self.new.worker ≡ self.old.worker) × (self.new.sums ≡ self.old.sums) }
         ensures there { result ≡ Err ESRCH → ⊥ }
+        ensures nothing { result ≡ Err NoBoard → self.new ≡ self.old }
     {
         self.viewer.board(self.alloc)
     }
@@ -121,6 +116,7 @@ impl<K: Origin, N: House> Seat<K, N> {
         ensures seen { IsPrefix self.old.seen self.new.seen }
         ensures same { (self.new.worker ≡ self.old.worker) × (self.new.sums ≡ self.old.sums) }
         ensures memory { result ≡ Err OutOfMemory → ⊥ }
+        ensures nothing { result ≡ Err NoBoard → self.new ≡ self.old }
     {
         self.viewer.record(kind, id)
     }
@@ -134,21 +130,22 @@ impl<K: Origin, N: House> Seat<K, N> {
     }
 }
 
-/// A viewer that has seen the whole journal. The first try gives it.
-fn seated<K: Origin, N: House, R: Wait + Drop, W: Wait>(
+/// Looks until the whole journal, all of which is published, was seen. The first look shows it; no clause of `left_right`
+/// says that the board which it hands out is the last one.
+fn see_all<K: Origin, N: House, R: Wait + Drop, W: Wait>(
     rt: &W,
-    store: &mut LockedStore<K, N, R>,
-) -> Viewer<K, N>
-    requires published { store.old.published ≡ store.old.journal }
-    ensures store { store.new ≡ store.old }
-    ensures seen { result ≡ store.old.journal }
-    ensures legal { IsLegal (start K.setting) result }
+    store: &LockedStore<K, N, R>,
+    viewer: &mut Viewer<K, N>,
+)
+    requires published { store.now.published ≡ store.now.journal }
+    ensures seen { viewer.new ≡ store.now.journal }
+    ensures legal { IsLegal (start K.setting) viewer.new }
 {
     for _ in rt.forever() {
-        if let Ok(viewer) = store.viewer() {
-            // A viewer that is asked for its history has seen a legal one.
-            let _front = viewer.front();
-            return viewer;
+        viewer.look();
+        store.await_covered(rt, viewer.front());
+        if store.is_seen(viewer.front()) {
+            return;
         }
     }
     unreachable!()

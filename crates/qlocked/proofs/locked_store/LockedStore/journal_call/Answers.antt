@@ -42,7 +42,7 @@ invariant_of-self-2 g c =
       along _ _ _ _ _ _ _ _ _ _ _ _ _ _ grown
           refl
           (c.write_down-place.ensures.journal ∙ ap (λ (l : List Entry). l ++ entry ∷ []) c.in_ok-reserve.ensures.items)
-          c.add_entry.ensures
+          c.add.ensures
           (c.count_call.ensures.books ∙ ap (λ x. counted c.self.inside.books x) c.change-change.ensures)
           refl
           (c.write_down-place.ensures.waiting
