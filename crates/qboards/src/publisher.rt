@@ -64,20 +64,15 @@ impl<K: Origin, N: House, R: Wait + Drop> Model for Publisher<K, N, R> {
 
 /// Puts a batch into the log of `left_right`, which has room for it: the one batch that may stand there beside it has
 /// made room for two. No clause says so.
-fn put<K: Origin, N: House, R: Wait>(
-    writer: BoardWriter<K, N>,
-    rt: &R,
-    batch: Batch,
-) -> BoardWriter<K, N>
-    requires { drop writer.behind writer.log.items ≡ [] }
-    ensures desk { result.desk ≡ writer.desk }
-    ensures pending { drop result.behind result.log.items ≡ batch ∷ [] }
+fn put<K: Origin, N: House, R: Wait>(writer: &mut BoardWriter<K, N>, rt: &R, batch: Batch)
+    requires { drop writer.old.behind writer.old.log.items ≡ [] }
+    ensures desk { writer.new.desk ≡ writer.old.desk }
+    ensures pending { drop writer.new.behind writer.new.log.items ≡ batch ∷ [] }
 {
-    let mut writer = writer;
     let mut batch = batch;
     for _ in rt.forever() {
         match writer.append(batch) {
-            Ok(()) => return writer,
+            Ok(()) => return,
             Err(back) => batch = back,
         }
     }
@@ -105,29 +100,7 @@ fn show<K: Origin, N: House, R: Wait>(
 }
 
 /// Publishes a batch, with which the board is that of the batch's history.
-fn publish_next<K: Origin, N: House, R: Wait>(
-    writer: BoardWriter<K, N>,
-    rt: &R,
-    batch: Batch,
-) -> (BoardWriter<K, N>, ())
-    requires none { drop writer.behind writer.log.items ≡ [] }
-    requires book { batch.front.book ≡ N.names.book }
-    requires goes_on { IsPrefix writer.desk.shown.value.front.log batch.front.log }
-    requires legal { IsLegal (start K.setting) batch.front.log }
-    requires waits { fold changed_by (board_in writer.desk.shown.value) batch.changes.items
-        ≡ shown_of (start K.setting) batch.front.log }
-    ensures none { drop result.0.behind result.0.log.items ≡ [] }
-    ensures seen { (known result.0.desk.place).seen ≡ batch.front.log }
-    ensures front { result.0.desk.shown.value.front ≡ batch.front }
-    ensures shown { board_in result.0.desk.shown.value ≡ shown_of (start K.setting) batch.front.log }
-{
-    let front = batch.front.again();
-    let writer = put::<K, N, R>(writer, rt, batch);
-    (show::<K, N, R>(writer, rt, &front), ())
-}
-
-/// The same in place.
-fn publish_here<K: Origin, N: House, R: Wait>(rt: &R, writer: &mut BoardWriter<K, N>, batch: Batch)
+fn publish_batch<K: Origin, N: House, R: Wait>(rt: &R, writer: &mut BoardWriter<K, N>, batch: Batch)
     requires none { drop writer.old.behind writer.old.log.items ≡ [] }
     requires book { batch.front.book ≡ N.names.book }
     requires goes_on { IsPrefix writer.old.desk.shown.value.front.log batch.front.log }
@@ -139,8 +112,10 @@ fn publish_here<K: Origin, N: House, R: Wait>(rt: &R, writer: &mut BoardWriter<K
     ensures front { writer.new.desk.shown.value.front ≡ batch.front }
     ensures shown { board_in writer.new.desk.shown.value ≡ shown_of (start K.setting) batch.front.log }
 {
-    replace_with(writer, (rt, batch), |writer, (rt, batch)| {
-        publish_next::<K, N, R>(writer, rt, batch)
+    let front = batch.front.again();
+    put::<K, N, R>(writer, rt, batch);
+    replace_with(writer, (rt, &front), |writer, (rt, front)| {
+        (show::<K, N, R>(writer, rt, front), ())
     });
 }
 
@@ -231,7 +206,7 @@ impl<K: Origin, N: House, R: Wait + Drop> Publisher<K, N, R> {
         ensures { self.new ≡ front.log }
     {
         let batch = Batch { changes, front };
-        publish_here(&self.pen.rt, &mut self.pen.writer, batch);
+        publish_batch(&self.pen.rt, &mut self.pen.writer, batch);
     }
 
     /// A reader that has just sat down, and was told of what is published. Err where no place is free or memory is

@@ -1,10 +1,11 @@
 //! How a shared store is made: first a store, then its name, then its seats.
-ghost use Rattle.std.specs.Prelude.{◌≡◌, ◌<◌, ◌≤◌, ◌⊎◌, [], length, IfOk, IfErr};
+ghost use Rattle.std.specs.Prelude.{◌≡◌, ◌<◌, ◌≤◌, ◌⊎◌, [], length, Err, IfOk, IfErr};
 ghost use Rattle.qplain.specs.State.{start};
 ghost use Rattle.qplain.specs.Journal.{board_of, no_tally};
 ghost use Rattle.qboards.specs.Boards.{shown_of};
 ghost use Rattle.qhistory.specs.Past.{past};
 ghost use Rattle.qshare.specs.Seats.{seats_of};
+ghost use Rattle.qshare.specs.declared.share_fault.ShareFault.TheVariants.{Seats};
 
 use crate::seat::Seat;
 use crate::share_fault::ShareFault;
@@ -86,6 +87,7 @@ fn new_seats<K: Origin, N: House, R: Wait + Drop>(
     requires store { (store.old.journal ≡ []) × (store.old.published ≡ []) }
     requires all { all ≡ record { sums = no_tally; parts = count } }
     ensures seats { IfOk result (λ seats. seats.items ≡ seats_of count) }
+    ensures few { result ≡ Err Seats → ⊥ }
 {
     let mut seats = Vec::new(alloc);
     for before in 0..count {
@@ -129,6 +131,7 @@ impl<K: Origin> Opened<K> {
     ) -> Result<(Shared<K, N, R>, Vec<Seat<K, N>>), ShareFault>
         requires { self ≡ N.names }
         ensures seats { IfOk result (λ r. r.1.items ≡ seats_of N.names.ledgers.parts) }
+        ensures few { result ≡ Err Seats → ⊥ }
     {
         let Opened {
             alloc,
