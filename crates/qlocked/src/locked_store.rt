@@ -55,7 +55,6 @@ impl<K: Origin, N: House, R: Wait + Drop> Model for LockedStore<K, N, R> {
 }
 
 /// Journals an entry, for which there is room, and lets what it does to the board wait. The place is told.
-#[inline(never)]
 fn write_down(
     journal: &mut Vec<Entry>,
     waiting: &mut Vec<BoardChange>,

@@ -39,7 +39,6 @@ impl Store {
     /// What `commit` of a ready call will do to a board. It takes no memory. O(1).
     ///
     /// The caller owes that this store had no other `ready`, `apply` or `commit` since.
-    #[inline(never)]
     pub fn effect(&self, ready: &Ready) -> Effect
         requires { IsReady self.now ready.now }
         ensures { IsEffectOf self.now.state result (committed self.now ready.now).0 }
