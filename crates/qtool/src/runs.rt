@@ -1,11 +1,13 @@
 //! Runs of the scripts of a command line, and replays of a journal.
-ghost use Rattle.std.specs.Prelude.{◌≡◌, ◌<◌, ◌≤◌, ℕ, List, Err, IfOk, length};
+ghost use Rattle.std.specs.Prelude.{◌≡◌, ◌<◌, ◌≤◌, ℕ, List, Err, IfErr, IfOk, length};
 ghost use Rattle.qplain.specs.declared.line.Line.{Line};
 ghost use Rattle.qplain.specs.State.{start};
 ghost use Rattle.qrun.specs.declared.outcome.Outcome.{Outcome};
 ghost use Rattle.qrun.specs.declared.replay_fault.ReplayFault.TheVariants.{Mismatch};
 ghost use Rattle.qrun.specs.Replays.{GivesBack, IsMismatch, IsReplayOf};
 ghost use Rattle.qrun.specs.Runs.{IsOutcomeOf};
+ghost use Rattle.qworkers.specs.RunFaults.{NamesOneOf};
+ghost use Rattle.qworkers.specs.Watching.{seats_for};
 ghost use Rattle.qtool.specs.Jobs.{HasSeats};
 
 use crate::{Config, Journal, Options, Outcome, ReplayFault, RunFault};
@@ -21,9 +23,9 @@ use std::thread::Threads;
 ///
 /// `options` says how many boards one more thread takes meanwhile, and how many lines a worker makes under one lock.
 ///
-/// The caller owes 1 to 16 scripts, and with boards at most 15. The hashes of names begin at `seed`, which may be any number; nothing of the outcome
-/// depends on it. O(lines), and what each call takes. After an Err all workers that were started have been joined, and
-/// the store is given up.
+/// The caller owes 1 to 16 scripts, and with boards at most 15. The hashes of names begin at `seed`, which may be any
+/// number; nothing of the outcome depends on it. O(lines), and what each call takes. After an Err all workers that were
+/// started have been joined, and the store is given up; NotStarted names one of the threads that the run would have.
 pub fn run<R: Threads + Wait + Sync>(
     rt: &R,
     alloc: Global,
@@ -36,6 +38,8 @@ pub fn run<R: Threads + Wait + Sync>(
     requires seats { HasSeats (length scripts.items) options.boards }
     requires batch { (1 ≤ options.batch) × (options.batch ≤ 64) }
     ensures outcome { IfOk result (IsOutcomeOf config.setup scripts.items) }
+    ensures looks { IfOk result (λ o. length o.boards ≡ options.boards) }
+    ensures thread { IfErr result (NamesOneOf (seats_for (length scripts.items) options.boards)) }
 {
     run_with(rt, alloc, config.setup, scripts, options, seed, &NoGate)
 }

@@ -1,4 +1,4 @@
--- What looks at the boards of a run are, beside its workers. No public clause cites this module.
+-- What looks at the boards of a run are, beside its workers. Public clauses cite `seats_for` alone.
 use Rattle.std.specs.Prelude.{◌≡◌, ℕ, ◌+◌, ◌==◌, List, [], ◌∷◌, length, if◌then◌else◌, Option, Some, None, Result}
 use Rattle.qplain.specs.declared.board.Board.{Board}
 use Rattle.qplain.specs.declared.look_fault.LookFault.{LookFault}

@@ -1,8 +1,9 @@
 //! All threads of a run: one for each worker, and one that looks at the boards.
-ghost use Rattle.std.specs.Prelude.{◌≡◌, ◌<◌, ◌≤◌, length, IfOk};
+ghost use Rattle.std.specs.Prelude.{◌≡◌, ◌<◌, ◌≤◌, ℕ, length, IfErr, IfOk, IfSome};
 ghost use denote.Param.Send.{IsSend, IsSync};
 ghost use Rattle.qshare.specs.Seats.{seats_of};
 ghost use Rattle.qshare.specs.declared.held.TheConstants.{MAX_BATCH};
+ghost use Rattle.qworkers.specs.RunFaults.{NamesOneOf};
 ghost use Rattle.qworkers.specs.Watching.{IsWatchOf};
 ghost use Rattle.qworkers.specs.Work.{AreWorks};
 
@@ -50,6 +51,8 @@ where
     requires batch { (0 < options.batch) × (options.batch ≤ MAX_BATCH) }
     ensures works { IfOk result (λ p. AreWorks scripts.now p.works.items) }
     ensures watch { IfOk result (λ p. IsWatchOf options.boards watcher p.watch) }
+    ensures thread { (n : ℕ) → length scripts.now ≤ n → IfSome watcher (λ s. (0 < s.worker) × (s.worker ≤ n))
+        → IfErr result (NamesOneOf n) }
 {
     thread::scope(
         thread::scope_env(),
@@ -61,6 +64,8 @@ where
             requires batch { (0 < options.batch) × (options.batch ≤ MAX_BATCH) }
             ensures works { IfOk result (λ p. AreWorks scripts.entry.now p.works.items) }
             ensures watch { IfOk result (λ p. IsWatchOf options.boards watcher p.watch) }
+            ensures thread { (n : ℕ) → length scripts.entry.now ≤ n → IfSome watcher (λ s. (0 < s.worker) × (s.worker ≤ n))
+                → IfErr result (NamesOneOf n) }
         {
             let mut running = Vec::with_capacity(alloc, seats.len())?;
             for seat in seats {

@@ -1,5 +1,5 @@
 //! Runs: scripts played by workers on a shared store of their own.
-ghost use Rattle.std.specs.Prelude.{◌≡◌, ◌<◌, ◌≤◌, ◌^◌, length, IfOk, OnOk};
+ghost use Rattle.std.specs.Prelude.{◌≡◌, ◌<◌, ◌≤◌, ◌^◌, length, IfErr, IfOk, OnOk};
 ghost use Rattle.qplain.specs.Journal.{IsLegal, play, tally_of};
 ghost use Rattle.qplain.specs.State.{start};
 ghost use Rattle.qjournal.specs.declared.journal.TheConstants.{MAX_ENTRIES};
@@ -8,6 +8,7 @@ ghost use Rattle.qshare.specs.declared.opening.TheConstants.{MAX_SEATS};
 ghost use Rattle.qgather.specs.Gathered.{IsGathered};
 ghost use Rattle.qcheck.specs.LawfulBoards.{AreLawful, boards_in};
 ghost use Rattle.qrun.specs.Runs.{IsOutcomeOf};
+ghost use Rattle.qworkers.specs.RunFaults.{NamesOneOf};
 ghost use Rattle.qworkers.specs.Told.{AreToldOf, lines_of};
 ghost use Rattle.qworkers.specs.Watching.{seats_for};
 
@@ -32,7 +33,8 @@ use std::thread::Threads;
 
 /// Holds what looks were given against the journal. Where there was none, nothing is played again.
 fn hold_looks(alloc: Global, ended: &Ended, looks: &[Look], seed: u64) -> Result<(), RunFault>
-    ensures { OnOk result (AreLawful (start ended.now.setup) ended.now.journal.items (boards_in looks.now)) }
+    ensures lawful { OnOk result (AreLawful (start ended.now.setup) ended.now.journal.items (boards_in looks.now)) }
+    ensures thread { IfErr result (NamesOneOf 0) }
 {
     if looks.is_empty() {
         return Ok(());
@@ -61,6 +63,7 @@ fn outcome_from(
     requires lawful { AreLawful (start ended.setup) ended.journal.items (boards_in looks.items) }
     ensures outcome { IfOk result (IsOutcomeOf ended.setup (lines_of transcripts.items)) }
     ensures looks { IfOk result (λ o. o.boards ≡ looks.items) }
+    ensures thread { IfErr result (NamesOneOf 0) }
 {
     let workers = transcripts.len() as u64;
     let Ended {
@@ -90,6 +93,7 @@ fn conclude(
     requires told { AreToldOf ended.journal.items transcripts.items }
     ensures outcome { IfOk result (IsOutcomeOf ended.setup (lines_of transcripts.items)) }
     ensures looks { IfOk result (λ o. o.boards ≡ looks.items) }
+    ensures thread { IfErr result (NamesOneOf 0) }
 {
     if let Err(mismatch) = gather(&ended.journal, &transcripts) {
         return Err(RunFault::Mismatch(mismatch.place));
@@ -99,7 +103,9 @@ fn conclude(
 }
 
 /// Why a run has no outcome whose store was not made.
-fn fault_of(fault: ShareFault) -> RunFault {
+fn fault_of(fault: ShareFault) -> RunFault
+    ensures { NamesOneOf 0 result }
+{
     match fault {
         ShareFault::NoReader => RunFault::NoReader,
         ShareFault::Seats | ShareFault::OutOfMemory => RunFault::Memory,
@@ -127,6 +133,7 @@ where
     requires batch { (0 < options.batch) × (options.batch ≤ MAX_BATCH) }
     ensures outcome { IfOk result (IsOutcomeOf K.setting scripts.items) }
     ensures looks { IfOk result (λ o. length o.boards ≡ options.boards) }
+    ensures thread { IfErr result (NamesOneOf (seats_for (length scripts.items) options.boards)) }
 {
     let (shared, seats) = match opened.named::<N, &R>(rt) {
         Ok(made) => made,
@@ -175,6 +182,7 @@ where
     requires batch { (0 < options.batch) × (options.batch ≤ MAX_BATCH) }
     ensures outcome { IfOk result (IsOutcomeOf K.setting scripts.items) }
     ensures looks { IfOk result (λ o. length o.boards ≡ options.boards) }
+    ensures thread { IfErr result (NamesOneOf (seats_for (length scripts.items) options.boards)) }
 {
     let seats = seats_for(scripts.len(), options.boards);
     match Opened::<K>::new(alloc, setup, seats, seed) {
@@ -213,6 +221,7 @@ pub fn run_with<G: Gate + Sync, R: Threads + Wait + Sync>(
     requires batch { (0 < options.batch) × (options.batch ≤ MAX_BATCH) }
     ensures outcome { IfOk result (IsOutcomeOf setup scripts.items) }
     ensures looks { IfOk result (λ o. length o.boards ≡ options.boards) }
+    ensures thread { IfErr result (NamesOneOf (seats_for (length scripts.items) options.boards)) }
 {
     run_from::<Brand, G, R>(rt, alloc, setup, scripts, options, seed, gate)
 }
@@ -226,7 +235,8 @@ pub fn run<R: Threads + Wait + Sync>(
     seed: u64,
 ) -> Result<Outcome, RunFault>
     requires few { (0 < length scripts.items) × (length scripts.items ≤ MAX_SEATS) }
-    ensures { IfOk result (IsOutcomeOf setup scripts.items) }
+    ensures outcome { IfOk result (IsOutcomeOf setup scripts.items) }
+    ensures thread { IfErr result (NamesOneOf (length scripts.items)) }
 {
     run_with(rt, alloc, setup, scripts, Options::plain(), seed, &NoGate)
 }

@@ -1,6 +1,7 @@
 //! Who looks at the boards of a run: a seat, and the thread in which it looks.
-ghost use Rattle.std.specs.Prelude.{◌≡◌, ◌≤◌, vec_len, vec_capacity, IfOk};
+ghost use Rattle.std.specs.Prelude.{◌≡◌, ◌<◌, ◌≤◌, ℕ, vec_len, vec_capacity, IfErr, IfOk, IfSome};
 ghost use Rattle.qshare.specs.Seats.{seats_of};
+ghost use Rattle.qworkers.specs.RunFaults.{NamesOneOf};
 ghost use Rattle.qworkers.specs.Watching.{IsWatch, IsWatchOf, seats_for, watcher_for};
 
 use crate::run_fault::RunFault;
@@ -88,7 +89,8 @@ where
     K: Origin + Send + Sync + 'static,
     N: House + Send + Sync + 'static,
     R: Threads,
-    ensures { IfOk result (IsWatch seat.worker boards) }
+    ensures watch { IfOk result (IsWatch seat.worker boards) }
+    ensures thread { (n : ℕ) → 0 < seat.worker → seat.worker ≤ n → IfErr result (NamesOneOf n) }
 {
     let looks = Vec::with_capacity(alloc, boards as usize)?;
     let watches = Watches {
@@ -112,7 +114,8 @@ where
     K: Origin + Send + Sync + 'static,
     N: House + Send + Sync + 'static,
     R: Threads,
-    ensures { IfOk result (IsWatchOf boards watcher) }
+    ensures watch { IfOk result (IsWatchOf boards watcher) }
+    ensures thread { (n : ℕ) → IfSome watcher (λ s. (0 < s.worker) × (s.worker ≤ n)) → IfErr result (NamesOneOf n) }
 {
     match watcher {
         Some(seat) => Ok(Some(look_beside(rt, alloc, seat, boards)?)),

@@ -10,4 +10,4 @@ returns-then-is_empty c =
     let S = start c.args.ended.now.setup in
     let journal = c.args.ended.now.journal.items in
     let none : c.args.looks.now ≡ [] = nil_from_length c.args.looks.now (grind (arith, tests, c.is_empty.ensures, c.if-is_empty.true)) in
-    subst (λ looks. AreLawful S journal (boards_in looks)) (sym none) (no_boards S journal)
+    record { lawful = subst (λ looks. AreLawful S journal (boards_in looks)) (sym none) (no_boards S journal); thread = tt }

@@ -1,9 +1,10 @@
-use Rattle.std.proofs.Common.{◌≡◌, ◌++◌, true, false, All, IfOk, length, ap, subst, sym, ◌∙◌}
+use Rattle.std.proofs.Common.{◌≡◌, ◌++◌, true, false, All, IfOk, IfSome, ◌<◌, ◌≤◌, length, ap, subst, sym, ◌∙◌}
 use mathlib.Core.List.{IsPrefix}
 use Rattle.qhistory.specs.Shares.{AreThere, Shared}
 use Rattle.qrun.specs.Runs.{IsOutcomeOf}
 use Rattle.qworkers.specs.Told.{AreTold, lines_of}
 use Rattle.qworkers.specs.Watching.{IsWatchOf, seats_for, shares_in, watcher_for}
+use Rattle.qworkers.proofs.Naming.{names_none, names_on, scripts_fit, watcher_fits}
 use Rattle.qworkers.proofs.Told.{all_there, as_many, lines_told}
 use Rattle.qworkers.proofs.Watched.{all_front, all_seats_there, as_many_looks, looks_counted}
 use Rattle.qworkers.proofs.runs.run_named.Goals as goal
@@ -60,3 +61,17 @@ returns-clause-looks g c =
     subst (λ o. IsWatchOf boards o watch) seated c.in_ok-played.ensures.watch in
     looks_counted boards c.in_ok-shares.looks.items c.conclude.result
     (ap length c.in_ok-shares.ensures.looks ∙ as_many_looks (length scripts) boards watch looked) c.conclude.ensures.looks
+
+pub returns-in_err-played-clause-thread : goal.returns-in_err-played-clause-thread
+returns-in_err-played-clause-thread g c =
+    let scripts = c.args.scripts.items in
+    let boards = c.args.options.boards in
+    let seats = seats_for (length scripts) boards in
+    let seated : c.part_seats-seats.result.1 ≡ watcher_for (length scripts) boards =
+    c.part_seats-seats.ensures.watcher ∙ ap (λ n. watcher_for n boards) (c.len.ensures ∙ c.args.scripts.ok.0) in
+    let watcher = subst (λ o. IfSome o (λ s. (0 < s.worker) × (s.worker ≤ seats))) (sym seated) (watcher_fits (length scripts) boards) in
+    let many : length c.deref.result.now ≤ seats = subst (λ xs. length xs ≤ seats) (sym c.deref.ensures.value) (scripts_fit (length scripts) boards) in
+    names_on seats c.from_residual.result c.in_err-played.field-0.0 c.from_residual.ensures.1 (c.in_err-played.ensures.thread seats many watcher)
+
+pub returns-clause-thread : goal.returns-clause-thread
+returns-clause-thread g c = names_none (seats_for (length c.args.scripts.items) c.args.options.boards) c.conclude.result c.conclude.ensures.thread

@@ -3,6 +3,7 @@ use Rattle.std.proofs.lemmas.List.{get_or_append_left, get_or_default, get_or_pu
 use Rattle.std.specs.Vec.Iter.{into_iter_items}
 use Rattle.qworkers.specs.Watching.{IsWatchOf}
 use Rattle.qworkers.specs.Work.{IsWork}
+use Rattle.qworkers.proofs.Naming.{names_seat}
 use Rattle.qworkers.proofs.Seating.{seat_next, seats_ended}
 use Rattle.qworkers.proofs.crew.fn.play_all.scope.Goals as goal
 
@@ -68,5 +69,18 @@ returns-in-Ok-join_promised g c =
             subst (λ n. IsWork (k + 1) n (slice_index_or works.items k d)) many
             (subst (λ m. IsWork m h.promise.lines (slice_index_or works.items k d)) worker at.1.kept);
       };
-      watch = subst (λ w. IsWatchOf c.captures.options-boards w c.in_ok-watch.watch) c.loop-seat.invariant.3 c.in_ok-watch.ensures;
+      watch = subst (λ w. IsWatchOf c.captures.options-boards w c.in_ok-watch.watch) c.loop-seat.invariant.3 c.in_ok-watch.ensures.watch;
+      thread = λ n few watcher. tt;
+    }
+
+pub returns-in-Err : goal.returns-in-Err
+returns-in-Err g c =
+    let seated = c.loop-seat.invariant.0 in
+    let next = seat_next (length c.captures.scripts.now) seated.0 (into_iter_items c.next.new.self) c.in-Some.seat
+    (ap (λ xs. seated.0 ++ xs) (sym c.in-Some.ensures.steps.0) ∙ seated.1) in
+    record {
+      works = tt;
+      watch = tt;
+      thread = λ n few watcher.
+          names_seat n (length c.captures.scripts.now) (length seated.0) c.worker.result (c.worker.ensures ∙ next.0) next.1 few;
     }
