@@ -91,10 +91,7 @@ fn look<K: Origin, N: House>(
 }
 
 /// Sees the history of the board that is handed out, where one is.
-fn see<K: Origin, N: House>(
-    reader: BoardReader<K, N>,
-    front: Front,
-) -> (BoardReader<K, N>, Front)
+fn see<K: Origin, N: House>(reader: BoardReader<K, N>, front: Front) -> (BoardReader<K, N>, Front)
     requires seen { (known reader.place).seen ≡ front.log }
     requires book { front.book ≡ N.names.book }
     requires legal { IsLegal (start K.setting) front.log }
@@ -179,7 +176,11 @@ impl<K: Origin, N: House> Viewer<K, N> {
         ensures { IsPrefix self.old self.new }
     {
         let front = self.front.again();
-        self.front = replace_with(&mut self.reader, front, |reader, front| see::<K, N>(reader, front));
+        self.front = replace_with(
+            &mut self.reader,
+            front,
+            |reader, front| see::<K, N>(reader, front),
+        );
     }
 
     /// The board that is published now. It takes no lock, and waits for nobody.

@@ -64,8 +64,8 @@ where
             requires batch { (0 < options.batch) × (options.batch ≤ MAX_BATCH) }
             ensures works { IfOk result (λ p. AreWorks scripts.entry.now p.works.items) }
             ensures watch { IfOk result (λ p. IsWatchOf options.boards watcher p.watch) }
-            ensures thread { (n : ℕ) → length scripts.entry.now ≤ n → IfSome watcher (λ s. (0 < s.worker) × (s.worker ≤ n))
-                → IfErr result (NamesOneOf n) }
+            ensures thread { (n : ℕ) → length scripts.entry.now ≤ n
+                → IfSome watcher (λ s. (0 < s.worker) × (s.worker ≤ n)) → IfErr result (NamesOneOf n) }
         {
             let mut running = Vec::with_capacity(alloc, seats.len())?;
             for seat in seats {
