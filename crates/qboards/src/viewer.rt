@@ -15,7 +15,7 @@ use crate::rule::{Publishing, Sees, View};
 use crate::sheet::Sheet;
 use core::mem::replace_with;
 use left_right::reader::Reader;
-use qhistory::{Front, House, Origin};
+use qhistory::{Front, House, Origin, Whole};
 use qplain::{Board, LookFault, NoMemory};
 use qrules::{BoardRow, Kind};
 use std::alloc::Global;
@@ -145,6 +145,21 @@ fn look_up<K: Origin, N: House>(
     }
 }
 
+/// Looks until all of this history was seen.
+fn look_until<K: Origin, N: House, W: Wait>(rt: &W, viewer: &mut Viewer<K, N>, whole: &Whole)
+    requires { whole.now.book ≡ N.names.book }
+    ensures { viewer.new ≡ whole.now.log }
+{
+    for _ in rt.forever() {
+        viewer.look();
+        whole.await_seen(rt, viewer.front());
+        if whole.is_all(viewer.front()) {
+            return;
+        }
+    }
+    unreachable!()
+}
+
 impl<K: Origin, N: House> Viewer<K, N> {
     /// A reader that has seen all of this history, whose board is published. Err where no place is free or memory is
     /// wanting; then nothing was made.
@@ -171,8 +186,8 @@ impl<K: Origin, N: House> Viewer<K, N> {
         &self.front
     }
 
-    /// Sees the history of the board that is published now, where one is handed out. It takes no lock, and waits for nobody.
-    pub fn look(&mut self)
+    /// Sees the history of the board that is published now, where one is handed out.
+    fn look(&mut self)
         ensures { IsPrefix self.old self.new }
     {
         let front = self.front.again();
@@ -181,6 +196,15 @@ impl<K: Origin, N: House> Viewer<K, N> {
             front,
             |reader, front| see::<K, N>(reader, front),
         );
+    }
+
+    /// Sees all of this history, whose board is published. The first look shows it; no clause of `left_right` says that
+    /// the board which it hands out is the last one, so it looks until it is.
+    pub fn see_all<W: Wait>(&mut self, rt: &W, whole: &Whole)
+        requires { whole.now.book ≡ N.names.book }
+        ensures { self.new ≡ whole.now.log }
+    {
+        look_until(rt, self, whole)
     }
 
     /// The board that is published now. It takes no lock, and waits for nobody.

@@ -1,6 +1,5 @@
 //! The value under a store's lock.
 ghost use Rattle.std.specs.Prelude.{◌≡◌, ◌<◌, ◌≤◌, ◌++◌, ◌∷◌, ◌+◌, ◌↔◌, [], length, fold, vec_len, vec_capacity, Err, All, IfOk, OnErr};
-ghost use Rattle.std.specs.Bool.{Decides};
 ghost use mathlib.Core.List.{IsPrefix};
 ghost use Rattle.qplain.specs.Journal.{IsLegal, change_of, counted, entry_of, no_tally, play, tally_of};
 ghost use Rattle.qplain.specs.State.{start};
@@ -229,12 +228,12 @@ impl<K: Origin, N: House, R: Wait + Drop> LockedStore<K, N, R> {
         self.publisher.publish(changes, self.whole.front());
     }
 
-    /// Whether a seat has seen the whole journal.
-    pub fn is_seen(&self, front: &Front) -> bool
-        requires { IsPrefix front.now.log self.now.journal }
-        ensures { Decides result (front.now.log ≡ self.now.journal) }
+    /// Lets a viewer see the whole journal, where all of it is published.
+    pub fn show_all<W: Wait>(&self, rt: &W, viewer: &mut Viewer<K, N>)
+        requires { self.now.published ≡ self.now.journal }
+        ensures { viewer.new ≡ self.now.journal }
     {
-        self.whole.is_all(front)
+        viewer.see_all(rt, &self.whole)
     }
 
     /// A viewer that has seen the whole journal, where all of it is published. Err, where no place for a reader is free or
