@@ -198,8 +198,8 @@ impl<K: Origin, N: House> Viewer<K, N> {
         );
     }
 
-    /// Sees all of this history, whose board is published. The first look shows it; no clause of `left_right` says that
-    /// the board which it hands out is the last one, so it looks until it is.
+    /// Sees all of this history. Its board is published: the first look shows it, but no clause of `left_right` says that
+    /// the board which it hands out is the last one, so it looks until it is. Where it is not published it waits for ever.
     pub fn see_all<W: Wait>(&mut self, rt: &W, whole: &Whole)
         requires { whole.now.book ≡ N.names.book }
         ensures { self.new ≡ whole.now.log }

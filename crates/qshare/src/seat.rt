@@ -90,7 +90,7 @@ impl<K: Origin, N: House> Seat<K, N> {
     /// The board is that of a legal history, which begins with all that the seat had seen, and is seen then. It is whole:
     /// users' blocks add up to the total and groups' too, inodes likewise, totals are within the setup's bounds, and a
     /// grace end stands exactly where use is over that soft limit. An Err is NoBoard where no board was handed out, told
-    /// first, or OutOfMemory; the seat is as it was but for what it has seen.
+    /// first, after which the seat is wholly as it was, or OutOfMemory, after which it is so but for what it has seen.
     pub fn board(&mut self) -> Result<Board, LookFault>
         ensures board { IfOk result (λ b. b ≡ shown_of (start K.setting) self.new.seen) }
         ensures version { IfOk result (λ b. length self.old.seen ≤ b.version) }
@@ -107,8 +107,8 @@ impl<K: Origin, N: House> Seat<K, N> {
     /// The quota record of a user or group on the board that is published now, under the board's version. It takes no lock
     /// and no memory, and waits for nobody.
     ///
-    /// An Err is NoBoard where no board was handed out, told first, or ESRCH where it has no such record; the seat is as
-    /// it was but for what it has seen.
+    /// An Err is NoBoard where no board was handed out, told first, after which the seat is wholly as it was, or ESRCH
+    /// where it has no such record, after which it is so but for what it has seen.
     pub fn record(&mut self, kind: Kind, id: u32) -> Result<(u64, BoardRow), LookFault>
         ensures record { IfOk result (IsRecordOf (start K.setting) self.new.seen kind id) }
         ensures version { IfOk result (λ r. length self.old.seen ≤ r.0) }
