@@ -125,7 +125,7 @@ fails-here S journal boards i d b index less is same lawful fails =
 -- ---- looks
 
 -- the boards of looks and of further ones
-boards_in-append : (looks others : List (Result Board LookFault)) → boards_in (looks ++ others) ≡ boards_in looks ++ boards_in others
+pub boards_in-append : (looks others : List (Result Board LookFault)) → boards_in (looks ++ others) ≡ boards_in looks ++ boards_in others
 boards_in-append [] others = refl
 boards_in-append (Ok b ∷ looks) others = ap (λ bs. b ∷ bs) (boards_in-append looks others)
 boards_in-append (Err fault ∷ looks) others = boards_in-append looks others

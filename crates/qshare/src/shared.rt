@@ -1,5 +1,5 @@
 //! A store that many seats share.
-ghost use Rattle.std.specs.Prelude.{◌≡◌, ◌≤◌, length, All, Err, IfOk, IfErr, OnErr};
+ghost use Rattle.std.specs.Prelude.{◌≡◌, ◌<◌, ◌≤◌, length, All, Err, IfOk, IfErr, OnErr};
 ghost use Rattle.std.specs.Result.{IsOk};
 ghost use mathlib.Core.List.{IsPrefix};
 ghost use Rattle.qplain.specs.State.{start};
@@ -46,6 +46,7 @@ fn call_locked<K: Origin, N: House, R: Wait + Drop, W: Wait>(
     ensures legal { IsLegal (start K.setting) seat.new.seen }
     ensures stands { IfOk result (λ r. IsAt seat.new.seen r.place
         (entry_of seat.old.worker (line_of cred.now moment call.now) r.reply)) }
+    ensures later { IfOk result (λ r. length seat.old.seen < r.place) }
     ensures counted { IfOk result (λ r. seat.new.sums ≡ counted seat.old.sums (change_of r.reply)) }
     ensures kept { OnErr result (seat.new.sums ≡ seat.old.sums) }
     ensures worker { seat.new.worker ≡ seat.old.worker }
@@ -71,8 +72,9 @@ impl<K: Origin, N: House, R: Wait + Drop> Shared<K, N, R> {
     /// Makes a call of a seat's worker, which waits for the lock, and journals it.
     ///
     /// The seat has then seen a legal history that begins with all that it had seen and has this call at the receipt's
-    /// place. Err is JournalFull, told first, where the journal has its 65,536 entries, or OutOfMemory; it changes
-    /// nothing, and the call is in no journal. Moments, refusals and costs are those of `Store::ready`.
+    /// place, behind all that it had seen. Err is JournalFull, told first, where the journal has its 65,536 entries, or
+    /// OutOfMemory; it changes nothing, and the call is in no journal. Moments, refusals and costs are those of
+    /// `Store::ready`.
     pub fn call<W: Wait>(
         &self,
         rt: &W,
@@ -85,6 +87,7 @@ impl<K: Origin, N: House, R: Wait + Drop> Shared<K, N, R> {
         ensures legal { IsLegal (start K.setting) seat.new.seen }
         ensures stands { IfOk result (λ r. IsAt seat.new.seen r.place
             (entry_of seat.old.worker (line_of cred.now moment call.now) r.reply)) }
+        ensures later { IfOk result (λ r. length seat.old.seen < r.place) }
         ensures counted { IfOk result (λ r. seat.new.sums ≡ counted seat.old.sums (change_of r.reply)) }
         ensures kept { OnErr result (seat.new.sums ≡ seat.old.sums) }
         ensures worker { seat.new.worker ≡ seat.old.worker }

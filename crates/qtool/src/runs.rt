@@ -6,7 +6,7 @@ ghost use Rattle.qrun.specs.declared.outcome.Outcome.{Outcome};
 ghost use Rattle.qrun.specs.declared.replay_fault.ReplayFault.TheVariants.{Mismatch};
 ghost use Rattle.qrun.specs.Replays.{GivesBack, IsMismatch, IsReplayOf};
 ghost use Rattle.qrun.specs.Runs.{IsOutcomeOf};
-ghost use Rattle.qworkers.specs.RunFaults.{NamesOneOf};
+ghost use Rattle.qworkers.specs.RunFaults.{IsFaultOf};
 ghost use Rattle.qworkers.specs.Watching.{seats_for};
 ghost use Rattle.qtool.specs.Jobs.{HasSeats};
 
@@ -39,7 +39,7 @@ pub fn run<R: Threads + Wait + Sync>(
     requires batch { (1 ≤ options.batch) × (options.batch ≤ 64) }
     ensures outcome { IfOk result (IsOutcomeOf config.setup scripts.items) }
     ensures looks { IfOk result (λ o. length o.boards ≡ options.boards) }
-    ensures thread { IfErr result (NamesOneOf (seats_for (length scripts.items) options.boards)) }
+    ensures fault { IfErr result (IsFaultOf (seats_for (length scripts.items) options.boards)) }
 {
     run_with(rt, alloc, config.setup, scripts, options, seed, &NoGate)
 }

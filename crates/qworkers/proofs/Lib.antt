@@ -1,8 +1,11 @@
--- One more line of a worker's script, transcripts put together, seats by their places, the watcher's share, and the
--- threads that faults name.
+-- What stands among other things in order, a worker's own entries, one more line of its script, transcripts put together,
+-- receipts counted, seats by their places, the watcher's share, and what faults tell.
+pub mod Subsequences
+pub mod Owning
 pub mod Working
 pub mod Told
 pub mod ToldSoFar
+pub mod Counting
 pub mod Seating
 pub mod Watched
 pub mod Naming

@@ -19,7 +19,7 @@ seat_is (suc n) k d less =
 
 -- the seat behind these
 pub seat_next : (n : ℕ) (before rest : List Seated) (seat : Seated) → before ++ seat ∷ rest ≡ seats_of n
-    → (seat.worker ≡ length before + 1) × (length before < n)
+    → (seat ≡ new_seat (length before + 1)) × (length before < n)
 seat_next n before rest seat parts =
     let long : length (before ++ seat ∷ rest) ≡ length before + suc (length rest) = length-append before (seat ∷ rest) in
     let many : length (before ++ seat ∷ rest) ≡ n = ap length parts ∙ seats_many n in
@@ -27,7 +27,7 @@ seat_next n before rest seat parts =
     let here : slice_index_or (before ++ seat ∷ rest) (length before) seat ≡ seat = get_or_at before seat rest seat (length before) refl in
     let there : slice_index_or (before ++ seat ∷ rest) (length before) seat ≡ new_seat (length before + 1) =
     ap (λ xs. slice_index_or xs (length before) seat) parts ∙ seat_is n (length before) seat low in
-    (ap (λ s. s.worker) (sym here ∙ there), low)
+    (sym here ∙ there, low)
 
 -- the last seat, and those before it
 pub last_seat : (n len : ℕ) (all : List Seated) (d : Seated) → all ≡ seats_of (n + 1) → len ≡ length all

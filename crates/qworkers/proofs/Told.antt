@@ -109,8 +109,8 @@ transcripts_from worker (lines ∷ scripts) (s ∷ shares) (t ∷ ts) journal to
         lines_are = one.lines_are;
         each = one.work.each;
         own = rw (sym one.worker_is, sym one.lines_are) mine;
-        full = full_of journal s.seen t.answers (All-head (λ (s : Shared). IsPrefix s.seen journal) s shares seen) few one.work.full;
-        first = one.work.first;
+        full = full_of journal s.seen t.answers (All-head (λ (s : Shared). IsPrefix s.seen journal) s shares seen) few one.work.are.full;
+        first = one.work.are.first;
       },
       transcripts_from (worker + 1) scripts shares ts journal told.1 (All-tail (λ (s : Shared). IsPrefix s.seen journal) s shares seen) few
           (All-tail (λ (t : Transcript). journaled_lines t.worker t.lines t.answers ≡ entries_of journal t.worker) t ts own),

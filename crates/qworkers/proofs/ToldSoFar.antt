@@ -10,21 +10,21 @@ use Rattle.qworkers.proofs.Told.{none_told, one_more_told}
 -- worker by worker, from this number on, each has played its script
 unfoldable pub AreWorksFrom : ℕ → List (List Line) → List Done → Type 0
 AreWorksFrom worker [] [] = Unit {0}
-AreWorksFrom worker (lines ∷ scripts) (d ∷ works) = IsWork worker (length lines) d × AreWorksFrom (worker + 1) scripts works
+AreWorksFrom worker (lines ∷ scripts) (d ∷ works) = IsWork worker lines d × AreWorksFrom (worker + 1) scripts works
 AreWorksFrom worker [] (d ∷ works) = ⊥
 AreWorksFrom worker (lines ∷ scripts) [] = ⊥
 
 -- the same, by their places
 works_from : (worker : ℕ) (scripts : List (List Line)) (works : List Done) → length works ≡ length scripts
     → ((k : ℕ) (d : Done) (lines : List Line) → k < length scripts
-    → IsWork (worker + k) (length (slice_index_or scripts k lines)) (slice_index_or works k d))
+    → IsWork (worker + k) (slice_index_or scripts k lines) (slice_index_or works k d))
     → AreWorksFrom worker scripts works
 unfolding AreWorksFrom
 works_from worker [] [] many each = tt
 works_from worker (lines ∷ scripts) (d ∷ works) many each = (
-  subst (λ w. IsWork w (length lines) d) (omega arith) (each 0 d lines (omega arith)),
+  subst (λ w. IsWork w lines d) (omega arith) (each 0 d lines (omega arith)),
   works_from (worker + 1) scripts works (omega (arith, many))
-      (λ k e other less. subst (λ w. IsWork w (length (slice_index_or scripts k other)) (slice_index_or works k e)) (omega arith)
+      (λ k e other less. subst (λ w. IsWork w (slice_index_or scripts k other) (slice_index_or works k e)) (omega arith)
       (each (suc k) e other (omega (arith, less)))),
 )
 works_from worker [] (d ∷ works) many each = absurd (omega (arith, many))
@@ -43,7 +43,7 @@ told_first scripts works all = record {
   parts = refl;
   told = none_told 1;
   works = works_from 1 scripts works all.many (λ k d lines less.
-      subst (λ w. IsWork w (length (slice_index_or scripts k lines)) (slice_index_or works k d)) (omega arith) (all.each k d lines less));
+      subst (λ w. IsWork w (slice_index_or scripts k lines) (slice_index_or works k d)) (omega arith) (all.each k d lines less));
 }
 
 -- one transcript more

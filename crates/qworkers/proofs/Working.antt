@@ -1,6 +1,7 @@
 -- One more line of a worker's script.
-use Rattle.std.proofs.Common.{◌≡◌, ◌↔◌, ℕ, suc, ◌+◌, ◌≤◌, List, [], ◌∷◌, ◌++◌, length, All, Result, Ok, Err, IfOk, IfErr, OnErr, refl, sym, ap, append-nil, ◌∙◌, arith, le_trans}
-use Rattle.std.proofs.lemmas.List.{length-append}
+use Rattle.std.proofs.Common.{◌≡◌, ◌↔◌, ℕ, zero, suc, ◌+◌, ◌<◌, ◌≤◌, List, [], ◌∷◌, ◌++◌, length, All, get_or, slice_get, Some, Result, Ok, Err, IfOk, IfErr, OnErr, refl, sym, ap, subst, append-nil, ◌∙◌, arith, le_trans}
+use Rattle.std.proofs.lemmas.List.{length-append, nil_from_length}
+use Rattle.std.proofs.lemmas.Option.{slice_get-get_or}
 use Rattle.std.proofs.lemmas.List.Elements.{All-head, All-nil, All-push, All-tail}
 use mathlib.Core.List.{IsPrefix}
 use Rattle.qplain.specs.declared.call_fault.CallFault.{CallFault}
@@ -9,18 +10,39 @@ use Rattle.qplain.specs.declared.entry.Entry.{Entry}
 use Rattle.qplain.specs.declared.line.Line.{Line}
 use Rattle.qplain.specs.declared.receipt.Receipt.{Receipt}
 use Rattle.qplain.specs.declared.tallies.Tallies.{Tallies}
-use Rattle.qplain.specs.Journal.{entry_of}
+use Rattle.qplain.specs.Journal.{change_of, counted, entries_of, entry_of, no_tally}
+use Rattle.qplain.specs.Transcripts.{journaled_line, journaled_lines}
 use Rattle.qjournal.specs.declared.journal.TheConstants.{MAX_ENTRIES}
 use Rattle.qhistory.proofs.Fronts.{prefix_length}
 use Rattle.qlocked.specs.Histories.{IsAt}
 use Rattle.qshare.specs.Holds.{Holding}
 use Rattle.qshare.specs.Seats.{Seated}
 use Rattle.qrun.specs.Runs.{FullIsToldFirst, IsFullBehind}
-use Rattle.qworkers.specs.Work.{AreAnswers, HasSeenFull}
+use Rattle.qworkers.specs.Work.{AreAnswers, HasSeenFull, IsSubsequence}
+use Rattle.qworkers.proofs.Owning.{none_answered, one_more_answered, own_grown, own_told}
+use Rattle.qworkers.proofs.Subsequences.{none_among}
 
-pub no_answers : (seen : List Entry) → AreAnswers 0 seen []
+no_answers : (worker : ℕ) (lines : List Line) (seen : List Entry) → AreAnswers worker lines seen 0 []
 unfolding FullIsToldFirst
-no_answers seen = record { each = refl; full = All-nil (HasSeenFull seen); first = tt }
+no_answers worker lines seen = record {
+  few = omega arith;
+  full = All-nil (HasSeenFull seen);
+  first = tt;
+  own = subst (λ told. IsSubsequence told (entries_of seen worker)) (sym (none_answered worker lines)) (none_among (entries_of seen worker));
+  counted = ap length (sym (none_answered worker lines));
+}
+
+-- a new seat has been given none
+pub none_answered_yet : (lines : List Line) (seat : Seated) (answers : List (Result Receipt CallFault)) → seat.sums ≡ no_tally
+    → length answers ≡ 0 → AreAnswers seat.worker lines seat.seen seat.sums.calls answers
+none_answered_yet lines seat answers new none =
+    subst (AreAnswers seat.worker lines seat.seen seat.sums.calls) (sym (nil_from_length answers none))
+    (subst (λ t. AreAnswers seat.worker lines seat.seen t.calls []) (sym new) (no_answers seat.worker lines seat.seen))
+
+-- the next line
+pub next_line : (lines : List Line) (k n : ℕ) (line d : Line) → line ≡ get_or lines k d → k < length lines → n ≡ k → slice_get lines n ≡ Some line
+next_line lines k n line d is less same =
+    subst (λ i. slice_get lines i ≡ Some line) (sym same) (slice_get-get_or lines k d less ∙ ap (λ l. Some l) (sym is))
 
 -- a further answer tells of a full journal where the journal is full behind one before it
 first_push : (answers : List (Result Receipt CallFault)) (answer : Result Receipt CallFault) → FullIsToldFirst answers
@@ -43,39 +65,94 @@ now_seen seen worker line (Ok r) stands full behind =
 now_seen seen worker line (Err JournalFull) stands full behind = omega (arith, full refl)
 now_seen seen worker line (Err OutOfMemory) stands full behind = absurd behind
 
+-- who is there stands below the length
+below_of : {X : Type 0} (xs : List X) (i : ℕ) (x : X) → slice_get xs i ≡ Some x → i < length xs
+below_of [] i x there = absurd cc
+below_of (y ∷ xs) zero x there = omega arith
+below_of (y ∷ xs) (suc i) x there = let less = below_of xs i x there in omega (arith, less)
+
+-- what receipts stand for, with one answer more
+module _ (worker : ℕ) (lines : List Line) (answers : List (Result Receipt CallFault)) (line : Line)
+    (there : slice_get lines (length answers) ≡ Some line) where
+  abbrev told : List (ℕ × Entry)
+  told = journaled_lines worker lines answers
+
+  own_more : (answer : Result Receipt CallFault) (old new : List Entry) → IsSubsequence told (entries_of old worker) → IsPrefix old new
+      → IfOk answer (λ r. IsAt new r.place (entry_of worker line r.reply)) → IfOk answer (λ r. length old < r.place)
+      → IsSubsequence (journaled_lines worker lines (answers ++ answer ∷ [])) (entries_of new worker)
+  own_more (Ok r) old new own more stands later =
+      subst (λ told. IsSubsequence told (entries_of new worker)) (sym (one_more_answered worker lines answers line (Ok r) there))
+      (own_told worker old new told r.place (entry_of worker line r.reply) more stands later refl own)
+  own_more (Err fault) old new own more stands later =
+      subst (λ told. IsSubsequence told (entries_of new worker))
+      (sym (one_more_answered worker lines answers line (Err fault) there ∙ append-nil told)) (own_grown worker old new told more own)
+
+  counted_more : (answer : Result Receipt CallFault) (calls after : ℕ) → calls ≡ length told → IfOk answer (λ r. after ≡ calls + 1)
+      → OnErr answer (after ≡ calls) → after ≡ length (journaled_lines worker lines (answers ++ answer ∷ []))
+  counted_more (Ok r) calls after so_far one none =
+      omega (
+        arith,
+        so_far,
+        one,
+        ap length (one_more_answered worker lines answers line (Ok r) there),
+        length-append told (journaled_line worker line (Ok r)),
+      )
+  counted_more (Err fault) calls after so_far one none =
+      none ∙ so_far ∙ ap length (sym (one_more_answered worker lines answers line (Err fault) there ∙ append-nil told))
+
 -- one more answer
-pub one_more : (count : ℕ) (old new : List Entry) (answers after : List (Result Receipt CallFault)) (worker : ℕ) (line : Line)
-    (answer : Result Receipt CallFault) → AreAnswers count old answers → IsPrefix old new
-    → IfOk answer (λ r. IsAt new r.place (entry_of worker line r.reply))
+pub one_more : (worker : ℕ) (lines : List Line) (old new : List Entry) (calls later : ℕ) (answers after : List (Result Receipt CallFault))
+    (line : Line) (answer : Result Receipt CallFault)
+    → AreAnswers worker lines old calls answers → slice_get lines (length answers) ≡ Some line → IsPrefix old new
+    → IfOk answer (λ r. IsAt new r.place (entry_of worker line r.reply)) → IfOk answer (λ r. length old < r.place)
+    → IfOk answer (λ r. later ≡ calls + 1) → OnErr answer (later ≡ calls)
     → IfErr answer (λ f. f ≡ JournalFull → length new ≡ MAX_ENTRIES)
     → (MAX_ENTRIES ≤ length old → answer ≡ Err JournalFull) → after ≡ answers ++ answer ∷ []
-    → AreAnswers (count + 1) new after
-one_more count old new answers after worker line answer so_far more stands full stays is =
+    → AreAnswers worker lines new later after
+one_more worker lines old new calls later answers after line answer so_far there more stands behind one none full stays is =
     let longer : length (answers ++ answer ∷ []) ≡ length answers + 1 = length-append answers (answer ∷ []) in
     let grown : length old ≤ length new = prefix_length old new more in
-    record {
-      each = rw (is, longer, so_far.each) refl;
-      full = rw is (All-push (HasSeenFull new) answers answer (λ k d less behind. le_trans (so_far.full k d less behind) grown)
-          (now_seen new worker line answer stands full));
-      first = rw is (first_push answers answer so_far.first (λ k d less behind. stays (so_far.full k d less behind)));
-    }
+    let low : length answers < length lines = below_of lines (length answers) line there in
+    subst (AreAnswers worker lines new later) (sym is) (record {
+      few = omega (arith, longer, low);
+      full = All-push (HasSeenFull new) answers answer (λ k d less behind. le_trans (so_far.full k d less behind) grown)
+          (now_seen new worker line answer stands full);
+      first = first_push answers answer so_far.first (λ k d less behind. stays (so_far.full k d less behind));
+      own = own_more worker lines answers line there answer old new so_far.own more stands behind;
+      counted = counted_more worker lines answers line there answer calls later so_far.counted one none;
+    })
+
+-- one more call is counted
+pub counts_one : (answer : Result Receipt CallFault) (old new : Tallies) → IfOk answer (λ r. new ≡ counted old (change_of r.reply))
+    → IfOk answer (λ r. new.calls ≡ old.calls + 1)
+counts_one (Ok r) old new is = ap (λ t. t.calls) is
+counts_one (Err fault) old new is = tt
+
+-- and none where the call failed
+pub counts_none : (answer : Result Receipt CallFault) (old new : Tallies) → OnErr answer (new ≡ old) → OnErr answer (new.calls ≡ old.calls)
+counts_none (Ok r) old new is = tt
+counts_none (Err fault) old new is = ap (λ t. t.calls) is
 
 -- one more answer under a lock that is held, where this much is journaled
-pub one_more_held : (Rest : Type 0) (count : ℕ) (old new : Holding) (answers after : List (Result Receipt CallFault)) (worker : ℕ)
-    (line : Line) (answer : Result Receipt CallFault) → AreAnswers count old.journal answers
-    → IfOk answer (λ r. new.journal ≡ old.journal ++ entry_of worker line r.reply ∷ [])
+pub one_more_held : (lines : List Line) (old new : Holding) (before behind : Seated) (answers after : List (Result Receipt CallFault))
+    (line : Line) (answer : Result Receipt CallFault)
+    → AreAnswers before.worker lines old.journal before.sums.calls answers → slice_get lines (length answers) ≡ Some line
+    → IfOk answer (λ r. new.journal ≡ old.journal ++ entry_of before.worker line r.reply ∷ [])
     → IfOk answer (λ r. r.place ≡ length old.journal + 1)
-    → OnErr answer ((new ≡ old) × Rest)
+    → IfOk answer (λ r. behind ≡ record before { sums = counted before.sums (change_of r.reply) })
+    → OnErr answer ((new ≡ old) × (behind ≡ before))
     → ((answer ≡ Err JournalFull) ↔ (length old.journal ≡ MAX_ENTRIES))
     → (MAX_ENTRIES ≤ length old.journal → answer ≡ Err JournalFull) → after ≡ answers ++ answer ∷ []
-    → AreAnswers (count + 1) new.journal after
-one_more_held Rest count old new answers after worker line (Ok r) so_far journal place same full stays is =
-    one_more count old.journal new.journal answers after worker line (Ok r) so_far (entry_of worker line r.reply ∷ [], sym journal)
-    (old.journal, [], journal, place) tt stays is
-one_more_held Rest count old new answers after worker line (Err fault) so_far journal place same full stays is =
+    → AreAnswers behind.worker lines new.journal behind.sums.calls after
+one_more_held lines old new before behind answers after line (Ok r) so_far there journal place counts same full stays is =
+    subst (λ s. AreAnswers s.worker lines new.journal s.sums.calls after) (sym counts)
+    (one_more before.worker lines old.journal new.journal before.sums.calls (before.sums.calls + 1) answers after line (Ok r) so_far there
+    (entry_of before.worker line r.reply ∷ [], sym journal) (old.journal, [], journal, place) (omega (arith, place)) refl tt tt stays is)
+one_more_held lines old new before behind answers after line (Err fault) so_far there journal place counts same full stays is =
     let as_was : new.journal ≡ old.journal = ap (λ h. h.journal) same.0 in
-    one_more count old.journal new.journal answers after worker line (Err fault) so_far ([], append-nil old.journal ∙ sym as_was)
-    tt (λ told. ap length as_was ∙ full.0 (ap Err told)) stays is
+    subst (λ s. AreAnswers s.worker lines new.journal s.sums.calls after) (sym same.1)
+    (one_more before.worker lines old.journal new.journal before.sums.calls before.sums.calls answers after line (Err fault) so_far there
+    ([], append-nil old.journal ∙ sym as_was) tt tt tt refl (λ told. ap length as_was ∙ full.0 (ap Err told)) stays is)
 
 -- there is room for all further lines
 pub room_left : (Rest : Type 0) (old new : Holding) (answer : Result Receipt CallFault) (lines before : ℕ)
@@ -91,10 +168,12 @@ same_worker Rest old new (Ok r) sums counted same = ap (λ s. s.worker) counted
 same_worker Rest old new (Err fault) sums counted same = ap (λ s. s.worker) same.1
 
 -- who sees more has seen all that was told
-pub seen_more : (count : ℕ) (old new : List Entry) (answers : List (Result Receipt CallFault)) → AreAnswers count old answers
-    → IsPrefix old new → AreAnswers count new answers
-seen_more count old new answers so_far more = record {
-  each = so_far.each;
+pub seen_more : (worker : ℕ) (lines : List Line) (calls : ℕ) (old new : List Entry) (answers : List (Result Receipt CallFault))
+    → AreAnswers worker lines old calls answers → IsPrefix old new → AreAnswers worker lines new calls answers
+seen_more worker lines calls old new answers so_far more = record {
+  few = so_far.few;
   full = λ k d less behind. le_trans (so_far.full k d less behind) (prefix_length old new more);
   first = so_far.first;
+  own = own_grown worker old new (journaled_lines worker lines answers) more so_far.own;
+  counted = so_far.counted;
 }

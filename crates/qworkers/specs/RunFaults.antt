@@ -1,5 +1,5 @@
 -- What faults of runs tell, and the numbers under which they are reported.
-use Rattle.std.specs.Prelude.{◌≡◌, ◌<◌, ◌≤◌, ℕ}
+use Rattle.std.specs.Prelude.{◌<◌, ◌≤◌, ℕ}
 use Rattle.qworkers.specs.declared.run_fault.RunFault.{RunFault}
 use Rattle.qworkers.specs.declared.run_fault.RunFault.TheVariants.{Memory, NotStarted, Mismatch, NoReader}
 
@@ -10,6 +10,10 @@ run_fault_number (NotStarted worker) = 42
 run_fault_number (Mismatch place) = 43
 run_fault_number NoReader = 48
 
--- a thread that is named is one of so many, numbered from 1
-abbrev pub NamesOneOf : ℕ → RunFault → Type 0
-NamesOneOf threads fault = (worker : ℕ) → fault ≡ NotStarted worker → (0 < worker) × (worker ≤ threads)
+-- the fault of a run of so many threads, numbered from 1: memory or a reader was wanting, or one of them was not
+-- started; the journal and what was told of it never differ
+abbrev pub IsFaultOf : ℕ → RunFault → Type 0
+IsFaultOf threads Memory = Unit {0}
+IsFaultOf threads (NotStarted worker) = (0 < worker) × (worker ≤ threads)
+IsFaultOf threads (Mismatch place) = ⊥
+IsFaultOf threads NoReader = Unit {0}

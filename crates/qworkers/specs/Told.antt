@@ -1,5 +1,5 @@
 -- What workers have done, told as transcripts. No public clause cites this module.
-use Rattle.std.specs.Prelude.{◌≡◌, ℕ, ◌+◌, List, [], ◌∷◌, length, map, All}
+use Rattle.std.specs.Prelude.{◌≡◌, ℕ, ◌+◌, List, [], ◌∷◌, map, All}
 use mathlib.Core.List.{IsPrefix}
 use Rattle.qplain.specs.declared.entry.Entry.{Entry}
 use Rattle.qplain.specs.declared.line.Line.{Line}
@@ -11,7 +11,7 @@ use Rattle.qworkers.specs.Work.{IsWork}
 pub record IsTold (worker : ℕ) (lines : List Line) (share : Shared) (t : Transcript) : Type 0 where
   pub worker_is : t.worker ≡ worker
   pub lines_are : t.lines ≡ lines
-  pub work : IsWork worker (length lines) (record { share = share; answers = t.answers })
+  pub work : IsWork worker lines (record { share = share; answers = t.answers })
 
 -- worker by worker, from this number on
 unfoldable pub AreToldFrom : ℕ → List (List Line) → List Shared → List Transcript → Type 0

@@ -2,6 +2,8 @@
 use Rattle.std.specs.Prelude.{◌≡◌, ℕ, ◌+◌, ◌==◌, List, [], ◌∷◌, length, if◌then◌else◌, Option, Some, None, Result}
 use Rattle.qplain.specs.declared.board.Board.{Board}
 use Rattle.qplain.specs.declared.look_fault.LookFault.{LookFault}
+use Rattle.qplain.specs.State.{State}
+use Rattle.qcheck.specs.LawfulBoards.{AreLawful, boards_in}
 use Rattle.qhistory.specs.Shares.{Shared}
 use Rattle.qshare.specs.Seats.{Seated, new_seat}
 
@@ -10,10 +12,13 @@ pub record Watched : Type 0 where
   pub share : Shared
   pub looks : List (Result Board LookFault)
 
--- the share of this watcher, and so many looks
-pub record IsWatch (worker boards : ℕ) (w : Watched) : Type 0 where
+-- the share of this watcher, who has made no call, and so many looks: the boards are lawful, from this state on, over the
+-- history that it has seen
+pub record IsWatch (S : State) (worker boards : ℕ) (w : Watched) : Type 0 where
   pub worker_is : w.share.worker ≡ worker
+  pub idle : w.share.sums.calls ≡ 0
   pub each : length w.looks ≡ boards
+  pub lawful : AreLawful S w.share.seen (boards_in w.looks)
 
 -- how many seats a run has: one for each script, and one more where boards are looked at
 abbrev pub seats_for : ℕ → ℕ → ℕ
@@ -24,10 +29,10 @@ abbrev pub watcher_for : ℕ → ℕ → Option Seated
 watcher_for scripts boards = if boards == 0 then None else Some (new_seat (scripts + 1))
 
 -- who has a seat has looked so many times, and nobody else
-abbrev pub IsWatchOf : ℕ → Option Seated → Option Watched → Type 0
-IsWatchOf boards None watch = watch ≡ None
-IsWatchOf boards (Some seat) None = ⊥
-IsWatchOf boards (Some seat) (Some w) = IsWatch seat.worker boards w
+abbrev pub IsWatchOf : State → ℕ → Option Seated → Option Watched → Type 0
+IsWatchOf S boards None watch = watch ≡ None
+IsWatchOf S boards (Some seat) None = ⊥
+IsWatchOf S boards (Some seat) (Some w) = IsWatch S seat.worker boards w
 
 -- the share of who has looked
 abbrev pub shares_in : Option Watched → List Shared

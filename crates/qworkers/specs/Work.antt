@@ -1,9 +1,11 @@
 -- What workers have done when their scripts are played. No public clause cites this module.
-use Rattle.std.specs.Prelude.{◌≡◌, ℕ, ◌+◌, ◌<◌, ◌≤◌, List, length, All, Result, slice_index_or}
+use Rattle.std.specs.Prelude.{◌≡◌, ℕ, ◌+◌, ◌<◌, ◌≤◌, ◌⊎◌, List, [], ◌∷◌, length, All, Result, slice_index_or}
 use Rattle.qplain.specs.declared.call_fault.CallFault.{CallFault}
 use Rattle.qplain.specs.declared.entry.Entry.{Entry}
 use Rattle.qplain.specs.declared.line.Line.{Line}
 use Rattle.qplain.specs.declared.receipt.Receipt.{Receipt}
+use Rattle.qplain.specs.Journal.{entries_of}
+use Rattle.qplain.specs.Transcripts.{journaled_lines}
 use Rattle.qjournal.specs.declared.journal.TheConstants.{MAX_ENTRIES}
 use Rattle.qhistory.specs.Shares.{Shared}
 use Rattle.qrun.specs.Runs.{FullIsToldFirst, IsFullBehind}
@@ -17,21 +19,30 @@ pub record Done : Type 0 where
 abbrev pub HasSeenFull : List Entry → Result Receipt CallFault → Type 0
 HasSeenFull seen answer = IsFullBehind answer → MAX_ENTRIES ≤ length seen
 
--- the first answers of a worker whose seat has seen this much
-pub record AreAnswers (count : ℕ) (seen : List Entry) (answers : List (Result Receipt CallFault)) : Type 0 where
-  pub each : length answers ≡ count
+-- these stand among those, in their order
+unfoldable pub IsSubsequence : {X : Type 0} → List X → List X → Type 0
+IsSubsequence [] ys = Unit {0}
+IsSubsequence (x ∷ xs) [] = ⊥
+IsSubsequence (x ∷ xs) (y ∷ ys) = ((x ≡ y) × IsSubsequence xs ys) ⊎ IsSubsequence (x ∷ xs) ys
+
+-- the answers to the first lines of a worker who has seen this much: once the journal is full, each further one is told
+-- so; the receipts are entries of its own, in their order, and as many calls were counted
+pub record AreAnswers (worker : ℕ) (lines : List Line) (seen : List Entry) (calls : ℕ)
+    (answers : List (Result Receipt CallFault)) : Type 0 where
+  pub few : length answers ≤ length lines
   pub full : All (HasSeenFull seen) answers
   pub first : FullIsToldFirst answers
+  pub own : IsSubsequence (journaled_lines worker lines answers) (entries_of seen worker)
+  pub counted : calls ≡ length (journaled_lines worker lines answers)
 
--- the worker's share, and an answer to each of so many lines: once the journal is full, each further one is told so
-pub record IsWork (worker lines : ℕ) (d : Done) : Type 0 where
+-- the share of the worker who has played this script, and an answer to each line
+pub record IsWork (worker : ℕ) (lines : List Line) (d : Done) : Type 0 where
   pub worker_is : d.share.worker ≡ worker
-  pub each : length d.answers ≡ lines
-  pub full : All (HasSeenFull d.share.seen) d.answers
-  pub first : FullIsToldFirst d.answers
+  pub each : length d.answers ≡ length lines
+  pub are : AreAnswers worker lines d.share.seen d.share.sums.calls d.answers
 
 -- each worker, from 1, has played its script
 pub record AreWorks (scripts : List (List Line)) (works : List Done) : Type 0 where
   pub many : length works ≡ length scripts
   pub each : (k : ℕ) (d : Done) (lines : List Line) → k < length scripts
-      → IsWork (k + 1) (length (slice_index_or scripts k lines)) (slice_index_or works k d)
+      → IsWork (k + 1) (slice_index_or scripts k lines) (slice_index_or works k d)

@@ -1,5 +1,5 @@
 //! Runs: scripts played by workers on a shared store of their own.
-ghost use Rattle.std.specs.Prelude.{◌≡◌, ◌<◌, ◌≤◌, ◌^◌, length, IfErr, IfOk, OnOk};
+ghost use Rattle.std.specs.Prelude.{◌≡◌, ◌<◌, ◌≤◌, ◌^◌, length, IfErr, IfOk};
 ghost use Rattle.qplain.specs.Journal.{IsLegal, play, tally_of};
 ghost use Rattle.qplain.specs.State.{start};
 ghost use Rattle.qjournal.specs.declared.journal.TheConstants.{MAX_ENTRIES};
@@ -8,7 +8,7 @@ ghost use Rattle.qshare.specs.declared.opening.TheConstants.{MAX_SEATS};
 ghost use Rattle.qgather.specs.Gathered.{IsGathered};
 ghost use Rattle.qcheck.specs.LawfulBoards.{AreLawful, boards_in};
 ghost use Rattle.qrun.specs.Runs.{IsOutcomeOf};
-ghost use Rattle.qworkers.specs.RunFaults.{NamesOneOf};
+ghost use Rattle.qworkers.specs.RunFaults.{IsFaultOf};
 ghost use Rattle.qworkers.specs.Told.{AreToldOf, lines_of};
 ghost use Rattle.qworkers.specs.Watching.{seats_for};
 
@@ -19,7 +19,6 @@ use crate::run_fault::RunFault;
 use crate::telling::{hand_in, tell_all};
 use crate::watcher::{Look, part_seats};
 use qcheck::{BoardFault, check_looks};
-use qgather::gather;
 use qhistory::{House, Origin, Share};
 use qlocked::Ended;
 use qplain::{Line, Setup, Transcript};
@@ -31,10 +30,11 @@ use std::marker::Brand;
 use std::sync::Wait;
 use std::thread::Threads;
 
-/// Holds what looks were given against the journal. Where there was none, nothing is played again.
+/// Holds what looks were given against the journal, whose own boards they are. Where there was none, nothing is played
+/// again.
 fn hold_looks(alloc: Global, ended: &Ended, looks: &[Look], seed: u64) -> Result<(), RunFault>
-    ensures lawful { OnOk result (AreLawful (start ended.now.setup) ended.now.journal.items (boards_in looks.now)) }
-    ensures thread { IfErr result (NamesOneOf 0) }
+    requires lawful { AreLawful (start ended.now.setup) ended.now.journal.items (boards_in looks.now) }
+    ensures fault { IfErr result (IsFaultOf 0) }
 {
     if looks.is_empty() {
         return Ok(());
@@ -63,7 +63,7 @@ fn outcome_from(
     requires lawful { AreLawful (start ended.setup) ended.journal.items (boards_in looks.items) }
     ensures outcome { IfOk result (IsOutcomeOf ended.setup (lines_of transcripts.items)) }
     ensures looks { IfOk result (λ o. o.boards ≡ looks.items) }
-    ensures thread { IfErr result (NamesOneOf 0) }
+    ensures fault { IfErr result (IsFaultOf 0) }
 {
     let workers = transcripts.len() as u64;
     let Ended {
@@ -77,7 +77,7 @@ fn outcome_from(
     Ok(outcome)
 }
 
-/// Holds the journal against the transcripts, and the looks against it, and makes the outcome.
+/// Holds the looks against the journal, and makes the outcome.
 fn conclude(
     alloc: Global,
     ended: Ended,
@@ -91,20 +91,19 @@ fn conclude(
     requires tallies { ended.tallies ≡ tally_of ended.journal.items }
     requires workers { (0 < length transcripts.items) × (length transcripts.items ≤ MAX_SEATS) }
     requires told { AreToldOf ended.journal.items transcripts.items }
+    requires gathered { IsGathered ended.journal.items transcripts.items }
+    requires lawful { AreLawful (start ended.setup) ended.journal.items (boards_in looks.items) }
     ensures outcome { IfOk result (IsOutcomeOf ended.setup (lines_of transcripts.items)) }
     ensures looks { IfOk result (λ o. o.boards ≡ looks.items) }
-    ensures thread { IfErr result (NamesOneOf 0) }
+    ensures fault { IfErr result (IsFaultOf 0) }
 {
-    if let Err(mismatch) = gather(&ended.journal, &transcripts) {
-        return Err(RunFault::Mismatch(mismatch.place));
-    }
     hold_looks(alloc, &ended, &looks, seed)?;
     outcome_from(alloc, ended, transcripts, looks)
 }
 
 /// Why a run has no outcome whose store was not made.
 fn fault_of(fault: ShareFault) -> RunFault
-    ensures { NamesOneOf 0 result }
+    ensures { IsFaultOf 0 result }
 {
     match fault {
         ShareFault::NoReader => RunFault::NoReader,
@@ -133,7 +132,7 @@ where
     requires batch { (0 < options.batch) × (options.batch ≤ MAX_BATCH) }
     ensures outcome { IfOk result (IsOutcomeOf K.setting scripts.items) }
     ensures looks { IfOk result (λ o. length o.boards ≡ options.boards) }
-    ensures thread { IfErr result (NamesOneOf (seats_for (length scripts.items) options.boards)) }
+    ensures fault { IfErr result (IsFaultOf (seats_for (length scripts.items) options.boards)) }
 {
     let (shared, seats) = match opened.named::<N, &R>(rt) {
         Ok(made) => made,
@@ -182,7 +181,7 @@ where
     requires batch { (0 < options.batch) × (options.batch ≤ MAX_BATCH) }
     ensures outcome { IfOk result (IsOutcomeOf K.setting scripts.items) }
     ensures looks { IfOk result (λ o. length o.boards ≡ options.boards) }
-    ensures thread { IfErr result (NamesOneOf (seats_for (length scripts.items) options.boards)) }
+    ensures fault { IfErr result (IsFaultOf (seats_for (length scripts.items) options.boards)) }
 {
     let seats = seats_for(scripts.len(), options.boards);
     match Opened::<K>::new(alloc, setup, seats, seed) {
@@ -205,8 +204,8 @@ where
 /// `gate` is called around each line, or, where the lock is taken for several, before the first and after the last of
 /// them, and may wait; this is promised if the run returns. The hashes of names begin at `seed`, which may be any number;
 /// nothing of the outcome depends on it. An Err is Memory, NoReader, or NotStarted with the first worker whose thread was
-/// refused; then all workers that were started have been joined and the store is given up. Mismatch never comes: it would
-/// tell the first entry that is not in its worker's transcript, or place 0 for a board that is not the journal's.
+/// refused; then all workers that were started have been joined and the store is given up. Mismatch never comes: each
+/// worker's receipts are proved to be its entries, and the boards to be the journal's.
 pub fn run_with<G: Gate + Sync, R: Threads + Wait + Sync>(
     rt: &R,
     alloc: Global,
@@ -221,7 +220,7 @@ pub fn run_with<G: Gate + Sync, R: Threads + Wait + Sync>(
     requires batch { (0 < options.batch) × (options.batch ≤ MAX_BATCH) }
     ensures outcome { IfOk result (IsOutcomeOf setup scripts.items) }
     ensures looks { IfOk result (λ o. length o.boards ≡ options.boards) }
-    ensures thread { IfErr result (NamesOneOf (seats_for (length scripts.items) options.boards)) }
+    ensures fault { IfErr result (IsFaultOf (seats_for (length scripts.items) options.boards)) }
 {
     run_from::<Brand, G, R>(rt, alloc, setup, scripts, options, seed, gate)
 }
@@ -236,7 +235,7 @@ pub fn run<R: Threads + Wait + Sync>(
 ) -> Result<Outcome, RunFault>
     requires few { (0 < length scripts.items) × (length scripts.items ≤ MAX_SEATS) }
     ensures outcome { IfOk result (IsOutcomeOf setup scripts.items) }
-    ensures thread { IfErr result (NamesOneOf (length scripts.items)) }
+    ensures fault { IfErr result (IsFaultOf (length scripts.items)) }
 {
     run_with(rt, alloc, setup, scripts, Options::plain(), seed, &NoGate)
 }

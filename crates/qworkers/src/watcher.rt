@@ -1,7 +1,9 @@
 //! Who looks at the boards of a run: a seat, and the thread in which it looks.
 ghost use Rattle.std.specs.Prelude.{◌≡◌, ◌<◌, ◌≤◌, ℕ, vec_len, vec_capacity, IfErr, IfOk, IfSome};
+ghost use Rattle.qplain.specs.Journal.{no_tally};
+ghost use Rattle.qplain.specs.State.{start};
 ghost use Rattle.qshare.specs.Seats.{seats_of};
-ghost use Rattle.qworkers.specs.RunFaults.{NamesOneOf};
+ghost use Rattle.qworkers.specs.RunFaults.{IsFaultOf};
 ghost use Rattle.qworkers.specs.Watching.{IsWatch, IsWatchOf, seats_for, watcher_for};
 
 use crate::run_fault::RunFault;
@@ -9,7 +11,7 @@ use qhistory::{House, Origin, Share};
 use qplain::{Board, LookFault};
 use qshare::Seat;
 use std::alloc::Global;
-use std::marker::Model;
+use std::marker::{Model, PhantomData};
 use std::thread;
 use std::thread::{Promise, Threads};
 
@@ -32,16 +34,18 @@ impl<N: House> Model for Watch<N> {
 }
 
 /// That this watcher looks so many times.
-#[derive(Clone, Copy)]
-pub(crate) struct Watches {
-    pub(crate) worker: u64,
-    pub(crate) boards: u64,
+#[derive(Drop)]
+pub(crate) struct Watches<K> {
+    worker: u64,
+    boards: u64,
+    origin: PhantomData<K>,
 }
 
-impl<N: House> Promise<Watch<N>> for Watches {
+impl<K: Origin, N: House> Promise<Watch<N>> for Watches<K> {
+    ghost use Rattle.qplain.specs.State.{start};
     ghost use Rattle.qworkers.specs.Watching.{IsWatch};
 
-    ghost kept_by = { λ p w. IsWatch p.worker p.boards w };
+    ghost kept_by = { λ p w. IsWatch (start K.setting) p.worker p.boards w };
 }
 
 /// The seats of the workers, one for each script, and that of the watcher, which is the last, where boards are wanted.
@@ -64,8 +68,9 @@ pub(crate) fn part_seats<K: Origin, N: House>(
 
 /// Looks so many times, one after the other. No look waits.
 fn look_on<K: Origin, N: House>(seat: Seat<K, N>, looks: Vec<Look>, boards: u64) -> Watch<N>
+    requires seat { seat.sums ≡ no_tally }
     requires room { (vec_len looks ≡ 0) × (boards ≤ vec_capacity looks) }
-    ensures { IsWatch seat.worker boards result }
+    ensures { IsWatch (start K.setting) seat.worker boards result }
 {
     let mut seat = seat;
     let mut looks = looks;
@@ -89,17 +94,20 @@ where
     K: Origin + Send + Sync + 'static,
     N: House + Send + Sync + 'static,
     R: Threads,
-    ensures watch { IfOk result (IsWatch seat.worker boards) }
-    ensures thread { (n : ℕ) → 0 < seat.worker → seat.worker ≤ n → IfErr result (NamesOneOf n) }
+    requires seat { seat.sums ≡ no_tally }
+    ensures watch { IfOk result (IsWatch (start K.setting) seat.worker boards) }
+    ensures fault { (n : ℕ) → 0 < seat.worker → seat.worker ≤ n → IfErr result (IsFaultOf n) }
 {
     let looks = Vec::with_capacity(alloc, boards as usize)?;
-    let watches = Watches {
-        worker: seat.worker(),
+    let worker = seat.worker();
+    let watches: Watches<K> = Watches {
+        worker,
         boards,
+        origin: PhantomData,
     };
     match thread::spawn_with(rt, watches, move || look_on(seat, looks, boards)) {
         Ok(handle) => Ok(handle.join(rt)),
-        Err(_) => Err(RunFault::NotStarted(watches.worker)),
+        Err(_) => Err(RunFault::NotStarted(worker)),
     }
 }
 
@@ -114,8 +122,9 @@ where
     K: Origin + Send + Sync + 'static,
     N: House + Send + Sync + 'static,
     R: Threads,
-    ensures watch { IfOk result (IsWatchOf boards watcher) }
-    ensures thread { (n : ℕ) → IfSome watcher (λ s. (0 < s.worker) × (s.worker ≤ n)) → IfErr result (NamesOneOf n) }
+    requires seat { IfSome watcher (λ s. s.sums ≡ no_tally) }
+    ensures watch { IfOk result (IsWatchOf (start K.setting) boards watcher) }
+    ensures fault { (n : ℕ) → IfSome watcher (λ s. (0 < s.worker) × (s.worker ≤ n)) → IfErr result (IsFaultOf n) }
 {
     match watcher {
         Some(seat) => Ok(Some(look_beside(rt, alloc, seat, boards)?)),

@@ -1,13 +1,15 @@
 //! One worker: a seat, a script, and the thread in which it is played.
-ghost use Rattle.std.specs.Prelude.{◌≡◌, ◌+◌, ◌<◌, ◌≤◌, length, vec_len, vec_capacity};
+ghost use Rattle.std.specs.Prelude.{◌≡◌, ◌+◌, ◌<◌, ◌≤◌, length, vec_len, vec_capacity, IfOk};
 ghost use mathlib.Core.List.{IsPrefix};
+ghost use Rattle.qplain.specs.Journal.{no_tally};
 ghost use Rattle.qshare.specs.declared.held.TheConstants.{MAX_BATCH};
 ghost use Rattle.qworkers.specs.Work.{AreAnswers, IsWork};
 
 use crate::gate::Gate;
 use qhistory::{House, Origin, Share};
-use qplain::{CallFault, Line, Receipt};
+use qplain::{CallFault, Line, NoMemory, Receipt};
 use qshare::{Held, Seat, Shared};
+use std::alloc::Global;
 use std::marker::Model;
 use std::sync::Wait;
 use std::thread::Promise;
@@ -30,17 +32,17 @@ impl<N: House> Model for Work<N> {
     ghost view = { λ w. record { share = w.share; answers = w.answers.items } };
 }
 
-/// That this worker plays so many lines.
+/// That this worker plays these lines.
 #[derive(Clone, Copy)]
-pub(crate) struct Plays {
+pub(crate) struct Plays<'a> {
     pub(crate) worker: u64,
-    pub(crate) lines: usize,
+    pub(crate) lines: &'a [Line],
 }
 
-impl<N: House> Promise<Work<N>> for Plays {
+impl<'a, N: House> Promise<Work<N>> for Plays<'a> {
     ghost use Rattle.qworkers.specs.Work.{IsWork};
 
-    ghost kept_by = { λ p w. IsWork p.worker p.lines w };
+    ghost kept_by = { λ p w. IsWork p.worker p.lines.now w };
 }
 
 /// All that a worker takes with it: its seat, its script, which is the caller's, for how many lines at a time it takes
@@ -56,6 +58,33 @@ pub(crate) struct Worker<'a, 'b, 'c, 'd, K: Origin, N: House, G: Gate, R: Wait, 
     pub(crate) answers: Vec<Answer>,
 }
 
+/// A worker with a new seat, and with room for an answer to each of its lines.
+pub(crate) fn worker_of<'a, 'b, 'c, 'd, K: Origin, N: House, G: Gate, R: Wait, W: Wait + Drop>(
+    alloc: Global,
+    rt: &'a R,
+    shared: &'b Shared<K, N, W>,
+    gate: &'c G,
+    lines: &'d [Line],
+    batch: u64,
+    seat: Seat<K, N>,
+) -> Result<Worker<'a, 'b, 'c, 'd, K, N, G, R, W>, NoMemory>
+    requires seat { seat.sums ≡ no_tally }
+    ensures seat { IfOk result (λ w. (w.seat.worker ≡ seat.worker) × (w.seat.sums ≡ no_tally)) }
+    ensures lines { IfOk result (λ w. w.lines.now ≡ lines.now) }
+    ensures batch { IfOk result (λ w. w.batch ≡ batch) }
+    ensures room { IfOk result (λ w. (vec_len w.answers ≡ 0) × (length lines.now ≤ vec_capacity w.answers)) }
+{
+    Ok(Worker {
+        rt,
+        shared,
+        gate,
+        lines,
+        batch: batch as usize,
+        seat,
+        answers: Vec::with_capacity(alloc, lines.len())?,
+    })
+}
+
 /// Makes the calls of a script one after the other, and goes on after any answer.
 fn play_each<K: Origin, N: House, G: Gate, R: Wait, W: Wait + Drop>(
     rt: &R,
@@ -65,8 +94,9 @@ fn play_each<K: Origin, N: House, G: Gate, R: Wait, W: Wait + Drop>(
     mut seat: Seat<K, N>,
     mut answers: Vec<Answer>,
 ) -> Work<N>
+    requires seat { seat.sums ≡ no_tally }
     requires room { (vec_len answers ≡ 0) × (length lines.now ≤ vec_capacity answers) }
-    ensures { IsWork seat.worker (length lines.now) result }
+    ensures { IsWork seat.worker lines.now result }
 {
     let worker = seat.worker();
     for before in 0..lines.len() {
@@ -82,51 +112,57 @@ fn play_each<K: Origin, N: House, G: Gate, R: Wait, W: Wait + Drop>(
     }
 }
 
-/// Makes the calls of these lines, of which there are at most 64, under a lock that is held, and then gives it back.
+/// Makes the next calls of a script, of which there are at most 64, under a lock that is held, and then gives it back.
 fn play_held<K: Origin, N: House, R: Wait, W: Wait + Drop>(
     rt: &R,
     held: Held<'_, K, N, W>,
     lines: &[Line],
+    many: usize,
     seat: &mut Seat<K, N>,
     answers: &mut Vec<Answer>,
 )
     requires begins { IsPrefix seat.old.seen held.journal }
-    requires room { length lines.now ≤ held.room }
-    requires place { vec_len answers.old + length lines.now ≤ vec_capacity answers.old }
-    requires answered { AreAnswers (vec_len answers.old) seat.old.seen answers.old.items }
-    ensures answered { AreAnswers (vec_len answers.old + length lines.now) seat.new.seen answers.new.items }
+    requires room { many ≤ held.room }
+    requires few { vec_len answers.old + many ≤ length lines.now }
+    requires place { length lines.now ≤ vec_capacity answers.old }
+    requires answered { AreAnswers seat.old.worker lines.now seat.old.seen seat.old.sums.calls answers.old.items }
+    ensures answered { AreAnswers seat.new.worker lines.now seat.new.seen seat.new.sums.calls answers.new.items }
+    ensures many { vec_len answers.new ≡ vec_len answers.old + many }
     ensures same { (seat.new.worker ≡ seat.old.worker) × (vec_capacity answers.new ≡ vec_capacity answers.old) }
 {
     let mut held = held;
-    for before in 0..lines.len() {
-        let line = &lines[before];
+    for _ in 0..many {
+        let line = &lines[answers.len()];
         let answer = held.apply(rt, seat, &line.cred, line.moment, &line.call);
         answers.push_reserved(answer);
     }
     held.release(rt, seat);
 }
 
-/// Makes the calls of the next lines under one taking of the lock, and waits at the gate before the first and after the
+/// Makes the next calls of a script under one taking of the lock, and waits at the gate before the first and after the
 /// last of them.
 fn play_batch<K: Origin, N: House, G: Gate, R: Wait, W: Wait + Drop>(
     rt: &R,
     shared: &Shared<K, N, W>,
     gate: &G,
     lines: &[Line],
+    many: usize,
     seat: &mut Seat<K, N>,
     answers: &mut Vec<Answer>,
 )
-    requires few { length lines.now ≤ MAX_BATCH }
-    requires place { vec_len answers.old + length lines.now ≤ vec_capacity answers.old }
-    requires answered { AreAnswers (vec_len answers.old) seat.old.seen answers.old.items }
-    ensures answered { AreAnswers (vec_len answers.old + length lines.now) seat.new.seen answers.new.items }
+    requires batch { many ≤ MAX_BATCH }
+    requires few { vec_len answers.old + many ≤ length lines.now }
+    requires place { length lines.now ≤ vec_capacity answers.old }
+    requires answered { AreAnswers seat.old.worker lines.now seat.old.seen seat.old.sums.calls answers.old.items }
+    ensures answered { AreAnswers seat.new.worker lines.now seat.new.seen seat.new.sums.calls answers.new.items }
+    ensures many { vec_len answers.new ≡ vec_len answers.old + many }
     ensures same { (seat.new.worker ≡ seat.old.worker) × (vec_capacity answers.new ≡ vec_capacity answers.old) }
 {
     let worker = seat.worker();
     let first = answers.len() + 1;
     gate.before(worker, first);
     let held = shared.hold(rt, seat);
-    play_held(rt, held, lines, seat, answers);
+    play_held(rt, held, lines, many, seat, answers);
     gate.after(worker, answers.len());
 }
 
@@ -141,15 +177,13 @@ fn play_batches<K: Origin, N: House, G: Gate, R: Wait, W: Wait + Drop>(
     mut answers: Vec<Answer>,
 ) -> Work<N>
     requires batch { (0 < batch) × (batch ≤ MAX_BATCH) }
+    requires seat { seat.sums ≡ no_tally }
     requires room { (vec_len answers ≡ 0) × (length lines.now ≤ vec_capacity answers) }
-    ensures { IsWork seat.worker (length lines.now) result }
+    ensures { IsWork seat.worker lines.now result }
 {
-    let mut done = 0;
-    while done < lines.len() {
-        let next = (lines.len() - done).min(batch);
-        let some = &lines[done..done + next];
-        play_batch(rt, shared, gate, some, &mut seat, &mut answers);
-        done += next;
+    while answers.len() < lines.len() {
+        let many = (lines.len() - answers.len()).min(batch);
+        play_batch(rt, shared, gate, lines, many, &mut seat, &mut answers);
     }
     Work {
         share: seat.finish(),
@@ -162,8 +196,9 @@ pub(crate) fn play<K: Origin, N: House, G: Gate, R: Wait, W: Wait + Drop>(
     worker: Worker<'_, '_, '_, '_, K, N, G, R, W>,
 ) -> Work<N>
     requires batch { (0 < worker.batch) × (worker.batch ≤ MAX_BATCH) }
+    requires seat { worker.seat.sums ≡ no_tally }
     requires room { (vec_len worker.answers ≡ 0) × (length worker.lines.now ≤ vec_capacity worker.answers) }
-    ensures { IsWork worker.entry.seat.worker (length worker.entry.lines.now) result }
+    ensures { IsWork worker.entry.seat.worker worker.entry.lines.now result }
 {
     let Worker {
         rt,

@@ -1,22 +1,34 @@
-use Rattle.std.proofs.Common.{arith, subst, ◌∙◌}
-use Rattle.qworkers.specs.Work.{AreAnswers}
-use Rattle.qworkers.proofs.Working.{one_more_held, room_left, same_worker}
+use Rattle.std.proofs.Common.{length, arith, refl, sym, ◌∙◌}
+use Rattle.qworkers.proofs.Working.{next_line, one_more_held, room_left, same_worker, seen_more}
 use Rattle.qworkers.proofs.worker.play_held.Goals as goal
 
-pub loop-before-preserved : goal.loop-before-preserved
-loop-before-preserved g c =
-    let so_far = c.loop-before.invariant in
+pub loop-init : goal.loop-init
+loop-init g c = (
+  seen_more c.args.seat.now.worker c.args.lines.now c.args.seat.now.sums.calls c.args.seat.now.seen c.args.held.journal c.args.answers.now.items
+      c.requires.answered c.requires.begins,
+  omega arith,
+  refl,
+  omega (arith, c.requires.room),
+  refl,
+)
+
+pub loop-preserved : goal.loop-preserved
+loop-preserved g c =
+    let so_far = c.loop.invariant in
     let applied = c.apply-answer.ensures in
     let pushed = c.push_reserved.ensures in
-    let old = c.loop-before.held in
+    let lines = c.args.lines.now in
+    let line = c.index-lines-len.result in
+    let answer = c.apply-answer.result in
+    let old = c.loop.held in
     let new = c.apply-answer.new.self in
-    let count = c.loop-before.before in (
-      subst (λ n. AreAnswers n new.journal c.push_reserved.new.self.items) (omega arith)
-          (one_more_held _ _ old new c.loop-before.answers.items c.push_reserved.new.self.items c.loop-before.seat.worker
-          c.index-lines-before.result c.apply-answer.result so_far.0 applied.journal applied.place applied.err applied.full applied.stays_full
-          pushed.items),
+    let answers = c.loop.answers in (
+      one_more_held lines old new c.loop.seat c.apply-answer.new.seat answers.items c.push_reserved.new.self.items line answer so_far.0
+          (next_line lines c.len.result (length answers.items) line line c.index-lines-len.is
+          (omega (arith, c.len.ensures, so_far.1, c.loop-test.true, c.requires.few)) (sym (c.len.ensures ∙ answers.ok.0)))
+          applied.journal applied.place applied.counted applied.err applied.full applied.stays_full pushed.items,
       omega (arith, pushed.len, so_far.1),
       pushed.capacity ∙ so_far.2,
-      room_left _ old new c.apply-answer.result _ count applied.room applied.err so_far.3,
-      same_worker _ c.loop-before.seat c.apply-answer.new.seat c.apply-answer.result _ applied.counted applied.err ∙ so_far.4,
+      room_left _ old new answer c.args.many c.loop.counter applied.room applied.err so_far.3,
+      same_worker _ c.loop.seat c.apply-answer.new.seat answer _ applied.counted applied.err ∙ so_far.4,
     )

@@ -1,18 +1,26 @@
 use Rattle.std.proofs.Common.{◌≡◌, ◌+◌, ◌<◌, [], ◌∷◌, ◌++◌, length, slice_index_or, below_more, refl, sym, ap, subst, ◌∙◌, append_assoc, length-append, arith}
-use Rattle.std.proofs.lemmas.List.{get_or_append_left, get_or_default, get_or_push}
+use Rattle.std.proofs.lemmas.List.{get_or_append_left, get_or_push}
 use Rattle.std.specs.Vec.Iter.{into_iter_items}
+use Rattle.qplain.specs.State.{start}
 use Rattle.qworkers.specs.Watching.{IsWatchOf}
 use Rattle.qworkers.specs.Work.{IsWork}
 use Rattle.qworkers.proofs.Naming.{names_seat}
 use Rattle.qworkers.proofs.Seating.{seat_next, seats_ended}
 use Rattle.qworkers.proofs.crew.fn.play_all.scope.Goals as goal
 
-pub bounds-scripts-len : goal.bounds-scripts-len
-bounds-scripts-len g c =
+pub script_at-lines-requires : goal.script_at-lines-requires
+script_at-lines-requires g c =
     let seated = c.loop-seat.invariant.0 in
     let next = seat_next (length c.captures.scripts.now) seated.0 (into_iter_items c.next.new.self) c.in-Some.seat
     (ap (λ xs. seated.0 ++ xs) (sym c.in-Some.ensures.steps.0) ∙ seated.1) in
     omega (arith, next.1, seated.2, c.len-in-loop-seat.ensures)
+
+pub worker_of-requires : goal.worker_of-requires
+worker_of-requires g c =
+    let seated = c.loop-seat.invariant.0 in
+    let next = seat_next (length c.captures.scripts.now) seated.0 (into_iter_items c.next.new.self) c.in-Some.seat
+    (ap (λ xs. seated.0 ++ xs) (sym c.in-Some.ensures.steps.0) ∙ seated.1) in
+    record { seat = ap (λ s. s.sums) next.0 }
 
 pub loop-seat-preserved : goal.loop-seat-preserved
 loop-seat-preserved g c =
@@ -22,7 +30,8 @@ loop-seat-preserved g c =
     let scripts = c.captures.scripts.now in
     let pushed = c.push_reserved.ensures in
     let parts = ap (λ xs. seated.0 ++ xs) (sym c.in-Some.ensures.steps.0) ∙ seated.1 in
-    let next = seat_next (length scripts) seated.0 (into_iter_items c.next.new.self) c.in-Some.seat parts in (
+    let next = seat_next (length scripts) seated.0 (into_iter_items c.next.new.self) c.in-Some.seat parts in
+    let own = ap (λ s. s.worker) next.0 in (
       (
         seated.0 ++ c.in-Some.seat ∷ [],
         append_assoc seated.0 (c.in-Some.seat ∷ []) (into_iter_items c.next.new.self) ∙ parts,
@@ -31,19 +40,18 @@ loop-seat-preserved g c =
       omega (arith, pushed.capacity, pushed.len, c.in-Some.ensures.steps.1, c.loop-seat.invariant.1),
       λ k d lines less.
           subst (λ hs. ((slice_index_or hs k d).promise.worker ≡ k + 1)
-          × ((slice_index_or hs k d).promise.lines ≡ length (slice_index_or scripts k lines))) (sym pushed.items)
+          × ((slice_index_or hs k d).promise.lines.now ≡ slice_index_or scripts k lines)) (sym pushed.items)
           (below_more
           (λ i. ((slice_index_or (running.items ++ handle ∷ []) i d).promise.worker ≡ i + 1)
-          × ((slice_index_or (running.items ++ handle ∷ []) i d).promise.lines ≡ length (slice_index_or scripts i lines)))
+          × ((slice_index_or (running.items ++ handle ∷ []) i d).promise.lines.now ≡ slice_index_or scripts i lines))
           (length running.items)
-          (λ i low. subst (λ h. (h.promise.worker ≡ i + 1) × (h.promise.lines ≡ length (slice_index_or scripts i lines)))
+          (λ i low. subst (λ h. (h.promise.worker ≡ i + 1) × (h.promise.lines.now ≡ slice_index_or scripts i lines))
           (sym (get_or_append_left running.items (handle ∷ []) d i low)) (c.loop-seat.invariant.2 i d lines (omega (arith, low, running.ok.0))))
-          (subst (λ h. (h.promise.worker ≡ length running.items + 1) × (h.promise.lines ≡ length (slice_index_or scripts (length running.items) lines)))
+          (subst (λ h. (h.promise.worker ≡ length running.items + 1) × (h.promise.lines.now ≡ slice_index_or scripts (length running.items) lines))
           (sym (get_or_push running.items handle d (length running.items) refl)) (
-            omega (arith, ap (λ p. p.worker) c.in-Ok.ensures.ok, c.worker.ensures, next.0, seated.2, running.ok.0),
-            ap (λ p. p.lines) c.in-Ok.ensures.ok ∙ ap length (c.as_slice-lines.ensures ∙ c.index-scripts-len.is
-                ∙ ap (λ i. slice_index_or scripts i c.index-scripts-len.result) (c.len-in-loop-seat.ensures ∙ running.ok.0)
-                ∙ get_or_default scripts (length running.items) c.index-scripts-len.result lines (omega (arith, next.1, seated.2, running.ok.0))),
+            omega (arith, ap (λ p. p.worker) c.in-Ok.ensures.ok, c.worker.ensures, c.in_ok-worker.ensures.seat.0, own, seated.2, running.ok.0),
+            ap (λ p. p.lines.now) c.in-Ok.ensures.ok ∙ c.script_at-lines.ensures lines
+                ∙ ap (λ i. slice_index_or scripts i lines) (c.len-in-loop-seat.ensures ∙ running.ok.0),
           ))
           k (omega (arith, less, pushed.len, running.ok.0))),
       c.loop-seat.invariant.3,
@@ -65,12 +73,12 @@ returns-in-Ok-join_promised g c =
             let h = at.1.handle in
             let inv = c.loop-seat.invariant.2 k h lines low in
             let worker : h.promise.worker ≡ k + 1 = ap (λ x. x.promise.worker) at.1.handle_is ∙ inv.0 in
-            let many : h.promise.lines ≡ length (slice_index_or scripts k lines) = ap (λ x. x.promise.lines) at.1.handle_is ∙ inv.1 in
-            subst (λ n. IsWork (k + 1) n (slice_index_or works.items k d)) many
-            (subst (λ m. IsWork m h.promise.lines (slice_index_or works.items k d)) worker at.1.kept);
+            let script : h.promise.lines.now ≡ slice_index_or scripts k lines = ap (λ x. x.promise.lines.now) at.1.handle_is ∙ inv.1 in
+            subst (λ ls. IsWork (k + 1) ls (slice_index_or works.items k d)) script
+            (subst (λ m. IsWork m h.promise.lines.now (slice_index_or works.items k d)) worker at.1.kept);
       };
-      watch = subst (λ w. IsWatchOf c.captures.options-boards w c.in_ok-watch.watch) c.loop-seat.invariant.3 c.in_ok-watch.ensures.watch;
-      thread = λ n few watcher. tt;
+      watch = subst (λ w. IsWatchOf (start g.K.Origin.setting) c.captures.options-boards w c.in_ok-watch.watch) c.loop-seat.invariant.3 c.in_ok-watch.ensures.watch;
+      fault = λ n few watcher. tt;
     }
 
 pub returns-in-Err : goal.returns-in-Err
@@ -78,9 +86,9 @@ returns-in-Err g c =
     let seated = c.loop-seat.invariant.0 in
     let next = seat_next (length c.captures.scripts.now) seated.0 (into_iter_items c.next.new.self) c.in-Some.seat
     (ap (λ xs. seated.0 ++ xs) (sym c.in-Some.ensures.steps.0) ∙ seated.1) in
+    let own = c.worker.ensures ∙ c.in_ok-worker.ensures.seat.0 ∙ ap (λ s. s.worker) next.0 in
     record {
       works = tt;
       watch = tt;
-      thread = λ n few watcher.
-          names_seat n (length c.captures.scripts.now) (length seated.0) c.worker.result (c.worker.ensures ∙ next.0) next.1 few;
+      fault = λ n few watcher. names_seat n (length c.captures.scripts.now) (length seated.0) c.worker.result own next.1 few;
     }

@@ -11,5 +11,5 @@ invariant-loop-seat g l =
     × (vec_len l.running + into_iter_len l.seat-iterator ≤ vec_capacity l.running)
     × ((k : ℕ) (d : _) (lines : List Line) → k < vec_len l.running
     → ((slice_index_or l.running.items k d).promise.worker ≡ k + 1)
-    × ((slice_index_or l.running.items k d).promise.lines ≡ length (slice_index_or l.scripts k lines)))
+    × ((slice_index_or l.running.items k d).promise.lines.now ≡ slice_index_or l.scripts k lines))
     × (l.watcher ≡ l.initial.watcher)
