@@ -1,5 +1,5 @@
 -- What is published. No public clause cites this module.
-use Rattle.std.specs.Prelude.{List, fold}
+use Rattle.std.specs.Prelude.{List}
 use Rattle.qhistory.specs.Past.{Past}
 use Rattle.qplain.specs.declared.board.Board.{Board}
 use Rattle.qplain.specs.State.{State}
@@ -17,13 +17,13 @@ board_in s = record { version = s.version; rows = s.rows.items; blocks = s.block
 abbrev pub sealed_in : Sheet → Sealed
 sealed_in s = record { board = board_in s; front = s.front }
 
--- a board that took in changes, and the history that they bring
-abbrev pub after_batch : Sealed → List BoardChange → Past → Sealed
-after_batch s changes front = record { board = fold changed_by s.board changes; front = front }
+-- a board that took in a change, and the history that the change brings
+abbrev pub after_change : Sealed → BoardChange → Past → Sealed
+after_change s c front = record { board = changed_by s.board c; front = front }
 
--- a board that took in a batch
+-- a board that took in what one publication brings
 abbrev pub taken_in : Sealed → Batch → Sealed
-taken_in s b = after_batch s b.changes.items b.front
+taken_in s b = after_change s b.change b.front
 
 -- a history with its board
 abbrev pub board_and : State → Past → Sealed

@@ -1,8 +1,11 @@
-use qplain::Effect;
+use qplain::PlacedRow;
 
-/// What one journaled call does to a board: its version is the call's place in the journal.
-#[derive(Clone, Copy)]
+/// What journaled calls do to a board: the rows that they change, each as it is to stand in its place, one after the
+/// other, and the totals after them. The version is the last call's place in the journal.
+#[derive(Drop)]
 pub struct BoardChange {
     pub version: u64,
-    pub effect: Effect,
+    pub rows: Vec<PlacedRow>,
+    pub blocks: u64,
+    pub inodes: u64,
 }

@@ -79,7 +79,9 @@ fn put<K: Origin, N: House, R: Wait>(writer: &mut BoardWriter<K, N>, rt: &R, bat
     unreachable!()
 }
 
-/// Publishes what waits in the log, with which the board is that of this history.
+/// Publishes what waits in the log, with which the board is that of this history. It is in line, so that the writer is
+/// taken apart where it stands and not moved.
+#[inline(always)]
 fn show<K: Origin, N: House, R: Wait>(
     writer: BoardWriter<K, N>,
     rt: &R,
@@ -105,7 +107,7 @@ fn publish_batch<K: Origin, N: House, R: Wait>(rt: &R, writer: &mut BoardWriter<
     requires book { batch.front.book ≡ N.names.book }
     requires goes_on { IsPrefix writer.old.desk.shown.value.front.log batch.front.log }
     requires legal { IsLegal (start K.setting) batch.front.log }
-    requires waits { fold changed_by (board_in writer.old.desk.shown.value) batch.changes.items
+    requires waits { changed_by (board_in writer.old.desk.shown.value) batch.change
         ≡ shown_of (start K.setting) batch.front.log }
     ensures none { drop writer.new.behind writer.new.log.items ≡ [] }
     ensures seen { (known writer.new.desk.place).seen ≡ batch.front.log }
@@ -129,7 +131,7 @@ fn primed<K: Origin, N: House, R: Wait>(
     requires book { batch.front.book ≡ N.names.book }
     requires goes_on { IsPrefix writer.desk.shown.value.front.log batch.front.log }
     requires legal { IsLegal (start K.setting) batch.front.log }
-    requires waits { fold changed_by (board_in writer.desk.shown.value) batch.changes.items
+    requires waits { changed_by (board_in writer.desk.shown.value) batch.change
         ≡ shown_of (start K.setting) batch.front.log }
     ensures none { IfOk result (λ w. drop w.behind w.log.items ≡ []) }
     ensures seen { IfOk result (λ w. (known w.desk.place).seen ≡ batch.front.log) }
@@ -165,8 +167,14 @@ fn first_writer<K: Origin, N: House, R: Wait>(
 {
     let first = Sheet::with(alloc, board, front.again())?;
     let second = Sheet::with(alloc, board, front.again())?;
+    let change = BoardChange {
+        version: board.version,
+        rows: Vec::new(alloc),
+        blocks: board.blocks,
+        inodes: board.inodes,
+    };
     let batch = Batch {
-        changes: Vec::new(alloc),
+        change,
         front: front.again(),
     };
     let writer: BoardWriter<K, N> = Writer::new(alloc, first, second, readers)?;
@@ -194,18 +202,18 @@ impl<K: Origin, N: House, R: Wait + Drop> Publisher<K, N, R> {
         })
     }
 
-    /// Publishes the board of this history, to which these changes lead.
+    /// Publishes the board of this history, to which this change leads.
     ///
     /// It waits for readers that still look at the board before the last one.
-    pub fn publish(&mut self, changes: Vec<BoardChange>, front: Front)
+    pub fn publish(&mut self, change: BoardChange, front: Front)
         requires book { front.book ≡ N.names.book }
         requires goes_on { IsPrefix self.old front.log }
         requires legal { IsLegal (start K.setting) front.log }
-        requires waits { fold changed_by (shown_of (start K.setting) self.old) changes.items
+        requires waits { changed_by (shown_of (start K.setting) self.old) change
             ≡ shown_of (start K.setting) front.log }
         ensures { self.new ≡ front.log }
     {
-        let batch = Batch { changes, front };
+        let batch = Batch { change, front };
         publish_batch(&self.pen.rt, &mut self.pen.writer, batch);
     }
 

@@ -1,9 +1,8 @@
 //! What is published: a board, with the history of which it is.
 ghost use Rattle.std.specs.Prelude.{◌≡◌, IfErr, IfOk, None, Some};
-ghost use Rattle.qplain.specs.Boards.{put};
 ghost use Rattle.qplain.specs.declared.look_fault.LookFault.TheVariants.{ESRCH};
 ghost use Rattle.std.specs.List.{find};
-ghost use Rattle.qboards.specs.Boards.{changed_by};
+ghost use Rattle.qboards.specs.Boards.{changed_by, with_row, with_rows};
 ghost use Rattle.qboards.specs.Sheets.{board_in};
 ghost use Rattle.qboards.specs.Whole.{is_row_of, row_in};
 
@@ -30,21 +29,28 @@ pub struct Sheet {
     pub(crate) front: Front,
 }
 
-/// The changes of one publication, and the history that it brings.
+/// The change of one publication, and the history that it brings.
 #[derive(Drop)]
 pub struct Batch {
-    pub(crate) changes: Vec<BoardChange>,
+    pub(crate) change: BoardChange,
     pub(crate) front: Front,
 }
 
-/// Puts a row in its place, if there is one.
-fn put_row(rows: &mut Vec<BoardRow>, placed: &Option<PlacedRow>)
-    ensures { rows.new.items ≡ put rows.old.items placed.now }
+/// Puts a row in its place, if there is such a place.
+fn put_row(rows: &mut Vec<BoardRow>, placed: &PlacedRow)
+    ensures { rows.new.items ≡ with_row rows.old.items placed.now }
 {
-    if let Some(placed) = placed {
-        if placed.place < rows.len() {
-            rows[placed.place] = placed.row;
-        }
+    if placed.place < rows.len() {
+        rows[placed.place] = placed.row;
+    }
+}
+
+/// Puts each of these in its place, one after the other.
+fn put_rows(rows: &mut Vec<BoardRow>, all: &[PlacedRow])
+    ensures { rows.new.items ≡ with_rows rows.old.items all.now }
+{
+    for placed in all {
+        put_row(rows, placed);
     }
 }
 
@@ -91,13 +97,10 @@ impl Sheet {
     fn take_in(&mut self, change: &BoardChange)
         ensures board { board_in self.new ≡ changed_by (board_in self.old) change.now }
     {
-        put_row(&mut self.rows, &change.effect.user_from);
-        put_row(&mut self.rows, &change.effect.user_to);
-        put_row(&mut self.rows, &change.effect.group_from);
-        put_row(&mut self.rows, &change.effect.group_to);
+        put_rows(&mut self.rows, change.rows.as_slice());
         self.version = change.version;
-        self.blocks = change.effect.blocks;
-        self.inodes = change.effect.inodes;
+        self.blocks = change.blocks;
+        self.inodes = change.inodes;
     }
 
     /// A copy of the board.
@@ -129,20 +132,18 @@ impl Sheet {
 }
 
 impl Absorb<Batch> for Sheet {
-    ghost use Rattle.qboards.specs.Sheets.{after_batch, sealed_in};
+    ghost use Rattle.qboards.specs.Sheets.{sealed_in, taken_in};
 
     type State = Sealed;
 
     ghost state = { sealed_in };
 
-    ghost applied = { λ s b. after_batch s b.changes.items b.front };
+    ghost applied = { taken_in };
 
     ghost never_fails = { Unit {0} };
 
     fn absorb_first(&mut self, operation: &Batch, _other: &Sheet) -> Result<(), AllocError> {
-        for change in operation.changes.iter() {
-            self.take_in(change);
-        }
+        self.take_in(&operation.change);
         self.front = operation.front.again();
         Ok(())
     }

@@ -1,7 +1,8 @@
 -- What holds of a store whenever its lock is free.
-use Rattle.std.specs.Prelude.{◌≡◌, ◌≤◌, List, length, fold}
+use Rattle.std.specs.Prelude.{◌≡◌, ◌≤◌, List, length}
 use mathlib.Core.List.{IsPrefix}
 use Rattle.logbook.specs.Pages.{Book}
+use Rattle.qplain.specs.declared.effect.PlacedRow.{PlacedRow}
 use Rattle.qplain.specs.declared.entry.Entry.{Entry}
 use Rattle.qplain.specs.declared.tallies.Tallies.{Tallies}
 use Rattle.qplain.specs.Setups.{IsLawfulSetup, Setting}
@@ -9,14 +10,13 @@ use Rattle.qplain.specs.State.{State, start}
 use Rattle.qplain.specs.Journal.{IsLegal, play, tally_of}
 use Rattle.qjournal.specs.declared.journal.TheConstants.{MAX_ENTRIES}
 use Rattle.qhistory.specs.Past.{Past, past}
-use Rattle.qboards.specs.declared.board_change.BoardChange.{BoardChange}
-use Rattle.qboards.specs.Boards.{changed_by, shown_of}
+use Rattle.qboards.specs.Boards.{shown_of, with_rows}
 
 -- The state is what the journal leaves when one thread plays it on the plain machine, and each reply is that machine's.
 -- The history is the journal, the tally is the journal's, and the journal is no longer than it may be. A beginning of
--- it is published, and the changes that wait lead from that board to the journal's.
+-- it is published, and the rows that wait lead from that board's rows to those of the journal's board.
 pub record IsSound (book : Book) (setting : Setting) (state : State) (journal : List Entry) (whole : Past)
-    (tally : Tallies) (published : List Entry) (waiting : List BoardChange) : Type 0 where
+    (tally : Tallies) (published : List Entry) (waiting : List PlacedRow) : Type 0 where
   pub lawful : IsLawfulSetup setting
   pub state_is : state ≡ play (start setting) journal
   pub legal : IsLegal (start setting) journal
@@ -24,4 +24,4 @@ pub record IsSound (book : Book) (setting : Setting) (state : State) (journal : 
   pub whole_is : whole ≡ past book journal
   pub tally_is : tally ≡ tally_of journal
   pub goes_on : IsPrefix published journal
-  pub waits : fold changed_by (shown_of (start setting) published) waiting ≡ shown_of (start setting) journal
+  pub waits : with_rows (shown_of (start setting) published).rows waiting ≡ (shown_of (start setting) journal).rows

@@ -6,3 +6,4 @@ pub use locked_store::LockedStore;
 
 mod ended;
 mod locked_store;
+mod waiting;

@@ -9,10 +9,13 @@ ghost use Rattle.qhistory.specs.Shares.{sums_of};
 ghost use Rattle.qlocked.specs.Histories.{line_of};
 
 use crate::ended::Ended;
+use crate::waiting::let_wait;
 use qboards::{BoardChange, Publisher, Viewer};
 use qhistory::{Books, Count, Front, House, Origin, Parts, Share, Whole, together};
 use qjournal::MAX_ENTRIES;
-use qplain::{Call, CallFault, Cred, Effect, Entry, Line, NoMemory, Receipt, Setup, Tallies};
+use qplain::{
+    Call, CallFault, Cred, Entry, NoMemory, PlacedRow, Receipt, Reply, Setup, Tallies,
+};
 use qstore::Store;
 use std::alloc::Global;
 use std::marker::Model;
@@ -33,8 +36,8 @@ pub struct LockedStore<K: Origin, N: House, R: Wait + Drop> {
     seats: u64,
     /// No part of the ledgers.
     rest: Parts<N>,
-    /// What the calls since the last publication do to the board.
-    waiting: Vec<BoardChange>,
+    /// The rows that the calls since the last publication change, one after the other.
+    waiting: Vec<PlacedRow>,
     publisher: Publisher<K, N, R>,
 }
 
@@ -53,49 +56,33 @@ impl<K: Origin, N: House, R: Wait + Drop> Model for LockedStore<K, N, R> {
         × IsSound N.names.book K.setting d.store.state d.journal.items d.whole d.books d.publisher d.waiting.items };
 }
 
-/// Journals an entry, for which there is room, and lets what it does to the board wait. The place is told.
-fn write_down(
-    journal: &mut Vec<Entry>,
-    waiting: &mut Vec<BoardChange>,
-    entry: Entry,
-    effect: Effect,
-) -> u64
-    requires journal { vec_len journal.old < vec_capacity journal.old }
-    requires waiting { vec_len waiting.old < vec_capacity waiting.old }
+/// Journals an entry, for which there is room. The place is told.
+fn write_down(journal: &mut Vec<Entry>, entry: Entry) -> u64
+    requires { vec_len journal.old < vec_capacity journal.old }
     ensures journal { journal.new.items ≡ journal.old.items ++ entry ∷ [] }
-    ensures waiting { waiting.new.items ≡ waiting.old.items ++ record { version = result; effect = effect } ∷ [] }
     ensures place { result ≡ length journal.old.items + 1 }
 {
     let place = journal.len() as u64 + 1;
-    waiting.push_reserved(BoardChange {
-        version: place,
-        effect,
-    });
     journal.push_reserved(entry);
     place
 }
 
-/// Makes room for one change more: for that one alone where none waits, since a publication takes the list away.
-fn make_room(waiting: &mut Vec<BoardChange>) -> Result<(), NoMemory>
-    ensures same { waiting.new.items ≡ waiting.old.items }
-    ensures room { IfOk result (λ _. vec_len waiting.new < vec_capacity waiting.new) }
+/// The entry of a caller's call, which shares what the call has.
+fn entry_for(
+    worker: u64,
+    cred: &Cred,
+    moment: u64,
+    call: &Call,
+    reply: Reply,
+) -> Result<Entry, NoMemory>
+    ensures { IfOk result (λ e. e ≡ entry_of worker (line_of cred.now moment call.now) reply) }
 {
-    if waiting.is_empty() {
-        waiting.reserve_exact(1)?;
-    } else {
-        waiting.reserve(1)?;
-    }
-    Ok(())
-}
-
-/// The line of a caller's call, which shares what the call has.
-fn copy_line(cred: &Cred, moment: u64, call: &Call) -> Result<Line, NoMemory>
-    ensures { IfOk result (λ line. line ≡ line_of cred.now moment call.now) }
-{
-    Ok(Line {
+    Ok(Entry {
+        worker,
         cred: cred.copy()?,
         moment,
         call: call.copy()?,
+        reply,
     })
 }
 
@@ -144,18 +131,20 @@ impl<K: Origin, N: House, R: Wait + Drop> LockedStore<K, N, R> {
         self.seats
     }
 
-    /// Makes the call of a line and journals it, with all that it needs made before its first change.
+    /// Makes a call and journals it, with all that it needs made before its first change.
     fn journal_call<W: Wait>(
         &mut self,
         rt: &W,
         worker: u64,
         mine: &mut Count<N>,
-        line: Line,
+        cred: &Cred,
+        moment: u64,
+        call: &Call,
     ) -> Result<Receipt, NoMemory>
         requires few { length self.old.journal < MAX_ENTRIES }
         requires parts { 0 < mine.old.parts }
         ensures journal { IfOk result (λ r. self.new.journal
-            ≡ self.old.journal ++ entry_of worker line r.reply ∷ []) }
+            ≡ self.old.journal ++ entry_of worker (line_of cred.now moment call.now) r.reply ∷ []) }
         ensures place { IfOk result (λ r. r.place ≡ length self.old.journal + 1) }
         ensures counted { IfOk result (λ r. mine.new
             ≡ record { sums = counted mine.old.sums (change_of r.reply); parts = mine.old.parts }) }
@@ -163,25 +152,17 @@ impl<K: Origin, N: House, R: Wait + Drop> LockedStore<K, N, R> {
         ensures err { OnErr result ((self.new ≡ self.old) × (mine.new ≡ mine.old)) }
     {
         self.journal.reserve(1)?;
-        make_room(&mut self.waiting)?;
-        let Line { cred, moment, call } = line;
-        let ready = self.store.ready(&cred, moment, &call)?;
+        let ready = self.store.ready(cred, moment, call)?;
         let reply = ready.reply().copy()?;
-        let entry = Entry {
-            worker,
-            cred,
-            moment,
-            call,
-            reply,
-        };
+        let entry = entry_for(worker, cred, moment, call, reply)?;
+        let_wait(&mut self.waiting, &self.store, &ready)?;
         let change = entry.reply.change();
         let tallies = self.tallies.with_call(change);
-        let effect = self.store.effect(&ready);
         self.whole.add(rt, &entry);
         let reply = self.store.commit(ready);
         self.books.count_call(mine, change, tallies);
         self.tallies = tallies;
-        let place = write_down(&mut self.journal, &mut self.waiting, entry, effect);
+        let place = write_down(&mut self.journal, entry);
         Ok(Receipt { place, reply })
     }
 
@@ -211,10 +192,7 @@ impl<K: Origin, N: House, R: Wait + Drop> LockedStore<K, N, R> {
         if self.journal.len() >= MAX_ENTRIES {
             return Err(CallFault::JournalFull);
         }
-        let Ok(line) = copy_line(cred, moment, call) else {
-            return Err(CallFault::OutOfMemory);
-        };
-        match self.journal_call(rt, worker, mine, line) {
+        match self.journal_call(rt, worker, mine, cred, moment, call) {
             Ok(receipt) => Ok(receipt),
             Err(_) => Err(CallFault::OutOfMemory),
         }
@@ -224,8 +202,13 @@ impl<K: Origin, N: House, R: Wait + Drop> LockedStore<K, N, R> {
     pub fn publish(&mut self)
         ensures { (self.new.journal ≡ self.old.journal) × (self.new.published ≡ self.old.journal) }
     {
-        let changes = std::mem::replace(&mut self.waiting, Vec::new(self.alloc));
-        self.publisher.publish(changes, self.whole.front());
+        let change = BoardChange {
+            version: self.journal.len() as u64,
+            rows: std::mem::replace(&mut self.waiting, Vec::new(self.alloc)),
+            blocks: self.store.blocks(),
+            inodes: self.store.inodes(),
+        };
+        self.publisher.publish(change, self.whole.front());
     }
 
     /// Lets a viewer see the whole journal, where all of it is published.

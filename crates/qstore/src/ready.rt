@@ -1,5 +1,8 @@
 //! A call that is decided, and what is left to do.
-ghost use Rattle.std.specs.Prelude.{◌≡◌};
+ghost use Rattle.std.specs.Prelude.{◌≡◌, false};
+ghost use Rattle.qplain.specs.Journal.{board_of};
+ghost use Rattle.qstore.specs.Ready.{committed};
+ghost use Rattle.qstore.specs.Stored.{Stored};
 ghost use Rattle.qstore.specs.Told.{told};
 
 use qchange::TreeChange;
@@ -78,5 +81,16 @@ impl Ready {
         ensures { result.now ≡ self.now.reply }
     {
         &self.reply
+    }
+
+    /// Whether `commit` may change a row of a board. O(1).
+    pub fn may_change_rows(&self) -> bool
+        ensures { result ≡ false → (s : Stored)
+            → (board_of (committed s self.now).0 0).rows ≡ (board_of s.state 0).rows }
+    {
+        match &self.plan {
+            Plan::Change { .. } | Plan::Limits => true,
+            Plan::Nothing | Plan::SetGraces { .. } => false,
+        }
     }
 }

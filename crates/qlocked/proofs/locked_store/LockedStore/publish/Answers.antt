@@ -10,5 +10,5 @@ invariant_of-self g c =
       i.2,
       i.3,
       publishes _ _ _ _ _ _ _ _ _ _ i.4 (c.publish.ensures ∙ ap (λ w. w.log) c.front.ensures)
-          (ap (λ v. v.items) c.replace-changes.ensures.after ∙ c.new.ensures.items),
+          (ap (λ v. v.items) c.replace.ensures.after ∙ c.new.ensures.items),
     )

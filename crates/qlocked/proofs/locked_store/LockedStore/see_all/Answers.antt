@@ -1,4 +1,4 @@
-use Rattle.std.proofs.Common.{All, length, take, subst, arith}
+use Rattle.std.proofs.Common.{All, subst, arith}
 use Rattle.std.proofs.lemmas.List.{take_all}
 use Rattle.std.proofs.lemmas.List.Elements.{All-more}
 use mathlib.Core.List.{IsPrefix}
