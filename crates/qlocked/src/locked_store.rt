@@ -152,9 +152,16 @@ impl<K: Origin, N: House, R: Wait + Drop> LockedStore<K, N, R> {
         ensures err { OnErr result ((self.new ≡ self.old) × (mine.new ≡ mine.old)) }
     {
         self.journal.reserve(1)?;
-        let ready = self.store.ready(cred, moment, call)?;
-        let reply = ready.reply().copy()?;
-        let entry = entry_for(worker, cred, moment, call, reply)?;
+        // What is ready, and an entry, are large: a `?` would move them once more.
+        let Ok(ready) = self.store.ready(cred, moment, call) else {
+            return Err(NoMemory);
+        };
+        let Ok(reply) = ready.reply().copy() else {
+            return Err(NoMemory);
+        };
+        let Ok(entry) = entry_for(worker, cred, moment, call, reply) else {
+            return Err(NoMemory);
+        };
         let_wait(&mut self.waiting, &self.store, &ready)?;
         let change = entry.reply.change();
         let tallies = self.tallies.with_call(change);

@@ -222,9 +222,16 @@ impl Store {
         ensures refused_first { IsRefused (step self.old.state cred.now moment call.now).1 → IsOk result }
         ensures answered { wants_no_memory call.now ≡ true → IsOk result }
     {
-        let Decided { reply, plan } = self.decide(cred, moment, call)?;
-        let bytes = bytes_for(&plan, call)?;
-        Ok(Ready { reply, plan, bytes })
+        // What is decided is large: a `?` would move it once more.
+        let Ok(decided) = self.decide(cred, moment, call) else {
+            return Err(NoMemory);
+        };
+        let bytes = bytes_for(&decided.plan, call)?;
+        Ok(Ready {
+            reply: decided.reply,
+            plan: decided.plan,
+            bytes,
+        })
     }
 
     /// Does what is ready, and gives the reply. It takes no memory and always succeeds.

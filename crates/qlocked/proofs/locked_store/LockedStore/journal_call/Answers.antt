@@ -15,12 +15,12 @@ pub with_call-tallies-requires : goal.with_call-tallies-requires
 with_call-tallies-requires g c =
     let i = c.self.invariant in
     let line = line_of c.args.cred.now c.args.moment c.args.call.now in
-    let counts : c.change-change.result ≡ change_of c.in_ok-reply.reply =
-    c.change-change.ensures ∙ ap (λ (e : Entry). change_of e.reply) c.in_ok-entry.ensures in
+    let counts : c.change-change.result ≡ change_of c.in-Ok-copy.reply =
+    c.change-change.ensures ∙ ap (λ (e : Entry). change_of e.reply) c.in-Ok-entry_for.ensures in
     let few : length c.self.inside.journal.items < MAX_ENTRIES = rw (ap (λ j. j.journal) c.self.view_is) c.requires.few in
     record {
-      room = rw i.3 (can_count _ _ _ _ _ _ _ _ c.ready.new.self c.in_ok-ready.ready _ c.in_ok-reply.reply c.change-change.result line
-          i.4 few c.in_ok-ready.ensures.step c.reply.ensures c.in_ok-reply.ensures counts);
+      room = rw i.3 (can_count _ _ _ _ _ _ _ _ c.ready.new.self c.in-Ok.ready _ c.in-Ok-copy.reply c.change-change.result line
+          i.4 few c.in-Ok.ensures.step c.reply.ensures c.in-Ok-copy.ensures counts);
     }
 
 pub invariant_of-self-2 : goal.invariant_of-self-2
@@ -28,19 +28,19 @@ invariant_of-self-2 g c =
     let i = c.self.invariant in
     let journal = c.self.inside.journal.items in
     let line = line_of c.args.cred.now c.args.moment c.args.call.now in
-    let entry = c.in_ok-entry.entry in
-    let counts : c.change-change.result ≡ change_of c.in_ok-reply.reply =
-    c.change-change.ensures ∙ ap (λ (e : Entry). change_of e.reply) c.in_ok-entry.ensures in
+    let entry = c.in-Ok-entry_for.entry in
+    let counts : c.change-change.result ≡ change_of c.in-Ok-copy.reply =
+    c.change-change.ensures ∙ ap (λ (e : Entry). change_of e.reply) c.in-Ok-entry_for.ensures in
     let few : length journal < MAX_ENTRIES = rw (ap (λ j. j.journal) c.self.view_is) c.requires.few in
-    let stepped = carried_out c.self.inside.store.state c.commit-reply.new.self.state c.ready.new.self c.in_ok-ready.ready _ _ _ line
-    c.in_ok-ready.ensures.step c.commit-reply.ensures c.reply.ensures c.in_ok-reply.ensures in
+    let stepped = carried_out c.self.inside.store.state c.commit-reply.new.self.state c.ready.new.self c.in-Ok.ready _ _ _ line
+    c.in-Ok.ensures.step c.commit-reply.ensures c.reply.ensures c.in-Ok-copy.ensures in
     let waiting = c.self.inside.waiting.items in
     let more = c.let_wait.new.waiting.items in
-    let told : LeadsOn waiting c.self.inside.store.state more (committed c.ready.new.self c.in_ok-ready.ready).0 =
-    subst (λ (T : State). LeadsOn waiting T more (committed c.ready.new.self c.in_ok-ready.ready).0) c.in_ok-ready.ensures.state c.in_ok-let_wait.ensures.rows in
+    let told : LeadsOn waiting c.self.inside.store.state more (committed c.ready.new.self c.in-Ok.ready).0 =
+    subst (λ (T : State). LeadsOn waiting T more (committed c.ready.new.self c.in-Ok.ready).0) c.in-Ok.ensures.state c.in_ok-let_wait.ensures.rows in
     let led : LeadsOn waiting c.self.inside.store.state more c.commit-reply.new.self.state =
     subst (λ (T : State). LeadsOn waiting c.self.inside.store.state more T) (sym (ap (λ p. p.0) c.commit-reply.ensures)) told in
-    let grown = grows _ _ _ _ _ _ _ _ waiting more c.args.worker line c.in_ok-reply.reply i.4 few stepped led in (
+    let grown = grows _ _ _ _ _ _ _ _ waiting more c.args.worker line c.in-Ok-copy.reply i.4 few stepped led in (
       i.0,
       i.1,
       i.2,
@@ -49,8 +49,8 @@ invariant_of-self-2 g c =
           refl
           (c.write_down-place.ensures.journal
           ∙ ap (λ (l : List Entry). l ++ entry ∷ []) c.in_ok-reserve.ensures.items
-          ∙ ap (λ (e : Entry). journal ++ e ∷ []) c.in_ok-entry.ensures)
-          (c.add.ensures ∙ ap (λ (e : Entry). longer c.self.inside.whole e) c.in_ok-entry.ensures)
+          ∙ ap (λ (e : Entry). journal ++ e ∷ []) c.in-Ok-entry_for.ensures)
+          (c.add.ensures ∙ ap (λ (e : Entry). longer c.self.inside.whole e) c.in-Ok-entry_for.ensures)
           (c.count_call.ensures.books ∙ ap (λ x. counted c.self.inside.books x) counts)
           refl
           refl,

@@ -7,13 +7,13 @@ use Rattle.qstore.proofs.store.Store.ready.Goals as goal
 pub returns-clause-ready : goal.returns-clause-ready
 returns-clause-ready c =
     let x = c.args in
-    let plan = c.in_ok-reply.field-0.plan in
+    let plan = c.in-Ok.decided.plan in
     let new = c.decide.new.self in
     let sound = IsSound-from_step x.self.now.state (effect new plan (bytes_of x.call.now))
-    x.cred.now x.moment x.call.now c.in_ok-reply.field-0.reply
-    c.decide.ensures.sound c.in_ok-reply.ensures.step in
+    x.cred.now x.moment x.call.now c.in-Ok.decided.reply
+    c.decide.ensures.sound c.in-Ok.ensures.step in
     record {
-      can = c.in_ok-bytes.ensures.can new c.in_ok-reply.ensures.can;
+      can = c.in_ok-bytes.ensures.can new c.in-Ok.ensures.can;
       sound = subst IsSound (sym (c.in_ok-bytes.ensures.effect new)) sound;
     }
 
@@ -21,4 +21,4 @@ returns-clause-ready c =
 pub returns-clause-step : goal.returns-clause-step
 returns-clause-step c =
     let new = c.decide.new.self in
-    (λ i. (c.in_ok-bytes.ensures.effect new i, c.in_ok-reply.field-0.reply)) ∙ c.in_ok-reply.ensures.step
+    (λ i. (c.in_ok-bytes.ensures.effect new i, c.in-Ok.decided.reply)) ∙ c.in-Ok.ensures.step
