@@ -79,9 +79,7 @@ fn put<K: Origin, N: House, R: Wait>(writer: &mut BoardWriter<K, N>, rt: &R, bat
     unreachable!()
 }
 
-/// Publishes what waits in the log, with which the board is that of this history. It is in line, so that the writer is
-/// taken apart where it stands and not moved.
-#[inline(always)]
+/// Publishes what waits in the log, with which the board is that of this history.
 fn show<K: Origin, N: House, R: Wait>(
     writer: BoardWriter<K, N>,
     rt: &R,

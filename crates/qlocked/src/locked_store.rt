@@ -13,9 +13,7 @@ use crate::waiting::let_wait;
 use qboards::{BoardChange, Publisher, Viewer};
 use qhistory::{Books, Count, Front, House, Origin, Parts, Share, Whole, together};
 use qjournal::MAX_ENTRIES;
-use qplain::{
-    Call, CallFault, Cred, Entry, NoMemory, PlacedRow, Receipt, Reply, Setup, Tallies,
-};
+use qplain::{Call, CallFault, Cred, Entry, NoMemory, PlacedRow, Receipt, Reply, Setup, Tallies};
 use qstore::Store;
 use std::alloc::Global;
 use std::marker::Model;

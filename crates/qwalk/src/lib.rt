@@ -5,10 +5,12 @@ pub use directory::{has_all_links, is_empty};
 pub use links::{FurtherName, further_name};
 pub use renames::{Renaming, is_its_own, places_of, rename_fault};
 pub use rights::{is_own, may_give, may_remove, may_write};
+pub use stats::stat_of;
 pub use walk::{Found, Place, find, inode, place_of};
 
 mod directory;
 mod links;
 mod renames;
 mod rights;
+mod stats;
 mod walk;
