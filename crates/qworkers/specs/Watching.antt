@@ -12,8 +12,8 @@ pub record Watched : Type 0 where
   pub share : Shared
   pub looks : List (Result Board LookFault)
 
--- the share of this watcher, who has made no call, and so many looks: the boards are lawful, from this state on, over the
--- history that it has seen
+-- the share of this watcher, who has made no call, and so many looks: the boards are lawful, from this state on, over
+-- the history that it has seen
 pub record IsWatch (S : State) (worker boards : ℕ) (w : Watched) : Type 0 where
   pub worker_is : w.share.worker ≡ worker
   pub idle : w.share.sums.calls ≡ 0

@@ -77,7 +77,8 @@ returns-in-Ok-join_promised g c =
             subst (λ ls. IsWork (k + 1) ls (slice_index_or works.items k d)) script
             (subst (λ m. IsWork m h.promise.lines.now (slice_index_or works.items k d)) worker at.1.kept);
       };
-      watch = subst (λ w. IsWatchOf (start g.K.Origin.setting) c.captures.options-boards w c.in_ok-watch.watch) c.loop-seat.invariant.3 c.in_ok-watch.ensures.watch;
+      watch = subst (λ w. IsWatchOf (start g.K.Origin.setting) c.captures.options-boards w c.in_ok-watch.watch) c.loop-seat.invariant.3
+          c.in_ok-watch.ensures.watch;
       fault = λ n few watcher. tt;
     }
 
