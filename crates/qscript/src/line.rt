@@ -32,8 +32,11 @@ fn line_in<'a>(
         [moment, cred, call @ ..] => {
             let moment = number(moment)?;
             let cred = callers.read(alloc, cred)?;
-            let call = call_in(alloc, paths, call)?;
-            Ok(Line { cred, moment, call })
+            // A call is large, and a `?` would move it once more.
+            match call_in(alloc, paths, call) {
+                Ok(call) => Ok(Line { cred, moment, call }),
+                Err(fault) => Err(fault),
+            }
         }
     }
 }

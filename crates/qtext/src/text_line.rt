@@ -111,8 +111,23 @@ impl TextLine {
         }
     }
 
-    /// Puts a number in decimal digits behind what is there.
+    /// Puts a number in decimal digits behind what is there. One digit is put in line.
+    #[inline(always)]
+    #[tactic(auto, using(std::proofs::lemmas::Fmt::decimal_digit))]
     pub fn number(&mut self, n: u64)
+        requires { length self.old + 20 ≤ LINE_ROOM }
+        ensures text { self.new ≡ self.old ++ decimal n }
+        ensures short { length self.new ≤ length self.old + 20 }
+    {
+        if n <= 9 {
+            self.byte(b'0' + n as u8);
+        } else {
+            self.long(n);
+        }
+    }
+
+    /// Puts a number of any length in decimal digits behind what is there.
+    fn long(&mut self, n: u64)
         requires { length self.old + 20 ≤ LINE_ROOM }
         ensures text { self.new ≡ self.old ++ decimal n }
         ensures short { length self.new ≤ length self.old + 20 }

@@ -1,6 +1,6 @@
 use Rattle.std.proofs.Common.{◌≤◌, ◌<◌, ◌/◌, ◌%◌, append_assoc, arith, decimal}
 use Rattle.itoa.proofs.Decimal.{decimal_pair, pair}
-use Rattle.qtext.proofs.text_line.TextLine.number.Goals as goal
+use Rattle.qtext.proofs.text_line.TextLine.long.Goals as goal
 
 pub returns-then-n-lt10000-clause-text : goal.returns-then-n-lt10000-clause-text
 returns-then-n-lt10000-clause-text c =
