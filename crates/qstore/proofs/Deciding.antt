@@ -30,9 +30,9 @@ use Rattle.qledger.specs.Books.{AreBooksOf, Books, HasSlots}
 use Rattle.qledger.specs.KeptHolders.{holders_in}
 use Rattle.qledger.specs.Replacements.{IsReplacement}
 use Rattle.qledger.proofs.Booked.{claim-weight}
-use Rattle.qstore.specs.declared.ready.Decided.{Decided}
 use Rattle.qstore.specs.declared.ready.Plan.{Plan}
 use Rattle.qstore.specs.declared.ready.Plan.TheVariants.{Nothing, Change, Limits as SetLimits}
+use Rattle.qstore.specs.declared.ready.Ready.{Ready}
 use Rattle.qchange.specs.declared.tree_change.TreeChange.{TreeChange}
 use Rattle.qstore.specs.Decided.{IsAsked, IsBilled, IsClaimed, IsDecided, IsUnbilled, IsWhole}
 use Rattle.qstore.specs.Ready.{CanCarryOut, IsRefused, billed, effect}
@@ -118,45 +118,43 @@ granted-unrefused S S1 cred moment number none refused =
     (ap (λ (t : State × Reply). t.1) (settle-granted S S1 cred moment number none)) refused
 
 -- an answer decides an attempt that is answered so
-pub decided-answered : (old new : Stored) (cred : Caller) (moment : ℕ) (attempt : Attempt) (bytes : List ℕ) (d : Decided) (reply : Reply)
+pub decided-answered : (old new : Stored) (cred : Caller) (moment : ℕ) (attempt : Attempt) (d : Ready) (reply : Reply)
     → new.state ≡ old.state → settle old.state cred moment attempt ≡ (old.state, reply) → d.reply ≡ reply → d.plan ≡ Nothing
-    → IsDecided old new cred moment attempt bytes d
-decided-answered old new cred moment attempt bytes d reply state is same plan = record {
-  step = (λ i. (effect new (plan i) bytes, same i)) ∙ (λ i. (state i, reply)) ∙ sym is;
-  can = subst (λ (p : Plan). CanCarryOut new p bytes) (sym plan) tt;
-  nothing = λ refused. plan;
+    → IsDecided old new cred moment attempt d
+decided-answered old new cred moment attempt d reply state is same plan = record {
+  step = (λ i. (effect new (plan i), same i)) ∙ (λ i. (state i, reply)) ∙ sym is;
+  can = subst (λ (p : Plan). CanCarryOut new p) (sym plan) tt;
 }
 
 -- a refusal decides an attempt that is refused so
-pub decided-refused : (old new : Stored) (cred : Caller) (moment : ℕ) (attempt : Attempt) (bytes : List ℕ) (d : Decided) (r : Refusal)
-    → new.state ≡ old.state → attempt ≡ Refuse r → d.reply ≡ Refused r → d.plan ≡ Nothing → IsDecided old new cred moment attempt bytes d
-decided-refused old new cred moment attempt bytes d r state is reply plan =
-    decided-answered old new cred moment attempt bytes d (Refused r) state (ap (settle old.state cred moment) is) reply plan
+pub decided-refused : (old new : Stored) (cred : Caller) (moment : ℕ) (attempt : Attempt) (d : Ready) (r : Refusal)
+    → new.state ≡ old.state → attempt ≡ Refuse r → d.reply ≡ Refused r → d.plan ≡ Nothing → IsDecided old new cred moment attempt d
+decided-refused old new cred moment attempt d r state is reply plan =
+    decided-answered old new cred moment attempt d (Refused r) state (ap (settle old.state cred moment) is) reply plan
 
 module _ (old new : Stored) (same : IsSameStore old new) (cred : Caller) (moment number given : ℕ) (from to : Option Claim)
-    (S1 : State) (bytes : List ℕ) (asked : IsAsked old from to given S1) where
+    (S1 : State) (asked : IsAsked old from to given S1) where
   -- a bill that is refused decides the plain result
-  pub decided-unbilled : (attempt : Attempt) (d : Decided) (refusal : Refusal) → attempt ≡ Becomes S1 number
+  pub decided-unbilled : (attempt : Attempt) (d : Ready) (refusal : Refusal) → attempt ≡ Becomes S1 number
       → IsUnbilled old cred moment from to given refusal → d.reply ≡ Refused refusal → d.plan ≡ Nothing
-      → IsDecided old new cred moment attempt bytes d
+      → IsDecided old new cred moment attempt d
   decided-unbilled attempt d refusal becomes is reply plan =
-      decided-answered old new cred moment attempt bytes d (Refused refusal) same.state
+      decided-answered old new cred moment attempt d (Refused refusal) same.state
       (ap (settle old.state cred moment) becomes ∙ settle-refused old.state S1 cred moment number refusal (is S1 asked)) reply plan
 
   -- and so does one that is granted
-  pub decided-billed : (attempt : Attempt) (change : TreeChange) (d : Decided) → attempt ≡ Becomes S1 number
+  pub decided-billed : (attempt : Attempt) (change : TreeChange) (bytes : List ℕ) (d : Ready) → attempt ≡ Becomes S1 number
       → IsBilled old new.bill cred moment from to given
       → changed old.state change bytes ≡ S1 → CanChange new.state new.room change bytes
-      → d.reply ≡ Done number (told from to) → d.plan ≡ Change change
-      → IsDecided old new cred moment attempt bytes d
-  decided-billed attempt change d becomes billed_so made can reply plan = record {
+      → d.reply ≡ Done number (told from to) → d.plan ≡ Change change bytes
+      → IsDecided old new cred moment attempt d
+  decided-billed attempt change bytes d becomes billed_so made can reply plan = record {
     step =
-        (λ i. (effect new (plan i) bytes, reply i))
+        (λ i. (effect new (plan i), reply i))
         ∙ (λ i. (there i, Done number (told-change old.books from to old.state S1 asked.before asked.after asked.replaced i)))
         ∙ sym (ap (settle old.state cred moment) becomes ∙ settle-granted old.state S1 cred moment number granted.0);
-    can = subst (λ (p : Plan). CanCarryOut new p bytes) (sym plan)
+    can = subst (λ (p : Plan). CanCarryOut new p) (sym plan)
         (can, record { placed = subst (λ (b : Books). IsBillFor b new.bill) (sym same.books) billed_so.placed; books = books });
-    nothing = λ refused. done-unrefused number (told from to) d.reply reply refused;
   }
     where
       granted : (refusal_between old.state S1 cred moment ≡ None) × AreBooksOf (ends_after S1 moment) (settled new.bill old.books)
@@ -185,9 +183,9 @@ pub same-store : (s : Stored) → IsSameStore s s
 same-store s = record { state = refl; books = refl }
 
 -- a decision along an equal attempt
-pub decided-along : (old new : Stored) (cred : Caller) (moment : ℕ) (attempt other : Attempt) (bytes : List ℕ) (d : Decided) → attempt ≡ other
-    → IsDecided old new cred moment attempt bytes d → IsDecided old new cred moment other bytes d
-decided-along old new cred moment attempt other bytes d same is = subst (λ a. IsDecided old new cred moment a bytes d) same is
+pub decided-along : (old new : Stored) (cred : Caller) (moment : ℕ) (attempt other : Attempt) (d : Ready) → attempt ≡ other
+    → IsDecided old new cred moment attempt d → IsDecided old new cred moment other d
+decided-along old new cred moment attempt other d same is = subst (λ a. IsDecided old new cred moment a d) same is
 
 -- what an inode that is there weighs is within the size
 pub weight-fits : (S : State) (number : ℕ) (inode : Inode) → inode_at S number ≡ Some inode → IsLawful S → weight Blocks inode ≤ S.size
@@ -208,7 +206,7 @@ bytes-unrefused S cred moment attempt bytes is refused =
 pub decided-limits : (old new : Stored) → IsSameStore old new → (cred : Caller) (moment : ℕ) (kind : Kind) (id : ℕ) (limits : Limits)
     → IsLawful old.state → (cred.uid == 0) ≡ true → is_declared old.state kind id ≡ true
     → AreBooksOf (ends_after (with_limits_of old.state kind id limits) moment) (settled new.bill old.books) → IsBillFor old.books new.bill
-    → IsDecided old new cred moment (set_quota old.state cred kind id limits) [] (record { reply = Done 0 no_change; plan = SetLimits })
+    → IsDecided old new cred moment (set_quota old.state cred kind id limits) (record { reply = Done 0 no_change; plan = SetLimits })
 decided-limits old new same cred moment kind id limits lawful super declared books placed = record {
   step =
       (λ i. (left i, Done 0 no_change))
@@ -221,7 +219,6 @@ decided-limits old new same cred moment kind id limits lawful super declared boo
     books = subst (λ (S : State). AreBooksOf S (settled new.bill new.books)) (sym left)
         (subst (λ (b : Books). AreBooksOf (ends_after (with_limits_of old.state kind id limits) moment) (settled new.bill b)) (sym same.books) books);
   };
-  nothing = λ refused. done-unrefused 0 no_change (Done 0 no_change) refl refused;
 }
   where
     left : billed new new.state ≡ ends_after (with_limits_of old.state kind id limits) moment

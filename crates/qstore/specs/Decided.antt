@@ -1,5 +1,5 @@
 -- What the decision of a call comes to. No public clause cites this module.
-use Rattle.std.specs.Prelude.{◌≡◌, ℕ, ◌+◌, List, Option, Some, None}
+use Rattle.std.specs.Prelude.{◌≡◌, ℕ, ◌+◌, Option, Some, None}
 use Rattle.std.specs.Option.{option_map}
 use Rattle.qrules.specs.declared.kind.Kind.TheVariants.{User, Group}
 use Rattle.qplain.specs.Attempt.{Attempt}
@@ -14,9 +14,8 @@ use Rattle.qledger.specs.Bills.{IsBillFor, settled}
 use Rattle.qledger.specs.Books.{AreBooksOf, Books}
 use Rattle.qledger.specs.Claims.{IsShareOf, share_in}
 use Rattle.qledger.specs.Replacements.{IsReplacement}
-use Rattle.qstore.specs.declared.ready.Decided.{Decided}
-use Rattle.qstore.specs.declared.ready.Plan.TheVariants.{Nothing}
-use Rattle.qstore.specs.Ready.{CanCarryOut, IsRefused, effect}
+use Rattle.qstore.specs.declared.ready.Ready.{Ready}
+use Rattle.qstore.specs.Ready.{CanCarryOut, committed}
 use Rattle.qstore.specs.Stored.{IsSound, Stored}
 
 -- the state is sound, and the books are its own
@@ -26,11 +25,9 @@ pub record IsWhole (s : Stored) : Type 0 where
 
 -- the decision is what the plain machine makes of the attempt, and the store, with the room that was made and the bill
 -- that was granted, can carry it out
-pub record IsDecided (old new : Stored) (cred : Caller) (moment : ℕ) (attempt : Attempt) (bytes : List ℕ)
-    (d : Decided) : Type 0 where
-  pub step : (effect new d.plan bytes, d.reply) ≡ settle old.state cred moment attempt
-  pub can : CanCarryOut new d.plan bytes
-  pub nothing : IsRefused d.reply → d.plan ≡ Nothing
+pub record IsDecided (old new : Stored) (cred : Caller) (moment : ℕ) (attempt : Attempt) (r : Ready) : Type 0 where
+  pub step : committed new r ≡ settle old.state cred moment attempt
+  pub can : CanCarryOut new r.plan
 
 -- the claim is what the inode, where one stands, takes of its owners' records
 pub record IsClaimed (b : Books) (claim : Option Claim) (inode : Option Inode) : Type 0 where

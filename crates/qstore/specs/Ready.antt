@@ -1,5 +1,5 @@
 -- What a call that is ready will do, and when it may.
-use Rattle.std.specs.Prelude.{◌≡◌, ℕ, Bool, true, false, List, []}
+use Rattle.std.specs.Prelude.{◌≡◌, Bool, true, false}
 use Rattle.qrules.specs.Range.{are_graces_in_range}
 use Rattle.qplain.specs.declared.call.Call.{Call}
 use Rattle.qplain.specs.declared.call.Call.TheVariants.{Create as CreateCall, Mkdir as MkdirCall, Write as WriteCall, Truncate as TruncateCall, Read, Stat, Link as LinkCall, Unlink as UnlinkCall, Rmdir as RmdirCall, Rename as RenameCall, Chown as ChownCall, SetQuota, SetGrace, Quota}
@@ -15,23 +15,6 @@ use Rattle.qstore.specs.declared.ready.Plan.{Plan}
 use Rattle.qstore.specs.declared.ready.Plan.TheVariants.{Nothing, Change, Limits, SetGraces}
 use Rattle.qstore.specs.declared.ready.Ready.{Ready}
 use Rattle.qstore.specs.Stored.{IsSound, Stored}
-
--- the bytes that a call brings
-abbrev pub bytes_of : Call → List ℕ
-bytes_of (CreateCall path) = []
-bytes_of (MkdirCall path) = []
-bytes_of (WriteCall path off bytes) = bytes
-bytes_of (TruncateCall path size) = []
-bytes_of (Read path off len) = []
-bytes_of (Stat path) = []
-bytes_of (LinkCall from to) = []
-bytes_of (UnlinkCall path) = []
-bytes_of (RmdirCall path) = []
-bytes_of (RenameCall from to) = []
-bytes_of (ChownCall path uid gid) = []
-bytes_of (SetQuota kind id limits) = []
-bytes_of (SetGrace graces) = []
-bytes_of (Quota kind id) = []
 
 -- the reply is a refusal
 abbrev pub IsRefused : Reply → Type 0
@@ -58,31 +41,31 @@ wants_no_memory (Quota kind id) = true
 abbrev pub billed : Stored → State → State
 billed s S = record S { holders = holders_in (settled s.bill s.books).users (settled s.bill s.books).groups }
 
--- the state that a plan leaves, told the bytes that the call brings
-abbrev pub effect : Stored → Plan → List ℕ → State
-effect s Nothing bytes = s.state
-effect s (Change change) bytes = billed s (changed s.state change bytes)
-effect s Limits bytes = billed s s.state
-effect s (SetGraces graces) bytes = record s.state { graces = graces }
+-- the state that a plan leaves
+abbrev pub effect : Stored → Plan → State
+effect s Nothing = s.state
+effect s (Change change bytes) = billed s (changed s.state change bytes)
+effect s Limits = billed s s.state
+effect s (SetGraces graces) = record s.state { graces = graces }
 
 -- what a ready call leaves, and its reply
 abbrev pub committed : Stored → Ready → State × Reply
-committed s r = (effect s r.plan r.bytes, r.reply)
+committed s r = (effect s r.plan, r.reply)
 
 -- the store's bill is for its books, which after it are those of this state with the bill's holders
 pub record CanSettle (s : Stored) (S : State) : Type 0 where
   pub placed : IsBillFor s.books s.bill
   pub books : AreBooksOf (billed s S) (settled s.bill s.books)
 
--- the store is as the plan needs it, told the bytes that the call brings
-abbrev pub CanCarryOut : Stored → Plan → List ℕ → Type 0
-CanCarryOut s Nothing bytes = Unit {0}
-CanCarryOut s (Change change) bytes =
+-- the store is as the plan needs it
+abbrev pub CanCarryOut : Stored → Plan → Type 0
+CanCarryOut s Nothing = Unit {0}
+CanCarryOut s (Change change bytes) =
     CanChange s.state s.room change bytes × CanSettle s (changed s.state change bytes)
-CanCarryOut s Limits bytes = CanSettle s s.state
-CanCarryOut s (SetGraces graces) bytes = are_graces_in_range graces ≡ true
+CanCarryOut s Limits = CanSettle s s.state
+CanCarryOut s (SetGraces graces) = are_graces_in_range graces ≡ true
 
 -- the store is as `ready` left it, as far as the call needs
 pub record IsReady (s : Stored) (r : Ready) : Type 0 where
-  pub can : CanCarryOut s r.plan r.bytes
-  pub sound : IsSound (effect s r.plan r.bytes)
+  pub can : CanCarryOut s r.plan
+  pub sound : IsSound (effect s r.plan)

@@ -1,5 +1,5 @@
 //! A call that is decided, and what is left to do.
-ghost use Rattle.std.specs.Prelude.{◌≡◌, false};
+ghost use Rattle.std.specs.Prelude.{◌≡◌, false, []};
 ghost use Rattle.qplain.specs.Journal.{board_of};
 ghost use Rattle.qstore.specs.Ready.{committed};
 ghost use Rattle.qstore.specs.Stored.{Stored};
@@ -15,39 +15,39 @@ use qrules::Graces;
 pub(crate) enum Plan {
     /// The reply is all.
     Nothing,
-    /// Inodes or names change, and the accounts by the store's bill.
-    Change { change: TreeChange },
+    /// Inodes or names change, and the accounts by the store's bill. The bytes are a write's, which its call shares.
+    Change { change: TreeChange, bytes: Data },
     /// A record gets other limits, by the store's bill.
     Limits,
     /// The graces are to be these.
     SetGraces { graces: Graces },
 }
 
-/// The reply of a call, and its plan.
+/// A call that `Store::ready` has decided and made room for. It borrows nothing and may be dropped.
 #[derive(Drop)]
-pub(crate) struct Decided {
+pub struct Ready {
     pub(crate) reply: Reply,
     pub(crate) plan: Plan,
 }
 
-impl Decided {
+impl Ready {
     /// Nothing is to be done beyond this reply.
-    pub(crate) fn answer(reply: Reply) -> Decided
+    pub(crate) fn answer(reply: Reply) -> Ready
         ensures reply { result.reply ≡ reply }
         ensures plan { result.plan ≡ Plan.Nothing }
     {
-        Decided {
+        Ready {
             reply,
             plan: Plan::Nothing,
         }
     }
 
     /// The call is refused.
-    pub(crate) fn refused(refusal: Refusal) -> Decided
+    pub(crate) fn refused(refusal: Refusal) -> Ready
         ensures reply { result.reply ≡ Reply.Refused refusal }
         ensures plan { result.plan ≡ Plan.Nothing }
     {
-        Decided::answer(Reply::Refused(refusal))
+        Ready::answer(Reply::Refused(refusal))
     }
 
     /// The call is granted: the inode of one claim comes to stand in the place of the other's.
@@ -56,26 +56,30 @@ impl Decided {
         from: Option<Claim>,
         to: Option<Claim>,
         change: TreeChange,
-    ) -> Decided
+    ) -> Ready
         ensures reply { result.reply ≡ Reply.Done number (told from to) }
-        ensures plan { result.plan ≡ Plan.Change change }
+        ensures plan { result.plan ≡ Plan.Change change [] }
     {
-        Decided {
+        Ready::granted_with(number, from, to, change, Data::fill(0, 0))
+    }
+
+    /// The call is granted, and these bytes come into the inode.
+    pub(crate) fn granted_with(
+        number: u64,
+        from: Option<Claim>,
+        to: Option<Claim>,
+        change: TreeChange,
+        bytes: Data,
+    ) -> Ready
+        ensures reply { result.reply ≡ Reply.Done number (told from to) }
+        ensures plan { result.plan ≡ Plan.Change change bytes }
+    {
+        Ready {
             reply: Reply::Done(number, change_of(from, to)),
-            plan: Plan::Change { change },
+            plan: Plan::Change { change, bytes },
         }
     }
-}
 
-/// A call that `Store::ready` has decided and made room for. It borrows nothing and may be dropped.
-#[derive(Drop)]
-pub struct Ready {
-    pub(crate) reply: Reply,
-    pub(crate) plan: Plan,
-    pub(crate) bytes: Data,
-}
-
-impl Ready {
     /// The reply that `commit` will give.
     pub fn reply(&self) -> &Reply
         ensures { result.now ≡ self.now.reply }

@@ -13,11 +13,11 @@ ghost use Rattle.qchange.specs.Trees.{IsTreeOf};
 ghost use Rattle.qledger.specs.Books.{HasSlots};
 ghost use Rattle.qstore.specs.Stored.{IsSameStore, IsSound, Stored};
 ghost use Rattle.qstore.specs.Decided.{IsDecided, IsWhole};
-ghost use Rattle.qstore.specs.Ready.{CanCarryOut, IsReady, IsRefused, bytes_of, committed, effect, wants_no_memory};
+ghost use Rattle.qstore.specs.Ready.{CanCarryOut, IsReady, IsRefused, committed, wants_no_memory};
 
-use crate::ready::{Decided, Plan, Ready};
+use crate::ready::Ready;
 use qledger::{Accounts, Bill, Slots};
-use qplain::{Call, Cred, Data, FILE_LIMIT, NoMemory, Reply, Setup};
+use qplain::{Call, Cred, FILE_LIMIT, NoMemory, Reply, Setup};
 use qrules::MAX_MOMENT;
 use qtree::Tree;
 use std::alloc::Global;
@@ -67,32 +67,6 @@ impl Model for Store {
     ghost invariant = { λ a. IsCounted (state_of a) a.accounts a.tree.links };
 }
 
-/// The bytes that a call brings, where it brings any.
-fn brought<'a>(call: &'a Call, none: &'a Data) -> &'a Data
-    requires { none.now ≡ [] }
-    ensures { result.now ≡ bytes_of call.now }
-{
-    match call {
-        Call::Write { bytes, .. } => bytes,
-        _ => none,
-    }
-}
-
-/// The bytes of the call that its plan has to write, which the call goes on to share.
-fn bytes_for(plan: &Plan, call: &Call) -> Result<Data, NoMemory>
-    ensures effect { IfOk result (λ bytes. (s : Stored)
-        → effect s plan.now bytes ≡ effect s plan.now (bytes_of call.now)) }
-    ensures can { IfOk result (λ bytes. (s : Stored)
-        → CanCarryOut s plan.now (bytes_of call.now) → CanCarryOut s plan.now bytes) }
-    ensures nothing { plan.now ≡ Plan.Nothing → IsOk result }
-    ensures answered { wants_no_memory call.now ≡ true → IsOk result }
-{
-    match (plan, call) {
-        (Plan::Change { .. }, Call::Write { bytes, .. }) => bytes.copy(),
-        _ => Ok(Data::fill(0, 0)),
-    }
-}
-
 impl Store {
     /// A new store of a setup. It holds the root directory, inode 1 of user 0 and group 0; the next number is 2, and a
     /// file has at most 2^30 bytes (tmpfs(5), profile).
@@ -137,19 +111,17 @@ impl Store {
     }
 
     /// Decides a call, and makes every growth that it needs.
-    fn decide(&mut self, cred: &Cred, moment: u64, call: &Call) -> Result<Decided, NoMemory>
+    fn decide(&mut self, cred: &Cred, moment: u64, call: &Call) -> Result<Ready, NoMemory>
         ensures same { IsSameStore self.old self.new }
-        ensures step { IfOk result (λ d. (effect self.new d.plan (bytes_of call.now), d.reply)
-            ≡ step self.old.state cred.now moment call.now) }
-        ensures can { IfOk result (λ d. CanCarryOut self.new d.plan (bytes_of call.now)) }
+        ensures step { IfOk result (λ r. committed self.new r ≡ step self.old.state cred.now moment call.now) }
+        ensures can { IfOk result (λ r. CanCarryOut self.new r.plan) }
         ensures sound { IsSound self.old.state }
         ensures refused_first { IsRefused (step self.old.state cred.now moment call.now).1 → IsOk result }
         ensures answered { wants_no_memory call.now ≡ true → IsOk result }
-        ensures nothing { IfOk result (λ d. IsRefused d.reply → d.plan ≡ Plan.Nothing) }
     {
         match self.check(cred, moment, call) {
             Ok(callers) => self.decide_lawful(cred, callers, moment, call),
-            Err(refusal) => Ok(Decided::refused(refusal)),
+            Err(refusal) => Ok(Ready::refused(refusal)),
         }
     }
 
@@ -160,14 +132,14 @@ impl Store {
         callers: Slots,
         moment: u64,
         call: &Call,
-    ) -> Result<Decided, NoMemory>
+    ) -> Result<Ready, NoMemory>
         requires callers { HasSlots self.old.books callers cred.now.uid cred.now.gid }
         requires whole { IsWhole self.old }
         requires moment { moment ≤ MAX_MOMENT }
         requires numbers { has_bad_number self.old.state call.now ≡ false }
         ensures same { IsSameStore self.old self.new }
         ensures decided { IfOk result (IsDecided self.old self.new cred.now moment
-            (attempt_of self.old.state cred.now call.now) (bytes_of call.now)) }
+            (attempt_of self.old.state cred.now call.now)) }
         ensures refused_first { IsRefused (settle self.old.state cred.now moment
             (attempt_of self.old.state cred.now call.now)).1 → IsOk result }
         ensures answered { wants_no_memory call.now ≡ true → IsOk result }
@@ -182,9 +154,9 @@ impl Store {
                 Ok(self.decide_truncate(cred, callers, moment, path.text(), *size))
             }
             Call::Read { path, off, len } => {
-                Ok(Decided::answer(self.decide_read(path.text(), *off, *len)?))
+                Ok(Ready::answer(self.decide_read(path.text(), *off, *len)?))
             }
-            Call::Stat { path } => Ok(Decided::answer(self.decide_stat(path.text()))),
+            Call::Stat { path } => Ok(Ready::answer(self.decide_stat(path.text()))),
             Call::Link { from, to } => self.decide_link(cred, moment, from.text(), to.text()),
             Call::Unlink { path } => self.decide_unlink(cred, callers, moment, path),
             Call::Rmdir { path } => self.decide_rmdir(cred, callers, moment, path),
@@ -198,7 +170,7 @@ impl Store {
                 Ok(self.decide_set_quota(cred, moment, *kind, *id, *limits))
             }
             Call::SetGrace { graces } => Ok(self.decide_set_grace(cred, *graces)),
-            Call::Quota { kind, id } => Ok(Decided::answer(self.decide_quota(cred, *kind, *id))),
+            Call::Quota { kind, id } => Ok(Ready::answer(self.decide_quota(cred, *kind, *id))),
         }
     }
 
@@ -222,16 +194,7 @@ impl Store {
         ensures refused_first { IsRefused (step self.old.state cred.now moment call.now).1 → IsOk result }
         ensures answered { wants_no_memory call.now ≡ true → IsOk result }
     {
-        // What is decided is large: a `?` would move it once more.
-        let Ok(decided) = self.decide(cred, moment, call) else {
-            return Err(NoMemory);
-        };
-        let bytes = bytes_for(&decided.plan, call)?;
-        Ok(Ready {
-            reply: decided.reply,
-            plan: decided.plan,
-            bytes,
-        })
+        self.decide(cred, moment, call)
     }
 
     /// Does what is ready, and gives the reply. It takes no memory and always succeeds.
@@ -241,8 +204,8 @@ impl Store {
         requires { IsReady self.old ready }
         ensures { (self.new.state, result) ≡ committed self.old ready }
     {
-        let Ready { reply, plan, bytes } = ready;
-        self.carry_out(plan, &bytes);
+        let Ready { reply, plan } = ready;
+        self.carry_out(plan);
         reply
     }
 
@@ -265,9 +228,10 @@ impl Store {
         ensures limits { OnOk result (is_superuser cred.now ≡ false
             → All (PassesNoLimit self.old.state self.new.state moment) self.old.state.holders) }
     {
-        let Decided { reply, plan } = self.decide(cred, moment, call)?;
-        let none = Data::fill(0, 0);
-        self.carry_out(plan, brought(call, &none));
-        Ok(reply)
+        // What is ready is large: a `?` would move it once more.
+        let Ok(ready) = self.ready(cred, moment, call) else {
+            return Err(NoMemory);
+        };
+        Ok(self.commit(ready))
     }
 }

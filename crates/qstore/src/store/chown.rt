@@ -8,7 +8,7 @@ ghost use Rattle.qledger.specs.Books.{HasSlots};
 ghost use Rattle.qstore.specs.Decided.{IsDecided, IsWhole};
 ghost use Rattle.qstore.specs.Stored.{IsSameStore};
 
-use crate::ready::Decided;
+use crate::ready::Ready;
 use crate::store::Store;
 use qchange::TreeChange;
 use qledger::Slots;
@@ -26,22 +26,22 @@ impl Store {
         path: &str,
         uid: Option<u32>,
         gid: Option<u32>,
-    ) -> Decided
+    ) -> Ready
         requires callers { HasSlots self.old.books callers cred.now.uid cred.now.gid }
         requires whole { IsWhole self.old }
         requires moment { moment ≤ MAX_MOMENT }
         requires declared { (is_undeclared self.old.state User uid || is_undeclared self.old.state Group gid) ≡ false }
         ensures same { IsSameStore self.old self.new }
         ensures decided { IsDecided self.old self.new cred.now moment
-            (at_path self.old.state (chown_at self.old.state cred.now uid gid) path.now) [] result }
+            (at_path self.old.state (chown_at self.old.state cred.now uid gid) path.now) result }
     {
         let Found { number, node } = match find(self.tree(), path) {
             Ok(found) => found,
-            Err(refusal) => return Decided::refused(refusal),
+            Err(refusal) => return Ready::refused(refusal),
         };
         let (uid, gid) = (uid.unwrap_or(node.uid), gid.unwrap_or(node.gid));
         if !may_give(cred, node, uid, gid) {
-            return Decided::refused(Refusal::EPERM);
+            return Ready::refused(Refusal::EPERM);
         }
         let from = self.claim_of(cred, callers, number, node);
         let to = self.claim(cred, callers, uid, gid, from.weight.blocks);

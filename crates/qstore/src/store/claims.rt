@@ -13,7 +13,7 @@ ghost use Rattle.qstore.specs.Decided.{IsAsked, IsBilled, IsClaimed, IsDecided, 
 ghost use Rattle.qchange.specs.Changes.{CanChange, changed};
 ghost use Rattle.qstore.specs.Stored.{IsSameStore};
 
-use crate::ready::Decided;
+use crate::ready::Ready;
 use crate::store::Store;
 use qchange::TreeChange;
 use qledger::{Claim, Slots};
@@ -126,17 +126,17 @@ impl Store {
         from: Option<Claim>,
         to: Option<Claim>,
         change: TreeChange,
-    ) -> Decided
+    ) -> Ready
         requires moment { moment ≤ MAX_MOMENT }
         requires asked { IsAsked self.old from to 0 (changed self.old.state change []) }
         requires can { CanChange self.old.state self.old.room change [] }
         ensures same { IsSameStore self.old self.new }
         ensures decided { IsDecided self.old self.new cred.now moment
-            (Becomes (changed self.old.state change []) number) [] result }
+            (Becomes (changed self.old.state change []) number) result }
     {
         match self.admit(cred, moment, from, to, 0) {
-            Ok(()) => Decided::granted(number, from, to, change),
-            Err(refusal) => Decided::refused(refusal),
+            Ok(()) => Ready::granted(number, from, to, change),
+            Err(refusal) => Ready::refused(refusal),
         }
     }
 }

@@ -12,14 +12,14 @@ use qplain::{Data, Effect};
 
 impl Store {
     /// Does what is decided.
-    pub(super) fn carry_out(&mut self, plan: Plan, bytes: &Data)
-        requires can { CanCarryOut self.old plan bytes.now }
-        requires sound { IsSound (effect self.old plan bytes.now) }
-        ensures { self.new.state ≡ effect self.old plan bytes.now }
+    pub(super) fn carry_out(&mut self, plan: Plan)
+        requires can { CanCarryOut self.old plan }
+        requires sound { IsSound (effect self.old plan) }
+        ensures { self.new.state ≡ effect self.old plan }
     {
         match plan {
             Plan::Nothing => {}
-            Plan::Change { change } => self.commit_change(change, bytes),
+            Plan::Change { change, bytes } => self.commit_change(change, &bytes),
             Plan::Limits => self.accounts.settle(&self.bill),
             Plan::SetGraces { graces } => self.accounts.set_graces(graces),
         }

@@ -15,7 +15,7 @@ ghost use Rattle.qstore.specs.Ready.{IsRefused};
 ghost use Rattle.qstore.specs.Stored.{IsSameStore};
 
 use crate::file_type::FileType;
-use crate::ready::Decided;
+use crate::ready::Ready;
 use crate::store::Store;
 use qchange::TreeChange;
 use qledger::{Claim, Slots};
@@ -53,22 +53,22 @@ impl Store {
         callers: Slots,
         moment: u64,
         path: &str,
-    ) -> Result<Decided, NoMemory>
+    ) -> Result<Ready, NoMemory>
         requires callers { HasSlots self.old.books callers cred.now.uid cred.now.gid }
         requires whole { IsWhole self.old }
         requires moment { moment ≤ MAX_MOMENT }
         ensures same { IsSameStore self.old self.new }
         ensures decided { IfOk result (IsDecided self.old self.new cred.now moment
-            (in_place self.old.state EEXIST (create_as self.old.state cred.now) path.now) []) }
+            (in_place self.old.state EEXIST (create_as self.old.state cred.now) path.now)) }
         ensures refused_first { IsRefused (settle self.old.state cred.now moment
             (in_place self.old.state EEXIST (create_as self.old.state cred.now) path.now)).1 → IsOk result }
     {
         let place = match place_of(self.tree(), path, Refusal::EEXIST) {
             Ok(place) => place,
-            Err(refusal) => return Ok(Decided::refused(refusal)),
+            Err(refusal) => return Ok(Ready::refused(refusal)),
         };
         match place.leads_to {
-            Some(_) => Ok(Decided::refused(Refusal::EEXIST)),
+            Some(_) => Ok(Ready::refused(Refusal::EEXIST)),
             None => self.make_inode(cred, callers, moment, place.dir, place.name, FileType::File),
         }
     }
@@ -82,7 +82,7 @@ impl Store {
         dir: u64,
         name: &str,
         sort: FileType,
-    ) -> Result<Decided, NoMemory>
+    ) -> Result<Ready, NoMemory>
         requires callers { HasSlots self.old.books callers cred.now.uid cred.now.gid }
         requires whole { IsWhole self.old }
         requires moment { moment ≤ MAX_MOMENT }
@@ -91,7 +91,7 @@ impl Store {
         ensures same { IsSameStore self.old self.new }
         ensures decided { IfOk result (IsDecided self.old self.new cred.now moment
             (Becomes (created self.old.state (inode_new sort cred.now.uid cred.now.gid) dir name.now)
-            self.old.state.next) []) }
+            self.old.state.next)) }
         ensures refused_first { IsRefused (settle self.old.state cred.now moment (Becomes
             (created self.old.state (inode_new sort cred.now.uid cred.now.gid) dir name.now) self.old.state.next)).1
             → IsOk result }
@@ -99,11 +99,11 @@ impl Store {
         let to = Some(Claim::new(callers, 0));
         match self.admit(cred, moment, None, to, 1) {
             Ok(()) => {}
-            Err(refusal) => return Ok(Decided::refused(refusal)),
+            Err(refusal) => return Ok(Ready::refused(refusal)),
         }
         let name = String::from_str(self.alloc, name)?;
         self.tree.make_room(dir)?;
         let change = creation(sort, dir, name, cred.uid(), cred.gid());
-        Ok(Decided::granted(self.next, None, to, change))
+        Ok(Ready::granted(self.next, None, to, change))
     }
 }

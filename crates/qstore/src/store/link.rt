@@ -10,7 +10,7 @@ ghost use Rattle.qchange.specs.Changes.{IsFile};
 ghost use Rattle.qstore.specs.Ready.{IsRefused};
 ghost use Rattle.qstore.specs.Stored.{IsSameStore};
 
-use crate::ready::Decided;
+use crate::ready::Ready;
 use crate::store::Store;
 use qchange::TreeChange;
 use qplain::{Cred, NoMemory};
@@ -25,18 +25,18 @@ impl Store {
         moment: u64,
         from: &str,
         to: &str,
-    ) -> Result<Decided, NoMemory>
+    ) -> Result<Ready, NoMemory>
         requires whole { IsWhole self.old }
         requires moment { moment ≤ MAX_MOMENT }
         ensures same { IsSameStore self.old self.new }
         ensures decided { IfOk result (IsDecided self.old self.new cred.now moment
-            (at_path self.old.state (link_to self.old.state to.now) from.now) []) }
+            (at_path self.old.state (link_to self.old.state to.now) from.now)) }
         ensures refused_first { IsRefused (settle self.old.state cred.now moment
             (at_path self.old.state (link_to self.old.state to.now) from.now)).1 → IsOk result }
     {
         match further_name(self.tree(), from, to) {
             Ok(new) => self.name_file(cred, moment, new.number, new.dir, new.name),
-            Err(refusal) => Ok(Decided::refused(refusal)),
+            Err(refusal) => Ok(Ready::refused(refusal)),
         }
     }
 
@@ -48,7 +48,7 @@ impl Store {
         number: u64,
         dir: u64,
         name: &str,
-    ) -> Result<Decided, NoMemory>
+    ) -> Result<Ready, NoMemory>
         requires whole { IsWhole self.old }
         requires moment { moment ≤ MAX_MOMENT }
         requires file { IsFile self.old.state number }
@@ -56,17 +56,17 @@ impl Store {
         requires absent { named self.old.state dir name.now ≡ None }
         ensures same { IsSameStore self.old self.new }
         ensures decided { IfOk result (IsDecided self.old self.new cred.now moment
-            (Becomes (with_name self.old.state dir name.now number) number) []) }
+            (Becomes (with_name self.old.state dir name.now number) number)) }
         ensures refused_first { IsRefused (settle self.old.state cred.now moment
             (Becomes (with_name self.old.state dir name.now number) number)).1 → IsOk result }
     {
         match self.admit(cred, moment, None, None, 0) {
             Ok(()) => {}
-            Err(refusal) => return Ok(Decided::refused(refusal)),
+            Err(refusal) => return Ok(Ready::refused(refusal)),
         }
         let name = String::from_str(self.alloc, name)?;
         self.tree.make_name_room(dir)?;
         let change = TreeChange::Link { dir, name, number };
-        Ok(Decided::granted(number, None, None, change))
+        Ok(Ready::granted(number, None, None, change))
     }
 }

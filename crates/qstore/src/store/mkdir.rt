@@ -12,7 +12,7 @@ ghost use Rattle.qstore.specs.Ready.{IsRefused};
 ghost use Rattle.qstore.specs.Stored.{IsSameStore};
 
 use crate::file_type::FileType;
-use crate::ready::Decided;
+use crate::ready::Ready;
 use crate::store::Store;
 use qledger::Slots;
 use qplain::{Cred, NoMemory, Refusal};
@@ -27,22 +27,22 @@ impl Store {
         callers: Slots,
         moment: u64,
         path: &str,
-    ) -> Result<Decided, NoMemory>
+    ) -> Result<Ready, NoMemory>
         requires callers { HasSlots self.old.books callers cred.now.uid cred.now.gid }
         requires whole { IsWhole self.old }
         requires moment { moment ≤ MAX_MOMENT }
         ensures same { IsSameStore self.old self.new }
         ensures decided { IfOk result (IsDecided self.old self.new cred.now moment
-            (in_place self.old.state EEXIST (mkdir_as self.old.state cred.now) path.now) []) }
+            (in_place self.old.state EEXIST (mkdir_as self.old.state cred.now) path.now)) }
         ensures refused_first { IsRefused (settle self.old.state cred.now moment
             (in_place self.old.state EEXIST (mkdir_as self.old.state cred.now) path.now)).1 → IsOk result }
     {
         let place = match place_of(self.tree(), path, Refusal::EEXIST) {
             Ok(place) => place,
-            Err(refusal) => return Ok(Decided::refused(refusal)),
+            Err(refusal) => return Ok(Ready::refused(refusal)),
         };
         match place.leads_to {
-            Some(_) => Ok(Decided::refused(Refusal::EEXIST)),
+            Some(_) => Ok(Ready::refused(Refusal::EEXIST)),
             None => self.make_directory(cred, callers, moment, place.dir, place.name),
         }
     }
@@ -55,7 +55,7 @@ impl Store {
         moment: u64,
         dir: u64,
         name: &str,
-    ) -> Result<Decided, NoMemory>
+    ) -> Result<Ready, NoMemory>
         requires callers { HasSlots self.old.books callers cred.now.uid cred.now.gid }
         requires whole { IsWhole self.old }
         requires moment { moment ≤ MAX_MOMENT }
@@ -64,13 +64,13 @@ impl Store {
         ensures same { IsSameStore self.old self.new }
         ensures decided { IfOk result (IsDecided self.old self.new cred.now moment (unless_too_many_links
             (created self.old.state (new_directory cred.now.uid cred.now.gid) dir name.now)
-            self.old.state.next) []) }
+            self.old.state.next)) }
         ensures refused_first { IsRefused (settle self.old.state cred.now moment (unless_too_many_links
             (created self.old.state (new_directory cred.now.uid cred.now.gid) dir name.now)
             self.old.state.next)).1 → IsOk result }
     {
         if has_all_links(self.tree(), dir) {
-            return Ok(Decided::refused(Refusal::EMLINK));
+            return Ok(Ready::refused(Refusal::EMLINK));
         }
         self.make_inode(cred, callers, moment, dir, name, FileType::Directory)
     }

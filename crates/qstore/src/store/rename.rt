@@ -16,7 +16,7 @@ ghost use Rattle.qstore.specs.Ready.{IsRefused};
 ghost use Rattle.qpath.specs.Paths.{name_in};
 ghost use Rattle.qstore.specs.Stored.{IsSameStore};
 
-use crate::ready::Decided;
+use crate::ready::Ready;
 use crate::store::Store;
 use crate::store::unlink::left_of;
 use qchange::TreeChange;
@@ -41,22 +41,22 @@ impl Store {
         moment: u64,
         from: &Path,
         to: &str,
-    ) -> Result<Decided, NoMemory>
+    ) -> Result<Ready, NoMemory>
         requires callers { HasSlots self.old.books callers cred.now.uid cred.now.gid }
         requires whole { IsWhole self.old }
         requires moment { moment ≤ MAX_MOMENT }
         ensures same { IsSameStore self.old self.new }
         ensures decided { IfOk result (IsDecided self.old self.new cred.now moment
-            (in_place self.old.state EBUSY (rename_from self.old.state cred.now to.now) from.now) []) }
+            (in_place self.old.state EBUSY (rename_from self.old.state cred.now to.now) from.now)) }
         ensures refused_first { IsRefused (settle self.old.state cred.now moment
             (in_place self.old.state EBUSY (rename_from self.old.state cred.now to.now) from.now)).1 → IsOk result }
     {
         let new = match places_of(self.tree(), from.text(), to) {
             Ok(new) => new,
-            Err(refusal) => return Ok(Decided::refused(refusal)),
+            Err(refusal) => return Ok(Ready::refused(refusal)),
         };
         if is_its_own(&new) {
-            return Ok(Decided::answer(Reply::Done(new.number, NO_CHANGE)));
+            return Ok(Ready::answer(Reply::Done(new.number, NO_CHANGE)));
         }
         self.rename_over(cred, callers, moment, from, to, &new)
     }
@@ -70,7 +70,7 @@ impl Store {
         from: &Path,
         to: &str,
         new: &Renaming,
-    ) -> Result<Decided, NoMemory>
+    ) -> Result<Ready, NoMemory>
         requires callers { HasSlots self.old.books callers cred.now.uid cred.now.gid }
         requires whole { IsWhole self.old }
         requires moment { moment ≤ MAX_MOMENT }
@@ -82,7 +82,7 @@ impl Store {
         ensures same { IsSameStore self.old self.new }
         ensures decided { (inode : Inode) → inode_at self.old.state new.now.number ≡ Some inode
             → IfOk result (IsDecided self.old self.new cred.now moment (rename_as self.old.state cred.now to.now
-            new.now.dir (name_in from.now) new.now.number inode new.now.to.dir new.now.to.name.now) []) }
+            new.now.dir (name_in from.now) new.now.number inode new.now.to.dir new.now.to.name.now)) }
         ensures refused_first { (inode : Inode) → inode_at self.old.state new.now.number ≡ Some inode
             → IsRefused (settle self.old.state cred.now moment (rename_as self.old.state cred.now to.now new.now.dir
             (name_in from.now) new.now.number inode new.now.to.dir new.now.to.name.now)).1 → IsOk result }
@@ -92,7 +92,7 @@ impl Store {
             unreachable!()
         };
         match rename_fault(tree, cred, to, new, node) {
-            Some(refusal) => return Ok(Decided::refused(refusal)),
+            Some(refusal) => return Ok(Ready::refused(refusal)),
             None => {}
         }
         let Replaced { claim, left } = self.replaced(cred, callers, new);
@@ -141,7 +141,7 @@ impl Store {
         new: &Renaming,
         claim: Option<Claim>,
         left: Option<Claim>,
-    ) -> Result<Decided, NoMemory>
+    ) -> Result<Ready, NoMemory>
         requires moment { moment ≤ MAX_MOMENT }
         requires directory { is_directory self.old.state new.now.to.dir ≡ true }
         requires asked { IsAsked self.old claim left 0 (renamed self.old.state new.now.dir (name_in from.now)
@@ -152,14 +152,14 @@ impl Store {
         ensures same { IsSameStore self.old self.new }
         ensures decided { IfOk result (IsDecided self.old self.new cred.now moment
             (Becomes (renamed self.old.state new.now.dir (name_in from.now) new.now.to.dir new.now.to.name.now
-            new.now.number) new.now.number) []) }
+            new.now.number) new.now.number)) }
         ensures refused_first { IsRefused (settle self.old.state cred.now moment
             (Becomes (renamed self.old.state new.now.dir (name_in from.now) new.now.to.dir new.now.to.name.now
             new.now.number) new.now.number)).1 → IsOk result }
     {
         match self.admit(cred, moment, claim, left, 0) {
             Ok(()) => {}
-            Err(refusal) => return Ok(Decided::refused(refusal)),
+            Err(refusal) => return Ok(Ready::refused(refusal)),
         }
         let to_name = String::from_str(self.alloc, new.to.name)?;
         let path = from.copy()?;
@@ -171,6 +171,6 @@ impl Store {
             to_name,
             number: new.number,
         };
-        Ok(Decided::granted(new.number, claim, left, change))
+        Ok(Ready::granted(new.number, claim, left, change))
     }
 }

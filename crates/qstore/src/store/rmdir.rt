@@ -14,7 +14,7 @@ ghost use Rattle.qpath.specs.Paths.{name_in};
 ghost use Rattle.qstore.specs.Stored.{IsSameStore};
 
 use crate::file_type::FileType;
-use crate::ready::Decided;
+use crate::ready::Ready;
 use crate::store::Store;
 use qledger::Slots;
 use qplain::{Cred, NoMemory, Path, Refusal};
@@ -30,25 +30,25 @@ impl Store {
         callers: Slots,
         moment: u64,
         path: &Path,
-    ) -> Result<Decided, NoMemory>
+    ) -> Result<Ready, NoMemory>
         requires callers { HasSlots self.old.books callers cred.now.uid cred.now.gid }
         requires whole { IsWhole self.old }
         requires moment { moment ≤ MAX_MOMENT }
         ensures same { IsSameStore self.old self.new }
         ensures decided { IfOk result (IsDecided self.old self.new cred.now moment
-            (in_place self.old.state EBUSY (rmdir_as self.old.state cred.now) path.now) []) }
+            (in_place self.old.state EBUSY (rmdir_as self.old.state cred.now) path.now)) }
         ensures refused_first { IsRefused (settle self.old.state cred.now moment
             (in_place self.old.state EBUSY (rmdir_as self.old.state cred.now) path.now)).1 → IsOk result }
     {
         let place = match place_of(self.tree(), path.text(), Refusal::EBUSY) {
             Ok(place) => place,
-            Err(refusal) => return Ok(Decided::refused(refusal)),
+            Err(refusal) => return Ok(Ready::refused(refusal)),
         };
         match place.leads_to {
             Some(number) => {
                 self.take_directory(cred, callers, moment, path, place.dir, place.name, number)
             }
-            None => Ok(Decided::refused(Refusal::ENOENT)),
+            None => Ok(Ready::refused(Refusal::ENOENT)),
         }
     }
 
@@ -62,7 +62,7 @@ impl Store {
         dir: u64,
         name: &str,
         number: u64,
-    ) -> Result<Decided, NoMemory>
+    ) -> Result<Ready, NoMemory>
         requires callers { HasSlots self.old.books callers cred.now.uid cred.now.gid }
         requires whole { IsWhole self.old }
         requires moment { moment ≤ MAX_MOMENT }
@@ -71,22 +71,22 @@ impl Store {
         requires led { named self.old.state dir name.now ≡ Some number }
         ensures same { IsSameStore self.old self.new }
         ensures decided { IfOk result (IsDecided self.old self.new cred.now moment
-            (rmdir_as self.old.state cred.now dir name.now) []) }
+            (rmdir_as self.old.state cred.now dir name.now)) }
         ensures refused_first { IsRefused (settle self.old.state cred.now moment
             (rmdir_as self.old.state cred.now dir name.now)).1 → IsOk result }
     {
         let tree = self.tree();
         let Some(node) = inode(tree, number) else {
-            return Ok(Decided::refused(Refusal::ENOENT));
+            return Ok(Ready::refused(Refusal::ENOENT));
         };
         let Content::Directory(_) = &node.content else {
-            return Ok(Decided::refused(Refusal::ENOTDIR));
+            return Ok(Ready::refused(Refusal::ENOTDIR));
         };
         if !may_remove(tree, cred, dir, number, node) {
-            return Ok(Decided::refused(Refusal::EPERM));
+            return Ok(Ready::refused(Refusal::EPERM));
         }
         if !is_empty(tree, number) {
-            return Ok(Decided::refused(Refusal::ENOTEMPTY));
+            return Ok(Ready::refused(Refusal::ENOTEMPTY));
         }
         let claim = self.claim_of(cred, callers, number, node);
         self.grant_removal(

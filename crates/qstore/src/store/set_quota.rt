@@ -4,7 +4,7 @@ ghost use Rattle.qplain.specs.Quotas.{set_quota};
 ghost use Rattle.qstore.specs.Decided.{IsDecided, IsWhole};
 ghost use Rattle.qstore.specs.Stored.{IsSameStore};
 
-use crate::ready::{Decided, Plan};
+use crate::ready::{Plan, Ready};
 use crate::store::Store;
 use qplain::{Cred, NO_CHANGE, Refusal, Reply};
 use qrules::{Kind, Limits, MAX_MOMENT};
@@ -18,21 +18,21 @@ impl Store {
         kind: Kind,
         id: u32,
         limits: Limits,
-    ) -> Decided
+    ) -> Ready
         requires moment { moment ≤ MAX_MOMENT }
         requires whole { IsWhole self.old }
         ensures same { IsSameStore self.old self.new }
         ensures decided { IsDecided self.old self.new cred.now moment
-            (set_quota self.old.state cred.now kind id limits) [] result }
+            (set_quota self.old.state cred.now kind id limits) result }
     {
         if cred.uid() != 0 {
-            return Decided::refused(Refusal::EPERM);
+            return Ready::refused(Refusal::EPERM);
         }
         match self.accounts.slot(kind, id) {
-            None => Decided::refused(Refusal::ESRCH),
+            None => Ready::refused(Refusal::ESRCH),
             Some(slot) => {
                 self.bill = self.accounts.bill_of_limits(kind, slot, limits, moment);
-                Decided {
+                Ready {
                     reply: Reply::Done(0, NO_CHANGE),
                     plan: Plan::Limits,
                 }

@@ -6,7 +6,7 @@ ghost use Rattle.qledger.specs.Books.{HasSlots};
 ghost use Rattle.qstore.specs.Decided.{IsDecided, IsWhole};
 ghost use Rattle.qstore.specs.Stored.{IsSameStore};
 
-use crate::ready::Decided;
+use crate::ready::Ready;
 use crate::store::Store;
 use qchange::TreeChange;
 use qledger::{Claim, Slots};
@@ -24,27 +24,27 @@ impl Store {
         moment: u64,
         path: &str,
         size: u64,
-    ) -> Decided
+    ) -> Ready
         requires callers { HasSlots self.old.books callers cred.now.uid cred.now.gid }
         requires whole { IsWhole self.old }
         requires moment { moment ≤ MAX_MOMENT }
         ensures same { IsSameStore self.old self.new }
         ensures decided { IsDecided self.old self.new cred.now moment
-            (at_path self.old.state (truncate_at self.old.state cred.now size) path.now) [] result }
+            (at_path self.old.state (truncate_at self.old.state cred.now size) path.now) result }
     {
         let limit = self.file_limit;
         let Found { number, node } = match find(self.tree(), path) {
             Ok(found) => found,
-            Err(refusal) => return Decided::refused(refusal),
+            Err(refusal) => return Ready::refused(refusal),
         };
         let Content::File(file) = &node.content else {
-            return Decided::refused(Refusal::EISDIR);
+            return Ready::refused(Refusal::EISDIR);
         };
         if !may_write(cred, node) {
-            return Decided::refused(Refusal::EACCES);
+            return Ready::refused(Refusal::EACCES);
         }
         if size > limit {
-            return Decided::refused(Refusal::EFBIG);
+            return Ready::refused(Refusal::EFBIG);
         }
         let from = self.claim_of(cred, callers, number, node);
         let to = Claim::new(from.slots, from.weight.blocks - file.freed_by(size));

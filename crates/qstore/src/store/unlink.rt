@@ -16,7 +16,7 @@ ghost use Rattle.qpath.specs.Paths.{name_in};
 ghost use Rattle.qstore.specs.Stored.{IsSameStore};
 
 use crate::file_type::FileType;
-use crate::ready::Decided;
+use crate::ready::Ready;
 use crate::store::Store;
 use qchange::TreeChange;
 use qledger::{Claim, Slots};
@@ -53,25 +53,25 @@ impl Store {
         callers: Slots,
         moment: u64,
         path: &Path,
-    ) -> Result<Decided, NoMemory>
+    ) -> Result<Ready, NoMemory>
         requires callers { HasSlots self.old.books callers cred.now.uid cred.now.gid }
         requires whole { IsWhole self.old }
         requires moment { moment ≤ MAX_MOMENT }
         ensures same { IsSameStore self.old self.new }
         ensures decided { IfOk result (IsDecided self.old self.new cred.now moment
-            (in_place self.old.state EISDIR (unlink_as self.old.state cred.now) path.now) []) }
+            (in_place self.old.state EISDIR (unlink_as self.old.state cred.now) path.now)) }
         ensures refused_first { IsRefused (settle self.old.state cred.now moment
             (in_place self.old.state EISDIR (unlink_as self.old.state cred.now) path.now)).1 → IsOk result }
     {
         let place = match place_of(self.tree(), path.text(), Refusal::EISDIR) {
             Ok(place) => place,
-            Err(refusal) => return Ok(Decided::refused(refusal)),
+            Err(refusal) => return Ok(Ready::refused(refusal)),
         };
         match place.leads_to {
             Some(number) => {
                 self.take_name(cred, callers, moment, path, place.dir, place.name, number)
             }
-            None => Ok(Decided::refused(Refusal::ENOENT)),
+            None => Ok(Ready::refused(Refusal::ENOENT)),
         }
     }
 
@@ -85,7 +85,7 @@ impl Store {
         dir: u64,
         name: &str,
         number: u64,
-    ) -> Result<Decided, NoMemory>
+    ) -> Result<Ready, NoMemory>
         requires callers { HasSlots self.old.books callers cred.now.uid cred.now.gid }
         requires whole { IsWhole self.old }
         requires moment { moment ≤ MAX_MOMENT }
@@ -93,19 +93,19 @@ impl Store {
         requires led { named self.old.state dir name.now ≡ Some number }
         ensures same { IsSameStore self.old self.new }
         ensures decided { IfOk result (IsDecided self.old self.new cred.now moment
-            (unlink_as self.old.state cred.now dir name.now) []) }
+            (unlink_as self.old.state cred.now dir name.now)) }
         ensures refused_first { IsRefused (settle self.old.state cred.now moment
             (unlink_as self.old.state cred.now dir name.now)).1 → IsOk result }
     {
         let tree = self.tree();
         let Some(node) = inode(tree, number) else {
-            return Ok(Decided::refused(Refusal::ENOENT));
+            return Ok(Ready::refused(Refusal::ENOENT));
         };
         let Content::File(_) = &node.content else {
-            return Ok(Decided::refused(Refusal::EISDIR));
+            return Ok(Ready::refused(Refusal::EISDIR));
         };
         if !may_remove(tree, cred, dir, number, node) {
-            return Ok(Decided::refused(Refusal::EPERM));
+            return Ok(Ready::refused(Refusal::EPERM));
         }
         let claim = self.claim_of(cred, callers, number, node);
         let left = left_of(node, claim);
@@ -123,23 +123,23 @@ impl Store {
         claim: Claim,
         left: Option<Claim>,
         sort: FileType,
-    ) -> Result<Decided, NoMemory>
+    ) -> Result<Ready, NoMemory>
         requires moment { moment ≤ MAX_MOMENT }
         requires asked { IsAsked self.old (Some claim) left 0
             (swept (without_name self.old.state dir (name_in path.now))) }
         requires can { CanRemove sort self.old.state dir number (name_in path.now) }
         ensures same { IsSameStore self.old self.new }
         ensures decided { IfOk result (IsDecided self.old self.new cred.now moment
-            (Becomes (swept (without_name self.old.state dir (name_in path.now))) number) []) }
+            (Becomes (swept (without_name self.old.state dir (name_in path.now))) number)) }
         ensures refused_first { IsRefused (settle self.old.state cred.now moment
             (Becomes (swept (without_name self.old.state dir (name_in path.now))) number)).1 → IsOk result }
     {
         match self.admit(cred, moment, Some(claim), left, 0) {
             Ok(()) => {}
-            Err(refusal) => return Ok(Decided::refused(refusal)),
+            Err(refusal) => return Ok(Ready::refused(refusal)),
         }
         let path = path.copy()?;
         let change = removal(sort, dir, path, number);
-        Ok(Decided::granted(number, Some(claim), left, change))
+        Ok(Ready::granted(number, Some(claim), left, change))
     }
 }

@@ -10,7 +10,7 @@ ghost use Rattle.qstore.specs.Ready.{IsRefused};
 ghost use Rattle.qstore.specs.Stored.{IsSameStore};
 ghost use Rattle.qstore.specs.Targets.{IsTarget};
 
-use crate::ready::Decided;
+use crate::ready::Ready;
 use crate::store::Store;
 use qchange::TreeChange;
 use qledger::{Claim, Slots};
@@ -37,20 +37,20 @@ impl Store {
         path: &str,
         off: u64,
         bytes: &Data,
-    ) -> Result<Decided, NoMemory>
+    ) -> Result<Ready, NoMemory>
         requires callers { HasSlots self.old.books callers cred.now.uid cred.now.gid }
         requires whole { IsWhole self.old }
         requires moment { moment ≤ MAX_MOMENT }
         requires few { length bytes.now ≤ MAX_DATA }
         ensures same { IsSameStore self.old self.new }
         ensures decided { IfOk result (IsDecided self.old self.new cred.now moment
-            (at_path self.old.state (write_into self.old.state cred.now off bytes.now) path.now) bytes.now) }
+            (at_path self.old.state (write_into self.old.state cred.now off bytes.now) path.now)) }
         ensures refused_first { IsRefused (settle self.old.state cred.now moment
             (at_path self.old.state (write_into self.old.state cred.now off bytes.now) path.now)).1 → IsOk result }
     {
         match self.target(cred, callers, path, off, bytes) {
             Ok(target) => self.decide_put(cred, moment, path, off, bytes, target),
-            Err(reply) => Ok(Decided::answer(reply)),
+            Err(reply) => Ok(Ready::answer(reply)),
         }
     }
 
@@ -112,13 +112,13 @@ impl Store {
         off: u64,
         bytes: &Data,
         target: Target,
-    ) -> Result<Decided, NoMemory>
+    ) -> Result<Ready, NoMemory>
         requires whole { IsWhole self.old }
         requires moment { moment ≤ MAX_MOMENT }
         requires target { IsTarget self.old cred.now path.now off bytes.now target }
         ensures same { IsSameStore self.old self.new }
         ensures decided { IfOk result (IsDecided self.old self.new cred.now moment
-            (at_path self.old.state (write_into self.old.state cred.now off bytes.now) path.now) bytes.now) }
+            (at_path self.old.state (write_into self.old.state cred.now off bytes.now) path.now)) }
         ensures refused_first { IsRefused (settle self.old.state cred.now moment
             (at_path self.old.state (write_into self.old.state cred.now off bytes.now) path.now)).1 → IsOk result }
     {
@@ -131,10 +131,10 @@ impl Store {
         let to = Some(Claim::new(claim.slots, claim.weight.blocks + missing));
         match self.admit(cred, moment, from, to, 0) {
             Ok(()) => {}
-            Err(refusal) => return Ok(Decided::refused(refusal)),
+            Err(refusal) => return Ok(Ready::refused(refusal)),
         }
         let spare = self.tree.ready_write(number, off, bytes.len(), missing)?;
         let change = TreeChange::Write { number, off, spare };
-        Ok(Decided::granted(number, from, to, change))
+        Ok(Ready::granted_with(number, from, to, change, bytes.copy()?))
     }
 }

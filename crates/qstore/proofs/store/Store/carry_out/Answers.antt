@@ -13,7 +13,7 @@ invariant_of-self c =
     let a = c.self.inside in
     let view = sym c.self.view_is in
     let new : Inside = record { alloc = a.alloc; file_limit = a.file_limit; accounts = c.settle.new.self; tree = a.tree; next = a.next; bill = a.bill } in
-    let can = subst (λ (plan : Plan). CanCarryOut s plan x.bytes.now) c.in-Limits.is c.requires.can in
-    let sound = subst (λ (plan : Plan). IsSound (effect s plan x.bytes.now)) c.in-Limits.is c.requires.sound in
+    let can = subst (λ (plan : Plan). CanCarryOut s plan) c.in-Limits.is c.requires.can in
+    let sound = subst (λ (plan : Plan). IsSound (effect s plan)) c.in-Limits.is c.requires.sound in
     counted-billed s a new s.state view (bounds-same s.state)
     c.self.invariant refl c.settle.ensures (tree-kept s a view c.self.invariant) (ap (λ (t : Stored). t.state.next) view) can sound

@@ -15,7 +15,7 @@ use Rattle.qstore.proofs.store.Store.decide_chown.Goals as goal
 pub returns-in-Err-clause-decided : goal.returns-in-Err-clause-decided
 returns-in-Err-clause-decided c =
     let x = c.args in
-    decided-refused x.self.now x.self.now x.cred.now x.moment _ [] c.refused.result c.in-Err.refusal refl
+    decided-refused x.self.now x.self.now x.cred.now x.moment _ c.refused.result c.in-Err.refusal refl
     (c.in-Err.ensures.fault x.self.now.state c.tree.ensures (chown_at x.self.now.state x.cred.now x.uid x.gid)) c.refused.ensures.reply c.refused.ensures.plan
 
 pub returns-then-not-may_give-clause-decided : goal.returns-then-not-may_give-clause-decided
@@ -29,7 +29,7 @@ returns-then-not-may_give-clause-decided c =
     ≡ give S x.cred.now c.unwrap_or-uid.result c.unwrap_or-gid.result number inode =
     λ i. give S x.cred.now (sym c.unwrap_or-uid.ensures i) (sym c.unwrap_or-gid.ensures i) number inode in
     let may : may_give x.cred.now inode c.unwrap_or-uid.result c.unwrap_or-gid.result ≡ false = search rules in
-    decided-refused x.self.now x.self.now x.cred.now x.moment _ [] c.refused-then-not-may_give.result EPERM refl
+    decided-refused x.self.now x.self.now x.cred.now x.moment _ c.refused-then-not-may_give.result EPERM refl
     (found ∙ owners ∙ give-refused S x.cred.now c.unwrap_or-uid.result c.unwrap_or-gid.result number inode may)
     c.refused-then-not-may_give.ensures.reply c.refused-then-not-may_give.ensures.plan
 
@@ -73,7 +73,7 @@ returns-clause-decided c =
     λ i. give S x.cred.now (sym c.unwrap_or-uid.ensures i) (sym c.unwrap_or-gid.ensures i) number inode in
     let may : may_give x.cred.now inode uid gid ≡ true = search rules in
     let made = altered-there S number (λ i. with_owners i uid gid) inode (c.in-Ok.ensures.there S c.tree.ensures) in
-    decided-along x.self.now c.grant.new.self x.cred.now x.moment _ _ [] c.grant.result
+    decided-along x.self.now c.grant.new.self x.cred.now x.moment _ _ c.grant.result
     (sym (found ∙ owners ∙ give-becomes S x.cred.now uid gid number inode may ∙ ap (λ T. Becomes T number) (sym made))) c.grant.ensures.decided
 
 pub grant-requires-clause-can : goal.grant-requires-clause-can

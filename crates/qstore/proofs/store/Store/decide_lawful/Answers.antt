@@ -16,7 +16,7 @@ returns-in_ok-decide_read-in-Read-clause-decided c =
     let x = c.args in
     let S = x.self.now.state in
     let call = c.in-Read in
-    decided-answered x.self.now x.self.now x.cred.now x.moment _ _ c.answer.result c.in_ok-decide_read-in-Read.field-0 refl
+    decided-answered x.self.now x.self.now x.cred.now x.moment _ c.answer.result c.in_ok-decide_read-in-Read.field-0 refl
     (ap (λ k. settle S x.cred.now x.moment (attempt_of S x.cred.now k)) call.is
     ∙ ap (λ path. settle S x.cred.now x.moment (at_path S (read_from call.off call.len) path)) (sym c.text-in-Read.ensures)
     ∙ sym (c.in_ok-decide_read-in-Read.ensures.step x.cred.now x.moment)) c.answer.ensures.reply c.answer.ensures.plan
@@ -25,7 +25,7 @@ pub returns-in-Stat-clause-decided : goal.returns-in-Stat-clause-decided
 returns-in-Stat-clause-decided c =
     let x = c.args in
     let S = x.self.now.state in
-    decided-answered x.self.now x.self.now x.cred.now x.moment _ _ c.answer-in-Stat.result c.decide_stat.result refl
+    decided-answered x.self.now x.self.now x.cred.now x.moment _ c.answer-in-Stat.result c.decide_stat.result refl
     (ap (λ k. settle S x.cred.now x.moment (attempt_of S x.cred.now k)) c.in-Stat.is
     ∙ ap (λ path. settle S x.cred.now x.moment (at_path S (stat_at S) path)) (sym c.text-in-Stat.ensures)
     ∙ sym (c.decide_stat.ensures x.cred.now x.moment)) c.answer-in-Stat.ensures.reply c.answer-in-Stat.ensures.plan

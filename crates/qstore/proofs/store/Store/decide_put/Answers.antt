@@ -5,6 +5,7 @@ use Rattle.qblocks.specs.WriteRoom.{IsReadyToPut}
 use Rattle.qplain.specs.Files.{with_file}
 use Rattle.qplain.specs.State.{State, inode_at}
 use Rattle.qtree.specs.Tree.{file_room}
+use Rattle.qstore.specs.declared.ready.Plan.TheVariants.{Change}
 use Rattle.qstore.specs.Decided.{IsBilled}
 use Rattle.qstore.specs.Kept.{stored_of}
 use Rattle.qstore.specs.Stored.{Stored}
@@ -26,7 +27,7 @@ returns-in-Err-clause-decided c =
     let s = x.self.now in
     let t = c.requires.target in
     let asked = target-asked s c.requires.whole x.cred.now x.path.now x.off x.bytes.now x.target t c.new.result c.new.ensures in
-    decided-unbilled s c.admit.new.self c.admit.ensures.same x.cred.now x.moment x.target.number 0 _ _ _ x.bytes.now asked _ c.refused.result
+    decided-unbilled s c.admit.new.self c.admit.ensures.same x.cred.now x.moment x.target.number 0 _ _ _ asked _ c.refused.result
     c.in-Err.refusal t.becomes c.in-Err.ensures.refused c.refused.ensures.reply c.refused.ensures.plan
 
 pub returns-in_err-spare-clause-refused_first : goal.returns-in_err-spare-clause-refused_first
@@ -35,7 +36,7 @@ returns-in_err-spare-clause-refused_first c =
     let s = x.self.now in
     let t = c.requires.target in
     let asked = target-asked s c.requires.whole x.cred.now x.path.now x.off x.bytes.now x.target t c.new.result c.new.ensures in
-    billed-unrefused s s (same-store s) x.cred.now x.moment x.target.number 0 _ _ _ x.bytes.now asked _ _ t.becomes c.in-Ok.ensures.granted
+    billed-unrefused s s (same-store s) x.cred.now x.moment x.target.number 0 _ _ _ asked _ _ t.becomes c.in-Ok.ensures.granted
 
 pub returns-clause-decided : goal.returns-clause-decided
 returns-clause-decided c =
@@ -49,7 +50,7 @@ returns-clause-decided c =
     let limit = t.bound in
     let low = c.requires.whole.sound.file_bound in
     let Ready : ℕ → Type 0 = λ n. IfSome (file_room tree.room x.target.number) (λ f. IsReadyToPut f x.off n c.in_ok-spare.spare) in
-    decided-billed s (stored_of (record a { tree = tree })) same x.cred.now x.moment x.target.number 0 _ _ _ x.bytes.now asked _ _ c.granted.result
+    decided-billed s (stored_of (record a { tree = tree })) same x.cred.now x.moment x.target.number 0 _ _ _ asked _ _ x.bytes.now c.granted_with.result
     t.becomes
     (subst (λ (v : Stored). IsBilled s v.bill x.cred.now x.moment (Some x.target.claim) (Some c.new.result) 0) (sym c.self.view_is)
     c.in-Ok.ensures.granted)
@@ -61,4 +62,4 @@ returns-clause-decided c =
       file_there = c.ready_write.ensures.there;
       file_room = subst Ready c.len.ensures c.in_ok-spare.ensures.room;
     })
-    c.granted.ensures.reply c.granted.ensures.plan
+    c.granted_with.ensures.reply (c.granted_with.ensures.plan ∙ ap (Change c.change) c.in_ok-copy.ensures)

@@ -26,7 +26,7 @@ returns-then-is_its_own-clause-decided c =
     let is = ap (in_place S EBUSY (rename_from S x.cred.now x.to.now)) (sym c.text.ensures)
     ∙ e.found S is_tree x.cred.now inode.0 inode.1
     ∙ rename-own S x.cred.now (components x.to.now) new.dir (name_in c.text.result.now) new.number inode.0 new.to.dir new.to.name.now own in
-    decided-answered x.self.now x.self.now x.cred.now x.moment _ [] c.answer.result (Done new.number no_change) refl
+    decided-answered x.self.now x.self.now x.cred.now x.moment _ c.answer.result (Done new.number no_change) refl
     (ap (settle S x.cred.now x.moment) is) c.answer.ensures.reply c.answer.ensures.plan
 
 pub returns-clause-decided : goal.returns-clause-decided
@@ -40,7 +40,7 @@ returns-clause-decided c =
     let is = ap (in_place S EBUSY (rename_from S x.cred.now x.to.now)) (sym c.text.ensures)
     ∙ e.found S is_tree x.cred.now inode.0 inode.1
     ∙ ap (λ (n : List ℕ). rename_as S x.cred.now x.to.now new.dir n new.number inode.0 new.to.dir new.to.name.now) (ap name_in c.text.ensures) in
-    subst (λ (a : Attempt). IfOk c.rename_over.result (IsDecided x.self.now c.rename_over.new.self x.cred.now x.moment a [])) (sym is)
+    subst (λ (a : Attempt). IfOk c.rename_over.result (IsDecided x.self.now c.rename_over.new.self x.cred.now x.moment a)) (sym is)
     (c.rename_over.ensures.decided inode.0 inode.1)
 
 pub returns-clause-refused_first : goal.returns-clause-refused_first

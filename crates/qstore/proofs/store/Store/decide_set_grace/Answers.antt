@@ -1,10 +1,9 @@
-use Rattle.std.proofs.Common.{◌≡◌, ◌==◌, true, not, cond, refl, sym, ap, ◌∙◌, tests, arith}
+use Rattle.std.proofs.Common.{◌≡◌, ◌==◌, true, not, cond, sym, ap, ◌∙◌, tests, arith}
 use Rattle.qplain.specs.declared.reply.Reply.TheVariants.{Done}
 use Rattle.qplain.specs.declared.refusal.Refusal.TheVariants.{EPERM}
 use Rattle.qplain.specs.Attempt.{Becomes, Refuse, no_change}
 use Rattle.qplain.specs.Step.{settle}
 use Rattle.qlaws.proofs.Settling.{ends_after-graced, settle-graced}
-use Rattle.qstore.proofs.Deciding.{done-unrefused}
 use Rattle.qstore.proofs.store.Store.decide_set_grace.Goals as goal
 
 pub returns : goal.returns
@@ -19,5 +18,4 @@ returns c moment =
           ∙ settle-graced S c.args.graces cred moment sound.lawful.blocks_fit sound.lawful.inodes_fit sound.lawful.next_fits
           ∙ ap (λ T. (T, Done 0 no_change)) (ends_after-graced S c.args.graces moment sound.lawful));
       can = c.requires.range;
-      nothing = λ refused. done-unrefused 0 no_change (Done 0 no_change) refl refused;
     }

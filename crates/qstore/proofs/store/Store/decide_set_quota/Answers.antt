@@ -21,7 +21,7 @@ returns-in-Some-clause-decided c =
     let new = stored_of (record a { bill = c.bill_of_limits-self-inside.result }) in
     let bill = c.bill_of_limits-self-inside.ensures in
     let same : IsSameStore (stored_of a) new = record { state = refl; books = refl } in
-    subst (λ (v : Stored). IsDecided v new cred x.moment (set_quota v.state cred x.kind x.id x.limits) []
+    subst (λ (v : Stored). IsDecided v new cred x.moment (set_quota v.state cred x.kind x.id x.limits)
     (record { reply = Done 0 no_change; plan = Limits })) c.self.view_is
     (decided-limits (stored_of a) new same cred x.moment x.kind x.id x.limits inv.sound.lawful super declared
     (bill.books (state_of a) x.id c.in-Some.ensures.slot inv.sound.lawful inv.books) bill.placed)

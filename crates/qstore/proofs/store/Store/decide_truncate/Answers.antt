@@ -14,7 +14,7 @@ use Rattle.qstore.proofs.store.Store.decide_truncate.Goals as goal
 pub returns-in-Err-clause-decided : goal.returns-in-Err-clause-decided
 returns-in-Err-clause-decided c =
     let x = c.args in
-    decided-refused x.self.now x.self.now x.cred.now x.moment _ [] c.refused.result c.in-Err.refusal refl
+    decided-refused x.self.now x.self.now x.cred.now x.moment _ c.refused.result c.in-Err.refusal refl
     (c.in-Err.ensures.fault x.self.now.state c.tree.ensures (truncate_at x.self.now.state x.cred.now x.size)) c.refused.ensures.reply c.refused.ensures.plan
 
 pub returns-in_default-clause-decided : goal.returns-in_default-clause-decided
@@ -22,7 +22,7 @@ returns-in_default-clause-decided c =
     let x = c.args in
     let found = c.in-Ok.ensures.found x.self.now.state c.tree.ensures (truncate_at x.self.now.state x.cred.now x.size) in
     let dir : (inode_of c.in-Ok.found.node.now).dir ≡ true = ap is_dir_content c.in_default.is in
-    decided-refused x.self.now x.self.now x.cred.now x.moment _ [] c.refused-in_default.result EISDIR refl
+    decided-refused x.self.now x.self.now x.cred.now x.moment _ c.refused-in_default.result EISDIR refl
     (found ∙ search (rules, dir)) c.refused-in_default.ensures.reply c.refused-in_default.ensures.plan
 
 pub returns-then-not-may_write-clause-decided : goal.returns-then-not-may_write-clause-decided
@@ -31,7 +31,7 @@ returns-then-not-may_write-clause-decided c =
     let found = c.in-Ok.ensures.found x.self.now.state c.tree.ensures (truncate_at x.self.now.state x.cred.now x.size) in
     let file : (inode_of c.in-Ok.found.node.now).dir ≡ false = ap is_dir_content c.in-File.is in
     let may : may_write x.cred.now (inode_of c.in-Ok.found.node.now) ≡ false = search rules in
-    decided-refused x.self.now x.self.now x.cred.now x.moment _ [] c.refused-then-not-may_write.result EACCES refl
+    decided-refused x.self.now x.self.now x.cred.now x.moment _ c.refused-then-not-may_write.result EACCES refl
     (found ∙ search (rules, file, may)) c.refused-then-not-may_write.ensures.reply c.refused-then-not-may_write.ensures.plan
 
 pub returns-then-size-limit-clause-decided : goal.returns-then-size-limit-clause-decided
@@ -44,7 +44,7 @@ returns-then-size-limit-clause-decided c =
     let limit = ap (λ (v : Stored). v.state.file_limit) c.self.view_is in
     let long = c.if-size-limit.true in
     let past : nat_lt S.file_limit x.size ≡ true = grind (arith, tests, limit, long) in
-    decided-refused x.self.now x.self.now x.cred.now x.moment _ [] c.refused-then-size-limit.result EFBIG refl
+    decided-refused x.self.now x.self.now x.cred.now x.moment _ c.refused-then-size-limit.result EFBIG refl
     (found ∙ search (rules, file, may, past)) c.refused-then-size-limit.ensures.reply c.refused-then-size-limit.ensures.plan
 
 pub grant-requires-clause-asked : goal.grant-requires-clause-asked
@@ -78,7 +78,7 @@ returns-clause-decided c =
     let long = c.if-size-limit.false in
     let low : nat_lt S.file_limit x.size ≡ false = grind (arith, tests, limit, long) in
     let made = altered-there S number (λ i. record i { file = after_truncate i.file x.size }) inode (c.in-Ok.ensures.there S c.tree.ensures) in
-    decided-along x.self.now c.grant.new.self x.cred.now x.moment _ _ [] c.grant.result
+    decided-along x.self.now c.grant.new.self x.cred.now x.moment _ _ c.grant.result
     (sym (found ∙ truncate-becomes S x.cred.now x.size number inode file may low ∙ ap (λ T. Becomes T number) (sym made))) c.grant.ensures.decided
 
 pub grant-requires-clause-can : goal.grant-requires-clause-can

@@ -23,17 +23,16 @@ module _ (s : Stored) (a : Inside) (is : s ≡ stored_of a) (counted : IsCounted
       (subst (λ (t : Stored). AreBooksOf t.state a.accounts) (sym is) counted.books)
       (subst (λ (t : Stored). AreBooksOf (billed s T) (settled t.bill t.books)) is can.books)
 
-  of-plan : (plan : Plan) (bytes : List ℕ) → ((change : TreeChange) × plan ≡ Change change) ⊎ (plan ≡ Limits)
-      → CanCarryOut s plan bytes → IsEffectOf s.state e (effect s plan bytes)
-  of-plan plan bytes (inl (change, same)) can =
-      subst (λ (p : Plan). IsEffectOf s.state e (effect s p bytes)) (sym same)
-      (of-bill (changed s.state change bytes) (subst (λ (p : Plan). CanCarryOut s p bytes) same can).1)
-  of-plan plan bytes (inr same) can =
-      subst (λ (p : Plan). IsEffectOf s.state e (effect s p bytes)) (sym same)
-      (of-bill s.state (subst (λ (p : Plan). CanCarryOut s p bytes) same can))
+  of-plan : (plan : Plan) → ((change : TreeChange) × (bytes : List ℕ) × plan ≡ Change change bytes) ⊎ (plan ≡ Limits)
+      → CanCarryOut s plan → IsEffectOf s.state e (effect s plan)
+  of-plan plan (inl (change, bytes, same)) can =
+      subst (λ (p : Plan). IsEffectOf s.state e (effect s p)) (sym same)
+      (of-bill (changed s.state change bytes) (subst (λ (p : Plan). CanCarryOut s p) same can).1)
+  of-plan plan (inr same) can =
+      subst (λ (p : Plan). IsEffectOf s.state e (effect s p)) (sym same)
+      (of-bill s.state (subst (λ (p : Plan). CanCarryOut s p) same can))
 
 pub returns-in-Change : goal.returns-in-Change
 returns-in-Change c =
-    let ready = c.args.ready.now in
-    of-plan c.args.self.now c.self.inside (sym c.self.view_is) c.self.invariant c.effect.result c.effect.ensures ready.plan ready.bytes
+    of-plan c.args.self.now c.self.inside (sym c.self.view_is) c.self.invariant c.effect.result c.effect.ensures c.args.ready.now.plan
     c.in-Change.is c.requires.can

@@ -13,8 +13,8 @@ returns-in-Ok-clause-decided c =
     let x = c.args in
     let s = x.self.now in
     let same = c.admit.ensures.same in
-    decided-billed s c.admit.new.self same x.cred.now x.moment x.number 0 x.from x.to (changed s.state x.change []) [] c.requires.asked _
-    x.change c.granted.result refl c.in-Ok.ensures.granted refl
+    decided-billed s c.admit.new.self same x.cred.now x.moment x.number 0 x.from x.to (changed s.state x.change []) c.requires.asked _
+    x.change [] c.granted.result refl c.in-Ok.ensures.granted refl
     (subst (λ (t : Room). CanChange c.admit.new.self.state t x.change []) (sym c.admit.ensures.room)
     (subst (λ (S : State). CanChange S s.room x.change []) (sym same.state) c.requires.can))
     c.granted.ensures.reply c.granted.ensures.plan
@@ -23,5 +23,5 @@ pub returns-in-Err-clause-decided : goal.returns-in-Err-clause-decided
 returns-in-Err-clause-decided c =
     let x = c.args in
     let s = x.self.now in
-    decided-unbilled s c.admit.new.self c.admit.ensures.same x.cred.now x.moment x.number 0 x.from x.to (changed s.state x.change []) []
+    decided-unbilled s c.admit.new.self c.admit.ensures.same x.cred.now x.moment x.number 0 x.from x.to (changed s.state x.change [])
     c.requires.asked _ c.refused.result c.in-Err.refusal refl c.in-Err.ensures.refused c.refused.ensures.reply c.refused.ensures.plan

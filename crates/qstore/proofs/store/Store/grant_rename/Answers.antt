@@ -21,7 +21,7 @@ admit-requires-clause-asked c =
 pub returns-in-Err-clause-decided : goal.returns-in-Err-clause-decided
 returns-in-Err-clause-decided c =
     let x = c.args in
-    decided-unbilled x.self.now c.admit.new.self c.admit.ensures.same x.cred.now x.moment x.new.now.number 0 _ _ _ [] c.requires.asked _ c.refused.result
+    decided-unbilled x.self.now c.admit.new.self c.admit.ensures.same x.cred.now x.moment x.new.now.number 0 _ _ _ c.requires.asked _ c.refused.result
     c.in-Err.refusal refl c.in-Err.ensures.refused c.refused.ensures.reply c.refused.ensures.plan
 
 pub returns-clause-decided : goal.returns-clause-decided
@@ -34,7 +34,7 @@ returns-clause-decided c =
     let same = same-with_room s c.admit.new.self a tree c.admit.ensures.same c.self.view_is c.make_name_room.ensures.same in
     let to_name : string_bytes c.in_ok-to_name.to_name ≡ new.to.name.now = search rules in
     let name = ap name_in c.in_ok-path.ensures in
-    decided-billed s (stored_of (record a { tree = tree })) same x.cred.now x.moment new.number 0 x.claim x.left _ [] c.requires.asked _ _
+    decided-billed s (stored_of (record a { tree = tree })) same x.cred.now x.moment new.number 0 x.claim x.left _ c.requires.asked _ _ []
     c.granted.result refl
     (subst (λ (v : Stored). IsBilled s v.bill x.cred.now x.moment x.claim x.left 0) (sym c.self.view_is) c.in-Ok.ensures.granted)
     (λ i. renamed s.state new.dir (name i) new.to.dir (to_name i) new.number)

@@ -13,7 +13,7 @@ pub returns-then-has_all_links-clause-decided : goal.returns-then-has_all_links-
 returns-then-has_all_links-clause-decided c =
     let x = c.args in
     let s = x.self.now in
-    decided-refused s s x.cred.now x.moment _ [] c.refused.result EMLINK refl
+    decided-refused s s x.cred.now x.moment _ c.refused.result EMLINK refl
     (mkdir-attempt s.state x.cred.now.uid x.cred.now.gid x.dir x.name.now _ c.requires.whole.sound.lawful c.requires.absent
     c.requires.directory (c.if-has_all_links.ensures s.state c.tree.ensures c.requires.directory))
     c.refused.ensures.reply c.refused.ensures.plan
@@ -22,7 +22,7 @@ pub returns-clause-decided : goal.returns-clause-decided
 returns-clause-decided c =
     let x = c.args in
     let s = x.self.now in
-    subst (λ (a : Attempt). IfOk c.make_inode.result (IsDecided s c.make_inode.new.self x.cred.now x.moment a []))
+    subst (λ (a : Attempt). IfOk c.make_inode.result (IsDecided s c.make_inode.new.self x.cred.now x.moment a))
     (sym (mkdir-attempt s.state x.cred.now.uid x.cred.now.gid x.dir x.name.now _ c.requires.whole.sound.lawful c.requires.absent
     c.requires.directory (c.if-has_all_links.ensures s.state c.tree.ensures c.requires.directory)))
     c.make_inode.ensures.decided

@@ -25,7 +25,7 @@ returns-in-Err-clause-decided c =
     let s = x.self.now in
     let cred = x.cred.now in
     let asked = created-asked s c.requires.whole x.dir x.name.now x.callers cred.uid cred.gid x.sort c.requires.callers c.new.result c.new.ensures in
-    decided-unbilled s c.admit.new.self c.admit.ensures.same cred x.moment s.state.next 1 None _ _ [] asked _ c.refused.result c.in-Err.refusal
+    decided-unbilled s c.admit.new.self c.admit.ensures.same cred x.moment s.state.next 1 None _ _ asked _ c.refused.result c.in-Err.refusal
     refl c.in-Err.ensures.refused c.refused.ensures.reply c.refused.ensures.plan
 
 pub returns-in_err-name-clause-refused_first : goal.returns-in_err-name-clause-refused_first
@@ -34,7 +34,7 @@ returns-in_err-name-clause-refused_first c =
     let s = x.self.now in
     let cred = x.cred.now in
     let asked = created-asked s c.requires.whole x.dir x.name.now x.callers cred.uid cred.gid x.sort c.requires.callers c.new.result c.new.ensures in
-    billed-unrefused s s (same-store s) cred x.moment s.state.next 1 None _ _ [] asked _ _ refl c.in-Ok.ensures.granted
+    billed-unrefused s s (same-store s) cred x.moment s.state.next 1 None _ _ asked _ _ refl c.in-Ok.ensures.granted
 
 pub returns-in_err-make_room-clause-refused_first : goal.returns-in_err-make_room-clause-refused_first
 returns-in_err-make_room-clause-refused_first c =
@@ -42,7 +42,7 @@ returns-in_err-make_room-clause-refused_first c =
     let s = x.self.now in
     let cred = x.cred.now in
     let asked = created-asked s c.requires.whole x.dir x.name.now x.callers cred.uid cred.gid x.sort c.requires.callers c.new.result c.new.ensures in
-    billed-unrefused s s (same-store s) cred x.moment s.state.next 1 None _ _ [] asked _ _ refl c.in-Ok.ensures.granted
+    billed-unrefused s s (same-store s) cred x.moment s.state.next 1 None _ _ asked _ _ refl c.in-Ok.ensures.granted
 
 pub returns-clause-decided : goal.returns-clause-decided
 returns-clause-decided c =
@@ -56,7 +56,7 @@ returns-clause-decided c =
     let name : string_bytes c.in_ok-name.name ≡ x.name.now = search rules in
     let room = c.in_ok-make_room.ensures.room in
     let number = ap (λ (v : Stored). v.state.next) c.self.view_is ∙ ap (λ (S : State). S.next) c.admit.ensures.same.state in
-    decided-billed s (stored_of (record a { tree = tree })) same cred x.moment s.state.next 1 None _ _ [] asked _ _ c.granted.result refl
+    decided-billed s (stored_of (record a { tree = tree })) same cred x.moment s.state.next 1 None _ _ asked _ _ [] c.granted.result refl
     (subst (λ (v : Stored). IsBilled s v.bill cred x.moment None (Some c.new.result) 1) (sym c.self.view_is) c.in-Ok.ensures.granted)
     (c.creation-change.ensures.made s.state
     ∙ (λ i. created s.state (inode_new x.sort (c.uid.ensures i) (c.gid.ensures i)) x.dir (name i)))

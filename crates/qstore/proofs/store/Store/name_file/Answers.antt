@@ -18,8 +18,8 @@ returns-clause-decided c =
     let tree = c.make_name_room.new.self in
     let same = same-with_room s c.admit.new.self a tree c.admit.ensures.same c.self.view_is c.make_name_room.ensures.same in
     let name : string_bytes c.in_ok-name.name ≡ x.name.now = search rules in
-    decided-billed s (stored_of (record a { tree = tree })) same x.cred.now x.moment x.number 0 None None _ []
-    (linked-asked s c.requires.whole x.dir x.name.now x.number) _ _ c.granted.result refl
+    decided-billed s (stored_of (record a { tree = tree })) same x.cred.now x.moment x.number 0 None None _
+    (linked-asked s c.requires.whole x.dir x.name.now x.number) _ _ [] c.granted.result refl
     (subst (λ (v : Stored). IsBilled s v.bill x.cred.now x.moment None None 0) (sym c.self.view_is) c.in-Ok.ensures.granted)
     (λ i. with_name s.state x.dir (name i) x.number)
     (record {

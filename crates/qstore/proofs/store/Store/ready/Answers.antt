@@ -1,24 +1,25 @@
-use Rattle.std.proofs.Common.{sym, subst, ◌∙◌}
-use Rattle.qstore.specs.Ready.{bytes_of, effect}
-use Rattle.qstore.specs.Stored.{IsSound}
+use Rattle.std.proofs.Common.{◌≡◌, ℕ, Result, Ok, Err, IfOk}
+use Rattle.qplain.specs.declared.call.Call.{Call}
+use Rattle.qplain.specs.Caller.{Caller}
+use Rattle.qplain.specs.State.{State}
+use Rattle.qplain.specs.Step.{step}
+use Rattle.qstore.specs.declared.ready.Ready.{Ready}
+use Rattle.qstore.specs.Ready.{CanCarryOut, IsReady, committed, effect}
+use Rattle.qstore.specs.Stored.{IsSound, Stored}
 use Rattle.qstore.proofs.Steps.{IsSound-from_step}
 use Rattle.qstore.proofs.store.Store.ready.Goals as goal
+
+-- what is decided leaves a sound state, as a step of the plain machine does
+is-ready : {E : Type 0} (S : State) (s : Stored) (cred : Caller) (moment : ℕ) (call : Call) → IsSound S → (result : Result Ready E)
+    → IfOk result (λ r. committed s r ≡ step S cred moment call) → IfOk result (λ r. CanCarryOut s r.plan) → IfOk result (IsReady s)
+is-ready S s cred moment call sound (Ok r) told can = record {
+  can = can;
+  sound = IsSound-from_step S (effect s r.plan) cred moment call r.reply sound told;
+}
+is-ready S s cred moment call sound (Err fault) told can = tt
 
 pub returns-clause-ready : goal.returns-clause-ready
 returns-clause-ready c =
     let x = c.args in
-    let plan = c.in-Ok.decided.plan in
-    let new = c.decide.new.self in
-    let sound = IsSound-from_step x.self.now.state (effect new plan (bytes_of x.call.now))
-    x.cred.now x.moment x.call.now c.in-Ok.decided.reply
-    c.decide.ensures.sound c.in-Ok.ensures.step in
-    record {
-      can = c.in_ok-bytes.ensures.can new c.in-Ok.ensures.can;
-      sound = subst IsSound (sym (c.in_ok-bytes.ensures.effect new)) sound;
-    }
-
--- what is ready leaves in the store with the room and the bill what the plain machine's step leaves
-pub returns-clause-step : goal.returns-clause-step
-returns-clause-step c =
-    let new = c.decide.new.self in
-    (λ i. (c.in_ok-bytes.ensures.effect new i, c.in-Ok.decided.reply)) ∙ c.in-Ok.ensures.step
+    is-ready x.self.now.state c.decide.new.self x.cred.now x.moment x.call.now c.decide.ensures.sound c.decide.result c.decide.ensures.step
+    c.decide.ensures.can

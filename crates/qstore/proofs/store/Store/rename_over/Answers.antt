@@ -22,7 +22,7 @@ returns-in-Some-rename_fault-clause-decided c inode there =
     let r = c.requires in
     let found = inode_of c.in-Some.node.now in
     let found_there : inode_at S new.number ≡ Some found = sym (c.in-Some.ensures.there S c.tree-tree.ensures) in
-    decided-refused x.self.now x.self.now x.cred.now x.moment _ [] c.refused.result c.in-Some-rename_fault.refusal refl
+    decided-refused x.self.now x.self.now x.cred.now x.moment _ c.refused.result c.in-Some-rename_fault.refusal refl
     (rename-refused S r.whole.sound.lawful x.cred.now (components x.to.now) new.dir (name_in x.from.now) new.number inode found
     new.to.dir new.to.name.now new.to.leads_to r.led there found_there r.directory r.leads_to r.other
     c.in-Some-rename_fault.refusal
@@ -70,7 +70,7 @@ returns-clause-decided c inode there =
     let becomes = rename-becomes S r.whole.sound.lawful x.cred.now (components x.to.now) new.dir (name_in x.from.now) new.number inode found
     new.to.dir new.to.name.now new.to.leads_to r.led there found_there r.directory r.leads_to r.other
     (sym (c.rename_fault.ensures S c.tree-tree.ensures found_there c.requires.directory) ∙ c.in-None.is) in
-    subst (λ (a : Attempt). IfOk c.grant_rename.result (IsDecided x.self.now c.grant_rename.new.self x.cred.now x.moment a [])) (sym becomes)
+    subst (λ (a : Attempt). IfOk c.grant_rename.result (IsDecided x.self.now c.grant_rename.new.self x.cred.now x.moment a)) (sym becomes)
     c.grant_rename.ensures.decided
 
 pub returns-clause-refused_first : goal.returns-clause-refused_first

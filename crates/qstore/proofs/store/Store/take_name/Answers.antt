@@ -44,7 +44,7 @@ returns-clause-decided c =
     let may : may_remove S x.cred.now x.dir x.number ≡ true = sym (c.may_remove.ensures S c.tree-tree.ensures there) ∙ c.if-not-may_remove.false in
     let becomes = unlink-becomes S x.cred.now x.dir x.name.now x.number inode c.requires.led there (ap is_dir_content c.in-File.is) may
     ∙ ap (λ n. Becomes (swept (without_name S x.dir n)) x.number) (sym c.requires.last) in
-    subst (λ (a : Attempt). IfOk c.grant_removal.result (IsDecided x.self.now c.grant_removal.new.self x.cred.now x.moment a [])) (sym becomes)
+    subst (λ (a : Attempt). IfOk c.grant_removal.result (IsDecided x.self.now c.grant_removal.new.self x.cred.now x.moment a)) (sym becomes)
     c.grant_removal.ensures.decided
 
 pub returns-clause-refused_first : goal.returns-clause-refused_first
