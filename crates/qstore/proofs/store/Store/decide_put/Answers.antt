@@ -5,6 +5,7 @@ use Rattle.qblocks.specs.WriteRoom.{IsReadyToPut}
 use Rattle.qplain.specs.Files.{with_file}
 use Rattle.qplain.specs.State.{State, inode_at}
 use Rattle.qtree.specs.Tree.{file_room}
+use Rattle.qchange.specs.declared.tree_change.TreeChange.TheVariants.{Write}
 use Rattle.qstore.specs.declared.ready.Plan.TheVariants.{Change}
 use Rattle.qstore.specs.Decided.{IsBilled}
 use Rattle.qstore.specs.Kept.{stored_of}
@@ -38,6 +39,14 @@ returns-in_err-spare-clause-refused_first c =
     let asked = target-asked s c.requires.whole x.cred.now x.path.now x.off x.bytes.now x.target t c.new.result c.new.ensures in
     billed-unrefused s s (same-store s) x.cred.now x.moment x.target.number 0 _ _ _ asked _ _ t.becomes c.in-Ok.ensures.granted
 
+pub returns-in_err-copy-clause-refused_first : goal.returns-in_err-copy-clause-refused_first
+returns-in_err-copy-clause-refused_first c =
+    let x = c.args in
+    let s = x.self.now in
+    let t = c.requires.target in
+    let asked = target-asked s c.requires.whole x.cred.now x.path.now x.off x.bytes.now x.target t c.new.result c.new.ensures in
+    billed-unrefused s s (same-store s) x.cred.now x.moment x.target.number 0 _ _ _ asked _ _ t.becomes c.in-Ok.ensures.granted
+
 pub returns-clause-decided : goal.returns-clause-decided
 returns-clause-decided c =
     let x = c.args in
@@ -49,8 +58,9 @@ returns-clause-decided c =
     let same = same-with_room s c.admit.new.self a tree c.admit.ensures.same c.self.view_is c.ready_write.ensures.same in
     let limit = t.bound in
     let low = c.requires.whole.sound.file_bound in
+    let change = Write x.target.number x.off c.in_ok-spare.spare in
     let Ready : ℕ → Type 0 = λ n. IfSome (file_room tree.room x.target.number) (λ f. IsReadyToPut f x.off n c.in_ok-spare.spare) in
-    decided-billed s (stored_of (record a { tree = tree })) same x.cred.now x.moment x.target.number 0 _ _ _ asked _ _ x.bytes.now c.granted_with.result
+    decided-billed s (stored_of (record a { tree = tree })) same x.cred.now x.moment x.target.number 0 _ _ _ asked _ change x.bytes.now c.granted_with.result
     t.becomes
     (subst (λ (v : Stored). IsBilled s v.bill x.cred.now x.moment (Some x.target.claim) (Some c.new.result) 0) (sym c.self.view_is)
     c.in-Ok.ensures.granted)
@@ -62,4 +72,4 @@ returns-clause-decided c =
       file_there = c.ready_write.ensures.there;
       file_room = subst Ready c.len.ensures c.in_ok-spare.ensures.room;
     })
-    c.granted_with.ensures.reply (c.granted_with.ensures.plan ∙ ap (Change c.change) c.in_ok-copy.ensures)
+    c.granted_with.ensures.reply (c.granted_with.ensures.plan ∙ ap (Change change) c.in_ok-copy.ensures)

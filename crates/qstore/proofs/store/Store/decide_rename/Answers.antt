@@ -1,4 +1,4 @@
-use Rattle.std.proofs.Common.{◌==◌, List, ℕ, [], refl, sym, ap, subst, ◌∙◌}
+use Rattle.std.proofs.Common.{◌==◌, List, ℕ, refl, sym, ap, subst, ◌∙◌}
 use Rattle.std.specs.Result.{IfOk}
 use Rattle.qplain.specs.declared.refusal.Refusal.TheVariants.{EBUSY}
 use Rattle.qplain.specs.declared.reply.Reply.TheVariants.{Done}

@@ -1,4 +1,4 @@
-use Rattle.std.proofs.Common.{◌≡◌, ◌==◌, true, [], is_some, refl, subst, sym, ap, ◌∙◌, tests, arith}
+use Rattle.std.proofs.Common.{◌≡◌, ◌==◌, true, is_some, refl, subst, sym, ap, ◌∙◌, tests, arith}
 use Rattle.qplain.specs.Arguments.{is_declared}
 use Rattle.qplain.specs.declared.reply.Reply.TheVariants.{Done}
 use Rattle.qplain.specs.Attempt.{no_change}

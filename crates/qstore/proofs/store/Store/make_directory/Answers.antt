@@ -1,4 +1,4 @@
-use Rattle.std.proofs.Common.{[], refl, sym, subst}
+use Rattle.std.proofs.Common.{refl, sym, subst}
 use Rattle.std.specs.Result.{IfOk}
 use Rattle.qplain.specs.declared.refusal.Refusal.TheVariants.{EMLINK}
 use Rattle.qplain.specs.Attempt.{Attempt}
