@@ -15,7 +15,7 @@ ghost use Rattle.qstore.specs.Stored.{IsSameStore, IsSound, Stored};
 ghost use Rattle.qstore.specs.Decided.{IsDecided, IsWhole};
 ghost use Rattle.qstore.specs.Ready.{CanCarryOut, IsReady, IsRefused, committed, wants_no_memory};
 
-use crate::ready::Ready;
+use crate::ready::{Plan, Ready};
 use qledger::{Accounts, Bill, Slots};
 use qplain::{Call, Cred, FILE_LIMIT, NoMemory, Reply, Setup};
 use qrules::MAX_MOMENT;
@@ -119,10 +119,12 @@ impl Store {
         ensures refused_first { IsRefused (step self.old.state cred.now moment call.now).1 → IsOk result }
         ensures answered { wants_no_memory call.now ≡ true → IsOk result }
     {
-        match self.check(cred, moment, call) {
-            Ok(callers) => self.decide_lawful(cred, callers, moment, call),
-            Err(refusal) => Ok(Ready::refused(refusal)),
-        }
+        // What is ready is large: a `match` would move it once more.
+        let callers = match self.check(cred, moment, call) {
+            Ok(callers) => callers,
+            Err(refusal) => return Ok(Ready::refused(refusal)),
+        };
+        self.decide_lawful(cred, callers, moment, call)
     }
 
     /// Decides a call that is written as it may be, and makes every growth that it needs.
@@ -200,12 +202,16 @@ impl Store {
     /// Does what is ready, and gives the reply. It takes no memory and always succeeds.
     ///
     /// The caller owes that this store had no other `ready`, `apply` or `commit` since.
+    #[inline(always)]
     pub fn commit(&mut self, ready: Ready) -> Reply
         requires { IsReady self.old ready }
         ensures { (self.new.state, result) ≡ committed self.old ready }
     {
         let Ready { reply, plan } = ready;
-        self.carry_out(plan);
+        match plan {
+            Plan::Nothing => {}
+            plan => self.carry_out(plan),
+        }
         reply
     }
 

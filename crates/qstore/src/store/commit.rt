@@ -11,7 +11,8 @@ use qchange::{TreeChange, make};
 use qplain::{Data, Effect};
 
 impl Store {
-    /// Does what is decided.
+    /// Does what is decided. It is out of line, so that a call that only answers hands no plan on.
+    #[inline(never)]
     pub(super) fn carry_out(&mut self, plan: Plan)
         requires can { CanCarryOut self.old plan }
         requires sound { IsSound (effect self.old plan) }
