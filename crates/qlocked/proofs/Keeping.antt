@@ -1,13 +1,9 @@
 -- A call and a publication keep a locked store sound.
-use Rattle.std.proofs.Common.{◌≡◌, ℕ, ◌+◌, ◌<◌, List, [], ◌∷◌, ◌++◌, length, map, Option, Some, None, refl, sym, ap, ◌∙◌, subst, arith, length-append}
-use Rattle.std.proofs.lemmas.Grind.{fold-append}
-use Rattle.std.proofs.lemmas.List.{append-nil}
+use Rattle.std.proofs.Common.{◌≡◌, ℕ, ◌+◌, ◌<◌, List, [], ◌∷◌, ◌++◌, length, refl, sym, ap, ◌∙◌, subst, arith, length-append}
 use mathlib.Core.List.{IsPrefix}
 use Rattle.logbook.specs.Pages.{Book}
 use Rattle.qrules.specs.Sort.{Inodes, Blocks}
-use Rattle.qrules.specs.declared.board_row.BoardRow.{BoardRow}
 use Rattle.qplain.specs.declared.change.Change.{Change}
-use Rattle.qplain.specs.declared.effect.Effect.{Effect}
 use Rattle.qplain.specs.declared.effect.PlacedRow.{PlacedRow}
 use Rattle.qplain.specs.declared.entry.Entry.{Entry}
 use Rattle.qplain.specs.declared.line.Line.{Line}
@@ -17,8 +13,7 @@ use Rattle.qplain.specs.Setups.{Setting}
 use Rattle.qplain.specs.State.{State, start}
 use Rattle.qplain.specs.Step.{step}
 use Rattle.qplain.specs.Use.{total_of}
-use Rattle.qplain.specs.Boards.{IsEffectOf, put, rows_after}
-use Rattle.qplain.specs.Journal.{CanCount, change_of, counted, entry_of, play, played, row_of}
+use Rattle.qplain.specs.Journal.{CanCount, change_of, counted, entry_of, play, played}
 use Rattle.qlaws.proofs.Playing.{legal-one_more, play-one_more}
 use Rattle.qlaws.proofs.Tallying.{tallies_have_room, tally-one_more}
 use Rattle.qstore.specs.declared.ready.Ready.{Ready}
@@ -28,8 +23,8 @@ use Rattle.qjournal.specs.declared.journal.TheConstants.{MAX_ENTRIES}
 use Rattle.qhistory.specs.Past.{Past, longer}
 use Rattle.qhistory.proofs.Fronts.{prefix_self, prefix_trans}
 use Rattle.qboards.specs.declared.board_change.BoardChange.{BoardChange}
-use Rattle.qboards.specs.Boards.{changed_by, shown_of, with_row, with_rows}
-use Rattle.qlocked.specs.Waiting.{LeadsOn, row_in, rows_in, rows_of}
+use Rattle.qboards.specs.Boards.{changed_by, shown_of, with_rows}
+use Rattle.qlocked.specs.Waiting.{LeadsOn, rows_of}
 use Rattle.qlocked.specs.Sound.{IsSound}
 
 -- what was ready and is carried out is the plain machine's step, with the reply that was copied beforehand

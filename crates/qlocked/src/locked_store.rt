@@ -1,8 +1,9 @@
 //! The value under a store's lock.
-ghost use Rattle.std.specs.Prelude.{◌≡◌, ◌<◌, ◌≤◌, ◌++◌, ◌∷◌, ◌+◌, ◌↔◌, [], length, fold, vec_len, vec_capacity, Err, All, IfOk, OnErr};
+ghost use Rattle.std.specs.Prelude.{◌≡◌, ◌<◌, ◌≤◌, ◌++◌, ◌∷◌, ◌+◌, ◌↔◌, [], length, fold, vec_len, vec_capacity, Err, All, IfErr, IfOk, OnErr};
 ghost use mathlib.Core.List.{IsPrefix};
 ghost use Rattle.qplain.specs.Journal.{IsLegal, change_of, counted, entry_of, no_tally, play, tally_of};
 ghost use Rattle.qplain.specs.State.{start};
+ghost use Rattle.qplain.specs.declared.call_fault.CallFault.TheVariants.{OutOfMemory};
 ghost use Rattle.qjournal.specs.declared.journal.TheConstants.{MAX_ENTRIES};
 ghost use Rattle.qhistory.specs.Past.{longer, past};
 ghost use Rattle.qhistory.specs.Shares.{sums_of};
@@ -129,7 +130,7 @@ impl<K: Origin, N: House, R: Wait + Drop> LockedStore<K, N, R> {
         self.seats
     }
 
-    /// Makes a call and journals it, with all that it needs made before its first change.
+    /// Makes a call and journals it, with all that it needs made before its first change. Err is want of memory.
     fn journal_call<W: Wait>(
         &mut self,
         rt: &W,
@@ -138,7 +139,7 @@ impl<K: Origin, N: House, R: Wait + Drop> LockedStore<K, N, R> {
         cred: &Cred,
         moment: u64,
         call: &Call,
-    ) -> Result<Receipt, NoMemory>
+    ) -> Result<Receipt, CallFault>
         requires few { length self.old.journal < MAX_ENTRIES }
         requires parts { 0 < mine.old.parts }
         ensures journal { IfOk result (λ r. self.new.journal
@@ -148,19 +149,24 @@ impl<K: Origin, N: House, R: Wait + Drop> LockedStore<K, N, R> {
             ≡ record { sums = counted mine.old.sums (change_of r.reply); parts = mine.old.parts }) }
         ensures published { self.new.published ≡ self.old.published }
         ensures err { OnErr result ((self.new ≡ self.old) × (mine.new ≡ mine.old)) }
+        ensures fault { IfErr result (λ fault. fault ≡ OutOfMemory) }
     {
-        self.journal.reserve(1)?;
-        // What is ready, and an entry, are large: a `?` would move them once more.
+        // What is ready, an entry and a receipt are large: a `?` would move them once more.
+        let Ok(()) = self.journal.reserve(1) else {
+            return Err(CallFault::OutOfMemory);
+        };
         let Ok(ready) = self.store.ready(cred, moment, call) else {
-            return Err(NoMemory);
+            return Err(CallFault::OutOfMemory);
         };
         let Ok(reply) = ready.reply().copy() else {
-            return Err(NoMemory);
+            return Err(CallFault::OutOfMemory);
         };
         let Ok(entry) = entry_for(worker, cred, moment, call, reply) else {
-            return Err(NoMemory);
+            return Err(CallFault::OutOfMemory);
         };
-        let_wait(&mut self.waiting, &self.store, &ready)?;
+        let Ok(()) = let_wait(&mut self.waiting, &self.store, &ready) else {
+            return Err(CallFault::OutOfMemory);
+        };
         let change = entry.reply.change();
         let tallies = self.tallies.with_call(change);
         self.whole.add(rt, &entry);
@@ -197,10 +203,7 @@ impl<K: Origin, N: House, R: Wait + Drop> LockedStore<K, N, R> {
         if self.journal.len() >= MAX_ENTRIES {
             return Err(CallFault::JournalFull);
         }
-        match self.journal_call(rt, worker, mine, cred, moment, call) {
-            Ok(receipt) => Ok(receipt),
-            Err(_) => Err(CallFault::OutOfMemory),
-        }
+        self.journal_call(rt, worker, mine, cred, moment, call)
     }
 
     /// Publishes the board of the whole journal. It takes no memory but for the log of the boards, which has its room.
