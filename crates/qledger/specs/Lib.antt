@@ -8,4 +8,5 @@ pub mod Rows
 pub mod Ledgers
 pub mod Decisions
 pub mod Boards
+pub mod Pushed
 pub mod Kept

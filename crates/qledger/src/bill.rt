@@ -1,8 +1,9 @@
 //! What a granted call makes of the accounts.
-ghost use Rattle.std.specs.Prelude.{◌≡◌, ◌+◌, ◌<◌, ◌^◌, None, Some, IfSome};
+ghost use Rattle.std.specs.Prelude.{◌≡◌, ◌+◌, ◌++◌, ◌<◌, ◌≤◌, ◌^◌, None, Some, IfSome, vec_len, vec_capacity};
 ghost use Rattle.std.specs.Option.{option_map};
 ghost use Rattle.qledger.specs.Bills.{no_bill};
 ghost use Rattle.qledger.specs.Boards.{placed_row};
+ghost use Rattle.qledger.specs.Pushed.{row_of};
 
 use crate::kept_holder::board_row;
 use qplain::PlacedRow;
@@ -70,16 +71,24 @@ impl Postings {
     }
 }
 
-/// The row of a posting's record in its place, behind so many rows of others, if there is a posting.
-pub(crate) fn placed(kind: Kind, before: usize, posting: Option<Posting>) -> Option<PlacedRow>
-    requires { IfSome posting (λ p. before + p.slot < 2 ^ 64) }
-    ensures { result ≡ option_map (placed_row kind before) posting }
+/// Puts the row of a posting's record in its place, behind so many rows of others, behind these rows, if there is a
+/// posting.
+pub(crate) fn push_placed(
+    rows: &mut Vec<PlacedRow>,
+    kind: Kind,
+    before: usize,
+    posting: &Option<Posting>,
+)
+    requires room { vec_len rows.old < vec_capacity rows.old }
+    requires place { IfSome posting.now (λ p. before + p.slot < 2 ^ 64) }
+    ensures rows { rows.new.items ≡ rows.old.items ++ row_of (option_map (placed_row kind before) posting.now) }
+    ensures few { vec_len rows.new ≤ vec_len rows.old + 1 }
+    ensures room { vec_capacity rows.new ≡ vec_capacity rows.old }
 {
-    match posting {
-        Some(posting) => Some(PlacedRow {
+    if let Some(posting) = posting {
+        rows.push_reserved(PlacedRow {
             place: before + posting.slot,
             row: board_row(kind, posting.id, &posting.account),
-        }),
-        None => None,
+        });
     }
 }

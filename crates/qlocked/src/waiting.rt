@@ -1,55 +1,26 @@
 //! The rows that wait to be published.
-ghost use Rattle.std.specs.Prelude.{◌≡◌, ◌≤◌, ◌+◌, ◌++◌, length, vec_len, vec_capacity, IfOk, OnErr};
+ghost use Rattle.std.specs.Prelude.{◌≡◌, ◌≤◌, ◌+◌, vec_len, vec_capacity, IfOk, OnErr};
 ghost use Rattle.qstore.specs.Ready.{IsReady, committed};
-ghost use Rattle.qlocked.specs.Waiting.{LeadsOn, row_in, rows_in};
+ghost use Rattle.qlocked.specs.declared.waiting.TheConstants.{MOST_ROWS};
+ghost use Rattle.qlocked.specs.Waiting.{LeadsOn};
 
-use qplain::{Effect, NoMemory, PlacedRow};
+use qplain::{NoMemory, PlacedRow};
 use qstore::{Ready, Store};
 
-/// How many rows a call changes.
-fn count_rows(effect: &Effect) -> usize
-    ensures { result ≡ length (rows_in effect.now) }
-{
-    usize::from(effect.user_from.is_some())
-        + usize::from(effect.user_to.is_some())
-        + usize::from(effect.group_from.is_some())
-        + usize::from(effect.group_to.is_some())
-}
+/// How many rows a call changes at most: those of two users and of two groups.
+const MOST_ROWS: usize = 4;
 
 /// Makes room for the rows of one call more: for these alone where none waits, since a publication takes the list away.
-fn make_room(waiting: &mut Vec<PlacedRow>, effect: &Effect) -> Result<(), NoMemory>
+fn make_room(waiting: &mut Vec<PlacedRow>) -> Result<(), NoMemory>
     ensures same { waiting.new.items ≡ waiting.old.items }
-    ensures room { IfOk result (λ _. vec_len waiting.new + length (rows_in effect.now) ≤ vec_capacity waiting.new) }
+    ensures room { IfOk result (λ _. vec_len waiting.new + MOST_ROWS ≤ vec_capacity waiting.new) }
 {
-    let more = count_rows(effect);
     if waiting.is_empty() {
-        waiting.reserve_exact(more)?;
+        waiting.reserve_exact(MOST_ROWS)?;
     } else {
-        waiting.reserve(more)?;
+        waiting.reserve(MOST_ROWS)?;
     }
     Ok(())
-}
-
-/// Lets a row wait, for which there is room, if there is one.
-fn add_row(waiting: &mut Vec<PlacedRow>, placed: &Option<PlacedRow>)
-    requires { vec_len waiting.old + length (row_in placed.now) ≤ vec_capacity waiting.old }
-    ensures rows { waiting.new.items ≡ waiting.old.items ++ row_in placed.now }
-    ensures room { vec_capacity waiting.new ≡ vec_capacity waiting.old }
-{
-    if let Some(placed) = placed {
-        waiting.push_reserved(*placed);
-    }
-}
-
-/// Lets the rows of a call wait, for which there is room.
-fn add_rows(waiting: &mut Vec<PlacedRow>, effect: &Effect)
-    requires { vec_len waiting.old + length (rows_in effect.now) ≤ vec_capacity waiting.old }
-    ensures { waiting.new.items ≡ waiting.old.items ++ rows_in effect.now }
-{
-    add_row(waiting, &effect.user_from);
-    add_row(waiting, &effect.user_to);
-    add_row(waiting, &effect.group_from);
-    add_row(waiting, &effect.group_to);
 }
 
 /// Lets the rows wait that a ready call changes. It is out of line, so that a call that changes none carries no rows.
@@ -60,9 +31,8 @@ fn push_rows(waiting: &mut Vec<PlacedRow>, store: &Store, ready: &Ready) -> Resu
         waiting.new.items (committed store.now ready.now).0) }
     ensures err { OnErr result (waiting.new.items ≡ waiting.old.items) }
 {
-    let effect = store.effect(ready);
-    make_room(waiting, &effect)?;
-    add_rows(waiting, &effect);
+    make_room(waiting)?;
+    store.push_changed_rows(ready, waiting);
     Ok(())
 }
 

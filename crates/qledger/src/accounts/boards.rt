@@ -1,14 +1,14 @@
 //! What boards show of the accounts, and what a bill does to them.
-ghost use Rattle.std.specs.Prelude.{◌≡◌, map, IfOk};
+ghost use Rattle.std.specs.Prelude.{◌≡◌, ◌≤◌, ◌+◌, map, vec_len, vec_capacity, IfOk};
 ghost use Rattle.qplain.specs.State.{State};
 ghost use Rattle.qplain.specs.Journal.{row_of};
-ghost use Rattle.qplain.specs.Boards.{IsEffectOf};
 ghost use Rattle.qledger.specs.Books.{AreBooksOf};
 ghost use Rattle.qledger.specs.Bills.{IsBillFor, settled};
+ghost use Rattle.qledger.specs.Pushed.{IsPushed};
 
 use crate::accounts::Accounts;
-use crate::bill::{Bill, placed};
-use qplain::{Effect, NoMemory};
+use crate::bill::{Bill, push_placed};
+use qplain::{NoMemory, PlacedRow};
 use qrules::{BoardRow, Kind};
 use std::alloc::Global;
 
@@ -24,34 +24,17 @@ impl Accounts {
         Ok(rows)
     }
 
-    /// What a bill does to a board. It takes no memory. O(1).
-    pub fn effect(&self, bill: &Bill) -> Effect
-        requires { IsBillFor self.now bill.now }
+    /// Puts the rows that a bill changes on a board behind others, of which there is room for four. O(1).
+    pub fn push_changed_rows(&self, bill: &Bill, rows: &mut Vec<PlacedRow>)
+        requires placed { IsBillFor self.now bill.now }
+        requires room { vec_len rows.old + 4 ≤ vec_capacity rows.old }
         ensures { (S S1 : State) → AreBooksOf S self.now → AreBooksOf S1 (settled bill.now self.now)
-            → IsEffectOf S result S1 }
+            → IsPushed S rows.old.items rows.new.items S1 }
     {
         let users = self.users.len();
-        Effect {
-            user_from: placed(Kind::User, 0, bill.users.from),
-            user_to: placed(Kind::User, 0, bill.users.to),
-            group_from: placed(Kind::Group, users, bill.groups.from),
-            group_to: placed(Kind::Group, users, bill.groups.to),
-            blocks: bill.blocks,
-            inodes: bill.inodes,
-        }
-    }
-
-    /// What a call does to a board that leaves all records and totals. O(1).
-    pub fn no_effect(&self) -> Effect
-        ensures { (S : State) → AreBooksOf S self.now → IsEffectOf S result S }
-    {
-        Effect {
-            user_from: None,
-            user_to: None,
-            group_from: None,
-            group_to: None,
-            blocks: self.blocks,
-            inodes: self.inodes,
-        }
+        push_placed(rows, Kind::User, 0, &bill.users.from);
+        push_placed(rows, Kind::User, 0, &bill.users.to);
+        push_placed(rows, Kind::Group, users, &bill.groups.from);
+        push_placed(rows, Kind::Group, users, &bill.groups.to);
     }
 }

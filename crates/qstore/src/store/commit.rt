@@ -1,14 +1,14 @@
 //! What is decided, done, and told as it changes a board. It takes no memory and always succeeds.
-ghost use Rattle.std.specs.Prelude.{◌≡◌};
-ghost use Rattle.qplain.specs.Boards.{IsEffectOf};
+ghost use Rattle.std.specs.Prelude.{◌≡◌, ◌≤◌, ◌+◌, vec_len, vec_capacity};
 ghost use Rattle.qstore.specs.Ready.{CanCarryOut, CanSettle, IsReady, billed, committed, effect};
 ghost use Rattle.qchange.specs.Changes.{CanChange, changed};
+ghost use Rattle.qledger.specs.Pushed.{IsPushed};
 ghost use Rattle.qstore.specs.Stored.{IsSound};
 
 use crate::ready::{Plan, Ready};
 use crate::store::Store;
 use qchange::{TreeChange, make};
-use qplain::{Data, Effect};
+use qplain::{Data, PlacedRow};
 
 impl Store {
     /// Does what is decided. It is out of line, so that a call that only answers hands no plan on.
@@ -37,16 +37,18 @@ impl Store {
         self.accounts.settle(&self.bill);
     }
 
-    /// What `commit` of a ready call will do to a board. It takes no memory. O(1).
+    /// Puts the rows that `commit` of a ready call will change on a board behind others, of which there is room for
+    /// four. O(1).
     ///
     /// The caller owes that this store had no other `ready`, `apply` or `commit` since.
-    pub fn effect(&self, ready: &Ready) -> Effect
-        requires { IsReady self.now ready.now }
-        ensures { IsEffectOf self.now.state result (committed self.now ready.now).0 }
+    pub fn push_changed_rows(&self, ready: &Ready, rows: &mut Vec<PlacedRow>)
+        requires ready { IsReady self.now ready.now }
+        requires room { vec_len rows.old + 4 ≤ vec_capacity rows.old }
+        ensures { IsPushed self.now.state rows.old.items rows.new.items (committed self.now ready.now).0 }
     {
         match ready.plan {
-            Plan::Change { .. } | Plan::Limits => self.accounts.effect(&self.bill),
-            Plan::Nothing | Plan::SetGraces { .. } => self.accounts.no_effect(),
+            Plan::Change { .. } | Plan::Limits => self.accounts.push_changed_rows(&self.bill, rows),
+            Plan::Nothing | Plan::SetGraces { .. } => {}
         }
     }
 }

@@ -1,0 +1,21 @@
+-- The rows that a call changes on a board, in a list.
+use Rattle.std.specs.Prelude.{◌≡◌, List, [], ◌∷◌, ◌++◌, Option, Some, None}
+use Rattle.qplain.specs.Boards.{IsEffectOf}
+use Rattle.qplain.specs.declared.effect.Effect.{Effect}
+use Rattle.qplain.specs.declared.effect.PlacedRow.{PlacedRow}
+use Rattle.qplain.specs.State.{State}
+
+-- the row, if there is one
+abbrev pub row_of : Option PlacedRow → List PlacedRow
+row_of None = []
+row_of (Some p) = p ∷ []
+
+-- the rows that an effect has, in the order in which they are put
+abbrev pub rows_of : Effect → List PlacedRow
+rows_of e = row_of e.user_from ++ row_of e.user_to ++ row_of e.group_from ++ row_of e.group_to
+
+-- what stands behind the first rows are those that a step from one state to the other changes on a board
+pub record IsPushed (old : State) (rows longer : List PlacedRow) (new : State) : Type 0 where
+  pub effect : Effect
+  pub is : IsEffectOf old effect new
+  pub behind : longer ≡ rows ++ rows_of effect

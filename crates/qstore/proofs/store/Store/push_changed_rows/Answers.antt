@@ -1,0 +1,71 @@
+use Rattle.std.proofs.Common.{◌≡◌, ℕ, List, map, None, ◌⊎◌, inl, inr, refl, sym, subst}
+use Rattle.std.proofs.lemmas.List.{append-nil}
+use Rattle.qrules.specs.Sort.{Blocks, Inodes}
+use Rattle.qrules.specs.declared.graces.Graces.{Graces}
+use Rattle.qplain.specs.declared.effect.PlacedRow.{PlacedRow}
+use Rattle.qplain.specs.Journal.{row_of}
+use Rattle.qplain.specs.State.{State}
+use Rattle.qplain.specs.Use.{total_of}
+use Rattle.qchange.specs.declared.tree_change.TreeChange.{TreeChange}
+use Rattle.qchange.specs.Changes.{changed}
+use Rattle.qledger.specs.Bills.{settled}
+use Rattle.qledger.specs.Books.{AreBooksOf}
+use Rattle.qledger.specs.Pushed.{IsPushed}
+use Rattle.qstore.specs.declared.ready.Plan.{Plan}
+use Rattle.qstore.specs.declared.ready.Plan.TheVariants.{Nothing, Change, Limits, SetGraces}
+use Rattle.qstore.specs.declared.store.Store.TheInside.{Inside}
+use Rattle.qstore.specs.Kept.{IsCounted, state_of, stored_of}
+use Rattle.qstore.specs.Ready.{CanCarryOut, CanSettle, billed, effect}
+use Rattle.qstore.specs.Stored.{Stored}
+use Rattle.qstore.proofs.store.Store.push_changed_rows.Goals as goal
+
+module _ (s : Stored) (a : Inside) (is : s ≡ stored_of a) (counted : IsCounted (state_of a) a.accounts a.tree.links)
+    (rows longer : List PlacedRow)
+    (told : (S S1 : State) → AreBooksOf S a.accounts → AreBooksOf S1 (settled a.bill a.accounts) → IsPushed S rows longer S1) where
+  -- what the bill does to a board is what a plan does that settles it
+  of-bill : (T : State) → CanSettle s T → IsPushed s.state rows longer (billed s T)
+  of-bill T can =
+      told s.state (billed s T)
+      (subst (λ (t : Stored). AreBooksOf t.state a.accounts) (sym is) counted.books)
+      (subst (λ (t : Stored). AreBooksOf (billed s T) (settled t.bill t.books)) is can.books)
+
+  of-plan : (plan : Plan) → ((change : TreeChange) × (bytes : List ℕ) × plan ≡ Change change bytes) ⊎ (plan ≡ Limits)
+      → CanCarryOut s plan → IsPushed s.state rows longer (effect s plan)
+  of-plan plan (inl (change, bytes, same)) can =
+      subst (λ (p : Plan). IsPushed s.state rows longer (effect s p)) (sym same)
+      (of-bill (changed s.state change bytes) (subst (λ (p : Plan). CanCarryOut s p) same can).1)
+  of-plan plan (inr same) can =
+      subst (λ (p : Plan). IsPushed s.state rows longer (effect s p)) (sym same)
+      (of-bill s.state (subst (λ (p : Plan). CanCarryOut s p) same can))
+
+pub returns-in-Change : goal.returns-in-Change
+returns-in-Change c =
+    of-plan c.args.self.now c.self.inside (sym c.self.view_is) c.self.invariant c.args.rows.now.items c.push_changed_rows.new.rows.items
+    c.push_changed_rows.ensures c.args.ready.now.plan c.in-Change.is c.requires.ready.can
+
+-- where no row changes none is pushed
+none-pushed : (S S1 : State) (rows : List PlacedRow) → map (row_of S) S.holders ≡ map (row_of S1) S1.holders → IsPushed S rows rows S1
+none-pushed S S1 rows same = record {
+  effect = record {
+    user_from = None;
+    user_to = None;
+    group_from = None;
+    group_to = None;
+    blocks = total_of S1 Blocks;
+    inodes = total_of S1 Inodes;
+  };
+  is = record { rows = same; blocks = refl; inodes = refl };
+  behind = sym (append-nil rows);
+}
+
+-- nor by a plan that changes no record
+of-no-bill : (s : Stored) (rows : List PlacedRow) (plan : Plan) → (plan ≡ Nothing) ⊎ ((graces : Graces) × plan ≡ SetGraces graces)
+    → IsPushed s.state rows rows (effect s plan)
+of-no-bill s rows plan (inl same) =
+    subst (λ (p : Plan). IsPushed s.state rows rows (effect s p)) (sym same) (none-pushed s.state s.state rows refl)
+of-no-bill s rows plan (inr (graces, same)) =
+    subst (λ (p : Plan). IsPushed s.state rows rows (effect s p)) (sym same)
+    (none-pushed s.state (record s.state { graces = graces }) rows refl)
+
+pub returns-in-Nothing : goal.returns-in-Nothing
+returns-in-Nothing c = of-no-bill c.args.self.now c.args.rows.now.items c.args.ready.now.plan c.in-Nothing.is
