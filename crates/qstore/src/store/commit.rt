@@ -41,6 +41,7 @@ impl Store {
     /// four. O(1).
     ///
     /// The caller owes that this store had no other `ready`, `apply` or `commit` since.
+    #[inline(always)]
     pub fn push_changed_rows(&self, ready: &Ready, rows: &mut Vec<PlacedRow>)
         requires ready { IsReady self.now ready.now }
         requires room { vec_len rows.old + 4 ≤ vec_capacity rows.old }
