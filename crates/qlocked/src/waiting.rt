@@ -11,6 +11,8 @@ use qstore::{Ready, Store};
 const MOST_ROWS: usize = 4;
 
 /// Makes room for the rows of one call more: for these alone where none waits, since a publication takes the list away.
+/// Most calls change no row, so it is out of line.
+#[inline(never)]
 fn make_room(waiting: &mut Vec<PlacedRow>) -> Result<(), NoMemory>
     ensures same { waiting.new.items ≡ waiting.old.items }
     ensures room { IfOk result (λ _. vec_len waiting.new + MOST_ROWS ≤ vec_capacity waiting.new) }
@@ -20,19 +22,6 @@ fn make_room(waiting: &mut Vec<PlacedRow>) -> Result<(), NoMemory>
     } else {
         waiting.reserve(MOST_ROWS)?;
     }
-    Ok(())
-}
-
-/// Lets the rows wait that a ready call changes. It is out of line, so that a call that changes none carries no rows.
-#[inline(never)]
-fn push_rows(waiting: &mut Vec<PlacedRow>, store: &Store, ready: &Ready) -> Result<(), NoMemory>
-    requires { IsReady store.now ready.now }
-    ensures rows { IfOk result (λ _. LeadsOn waiting.old.items store.now.state
-        waiting.new.items (committed store.now ready.now).0) }
-    ensures err { OnErr result (waiting.new.items ≡ waiting.old.items) }
-{
-    make_room(waiting)?;
-    store.push_changed_rows(ready, waiting);
     Ok(())
 }
 
@@ -49,8 +38,8 @@ pub(crate) fn let_wait(
     ensures err { OnErr result (waiting.new.items ≡ waiting.old.items) }
 {
     if ready.may_change_rows() {
-        push_rows(waiting, store, ready)
-    } else {
-        Ok(())
+        make_room(waiting)?;
+        store.push_changed_rows(ready, waiting);
     }
+    Ok(())
 }

@@ -38,10 +38,10 @@ impl Store {
     }
 
     /// Puts the rows that `commit` of a ready call will change on a board behind others, of which there is room for
-    /// four. O(1).
+    /// four. O(1). It is out of line, so that what is ready has no address where a call changes no row.
     ///
     /// The caller owes that this store had no other `ready`, `apply` or `commit` since.
-    #[inline(always)]
+    #[inline(never)]
     pub fn push_changed_rows(&self, ready: &Ready, rows: &mut Vec<PlacedRow>)
         requires ready { IsReady self.now ready.now }
         requires room { vec_len rows.old + 4 ≤ vec_capacity rows.old }
