@@ -37,7 +37,8 @@ invariant_of-self-2 g c =
     let waiting = c.self.inside.waiting.items in
     let more = c.let_wait.new.waiting.items in
     let told : LeadsOn waiting c.self.inside.store.state more (committed c.ready.new.self c.in-Ok-ready.ready).0 =
-    subst (λ (T : State). LeadsOn waiting T more (committed c.ready.new.self c.in-Ok-ready.ready).0) c.in-Ok-ready.ensures.state c.in-Ok-let_wait.ensures.rows in
+    subst (λ (T : State). LeadsOn waiting T more (committed c.ready.new.self c.in-Ok-ready.ready).0) c.in-Ok-ready.ensures.state
+    c.in-Ok-let_wait.ensures.rows in
     let led : LeadsOn waiting c.self.inside.store.state more c.commit-reply.new.self.state =
     subst (λ (T : State). LeadsOn waiting c.self.inside.store.state more T) (sym (ap (λ p. p.0) c.commit-reply.ensures)) told in
     let grown = grows _ _ _ _ _ _ _ _ waiting more c.args.worker line c.in-Ok-copy.reply i.4 few stepped led in (
