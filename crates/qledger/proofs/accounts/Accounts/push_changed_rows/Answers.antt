@@ -25,6 +25,8 @@ returns c =
       effect = effect_of (length b.users) bill;
       is = effect-billed S S1 b bill c.self.invariant (rw c.self.view_is c.requires.placed) old new;
       behind = behind-four _ _ _ _ _ _ _ _ _ c.push_placed.ensures.rows c.push_placed-2.ensures.rows
-          (c.push_placed-3.ensures.rows ∙ ap (λ n. c.push_placed-2.new.rows.items ++ row_of (option_map (placed_row Group n) bill.groups.from)) c.len-users.ensures)
-          (c.push_placed-4.ensures.rows ∙ ap (λ n. c.push_placed-3.new.rows.items ++ row_of (option_map (placed_row Group n) bill.groups.to)) c.len-users.ensures);
+          (c.push_placed-3.ensures.rows
+          ∙ ap (λ n. c.push_placed-2.new.rows.items ++ row_of (option_map (placed_row Group n) bill.groups.from)) c.len-users.ensures)
+          (c.push_placed-4.ensures.rows
+          ∙ ap (λ n. c.push_placed-3.new.rows.items ++ row_of (option_map (placed_row Group n) bill.groups.to)) c.len-users.ensures);
     })
