@@ -198,8 +198,9 @@ impl<K: Origin, N: House> Viewer<K, N> {
         );
     }
 
-    /// Sees all of this history. Its board is published: the first look shows it, but no clause of `left_right` says that
-    /// the board which it hands out is the last one, so it looks until it is. Where it is not published it waits for ever.
+    /// Sees all of this history. Its board is published: the first look shows it, but no clause of `left_right` says
+    /// that the board which it hands out is the last one, so it looks until it is. Where it is not published it waits
+    /// for ever.
     pub fn see_all<W: Wait>(&mut self, rt: &W, whole: &Whole)
         requires { whole.now.book ≡ N.names.book }
         ensures { self.new ≡ whole.now.log }
@@ -228,8 +229,8 @@ impl<K: Origin, N: House> Viewer<K, N> {
         shown
     }
 
-    /// The row of a user or group on the board that is published now, under the board's version. It takes no lock and no
-    /// memory, and waits for nobody.
+    /// The row of a user or group on the board that is published now, under the board's version. It takes no lock and
+    /// no memory, and waits for nobody.
     ///
     /// NoBoard where no board was handed out, ESRCH where there is no such row.
     pub fn record(&mut self, kind: Kind, id: u32) -> Result<(u64, BoardRow), LookFault>

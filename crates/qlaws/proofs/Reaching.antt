@@ -185,8 +185,8 @@ named-reached S names q sorted lead has each = by (q == ROOT) refl has
 
 module _ (S : State) (dir : ℕ) (name : List ℕ) (number : ℕ) (inode : Inode) (fits : FitsTogether S) (led : named S dir name ≡ Some number)
     (there : inode_at S number ≡ Some inode) (empty : (inode.dir && not (is_empty S number)) ≡ false) (all : AllReached S) where
-  abbrev R1 : State
-  R1 = swept (without_name S dir name)
+  abbrev S-left : State
+  S-left = swept (without_name S dir name)
 
   -- no name stands in the inode
   not-in : (d : ℕ) (nm : List ℕ) (m : ℕ) → named S d nm ≡ Some m → (number == d) ≡ false
@@ -194,15 +194,15 @@ module _ (S : State) (dir : ℕ) (name : List ℕ) (number : ℕ) (inode : Inode
       let apart : (d == number) ≡ false = holds-of-dir S (λ n. (n == number) ≡ false) (unfilled S fits number inode there empty) d nm m is in
       grind (arith, tests, apart)
 
-  directory-left : (d : ℕ) → is_directory S d ≡ true → (number == d) ≡ false → is_directory R1 d ≡ true
+  directory-left : (d : ℕ) → is_directory S d ≡ true → (number == d) ≡ false → is_directory S-left d ≡ true
   directory-left d at apart =
       ap is_dir (stays-swept S (without_name S dir name).names d
       (has_name-without S dir name number led d apart ∙ has_name-there S fits d (some-is_dir (inode_at S d) at))) ∙ at
 
-  keeps-removed : (d : ℕ) (nm : List ℕ) (m : ℕ) → follow S (Ok d) nm ≡ Ok m → (number == m) ≡ false → follow R1 (Ok d) nm ≡ Ok m
+  keeps-removed : (d : ℕ) (nm : List ℕ) (m : ℕ) → follow S (Ok d) nm ≡ Ok m → (number == m) ≡ false → follow S-left (Ok d) nm ≡ Ok m
   keeps-removed d nm m h apart =
       let parts = follow-parts S d nm m h in
-      follow-from R1 d nm m (directory-left d parts.0 (not-in d nm m parts.1))
+      follow-from S-left d nm m (directory-left d parts.0 (not-in d nm m parts.1))
       (less-kept S.names (dir, name) (d, nm) m fits.names.in_order parts.1 (λ e.
       let one : Some number ≡ Some m = sym led ∙ e in
       let same : number ≡ m = cc in
@@ -214,17 +214,17 @@ module _ (S : State) (dir : ℕ) (name : List ℕ) (number : ℕ) (inode : Inode
       let apart = not-in m nm x (follow-parts S m nm x h).1 in
       absurd (cc)
 
-  left : (q : ℕ) → (number == q) ≡ false → IsReached S q → IsReached R1 q
-  left q apart reached = reached-kept S R1 (λ n. number == n) keeps-removed dead-removed q reached apart
+  left : (q : ℕ) → (number == q) ≡ false → IsReached S q → IsReached S-left q
+  left q apart reached = reached-kept S S-left (λ n. number == n) keeps-removed dead-removed q reached apart
 
-  pub removed_reached : AllReached R1
+  pub removed_reached : AllReached S-left
   removed_reached = λ k d below.
-      let e : ℕ × Inode = slice_index_or R1.inodes k d in
+      let e : ℕ × Inode = slice_index_or S-left.inodes k d in
       let has : has_name (without_name S dir name) e.0 ≡ true = filter_passes (λ (x : ℕ × Inode). has_name (without_name S dir name) x.0) S.inodes k d below in
       let old : IsReached S e.0 = All-filter (λ (x : ℕ × Inode). has_name (without_name S dir name) x.0) (λ x. IsReached S x.0) S.inodes all k d below in
       by e.0 has old (number == e.0) refl
     where
-      by : (q : ℕ) → has_name (without_name S dir name) q ≡ true → IsReached S q → (b : Bool) → (number == q) ≡ b → IsReached R1 q
+      by : (q : ℕ) → has_name (without_name S dir name) q ≡ true → IsReached S q → (b : Bool) → (number == q) ≡ b → IsReached S-left q
       by q has old false apart = left q apart old
       by q has old true same =
           named-reached S (without_name S dir name).names q (sorted-remove name_key_cmp (is_at (name_key_cmp (dir, name))) S.names fits.names.in_order)

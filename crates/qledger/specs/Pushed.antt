@@ -6,16 +6,16 @@ use Rattle.qplain.specs.declared.effect.PlacedRow.{PlacedRow}
 use Rattle.qplain.specs.State.{State}
 
 -- the row, if there is one
-abbrev pub row_of : Option PlacedRow → List PlacedRow
-row_of None = []
-row_of (Some p) = p ∷ []
+abbrev pub placed_in : Option PlacedRow → List PlacedRow
+placed_in None = []
+placed_in (Some p) = p ∷ []
 
 -- the rows that an effect has, in the order in which they are put
-abbrev pub rows_of : Effect → List PlacedRow
-rows_of e = row_of e.user_from ++ row_of e.user_to ++ row_of e.group_from ++ row_of e.group_to
+abbrev pub placed_rows : Effect → List PlacedRow
+placed_rows e = placed_in e.user_from ++ placed_in e.user_to ++ placed_in e.group_from ++ placed_in e.group_to
 
 -- what stands behind the first rows are those that a step from one state to the other changes on a board
 pub record IsPushed (old : State) (rows longer : List PlacedRow) (new : State) : Type 0 where
   pub effect : Effect
   pub is : IsEffectOf old effect new
-  pub behind : longer ≡ rows ++ rows_of effect
+  pub behind : longer ≡ rows ++ placed_rows effect

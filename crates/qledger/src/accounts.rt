@@ -119,9 +119,9 @@ impl Accounts {
         self.ledger(kind).find(id)
     }
 
-    /// Writes the bill of a call by which the inode of one claim comes to stand in the place of the other's, or tells why
-    /// the call is refused: space comes before quota, and the superuser passes every quota. `next` is the number that
-    /// would be given next after it.
+    /// Writes the bill of a call by which the inode of one claim comes to stand in the place of the other's, or tells
+    /// why the call is refused: space comes before quota, and the superuser passes every quota. `next` is the number
+    /// that would be given next after it.
     pub fn bill(
         &self,
         cred: &Cred,

@@ -3,7 +3,7 @@ ghost use Rattle.std.specs.Prelude.{◌≡◌, ◌+◌, ◌++◌, ◌<◌, ◌�
 ghost use Rattle.std.specs.Option.{option_map};
 ghost use Rattle.qledger.specs.Bills.{no_bill};
 ghost use Rattle.qledger.specs.Boards.{placed_row};
-ghost use Rattle.qledger.specs.Pushed.{row_of};
+ghost use Rattle.qledger.specs.Pushed.{placed_in};
 
 use crate::kept_holder::board_row;
 use qplain::PlacedRow;
@@ -17,8 +17,8 @@ pub struct Posting {
     pub(crate) account: Record,
 }
 
-/// What becomes of the records of one kind: that of the owner who gives an inode up, if it is another's, and that of the
-/// one who has it then.
+/// What becomes of the records of one kind: that of the owner who gives an inode up, if it is another's, and that of
+/// the one who has it then.
 #[derive(Clone, Copy)]
 pub struct Postings {
     pub(crate) from: Option<Posting>,
@@ -81,7 +81,7 @@ pub(crate) fn push_placed(
 )
     requires room { vec_len rows.old < vec_capacity rows.old }
     requires place { IfSome posting.now (λ p. before + p.slot < 2 ^ 64) }
-    ensures rows { rows.new.items ≡ rows.old.items ++ row_of (option_map (placed_row kind before) posting.now) }
+    ensures rows { rows.new.items ≡ rows.old.items ++ placed_in (option_map (placed_row kind before) posting.now) }
     ensures few { vec_len rows.new ≤ vec_len rows.old + 1 }
     ensures room { vec_capacity rows.new ≡ vec_capacity rows.old }
 {

@@ -145,8 +145,8 @@ impl Ledger {
         }
     }
 
-    /// Writes the records of both owners as they will be where one inode comes to stand in the place of another; one record
-    /// where both have the same, and none where names alone change.
+    /// Writes the records of both owners as they will be where one inode comes to stand in the place of another; one
+    /// record where both have the same, and none where names alone change.
     pub(crate) fn write_postings(
         &self,
         from: Option<Share>,

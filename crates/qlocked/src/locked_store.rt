@@ -20,8 +20,8 @@ use std::alloc::Global;
 use std::marker::Model;
 use std::sync::Wait;
 
-/// A store with its journal, the tally of it, and the writing side of its boards: what lies under the lock. Contracts see
-/// the journal, and how much of it is published.
+/// A store with its journal, the tally of it, and the writing side of its boards: what lies under the lock. Contracts
+/// see the journal, and how much of it is published.
 #[derive(Drop)]
 pub struct LockedStore<K: Origin, N: House, R: Wait + Drop> {
     alloc: Global,
@@ -227,8 +227,8 @@ impl<K: Origin, N: House, R: Wait + Drop> LockedStore<K, N, R> {
         viewer.see_all(rt, &self.whole)
     }
 
-    /// A viewer that has seen the whole journal, where all of it is published. Err, where no place for a reader is free or
-    /// memory is wanting, leaves nothing made.
+    /// A viewer that has seen the whole journal, where all of it is published. Err, where no place for a reader is free
+    /// or memory is wanting, leaves nothing made.
     pub fn viewer(&mut self) -> Result<Viewer<K, N>, NoMemory>
         requires { self.old.published ≡ self.old.journal }
         ensures same { self.new ≡ self.old }

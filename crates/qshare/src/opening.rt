@@ -105,7 +105,8 @@ fn new_seats<K: Origin, N: House, R: Wait + Drop>(
 impl<K: Origin> Opened<K> {
     /// A new store of the setup, for 1 to 16 seats.
     ///
-    /// The hashes of names begin at `seed`, which may be any number. Seats is told first. After an Err nothing was made.
+    /// The hashes of names begin at `seed`, which may be any number. Seats is told first. After an Err nothing was
+    /// made.
     pub fn new(alloc: Global, setup: Setup, seats: u64, seed: u64) -> Result<Opened<K>, ShareFault>
         requires { setup ≡ K.setting }
         ensures seats { IfOk result (λ o. o.ledgers.parts ≡ seats) }

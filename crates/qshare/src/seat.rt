@@ -17,8 +17,8 @@ use std::alloc::Global;
 use std::marker::Model;
 use std::sync::Wait;
 
-/// A worker's own access to a shared store. Contracts see the worker's number, the history that the seat has seen, which is
-/// legal, and what it has counted.
+/// A worker's own access to a shared store. Contracts see the worker's number, the history that the seat has seen,
+/// which is legal, and what it has counted.
 #[derive(Drop)]
 pub struct Seat<K: Origin, N: House> {
     alloc: Global,
@@ -84,13 +84,14 @@ impl<K: Origin, N: House> Seat<K, N> {
         let _front = self.viewer.front();
     }
 
-    /// Everybody's quota as it is published now, under a version: the number of calls that led to it. It takes no lock and
-    /// waits for nobody.
+    /// Everybody's quota as it is published now, under a version: the number of calls that led to it. It takes no lock
+    /// and waits for nobody.
     ///
-    /// The board is that of a legal history, which begins with all that the seat had seen, and is seen then. It is whole:
-    /// users' blocks add up to the total and groups' too, inodes likewise, totals are within the setup's bounds, and a
-    /// grace end stands exactly where use is over that soft limit. An Err is NoBoard where no board was handed out, told
-    /// first, after which the seat is wholly as it was, or OutOfMemory, after which it is so but for what it has seen.
+    /// The board is that of a legal history, which begins with all that the seat had seen, and is seen then. It is
+    /// whole: users' blocks add up to the total and groups' too, inodes likewise, totals are within the setup's bounds,
+    /// and a grace end stands exactly where use is over that soft limit. An Err is NoBoard where no board was handed
+    /// out, told first, after which the seat is wholly as it was, or OutOfMemory, after which it is so but for what it
+    /// has seen.
     pub fn board(&mut self) -> Result<Board, LookFault>
         ensures board { IfOk result (λ b. b ≡ shown_of (start K.setting) self.new.seen) }
         ensures version { IfOk result (λ b. length self.old.seen ≤ b.version) }
@@ -104,8 +105,8 @@ impl<K: Origin, N: House> Seat<K, N> {
         self.viewer.board(self.alloc)
     }
 
-    /// The quota record of a user or group on the board that is published now, under the board's version. It takes no lock
-    /// and no memory, and waits for nobody.
+    /// The quota record of a user or group on the board that is published now, under the board's version. It takes no
+    /// lock and no memory, and waits for nobody.
     ///
     /// An Err is NoBoard where no board was handed out, told first, after which the seat is wholly as it was, or ESRCH
     /// where it has no such record, after which it is so but for what it has seen.

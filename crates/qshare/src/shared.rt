@@ -17,8 +17,8 @@ use std::sync::{Mutex, Wait};
 
 /// A store that many seats share, under one lock.
 ///
-/// Whenever the lock is free the store is exactly what its journal leaves when one thread plays it on the plain machine,
-/// and each journaled reply is that machine's: this is the invariant of what lies under it.
+/// Whenever the lock is free the store is exactly what its journal leaves when one thread plays it on the plain
+/// machine, and each journaled reply is that machine's: this is the invariant of what lies under it.
 #[derive(Drop)]
 pub struct Shared<K: Origin, N: House, R: Wait + Drop> {
     pub(crate) lock: Mutex<LockedStore<K, N, R>>,
@@ -98,8 +98,8 @@ impl<K: Origin, N: House, R: Wait + Drop> Shared<K, N, R> {
         call_locked(rt, &mut *store, seat, cred, moment, call)
     }
 
-    /// Ends the store, where the shares of all its seats are there: what they have seen are beginnings of its journal, and
-    /// what they have counted is the journal's tally.
+    /// Ends the store, where the shares of all its seats are there: what they have seen are beginnings of its journal,
+    /// and what they have counted is the journal's tally.
     ///
     /// An Err names the least worker whose share is not there, and gives store and shares back. It takes no memory.
     pub fn end<W: Wait>(self, rt: &W, shares: Vec<Share<N>>) -> Result<Ended, Missing<K, N, R>>

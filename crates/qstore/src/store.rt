@@ -71,9 +71,9 @@ impl Store {
     /// A new store of a setup. It holds the root directory, inode 1 of user 0 and group 0; the next number is 2, and a
     /// file has at most 2^30 bytes (tmpfs(5), profile).
     ///
-    /// The allocator is kept for later growth. The hashes of names begin at `seed`, which may be any number: where nobody
-    /// knows it beforehand, nobody can search beforehand for names that collide. No answer and no row depends on it.
-    /// After an Err nothing was made. O(n), as many principals as there are.
+    /// The allocator is kept for later growth. The hashes of names begin at `seed`, which may be any number: where
+    /// nobody knows it beforehand, nobody can search beforehand for names that collide. No answer and no row depends on
+    /// it. After an Err nothing was made. O(n), as many principals as there are.
     pub fn new(alloc: Global, setup: Setup, seed: u64) -> Result<Store, NoMemory>
         ensures { IfOk result (λ s. s.state ≡ start setup) }
     {

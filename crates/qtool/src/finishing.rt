@@ -58,8 +58,8 @@ fn keep_journal<F: Files>(
 /// named for it, writes the journal to a new file of that name, and flushes that.
 ///
 /// An output that refuses leaves no journal: no file is made. Where the journal is refused, the outcome stands whole in
-/// the output, and of the journal there may be nothing, or some beginning. A program that is ended in between leaves the
-/// same.
+/// the output, and of the journal there may be nothing, or some beginning. A program that is ended in between leaves
+/// the same.
 pub fn write_run<F: Files, O: Write>(
     outcome: &Outcome,
     at: u64,

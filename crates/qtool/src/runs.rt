@@ -46,9 +46,9 @@ pub fn run<R: Threads + Wait + Sync>(
 
 /// Plays a journal again on a new store of the configuration, one entry after the other.
 ///
-/// An outcome comes only of a journal whose replies are all the store's; else the first place with another reply is told.
-/// The hashes of names begin at `seed`, as for a run. O(entries), and what each call takes. After an Err the store is
-/// given up.
+/// An outcome comes only of a journal whose replies are all the store's; else the first place with another reply is
+/// told. The hashes of names begin at `seed`, as for a run. O(entries), and what each call takes. After an Err the
+/// store is given up.
 pub fn replay(
     alloc: Global,
     config: Config,

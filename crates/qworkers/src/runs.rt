@@ -192,20 +192,20 @@ where
     }
 }
 
-/// Plays 1 to 16 scripts on one new store of the setup: each in a thread of its own, with a seat of its own. Where boards
-/// are wanted the scripts are at most 15, and one thread more, whose number is that of the scripts and 1, looks at them
-/// while the workers go on.
+/// Plays 1 to 16 scripts on one new store of the setup: each in a thread of its own, with a seat of its own. Where
+/// boards are wanted the scripts are at most 15, and one thread more, whose number is that of the scripts and 1, looks
+/// at them while the workers go on.
 ///
-/// The outcome is the headline: the journal is legal from the setup, the store is what it leaves when one thread plays it
-/// on the plain machine, and each worker's transcript is its script's lines in order, each with one answer, of which the
-/// receipts are the worker's own entries. Which legal journal comes is open. A worker goes on after any answer. The boards
-/// are the journal's own, each that of its version, and versions never fall; when they are looked at is open.
+/// The outcome is the headline: the journal is legal from the setup, the store is what it leaves when one thread plays
+/// it on the plain machine, and each worker's transcript is its script's lines in order, each with one answer, of which
+/// the receipts are the worker's own entries. Which legal journal comes is open. A worker goes on after any answer. The
+/// boards are the journal's own, each that of its version, and versions never fall; when they are looked at is open.
 ///
 /// `gate` is called around each line, or, where the lock is taken for several, before the first and after the last of
-/// them, and may wait; this is promised if the run returns. The hashes of names begin at `seed`, which may be any number;
-/// nothing of the outcome depends on it. An Err is Memory, NoReader, or NotStarted with the first worker whose thread was
-/// refused; then all workers that were started have been joined and the store is given up. Mismatch never comes: each
-/// worker's receipts are proved to be its entries, and the boards to be the journal's.
+/// them, and may wait; this is promised if the run returns. The hashes of names begin at `seed`, which may be any
+/// number; nothing of the outcome depends on it. An Err is Memory, NoReader, or NotStarted with the first worker whose
+/// thread was refused; then all workers that were started have been joined and the store is given up. Mismatch never
+/// comes: each worker's receipts are proved to be its entries, and the boards to be the journal's.
 pub fn run_with<G: Gate + Sync, R: Threads + Wait + Sync>(
     rt: &R,
     alloc: Global,

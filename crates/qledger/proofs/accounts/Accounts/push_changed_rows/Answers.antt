@@ -3,7 +3,7 @@ use Rattle.qrules.specs.declared.kind.Kind.TheVariants.{Group}
 use Rattle.qplain.specs.declared.effect.PlacedRow.{PlacedRow}
 use Rattle.qledger.specs.Boards.{effect_of, placed_row}
 use Rattle.qledger.specs.Kept.{books_of}
-use Rattle.qledger.specs.Pushed.{row_of}
+use Rattle.qledger.specs.Pushed.{placed_in}
 use Rattle.qledger.proofs.Boards.{effect-billed}
 use Rattle.qledger.proofs.accounts.Accounts.push_changed_rows.Goals as goal
 
@@ -26,7 +26,7 @@ returns c =
       is = effect-billed S S1 b bill c.self.invariant (rw c.self.view_is c.requires.placed) old new;
       behind = behind-four _ _ _ _ _ _ _ _ _ c.push_placed.ensures.rows c.push_placed-2.ensures.rows
           (c.push_placed-3.ensures.rows
-          ∙ ap (λ n. c.push_placed-2.new.rows.items ++ row_of (option_map (placed_row Group n) bill.groups.from)) c.len-users.ensures)
+          ∙ ap (λ n. c.push_placed-2.new.rows.items ++ placed_in (option_map (placed_row Group n) bill.groups.from)) c.len-users.ensures)
           (c.push_placed-4.ensures.rows
-          ∙ ap (λ n. c.push_placed-3.new.rows.items ++ row_of (option_map (placed_row Group n) bill.groups.to)) c.len-users.ensures);
+          ∙ ap (λ n. c.push_placed-3.new.rows.items ++ placed_in (option_map (placed_row Group n) bill.groups.to)) c.len-users.ensures);
     })
