@@ -62,6 +62,9 @@ fn entry_in<'a>(
             Err(ReadFault::Fault(TextKind::BadCred))
         }
         [worker, moment, cred, behind @ ..] => {
+            paths.pass(worker);
+            paths.pass(moment);
+            paths.pass(cred);
             let worker = worker_of(workers, worker)?;
             let moment = number(moment)?;
             let cred = callers.read(alloc, cred)?;
@@ -78,7 +81,7 @@ fn entry_in<'a>(
     }
 }
 
-/// Reads the entries of a journal of so many workers, and keeps the last caller and path.
+/// Reads the entries of a journal of so many workers, and keeps the last caller and a page of paths.
 #[derive(Drop)]
 pub(crate) struct EntryReader<'a> {
     pub(crate) alloc: Global,
@@ -110,6 +113,7 @@ impl<'a> ReadLine<'a> for EntryReader<'a> {
         if !line.is_text {
             return Err(ReadFault::Fault(TextKind::BadByte));
         }
+        self.paths.begin_line(line.bytes, line.after);
         entry_in(
             self.alloc,
             &mut self.callers,

@@ -53,7 +53,7 @@ fn entries_of(alloc: Global, workers: u64, text: &[u8]) -> Result<Items<Entry>, 
         alloc,
         workers,
         callers: Callers::new(),
-        paths: Paths::new(),
+        paths: Paths::of(text),
     };
     read_lines(alloc, &mut reader, 1, text)
 }

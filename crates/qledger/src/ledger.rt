@@ -119,15 +119,16 @@ impl Ledger {
         }
     }
 
-    /// The same for the slot of a share, if there is one.
-    fn posting_for(
+    /// Writes the same for the slot of a share, if there is one.
+    fn write_posting(
         &self,
         share: Option<Share>,
         from: Option<Share>,
         to: Option<Share>,
         graces: Graces,
         moment: u64,
-    ) -> Option<Posting>
+        posting: &mut Option<Posting>,
+    )
         requires slot { IfSome share (λ s. s.slot < length self.now) }
         requires moment { moment ≤ MAX_MOMENT }
         requires block_grace { graces.block ≤ MAX_GRACE }
@@ -136,13 +137,13 @@ impl Ledger {
             × IsLedgerReplacement self.now kind from to S S1 f t }
         ensures posting { (kind : Kind) (S S1 : State) (f t : Option Inode)
             → IsLedgerReplacement self.now kind from to S S1 f t → S.graces ≡ graces
-            → IfSome result (IsFinal self.now kind S1 moment) }
-        ensures slot { option_map (λ p. p.slot) result ≡ option_map (λ s. s.slot) share }
+            → IfSome posting.new (IsFinal self.now kind S1 moment) }
+        ensures slot { option_map (λ p. p.slot) posting.new ≡ option_map (λ s. s.slot) share }
     {
-        match share {
+        *posting = match share {
             Some(share) => Some(self.posting(share.slot, from, to, graces, moment)),
             None => None,
-        }
+        };
     }
 
     /// Writes the records of both owners as they will be where one inode comes to stand in the place of another; one
@@ -169,8 +170,9 @@ impl Ledger {
             postings.to = None;
             return;
         }
-        postings.from = self.posting_for(apart(from, to), from, to, graces, moment);
-        postings.to = self.posting_for(to, from, to, graces, moment);
+        let lost = apart(from, to);
+        self.write_posting(lost, from, to, graces, moment, &mut postings.from);
+        self.write_posting(to, from, to, graces, moment, &mut postings.to);
     }
 
     /// The record at this slot with new limits.

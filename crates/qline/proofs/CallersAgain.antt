@@ -8,7 +8,7 @@ use Rattle.qplain.specs.Paths.{is_path_byte}
 use Rattle.qtext.specs.declared.text_fault.TextKind.TheVariants.{BadCred}
 use Rattle.qtext.specs.Reading.{each_of}
 use Rattle.qtext.specs.Words.{parts}
-use Rattle.qline.specs.Callers.{caller_of, caller_in, caller_from, few_groups_of, own_ids_of, own_ids_in, groups_of}
+use Rattle.qline.specs.Callers.{caller_of, caller_in, caller_by, caller_from, few_groups_of, own_ids_of, own_ids_in, groups_of}
 use Rattle.qline.specs.Spelling.{caller_text, own_ids_text, IsCaller}
 use Rattle.qtext.proofs.Joining.{lacks, parts_join, passes_join, passes_weaker}
 use Rattle.qtext.proofs.WordsAgain.{are_digits, digit_lacks, digit_lacks_above, number_again}
@@ -66,7 +66,7 @@ pub caller_word : (c : Caller) → IsCaller c → list_all is_path_byte (caller_
 caller_word c fits = passes_join is_path_byte 44 (own_ids_text c ∷ map decimal c.more) refl (own_ids_word c fits, digit_words c.more fits.more)
 
 in_again : (c : Caller) → IsCaller c → caller_in (own_ids_text c ∷ map decimal c.more) ≡ Ok c
-unfolding caller_in caller_from few_groups_of
+unfolding caller_in caller_from caller_by few_groups_of
 in_again c fits =
     let most : length c.more ≤ 16 = fits.few in
     let few : leb (length c.more) 16 ≡ true = grind (arith, nat_tests) in

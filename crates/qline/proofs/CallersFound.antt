@@ -7,7 +7,7 @@ use Rattle.qplain.specs.declared.cred.TheConstants.{MAX_MORE_GROUPS}
 use Rattle.qtext.specs.declared.text_fault.TextKind.TheVariants.{BadCred}
 use Rattle.qtext.specs.Words.{parts}
 use Rattle.qtext.proofs.StepsFound.{joined, Spells, kept, same_ok, step_found, word_found, words_found}
-use Rattle.qline.specs.Callers.{caller_of, caller_in, caller_from, few_groups_of, own_ids_of, own_ids_in, groups_of}
+use Rattle.qline.specs.Callers.{caller_of, caller_in, caller_by, caller_from, few_groups_of, own_ids_of, own_ids_in, groups_of}
 use Rattle.qline.specs.Spelling.{caller_text, own_ids_text, IsCaller}
 use Rattle.qline.proofs.ArgumentsFound.{any_id}
 
@@ -37,7 +37,7 @@ few_found words more e =
 
 from_found : (first : List ℕ) (groups : List (List ℕ)) (c : Caller) → caller_from first groups ≡ Ok c
     → (own_ids_text c ∷ map decimal c.more ≡ first ∷ groups) × IsCaller c
-unfolding caller_from
+unfolding caller_from caller_by
 from_found first groups c e =
     step_found (own_ids_of (parts 58 first)) _ e λ ids are_ids e.
     step_found (few_groups_of groups) _ e λ more are_groups e.

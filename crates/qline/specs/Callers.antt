@@ -29,12 +29,17 @@ few_groups_of words = do
   more ← groups_of words
   if nat_le (length more) MAX_MORE_GROUPS then Ok more else Err BadCred
 
+-- the caller of these ids and the words of the further groups
+unfoldable pub caller_by : ℕ × ℕ → List (List ℕ) → Result Caller TextKind
+caller_by own groups = do
+  more ← few_groups_of groups
+  Ok (record { uid = own.0; gid = own.1; more = more })
+
 -- the caller of the text of its own ids and the words of the further groups
 unfoldable pub caller_from : List ℕ → List (List ℕ) → Result Caller TextKind
 caller_from first groups = do
   own ← own_ids_of (parts 58 first)
-  more ← few_groups_of groups
-  Ok (record { uid = own.0; gid = own.1; more = more })
+  caller_by own groups
 
 -- the caller whose parts between commas these are
 unfoldable pub caller_in : List (List ℕ) → Result Caller TextKind

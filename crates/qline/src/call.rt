@@ -195,8 +195,8 @@ pub(crate) fn call_of<'a>(
 /// The call that words spell, the first of them its verb.
 ///
 /// Of faults the first is told: the verb, the count of arguments, the arguments from left to right. That a call is read
-/// says nothing of whether a store takes it. An Err gives no call. Where its path is the one that was read last, it shares
-/// that one's bytes.
+/// says nothing of whether a store takes it. An Err gives no call. Its paths share the bytes of their text where the words
+/// stand there next.
 #[tactic(auto, unfolding(crate::specs::Calls::call_in))]
 pub fn call_in<'a>(
     alloc: Global,
@@ -208,6 +208,7 @@ pub fn call_in<'a>(
     match words {
         [] => Err(ReadFault::Fault(TextKind::BadVerb)),
         [verb, arguments @ ..] => {
+            paths.pass(verb);
             let verb = verb_of(verb)?;
             call_of(alloc, paths, verb, arguments)
         }

@@ -1,9 +1,9 @@
 //! Callers as words.
-ghost use Rattle.std.specs.Prelude.{◌≡◌, Ok, IfOk, IfErr};
+ghost use Rattle.std.specs.Prelude.{◌≡◌, [], Ok, IfOk, IfErr};
 ghost use Rattle.std.specs.Option.{option_map};
 ghost use Rattle.qtext.specs.Gives.{Fails, Gives};
 ghost use Rattle.qtext.specs.Words.{parts, parts_after};
-ghost use Rattle.qline.specs.Callers.{own_ids_in, own_ids_of, few_groups_of, caller_from, caller_of};
+ghost use Rattle.qline.specs.Callers.{own_ids_in, own_ids_of, few_groups_of, caller_by, caller_from, caller_of};
 
 use arrayvec::ArrayVec;
 use qplain::{Cred, MAX_MORE_GROUPS};
@@ -55,15 +55,38 @@ fn groups_of(text: Option<&[u8]>) -> Result<ArrayVec<u32, MAX_MORE_GROUPS>, Read
     Ok(groups)
 }
 
+/// A caller of these ids who names further groups. Most name none, so it is out of line: its room for them is large.
+#[inline(never)]
+#[tactic(auto, unfolding(crate::specs::Callers::caller_by))]
+fn caller_with(alloc: Global, uid: u32, gid: u32, groups: &[u8]) -> Result<Cred, ReadFault>
+    ensures { Gives result (caller_by (uid, gid) (parts 44 groups.now)) }
+{
+    let more = groups_of(Some(groups))?;
+    match Cred::new(alloc, uid, gid, more.as_slice())? {
+        Some(cred) => Ok(cred),
+        None => Err(ReadFault::Fault(TextKind::BadCred)),
+    }
+}
+
+/// A caller of these ids alone.
+#[tactic(auto, unfolding(crate::specs::Callers::caller_by, crate::specs::Callers::few_groups_of, qtext::specs::Reading::each_of))]
+fn caller_alone(alloc: Global, uid: u32, gid: u32) -> Result<Cred, ReadFault>
+    ensures { Gives result (caller_by (uid, gid) []) }
+{
+    match Cred::new(alloc, uid, gid, &[])? {
+        Some(cred) => Ok(cred),
+        None => Err(ReadFault::Fault(TextKind::BadCred)),
+    }
+}
+
 #[tactic(auto, unfolding(crate::specs::Callers::caller_from))]
 fn caller_from(alloc: Global, own: &[u8], groups: Option<&[u8]>) -> Result<Cred, ReadFault>
     ensures { Gives result (caller_from own.now (parts_after 44 (option_map (λ t. t.now) groups.entry))) }
 {
     let (uid, gid) = own_ids_of(own)?;
-    let more = groups_of(groups)?;
-    match Cred::new(alloc, uid, gid, more.as_slice())? {
-        Some(cred) => Ok(cred),
-        None => Err(ReadFault::Fault(TextKind::BadCred)),
+    match groups {
+        Some(groups) => caller_with(alloc, uid, gid, groups),
+        None => caller_alone(alloc, uid, gid),
     }
 }
 

@@ -80,6 +80,7 @@ pub fn journaled_call_in<'a>(
     match words {
         [] => Err(ReadFault::Fault(TextKind::BadVerb)),
         [verb, behind @ ..] => {
+            paths.pass(verb);
             let verb = journaled_verb_of(verb)?;
             let arity = arity(verb);
             let Some((arguments, _)) = behind.split_at_checked(arity) else {

@@ -30,6 +30,8 @@ fn line_in<'a>(
             Err(ReadFault::Fault(TextKind::BadCred))
         }
         [moment, cred, call @ ..] => {
+            paths.pass(moment);
+            paths.pass(cred);
             let moment = number(moment)?;
             let cred = callers.read(alloc, cred)?;
             // A call is large, and a `?` would move it once more.
@@ -41,7 +43,7 @@ fn line_in<'a>(
     }
 }
 
-/// Reads the lines of a script, and keeps the last caller and path.
+/// Reads the lines of a script, and keeps the last caller and a page of paths.
 #[derive(Drop)]
 pub(crate) struct LineReader<'a> {
     pub(crate) alloc: Global,
@@ -72,6 +74,7 @@ impl<'a> ReadLine<'a> for LineReader<'a> {
         if !line.is_text {
             return Err(ReadFault::Fault(TextKind::BadByte));
         }
+        self.paths.begin_line(line.bytes, line.after);
         line_in(self.alloc, &mut self.callers, &mut self.paths, words)
     }
 }

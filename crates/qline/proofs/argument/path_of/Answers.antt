@@ -1,13 +1,10 @@
-use Rattle.std.proofs.Common.{◌≡◌, ℕ, Bool, true, false, not, eqb, List, length, Ok, Err, refl}
+use Rattle.std.proofs.Common.{◌≡◌, ℕ, Bool, true, false, not, eqb, List, length, Err, refl}
 use Rattle.std.specs.List.{list_all}
 use Rattle.qplain.specs.Paths.{ArePathBytes, is_path_byte}
 use Rattle.qtext.specs.declared.text_fault.TextKind.TheVariants.{BadWord}
 use Rattle.qline.specs.Arguments.{path_of}
+use Rattle.qline.proofs.ArgumentsAgain.{path_again}
 use Rattle.qline.proofs.argument.path_of.Goals as goal
-
-path_is : (w : List ℕ) → ArePathBytes w → path_of w ≡ Ok w
-unfolding path_of
-path_is w h = rw (h.some, h.each) refl
 
 no_path : (w : List ℕ) (some each : Bool) → not (eqb (length w) 0) ≡ some → list_all is_path_byte w ≡ each → (ArePathBytes w → ⊥) → path_of w ≡ Err BadWord
 unfolding path_of
@@ -21,7 +18,7 @@ untrue e = cc
 pub returns-in-Some : goal.returns-in-Some
 returns-in-Some c =
     let made = rw c.in-Some.is at c.in_ok-path.ensures in
-    rw made.bytes (path_is _ (made.form.0 refl))
+    rw made.bytes (path_again _ (made.form.0 refl))
 
 pub returns-in-None : goal.returns-in-None
 returns-in-None c =
