@@ -11,7 +11,7 @@ use Rattle.std.specs.Ordering.{match_ordering, nat_cmp}
 use Rattle.std.proofs.Math.Seq.{take-suc}
 use Rattle.std.proofs.lemmas.List.{length-take-le, map-append}
 use Rattle.std.proofs.lemmas.List.Elements.{All-head, All-tail}
-use Rattle.std.proofs.lemmas.List.Sums.{count_by-le-length, fold_push, sum_by-append, sum_by_more_le_part}
+use Rattle.std.proofs.lemmas.List.Sums.{count_by-le-length, fold_push, sum_by-append, sum_by-le-sum_by, sum_by_more_le_part}
 use Rattle.qrules.specs.declared.inode_row.InodeRow.{InodeRow}
 use Rattle.qrules.specs.declared.kind.Kind.{Kind}
 use Rattle.qaudit.specs.declared.counts.CountRow.{CountRow}
@@ -37,13 +37,13 @@ keys-insert_entry cmp (e ∷ es) k v =
 abbrev pub entry_of : List (ℕ × CountRow) → ℕ → CountRow
 entry_of es q = unwrap_or (lookup (is_at (nat_cmp q)) es) (no_use q)
 
--- the entries are those of the owners of these rows, each with what its rows come to
-pub record AreCounted (kind : Kind) (rows : List InodeRow) (es : List (ℕ × CountRow)) : Type 0 where
-  pub keys : keys_of es ≡ ascending (map (owner_of kind) rows)
-  pub counts : (q : ℕ) → entry_of es q ≡ count_of kind rows q
+-- these are the owners of these rows, and of each is told what its rows come to
+pub record AreCounted (kind : Kind) (rows : List InodeRow) (owners : List ℕ) (told : ℕ → CountRow) : Type 0 where
+  pub keys : owners ≡ ascending (map (owner_of kind) rows)
+  pub counts : (q : ℕ) → told q ≡ count_of kind rows q
 
 -- before the first row
-pub none_counted : (kind : Kind) (es : List (ℕ × CountRow)) → es ≡ [] → AreCounted kind [] es
+pub none_counted : (kind : Kind) (es : List (ℕ × CountRow)) → es ≡ [] → AreCounted kind [] (keys_of es) (entry_of es)
 none_counted kind es none = record {
   keys = rw none refl;
   counts = λ q. rw none refl;
@@ -86,12 +86,12 @@ count_of-push kind rows row q =
     row.blocks (is_owned kind q row) blocks inodes
 
 -- one row more
-pub one_counted : (kind : Kind) (rows : List InodeRow) (count : ℕ) (row d : InodeRow) (old new : List (ℕ × CountRow))
-    → AreCounted kind (take count rows) old → count < length rows → row ≡ get_or rows count d
-    → keys_of new ≡ insert_key nat_cmp (keys_of old) (owner_of kind row)
-    → ((q : ℕ) → entry_of new q ≡ cond (owner_of kind row == q) (with_row (entry_of old q) row.blocks) (entry_of old q))
-    → AreCounted kind (take (count + 1) rows) new
-one_counted kind rows count row d old new so_far few is keys counts =
+pub one_counted : (kind : Kind) (rows : List InodeRow) (count : ℕ) (row d : InodeRow) (old new : List ℕ) (before after : ℕ → CountRow)
+    → AreCounted kind (take count rows) old before → count < length rows → row ≡ get_or rows count d
+    → new ≡ insert_key nat_cmp old (owner_of kind row)
+    → ((q : ℕ) → after q ≡ cond (owner_of kind row == q) (with_row (before q) row.blocks) (before q))
+    → AreCounted kind (take (count + 1) rows) new after
+one_counted kind rows count row d old new before after so_far few is keys counts =
     let first : take (count + 1) rows ≡ take count rows ++ row ∷ [] = rw (add-one, is) (take-suc rows count d few) in
     record {
       keys = rw first (keys ∙ ap (λ ks. insert_key nat_cmp ks (owner_of kind row)) so_far.keys
@@ -111,7 +111,7 @@ values-found f all (e ∷ es) says found =
     ap (λ c. c ∷ values_of es) here ∙ ap (λ cs. f e.0 ∷ cs) (values-found f all es says (All-tail Found e es found))
 
 -- when all rows are counted, the values are the counts by id
-pub values-counted : (kind : Kind) (rows : List InodeRow) (es : List (ℕ × CountRow)) → AreCounted kind rows es
+pub values-counted : (kind : Kind) (rows : List InodeRow) (es : List (ℕ × CountRow)) → AreCounted kind rows (keys_of es) (entry_of es)
     → All (λ e. lookup (is_at (nat_cmp e.0)) es ≡ Some e.1) es → values_of es ≡ counts_by kind rows
 values-counted kind rows es counted found =
     values-found (count_of kind rows) es es counted.counts found ∙ ap (map (count_of kind rows)) counted.keys
@@ -121,21 +121,36 @@ part true blocks = omega arith
 part false blocks = omega arith
 
 -- with one row more, an owner's blocks are still among all blocks
-pub blocks_fit : (kind : Kind) (rows : List InodeRow) (count : ℕ) (row d : InodeRow) (es : List (ℕ × CountRow)) (q : ℕ)
-    → AreCounted kind (take count rows) es → count < length rows → row ≡ get_or rows count d
-    → sum_by (λ r. r.blocks) rows < 2 ^ 64 → (entry_of es q).blocks + row.blocks < 2 ^ 64
-blocks_fit kind rows count row d es q so_far few is fits =
+pub blocks_fit : (kind : Kind) (rows : List InodeRow) (count : ℕ) (row d : InodeRow) (owners : List ℕ) (told : ℕ → CountRow) (q : ℕ)
+    → AreCounted kind (take count rows) owners told → count < length rows → row ≡ get_or rows count d
+    → sum_by (λ r. r.blocks) rows < 2 ^ 64 → (told q).blocks + row.blocks < 2 ^ 64
+blocks_fit kind rows count row d owners told q so_far few is fits =
     let within = sum_by_more_le_part (blocks_to kind q) (λ r. r.blocks) rows count d few (λ r. part (is_owned kind q r) r.blocks) in
     le_trans (rw (so_far.counts q, is) (omega (arith, within))) fits
 
 -- and its rows are among all rows
-pub inodes_fit : (kind : Kind) (rows : List InodeRow) (count : ℕ) (es : List (ℕ × CountRow)) (q : ℕ)
-    → AreCounted kind (take count rows) es → count < length rows → (entry_of es q).inodes ≤ count
-inodes_fit kind rows count es q so_far few =
-    let mine : (entry_of es q).inodes ≡ count_by (is_owned kind q) (take count rows) = ap (λ n. n.inodes) (so_far.counts q) in
+pub inodes_fit : (kind : Kind) (rows : List InodeRow) (count : ℕ) (owners : List ℕ) (told : ℕ → CountRow) (q : ℕ)
+    → AreCounted kind (take count rows) owners told → count < length rows → (told q).inodes ≤ count
+inodes_fit kind rows count owners told q so_far few =
+    let mine : (told q).inodes ≡ count_by (is_owned kind q) (take count rows) = ap (λ n. n.inodes) (so_far.counts q) in
     let within = count_by-le-length (is_owned kind q) (take count rows) in
     let taken = length-take-le count rows (omega (arith, few)) in
     omega (arith, mine, within, taken)
+
+-- when all rows are counted, an owner's blocks and rows are among all of them
+pub all_blocks_fit : (kind : Kind) (rows : List InodeRow) (owners : List ℕ) (told : ℕ → CountRow) (q : ℕ)
+    → AreCounted kind rows owners told → sum_by (λ r. r.blocks) rows < 2 ^ 64 → (told q).blocks < 2 ^ 64
+all_blocks_fit kind rows owners told q counted fits =
+    let mine : (told q).blocks ≡ sum_by (blocks_to kind q) rows = ap (λ n. n.blocks) (counted.counts q) in
+    let within = sum_by-le-sum_by (blocks_to kind q) (λ r. r.blocks) rows (λ r. part (is_owned kind q r) r.blocks) in
+    omega (arith, mine, within, fits)
+
+pub all_inodes_fit : (kind : Kind) (rows : List InodeRow) (owners : List ℕ) (told : ℕ → CountRow) (q : ℕ)
+    → AreCounted kind rows owners told → (told q).inodes ≤ length rows
+all_inodes_fit kind rows owners told q counted =
+    let mine : (told q).inodes ≡ count_by (is_owned kind q) rows = ap (λ n. n.inodes) (counted.counts q) in
+    let within = count_by-le-length (is_owned kind q) rows in
+    omega (arith, mine, within)
 
 -- a value of the entries that are left is pushed
 pub values_push : (old new all : List CountRow) (es rest : List (ℕ × CountRow)) (e : ℕ × CountRow) → es ≡ e ∷ rest

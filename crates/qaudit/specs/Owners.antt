@@ -1,6 +1,7 @@
--- How the rows of owners are counted one by one. No public clause cites this module.
-use Rattle.std.specs.Prelude.{ℕ, ◌+◌}
-use Rattle.std.specs.BTreeMap.{BTreeMap, get}
+-- How the rows of owners are counted, those of one owner in a row together. No public clause cites this module.
+use Rattle.std.specs.Prelude.{ℕ, ◌+◌, ◌==◌, if◌then◌else◌, List}
+use Rattle.std.specs.BTreeMap.{BTreeMap, get, keys}
+use Rattle.std.specs.BTreeSet.{insert_key}
 use Rattle.std.specs.Option.{unwrap_or}
 use Rattle.std.specs.Ordering.{nat_cmp}
 use Rattle.qaudit.specs.declared.counts.CountRow.{CountRow}
@@ -13,3 +14,18 @@ counted_at counts id = unwrap_or (get nat_cmp counts id) (no_use id)
 -- a count, with one row of so many blocks more
 abbrev pub with_row : CountRow → ℕ → CountRow
 with_row count blocks = record { id = count.id; blocks = count.blocks + blocks; inodes = count.inodes + 1 }
+
+-- a count, with that of a run of rows
+abbrev pub with_run : CountRow → CountRow → CountRow
+with_run count run = record { id = count.id; blocks = count.blocks + run.blocks; inodes = count.inodes + run.inodes }
+
+-- the owners that are counted, and that of a run, unless it has no rows
+abbrev pub keys_with : BTreeMap ℕ CountRow → CountRow → List ℕ
+keys_with counts run = if run.inodes == 0 then keys counts else insert_key nat_cmp (keys counts) run.id
+
+-- what is counted of an owner, with the run where it is the owner's
+abbrev pub counted_with : BTreeMap ℕ CountRow → CountRow → ℕ → CountRow
+counted_with counts run q =
+    if run.inodes == 0 then counted_at counts q
+    else if run.id == q then with_run (counted_at counts q) run
+    else counted_at counts q

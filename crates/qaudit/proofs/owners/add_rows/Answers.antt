@@ -11,7 +11,7 @@ use Rattle.std.proofs.lemmas.Map.{lookup-none}
 use Rattle.std.proofs.lemmas.Map.Entries.{none_below_head}
 use Rattle.std.proofs.lemmas.Map.Keys.{sorted_tail}
 use Rattle.qaudit.proofs.Counting.{keys-insert_entry}
-use Rattle.qaudit.proofs.owners.add_row.Goals as goal
+use Rattle.qaudit.proofs.owners.add_rows.Goals as goal
 
 -- a number that is among the keys already changes nothing
 insert_present : {X : Type 0} (es : List (ℕ × X)) (id : ℕ) → IsStrictlySortedBy nat_cmp (keys_of es) → IsSome (lookup (is_at (nat_cmp id)) es)
@@ -28,10 +28,10 @@ insert_present (e ∷ es) id sorted some =
 pub returns-in-Some-clause-keys : goal.returns-in-Some-clause-keys
 returns-in-Some-clause-keys c =
     (c.get_mut.follows.holds _).1
-    ∙ sym (insert_present c.args.counts.now.entries c.args.id c.get_mut.ensures.ordered (subst IsSome c.in-Some.ensures.value refl))
+    ∙ sym (insert_present c.args.counts.now.entries c.args.run.id c.get_mut.ensures.ordered (subst IsSome c.in-Some.ensures.value refl))
 
 pub returns-in_ok-insert-in-None-clause-keys : goal.returns-in_ok-insert-in-None-clause-keys
 returns-in_ok-insert-in-None-clause-keys c =
     ap keys_of c.in_ok-insert-in-None.ensures.entries
-    ∙ keys-insert_entry nat_cmp c.get_mut.follows.lender-at-none.entries c.args.id c.first_count.result
-    ∙ ap (λ m. insert_key nat_cmp (keys m) c.args.id) c.get_mut.follows.holds-at-none
+    ∙ keys-insert_entry nat_cmp c.get_mut.follows.lender-at-none.entries c.args.run.id c.args.run
+    ∙ ap (λ m. insert_key nat_cmp (keys m) c.args.run.id) c.get_mut.follows.holds-at-none
