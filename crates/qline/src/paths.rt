@@ -1,5 +1,5 @@
 //! Paths as words of a text, whose bytes they share page by page.
-ghost use Rattle.std.specs.Prelude.{◌≡◌, Ok, IfOk, IfSome};
+ghost use Rattle.std.specs.Prelude.{◌≡◌, ◌+◌, ◌-◌, length, Ok, IfOk, IfSome};
 ghost use Rattle.qtext.specs.Gives.{Gives};
 ghost use Rattle.qline.specs.Arguments.{path_of};
 
@@ -7,6 +7,7 @@ use crate::argument::path_of;
 use qplain::{NoMemory, Path, Shared};
 use qtext::ReadFault;
 use std::alloc::Global;
+use std::marker::Model;
 
 /// How many bytes a page has, but for the last of a text, and for one that begins with a longer path.
 const PAGE_BYTES: usize = 4096;
@@ -39,7 +40,7 @@ impl Page {
 }
 
 /// Reads the paths of a text one after the other. Each shares the bytes of a page of the text with the others that stand
-/// there, so that most take no memory.
+/// there, so that most take no memory. Contracts see how many bytes of the text are left where the next word begins.
 ///
 /// Where a word stands is told by `begin_line` and `pass`. It is looked up, so that a path is the one that its word spells
 /// whatever they were told: of a word that stands elsewhere the bytes are copied.
@@ -51,9 +52,19 @@ pub struct Paths<'a> {
     left: usize,
 }
 
+impl<'a> Model for Paths<'a> {
+    ghost use Rattle.std.specs.Prelude.{ℕ};
+
+    ghost Value = { ℕ };
+
+    ghost view = { λ p. p.left };
+}
+
 impl<'a> Paths<'a> {
     /// Those of a text, before its first word.
-    pub fn of(text: &'a [u8]) -> Self {
+    pub fn of(text: &'a [u8]) -> Self
+        ensures { result ≡ length text.now }
+    {
         Paths {
             text,
             page: None,
@@ -62,12 +73,16 @@ impl<'a> Paths<'a> {
     }
 
     /// Goes to the beginning of a line, behind which these bytes are left.
-    pub fn begin_line(&mut self, line: &[u8], after: &[u8]) {
-        self.left = after.len().saturating_add(line.len()).saturating_add(1);
+    pub fn begin_line(&mut self, line: &[u8], after: &[u8])
+        ensures { self.new ≡ length line.now + length after.now + 1 }
+    {
+        self.left = line.len() + after.len() + 1;
     }
 
     /// Goes past a word and the space behind it.
-    pub fn pass(&mut self, word: &[u8]) {
+    pub fn pass(&mut self, word: &[u8])
+        ensures { self.new ≡ self.old - (length word.now + 1) }
+    {
         self.left = self.left.saturating_sub(word.len() + 1);
     }
 
