@@ -86,8 +86,8 @@ fn add_run(counts: &mut BTreeMap<u32, CountRow>, run: CountRow) -> Result<(), No
     add_rows(counts, run)
 }
 
-/// Counts one more row of an owner: in the run, where the row before it was the same owner's, so that mostly no owner is
-/// looked up.
+/// Counts one more row of an owner: in the run, where the row before it was the same owner's, so that mostly no owner
+/// is looked up.
 fn count_row(
     counts: &mut BTreeMap<u32, CountRow>,
     run: &mut CountRow,

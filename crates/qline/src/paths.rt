@@ -39,11 +39,12 @@ impl Page {
     }
 }
 
-/// Reads the paths of a text one after the other. Each shares the bytes of a page of the text with the others that stand
-/// there, so that most take no memory. Contracts see how many bytes of the text are left where the next word begins.
+/// Reads the paths of a text one after the other. Each shares the bytes of a page of the text with the others that
+/// stand there, so that most take no memory. Contracts see how many bytes of the text are left where the next word
+/// begins.
 ///
-/// Where a word stands is told by `begin_line` and `pass`. It is looked up, so that a path is the one that its word spells
-/// whatever they were told: of a word that stands elsewhere the bytes are copied.
+/// Where a word stands is told by `begin_line` and `pass`. It is looked up, so that a path is the one that its word
+/// spells whatever they were told: of a word that stands elsewhere the bytes are copied.
 #[derive(Drop)]
 pub struct Paths<'a> {
     text: &'a [u8],
