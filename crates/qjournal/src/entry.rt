@@ -62,9 +62,6 @@ fn entry_in<'a>(
             Err(ReadFault::Fault(TextKind::BadCred))
         }
         [worker, moment, cred, behind @ ..] => {
-            paths.pass(worker);
-            paths.pass(moment);
-            paths.pass(cred);
             let worker = worker_of(workers, worker)?;
             let moment = number(moment)?;
             let cred = callers.read(alloc, cred)?;
@@ -113,7 +110,7 @@ impl<'a> ReadLine<'a> for EntryReader<'a> {
         if !line.is_text {
             return Err(ReadFault::Fault(TextKind::BadByte));
         }
-        self.paths.begin_line(line.bytes, line.after);
+        self.paths.begin_line(line.after);
         entry_in(
             self.alloc,
             &mut self.callers,

@@ -25,7 +25,7 @@ fn write_of<'a>(
 ) -> Result<Call, ReadFault>
     ensures { Gives result (write_of path.now off.now digits.now) }
 {
-    let path = paths.read(alloc, path)?;
+    let path = paths.read(alloc, path, &[off, digits])?;
     let off = number(off)?;
     let bytes = data_of(alloc, digits)?;
     Ok(Call::Write { path, off, bytes })
@@ -42,7 +42,7 @@ fn fill_of<'a>(
 ) -> Result<Call, ReadFault>
     ensures { Gives result (fill_of path.now off.now count.now byte.now) }
 {
-    let path = paths.read(alloc, path)?;
+    let path = paths.read(alloc, path, &[off, count, byte])?;
     let off = number(off)?;
     let count = number_of(TextKind::BadNumber, MAX_FILL, count)?;
     let byte = byte_of(byte)?;
@@ -62,7 +62,7 @@ fn truncate_of<'a>(
 ) -> Result<Call, ReadFault>
     ensures { Gives result (truncate_of path.now size.now) }
 {
-    let path = paths.read(alloc, path)?;
+    let path = paths.read(alloc, path, &[size])?;
     let size = number(size)?;
     Ok(Call::Truncate { path, size })
 }
@@ -77,7 +77,7 @@ fn read_of<'a>(
 ) -> Result<Call, ReadFault>
     ensures { Gives result (read_of path.now off.now len.now) }
 {
-    let path = paths.read(alloc, path)?;
+    let path = paths.read(alloc, path, &[off, len])?;
     let off = number(off)?;
     let len = number(len)?;
     Ok(Call::Read { path, off, len })
@@ -93,7 +93,7 @@ fn chown_of<'a>(
 ) -> Result<Call, ReadFault>
     ensures { Gives result (chown_of path.now uid.now gid.now) }
 {
-    let path = paths.read(alloc, path)?;
+    let path = paths.read(alloc, path, &[uid, gid])?;
     let uid = owner_of(uid)?;
     let gid = owner_of(gid)?;
     Ok(Call::Chown { path, uid, gid })
@@ -208,7 +208,6 @@ pub fn call_in<'a>(
     match words {
         [] => Err(ReadFault::Fault(TextKind::BadVerb)),
         [verb, arguments @ ..] => {
-            paths.pass(verb);
             let verb = verb_of(verb)?;
             call_of(alloc, paths, verb, arguments)
         }

@@ -80,12 +80,12 @@ pub fn journaled_call_in<'a>(
     match words {
         [] => Err(ReadFault::Fault(TextKind::BadVerb)),
         [verb, behind @ ..] => {
-            paths.pass(verb);
             let verb = journaled_verb_of(verb)?;
             let arity = arity(verb);
-            let Some((arguments, _)) = behind.split_at_checked(arity) else {
+            let Some((arguments, after)) = behind.split_at_checked(arity) else {
                 return Err(ReadFault::Fault(TextKind::WordCount));
             };
+            paths.go_before(after);
             let call = journaled_call_of(alloc, paths, verb, arguments)?;
             Ok((call, 1 + arity))
         }

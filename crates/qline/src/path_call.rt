@@ -13,7 +13,7 @@ use std::alloc::Global;
 fn create_of<'a>(alloc: Global, paths: &mut Paths<'a>, path: &'a [u8]) -> Result<Call, ReadFault>
     ensures { Gives result (create_of path.now) }
 {
-    let path = paths.read(alloc, path)?;
+    let path = paths.read(alloc, path, &[])?;
     Ok(Call::Create { path })
 }
 
@@ -21,7 +21,7 @@ fn create_of<'a>(alloc: Global, paths: &mut Paths<'a>, path: &'a [u8]) -> Result
 fn mkdir_of<'a>(alloc: Global, paths: &mut Paths<'a>, path: &'a [u8]) -> Result<Call, ReadFault>
     ensures { Gives result (mkdir_of path.now) }
 {
-    let path = paths.read(alloc, path)?;
+    let path = paths.read(alloc, path, &[])?;
     Ok(Call::Mkdir { path })
 }
 
@@ -29,7 +29,7 @@ fn mkdir_of<'a>(alloc: Global, paths: &mut Paths<'a>, path: &'a [u8]) -> Result<
 fn stat_of<'a>(alloc: Global, paths: &mut Paths<'a>, path: &'a [u8]) -> Result<Call, ReadFault>
     ensures { Gives result (stat_of path.now) }
 {
-    let path = paths.read(alloc, path)?;
+    let path = paths.read(alloc, path, &[])?;
     Ok(Call::Stat { path })
 }
 
@@ -42,8 +42,8 @@ fn link_of<'a>(
 ) -> Result<Call, ReadFault>
     ensures { Gives result (link_of from.now to.now) }
 {
-    let from = paths.read(alloc, from)?;
-    let to = paths.read(alloc, to)?;
+    let from = paths.read(alloc, from, &[to])?;
+    let to = paths.read(alloc, to, &[])?;
     Ok(Call::Link { from, to })
 }
 
@@ -51,7 +51,7 @@ fn link_of<'a>(
 fn unlink_of<'a>(alloc: Global, paths: &mut Paths<'a>, path: &'a [u8]) -> Result<Call, ReadFault>
     ensures { Gives result (unlink_of path.now) }
 {
-    let path = paths.read(alloc, path)?;
+    let path = paths.read(alloc, path, &[])?;
     Ok(Call::Unlink { path })
 }
 
@@ -59,7 +59,7 @@ fn unlink_of<'a>(alloc: Global, paths: &mut Paths<'a>, path: &'a [u8]) -> Result
 fn rmdir_of<'a>(alloc: Global, paths: &mut Paths<'a>, path: &'a [u8]) -> Result<Call, ReadFault>
     ensures { Gives result (rmdir_of path.now) }
 {
-    let path = paths.read(alloc, path)?;
+    let path = paths.read(alloc, path, &[])?;
     Ok(Call::Rmdir { path })
 }
 
@@ -72,8 +72,8 @@ fn rename_of<'a>(
 ) -> Result<Call, ReadFault>
     ensures { Gives result (rename_of from.now to.now) }
 {
-    let from = paths.read(alloc, from)?;
-    let to = paths.read(alloc, to)?;
+    let from = paths.read(alloc, from, &[to])?;
+    let to = paths.read(alloc, to, &[])?;
     Ok(Call::Rename { from, to })
 }
 

@@ -1,5 +1,5 @@
 //! Paths as words of a text, whose bytes they share page by page.
-ghost use Rattle.std.specs.Prelude.{◌≡◌, ◌+◌, ◌-◌, length, Ok, IfOk, IfSome};
+ghost use Rattle.std.specs.Prelude.{◌≡◌, ◌≤◌, ◌+◌, length, Ok, IfOk, IfSome};
 ghost use Rattle.qtext.specs.Gives.{Gives};
 ghost use Rattle.qline.specs.Arguments.{path_of};
 
@@ -39,17 +39,35 @@ impl Page {
     }
 }
 
+/// The path that was read last, beside its word.
+#[derive(Drop)]
+struct KeptPath<'a> {
+    word: &'a [u8],
+    path: Path,
+    ghost same: { path_of word.now ≡ Ok path },
+}
+
+/// How many bytes these words take, with a space before each.
+fn bytes_of(words: &[&[u8]]) -> usize {
+    let mut bytes = 0usize;
+    for word in words {
+        bytes = bytes.saturating_add(word.len()).saturating_add(1);
+    }
+    bytes
+}
+
 /// Reads the paths of a text one after the other. Each shares the bytes of a page of the text with the others that
-/// stand there, so that most take no memory. Contracts see how many bytes of the text are left where the next word
-/// begins.
+/// stand there, so that most take no memory; one that is spelled as the one before is that one. Contracts see how many
+/// bytes of the text are left behind the words of the next call.
 ///
-/// Where a word stands is told by `begin_line` and `pass`. It is looked up, so that a path is the one that its word
-/// spells whatever they were told: of a word that stands elsewhere the bytes are copied.
+/// Where a word stands is told from the end of its line. It is looked up, so that a path is the one that its word
+/// spells whatever was told: of a word that stands elsewhere the bytes are copied.
 #[derive(Drop)]
 pub struct Paths<'a> {
     text: &'a [u8],
     page: Option<Page>,
-    /// How many bytes of the text are left where the next word begins.
+    last: Option<KeptPath<'a>>,
+    /// How many bytes of the text are left behind the words of the next call.
     left: usize,
 }
 
@@ -62,29 +80,30 @@ impl<'a> Model for Paths<'a> {
 }
 
 impl<'a> Paths<'a> {
-    /// Those of a text, before its first word.
+    /// Those of a text, before its first line.
     pub fn of(text: &'a [u8]) -> Self
         ensures { result ≡ length text.now }
     {
         Paths {
             text,
             page: None,
+            last: None,
             left: text.len(),
         }
     }
 
-    /// Goes to the beginning of a line, behind which these bytes are left.
-    pub fn begin_line(&mut self, line: &[u8], after: &[u8])
-        ensures { self.new ≡ length line.now + length after.now + 1 }
+    /// Goes to a line, behind whose line end these bytes are left.
+    pub fn begin_line(&mut self, after: &[u8])
+        ensures { self.new ≡ length after.now + 1 }
     {
-        self.left = line.len() + after.len() + 1;
+        self.left = after.len() + 1;
     }
 
-    /// Goes past a word and the space behind it.
-    pub fn pass(&mut self, word: &[u8])
-        ensures { self.new ≡ self.old - (length word.now + 1) }
+    /// Goes back past the words of a line that stand behind its call.
+    pub(crate) fn go_before(&mut self, words: &[&[u8]])
+        ensures { self.old ≤ self.new }
     {
-        self.left = self.left.saturating_sub(word.len() + 1);
+        self.left = self.left.saturating_add(bytes_of(words));
     }
 
     /// Takes the part of the text that begins where so many bytes are left for the page.
@@ -106,12 +125,11 @@ impl<'a> Paths<'a> {
         }
     }
 
-    /// The next path: whether it leads anywhere is for the store to say.
-    pub(crate) fn read(&mut self, alloc: Global, word: &[u8]) -> Result<Path, ReadFault>
+    /// The path that this word spells, behind which so many bytes of the text are left.
+    fn look_up(&mut self, alloc: Global, word: &[u8], behind: usize) -> Result<Path, ReadFault>
         ensures { Gives result (path_of word.now) }
     {
-        let left = self.left;
-        self.pass(word);
+        let left = behind.saturating_add(word.len());
         if let Some(path) = self.path_at(left, word)? {
             return Ok(path);
         }
@@ -120,5 +138,26 @@ impl<'a> Paths<'a> {
             Some(path) => Ok(path),
             None => path_of(alloc, word),
         }
+    }
+
+    /// The path that this word spells, behind which these words of the call stand: whether it leads anywhere is for the
+    /// store to say.
+    pub(crate) fn read(
+        &mut self,
+        alloc: Global,
+        word: &'a [u8],
+        behind: &[&[u8]],
+    ) -> Result<Path, ReadFault>
+        ensures { Gives result (path_of word.now) }
+    {
+        if let Some(last) = &self.last {
+            if last.word == word {
+                return Ok(last.path.copy()?);
+            }
+        }
+        let path = self.look_up(alloc, word, self.left.saturating_add(bytes_of(behind)))?;
+        let kept = path.copy()?;
+        self.last = Some(KeptPath { word, path: kept });
+        Ok(path)
     }
 }

@@ -30,8 +30,6 @@ fn line_in<'a>(
             Err(ReadFault::Fault(TextKind::BadCred))
         }
         [moment, cred, call @ ..] => {
-            paths.pass(moment);
-            paths.pass(cred);
             let moment = number(moment)?;
             let cred = callers.read(alloc, cred)?;
             // A call is large, and a `?` would move it once more.
@@ -74,7 +72,7 @@ impl<'a> ReadLine<'a> for LineReader<'a> {
         if !line.is_text {
             return Err(ReadFault::Fault(TextKind::BadByte));
         }
-        self.paths.begin_line(line.bytes, line.after);
+        self.paths.begin_line(line.after);
         line_in(self.alloc, &mut self.callers, &mut self.paths, words)
     }
 }
