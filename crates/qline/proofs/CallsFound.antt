@@ -38,13 +38,13 @@ verb_text verb.Quota = codes "quota"
 verb_found : (word : List ℕ) (v : Verb) → verb_of word ≡ Ok v → verb_text v ≡ word
 unfolding verb_of
 verb_found word v e =
-    told verb_text word verb.Create _ v
+    told verb_text word verb.Write _ v
+    (told verb_text word verb.Stat _ v
+    (told verb_text word verb.Read _ v
+    (told verb_text word verb.Create _ v
     (told verb_text word verb.Mkdir _ v
-    (told verb_text word verb.Write _ v
     (told verb_text word verb.Fill _ v
     (told verb_text word verb.Truncate _ v
-    (told verb_text word verb.Read _ v
-    (told verb_text word verb.Stat _ v
     (told verb_text word verb.Link _ v
     (told verb_text word verb.Unlink _ v
     (told verb_text word verb.Rmdir _ v

@@ -9,13 +9,13 @@ use Rattle.qline.specs.declared.verb.Verb.TheVariants.{Create, Mkdir, Write, Fil
 -- the verb that a word spells
 unfoldable pub verb_of : List ℕ → Result Verb TextKind
 verb_of word =
-    if bytes_eq word (codes "create") then Ok Create
+    if bytes_eq word (codes "write") then Ok Write
+    else if bytes_eq word (codes "stat") then Ok Stat
+    else if bytes_eq word (codes "read") then Ok Read
+    else if bytes_eq word (codes "create") then Ok Create
     else if bytes_eq word (codes "mkdir") then Ok Mkdir
-    else if bytes_eq word (codes "write") then Ok Write
     else if bytes_eq word (codes "fill") then Ok Fill
     else if bytes_eq word (codes "truncate") then Ok Truncate
-    else if bytes_eq word (codes "read") then Ok Read
-    else if bytes_eq word (codes "stat") then Ok Stat
     else if bytes_eq word (codes "link") then Ok Link
     else if bytes_eq word (codes "unlink") then Ok Unlink
     else if bytes_eq word (codes "rmdir") then Ok Rmdir

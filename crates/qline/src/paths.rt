@@ -1,5 +1,5 @@
 //! Paths as words of a text, whose bytes they share page by page.
-ghost use Rattle.std.specs.Prelude.{◌≡◌, ◌≤◌, ◌+◌, length, Ok, IfOk, IfSome};
+ghost use Rattle.std.specs.Prelude.{◌≡◌, ◌≤◌, ◌↔◌, ◌+◌, length, Ok, IfOk, IfSome, IsTrue};
 ghost use Rattle.qtext.specs.Gives.{Gives};
 ghost use Rattle.qline.specs.Arguments.{path_of};
 
@@ -45,6 +45,13 @@ struct KeptPath<'a> {
     word: &'a [u8],
     path: Path,
     ghost same: { path_of word.now ≡ Ok path },
+}
+
+/// Whether two words are the same. Names of files in a row mostly differ at their ends, so that is looked at first.
+fn is_same(word: &[u8], other: &[u8]) -> bool
+    ensures { IsTrue result ↔ (word.now ≡ other.now) }
+{
+    word.len() == other.len() && word.last() == other.last() && word == other
 }
 
 /// How many bytes these words take, with a space before each.
@@ -151,7 +158,7 @@ impl<'a> Paths<'a> {
         ensures { Gives result (path_of word.now) }
     {
         if let Some(last) = &self.last {
-            if last.word == word {
+            if is_same(last.word, word) {
                 return Ok(last.path.copy()?);
             }
         }

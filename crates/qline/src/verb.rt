@@ -23,31 +23,31 @@ pub(crate) enum Verb {
     Quota,
 }
 
-/// The verb that is spelled so.
+/// The verb that is spelled so. What most lines ask for is looked at first.
 #[tactic(auto, unfolding(crate::specs::Verbs::verb_of))]
 pub(crate) fn verb_of(word: &[u8]) -> Result<Verb, ReadFault>
     ensures { Gives result (verb_of word.now) }
 {
+    if word == b"write".as_slice() {
+        return Ok(Verb::Write);
+    }
+    if word == b"stat".as_slice() {
+        return Ok(Verb::Stat);
+    }
+    if word == b"read".as_slice() {
+        return Ok(Verb::Read);
+    }
     if word == b"create".as_slice() {
         return Ok(Verb::Create);
     }
     if word == b"mkdir".as_slice() {
         return Ok(Verb::Mkdir);
     }
-    if word == b"write".as_slice() {
-        return Ok(Verb::Write);
-    }
     if word == b"fill".as_slice() {
         return Ok(Verb::Fill);
     }
     if word == b"truncate".as_slice() {
         return Ok(Verb::Truncate);
-    }
-    if word == b"read".as_slice() {
-        return Ok(Verb::Read);
-    }
-    if word == b"stat".as_slice() {
-        return Ok(Verb::Stat);
     }
     if word == b"link".as_slice() {
         return Ok(Verb::Link);
