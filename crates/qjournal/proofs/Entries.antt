@@ -8,7 +8,8 @@ use Rattle.qtext.specs.Reading.{each_of}
 use Rattle.qtext.specs.TextFaults.{want_of_memory}
 use Rattle.qscript.specs.Scripts.{RawLine, in_line, raw_lines}
 use Rattle.qscript.proofs.RawLines.{no_line_of}
-use Rattle.qjournal.specs.Journals.{Written, at_entry, entry_of, head_of, journal_in, journal_of}
+use Rattle.qjournal.specs.Journals.{at_entry, entry_of, head_of, journal_in, journal_of}
+use Rattle.qplain.specs.Journals.{Written}
 
 pub at_entry_is : (workers : ℕ) (l : RawLine) → in_line l.number (entry_of workers l) ≡ at_entry workers l
 unfolding at_entry

@@ -16,14 +16,16 @@ use Rattle.qtext.proofs.StepsFound.{joined, not_false, Spells, kept, passed, sam
 use Rattle.qtext.proofs.WordsFound.{number_found}
 use Rattle.qline.specs.Journaled.{journaled_call_in}
 use Rattle.qline.specs.RepliesRead.{reply_in}
-use Rattle.qline.specs.RepliesSpelled.{HasLawfulStat, IsReply, reply_words}
+use Rattle.qline.specs.RepliesSpelled.{reply_words}
+use Rattle.qplain.specs.Held.{HasLawfulStat, IsReply, IsHeld}
 use Rattle.qline.proofs.ArgumentsFound.{any_number}
 use Rattle.qline.proofs.CallersFound.{any_caller}
 use Rattle.qline.proofs.CallsFound.{journaled_found}
 use Rattle.qline.proofs.RepliesFound.{any_reply}
 use Rattle.qscript.specs.Scripts.{RawLine, in_line}
-use Rattle.qjournal.specs.Journals.{IsEntryOf, IsWorkers, answer_in, at_entry, entry_in, entry_of, head_in, head_of, keyword, told_of, worker_of, workers_of}
-use Rattle.qjournal.specs.Spelling.{IsHeld, entry_words, head_words}
+use Rattle.qjournal.specs.Journals.{answer_in, at_entry, entry_in, entry_of, head_in, head_of, keyword, told_of, worker_of, workers_of}
+use Rattle.qplain.specs.Journals.{IsEntryOf, IsWorkers}
+use Rattle.qjournal.specs.Spelling.{entry_words, head_words}
 
 -- ---- words
 

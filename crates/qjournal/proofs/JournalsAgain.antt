@@ -23,8 +23,10 @@ use Rattle.qline.proofs.RepliesAgain.{reply_again, reply_word}
 use Rattle.qscript.specs.Scripts.{raw_lines_from}
 use Rattle.qscript.proofs.LinesAgain.{weaker_all}
 use Rattle.qscript.proofs.RawLines.{more_lines, no_line}
-use Rattle.qjournal.specs.Journals.{IsEntryOf, IsJournal, IsWorkers, Written, answer_in, at_entry, entry_in, entry_of, head_in, head_of, journal_in, journal_of, keyword, told_of, worker_of, workers_of}
-use Rattle.qjournal.specs.Spelling.{IsHeld, entry_text, entry_words, head_words, spelling}
+use Rattle.qjournal.specs.Journals.{answer_in, at_entry, entry_in, entry_of, head_in, head_of, journal_in, journal_of, keyword, told_of, worker_of, workers_of}
+use Rattle.qplain.specs.Journals.{IsEntryOf, IsJournal, IsWorkers, Written}
+use Rattle.qjournal.specs.Spelling.{entry_text, entry_words, head_words, spelling}
+use Rattle.qplain.specs.Held.{IsHeld}
 
 -- ---- entries
 

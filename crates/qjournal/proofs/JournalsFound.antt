@@ -10,9 +10,11 @@ use Rattle.qtext.specs.TextFaults.{want_of_memory}
 use Rattle.qtext.specs.Words.{parts}
 use Rattle.qtext.proofs.StepsFound.{joined, same_ok, step_found}
 use Rattle.qscript.specs.Scripts.{RawLine, in_line, raw_lines_from}
-use Rattle.qjournal.specs.Journals.{IsEntryOf, IsJournal, Written, at_entry, head_of, journal_in, journal_of}
+use Rattle.qjournal.specs.Journals.{at_entry, head_of, journal_in, journal_of}
+use Rattle.qplain.specs.Journals.{IsEntryOf, IsJournal, Written}
 use Rattle.qjournal.proofs.EntriesFound.{IsEntry, entry_found, head_found, line_found}
-use Rattle.qjournal.specs.Spelling.{IsHeld, entry_text, head_words, spelling}
+use Rattle.qjournal.specs.Spelling.{entry_text, head_words, spelling}
+use Rattle.qplain.specs.Held.{IsHeld}
 
 -- a line with its end, and what follows it
 line_then : (front line rest others : List ℕ) → front ≡ line → rest ≡ others → (front ++ 10 ∷ []) ++ rest ≡ line ++ 10 ∷ others

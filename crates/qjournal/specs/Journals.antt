@@ -12,28 +12,9 @@ use Rattle.qtext.specs.Words.{is_text_byte, words, number, number_of}
 use Rattle.qline.specs.Callers.{caller_of}
 use Rattle.qline.specs.Journaled.{journaled_call_in}
 use Rattle.qline.specs.RepliesRead.{reply_in}
-use Rattle.qline.specs.RepliesSpelled.{HasLawfulStat}
+use Rattle.qplain.specs.Journals.{Written}
 use Rattle.qscript.specs.Scripts.{RawLine, in_line, raw_lines}
-use Rattle.qjournal.specs.declared.journal.TheConstants.{MAX_ENTRIES, MAX_WORKERS}
-
--- how many workers there were, and their entries in the order of the journal
-pub record Written : Type 0 where
-  pub workers : ℕ
-  pub entries : List Entry
-
--- as many workers as there may be
-abbrev pub IsWorkers : ℕ → Type 0
-IsWorkers workers = (0 < workers) × (workers ≤ MAX_WORKERS)
-
--- an entry of one of so many workers, whose reply tells of no directory with bytes or blocks
-abbrev pub IsEntryOf : ℕ → Entry → Type 0
-IsEntryOf workers e = (0 < e.worker) × (e.worker ≤ workers) × HasLawfulStat e.reply
-
--- such entries, no more than a journal may have, of 1 to 16 workers
-pub record IsJournal (j : Written) : Type 0 where
-  pub workers : IsWorkers j.workers
-  pub few : length j.entries ≤ MAX_ENTRIES
-  pub each : All (IsEntryOf j.workers) j.entries
+use Rattle.qplain.specs.declared.bounds.TheConstants.{MAX_ENTRIES, MAX_WORKERS}
 
 -- the number of a worker, of which there are so many, from 1
 unfoldable pub worker_of : ℕ → List ℕ → Result ℕ TextKind

@@ -2,9 +2,10 @@
 use Rattle.std.specs.Prelude.{ℕ, ◌<◌, ◌^◌, List, [], ◌∷◌, ◌++◌, codes, decimal}
 use Rattle.std.specs.List.{flat_map, join_with_byte}
 use Rattle.qplain.specs.declared.entry.Entry.{Entry}
-use Rattle.qline.specs.RepliesSpelled.{IsReply, reply_words}
-use Rattle.qline.specs.Spelling.{IsCall, IsCaller, call_words, caller_text}
-use Rattle.qjournal.specs.Journals.{Written}
+use Rattle.qline.specs.RepliesSpelled.{reply_words}
+use Rattle.qplain.specs.Held.{IsReply, IsCall, IsCaller}
+use Rattle.qline.specs.Spelling.{call_words, caller_text}
+use Rattle.qplain.specs.Journals.{Written}
 
 -- WORKER MOMENT CALLER CALL => REPLY
 abbrev pub entry_words : Entry → List (List ℕ)
@@ -27,10 +28,3 @@ head_text workers = join_with_byte 0x20 (head_words workers) ++ 10 ∷ []
 -- a journal, spelled out
 abbrev pub spelling : Written → List ℕ
 spelling j = head_text j.workers ++ flat_map entry_text j.entries
-
--- the parts of an entry are what their types can hold
-pub record IsHeld (e : Entry) : Type 0 where
-  pub moment : e.moment < 2 ^ 64
-  pub cred : IsCaller e.cred
-  pub call : IsCall e.call
-  pub reply : IsReply e.reply

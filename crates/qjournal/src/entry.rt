@@ -1,12 +1,11 @@
 //! One entry of a journal.
 ghost use Rattle.std.specs.Prelude.{◌+◌, map};
 ghost use Rattle.qtext.specs.Gives.{Gives};
-ghost use Rattle.qjournal.specs.declared.journal.TheConstants.{MAX_ENTRIES};
+ghost use Rattle.qplain.specs.declared.bounds.TheConstants.{MAX_ENTRIES};
 ghost use Rattle.qjournal.specs.Journals.{answer_in, entry_in, entry_of, worker_of};
 
-use crate::journal::MAX_ENTRIES;
 use qline::{Paths, journaled_call_in, reply_in};
-use qplain::{Entry, Reply};
+use qplain::{Entry, MAX_ENTRIES, Reply};
 use qscript::{Callers, NextLine, ReadLine};
 use qtext::{ReadFault, TextKind, number, number_of};
 use std::alloc::Global;

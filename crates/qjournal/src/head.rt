@@ -3,9 +3,10 @@ ghost use Rattle.std.specs.Prelude.{◌≡◌, true, map, IfOk};
 ghost use Rattle.std.specs.List.{list_all};
 ghost use Rattle.qtext.specs.Gives.{Gives};
 ghost use Rattle.qtext.specs.Words.{is_text_byte, words as words_of};
-ghost use Rattle.qjournal.specs.Journals.{IsWorkers, head_in, head_of, keyword, told_of, workers_of};
+ghost use Rattle.qjournal.specs.Journals.{head_in, head_of, keyword, told_of, workers_of};
+ghost use Rattle.qplain.specs.Journals.{IsWorkers};
 
-use crate::journal::MAX_WORKERS;
+use qplain::MAX_WORKERS;
 use qscript::NextLine;
 use qtext::{ReadFault, TextKind, number_of};
 

@@ -18,12 +18,6 @@ use qtext::{ReadFault, TextFault, TextKind};
 use std::alloc::Global;
 use std::marker::Model;
 
-/// The most entries that a journal may have.
-pub const MAX_ENTRIES: usize = 65_536;
-
-/// The most workers that a journal may tell of.
-pub const MAX_WORKERS: u64 = 16;
-
 /// What happened to a store: how many workers there were, from 1 to 16, and their entries in order, at most 65,536. Each
 /// entry is of one of the workers, and a stat of a directory tells of no bytes and no blocks.
 #[derive(Debug, PartialEq, Eq, Drop)]
@@ -33,7 +27,7 @@ pub struct Journal {
 }
 
 impl Model for Journal {
-    ghost use Rattle.qjournal.specs.Journals.{IsJournal, Written};
+    ghost use Rattle.qplain.specs.Journals.{IsJournal, Written};
 
     ghost Value = { Written };
 
@@ -83,8 +77,9 @@ fn journal_in(alloc: Global, text: &[u8]) -> Result<Journal, TextFault>
 
 impl Journal {
     ghost use Rattle.std.specs.List.{AllByRecursion};
-    ghost use Rattle.qjournal.specs.Journals.{IsJournal, Written, journal_of};
-    ghost use Rattle.qjournal.specs.Spelling.{IsHeld, spelling};
+    ghost use Rattle.qjournal.specs.Journals.{journal_of};
+    ghost use Rattle.qjournal.specs.Spelling.{spelling};
+    ghost use Rattle.qplain.specs.Held.{IsHeld};
     ghost use Rattle.qtext.specs.TextFaults.{want_of_memory};
 
     /// A journal of 1 to 16 workers with at most 65,536 entries, each of one of them.

@@ -1,7 +1,7 @@
 //! Journals, read from text and written.
 #![tactic(auto)]
 
-pub use journal::{Journal, MAX_ENTRIES, MAX_WORKERS};
+pub use journal::Journal;
 pub use qspell::WriteFault;
 pub use writing::write_journal;
 

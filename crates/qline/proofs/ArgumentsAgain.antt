@@ -17,7 +17,8 @@ use Rattle.qtext.specs.RuleWords.{kind_text}
 use Rattle.qtext.proofs.Joining.{passes_weaker}
 use Rattle.qtext.proofs.WordsAgain.{are_digits, decoded, number_again}
 use Rattle.qline.specs.Arguments.{path_of, kind_of, owner_of}
-use Rattle.qline.specs.Spelling.{owner_text, IsOwner}
+use Rattle.qline.specs.Spelling.{owner_text}
+use Rattle.qplain.specs.Held.{IsOwner}
 
 digit_is_word : (b : ℕ) → is_ascii_digit b ≡ true → is_path_byte b ≡ true
 digit_is_word b e = grind (arith, nat_tests)

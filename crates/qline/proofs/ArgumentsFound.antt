@@ -13,7 +13,8 @@ use Rattle.qtext.proofs.StepsFound.{kept, chosen, told, Spells, same_ok, word_fo
 use Rattle.qtext.proofs.WordsFound.{number_found}
 use Rattle.qline.specs.Arguments.{path_of, kind_of, owner_of}
 use Rattle.qline.specs.Calls.{limits_of}
-use Rattle.qline.specs.Spelling.{AreLimits, IsOwner, limits_words, owner_text}
+use Rattle.qline.specs.Spelling.{limits_words, owner_text}
+use Rattle.qplain.specs.Held.{AreLimits, IsOwner}
 
 pub any_path : Spells (λ path. path) ArePathBytes path_of
 unfolding path_of

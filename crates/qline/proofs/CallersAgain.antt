@@ -9,7 +9,8 @@ use Rattle.qtext.specs.declared.text_fault.TextKind.TheVariants.{BadCred}
 use Rattle.qtext.specs.Reading.{each_of}
 use Rattle.qtext.specs.Words.{parts}
 use Rattle.qline.specs.Callers.{caller_of, caller_in, caller_by, caller_from, few_groups_of, own_ids_of, own_ids_in, groups_of}
-use Rattle.qline.specs.Spelling.{caller_text, own_ids_text, IsCaller}
+use Rattle.qline.specs.Spelling.{caller_text, own_ids_text}
+use Rattle.qplain.specs.Held.{IsCaller}
 use Rattle.qtext.proofs.Joining.{lacks, parts_join, passes_join, passes_weaker}
 use Rattle.qtext.proofs.WordsAgain.{are_digits, digit_lacks, digit_lacks_above, number_again}
 use Rattle.qline.proofs.ArgumentsAgain.{decimal_word}

@@ -8,7 +8,8 @@ use Rattle.qtext.specs.declared.text_fault.TextKind.TheVariants.{BadCred}
 use Rattle.qtext.specs.Words.{parts}
 use Rattle.qtext.proofs.StepsFound.{joined, Spells, kept, same_ok, step_found, word_found, words_found}
 use Rattle.qline.specs.Callers.{caller_of, caller_in, caller_by, caller_from, few_groups_of, own_ids_of, own_ids_in, groups_of}
-use Rattle.qline.specs.Spelling.{caller_text, own_ids_text, IsCaller}
+use Rattle.qline.specs.Spelling.{caller_text, own_ids_text}
+use Rattle.qplain.specs.Held.{IsCaller}
 use Rattle.qline.proofs.ArgumentsFound.{any_id}
 
 -- the ids are those that the words spell

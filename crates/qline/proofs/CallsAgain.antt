@@ -10,7 +10,8 @@ use Rattle.qtext.specs.Words.{number}
 use Rattle.qtext.proofs.WordsAgain.{number_again, data_again}
 use Rattle.qline.specs.Verbs.{verb_of}
 use Rattle.qline.specs.Calls.{create_of, mkdir_of, write_of, truncate_of, read_of, stat_of, link_of, unlink_of, rmdir_of, rename_of, chown_of, limits_of, setquota_of, setgrace_of, quota_of, path_call_of, call_of, call_in}
-use Rattle.qline.specs.Spelling.{limits_words, call_words, AreLimits, IsCall}
+use Rattle.qline.specs.Spelling.{limits_words, call_words}
+use Rattle.qplain.specs.Held.{AreLimits, IsCall}
 use Rattle.qline.proofs.ArgumentsAgain.{path_again, kind_again, owner_again, any_id, decimal_word, data_word, kind_word, id_word, owner_word}
 
 -- each byte of the word prints

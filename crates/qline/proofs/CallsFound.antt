@@ -14,7 +14,8 @@ use Rattle.qline.specs.declared.verb.Verb.TheVariants as verb
 use Rattle.qline.specs.Verbs.{verb_of}
 use Rattle.qline.specs.Calls.{create_of, mkdir_of, write_of, truncate_of, read_of, stat_of, link_of, unlink_of, rmdir_of, rename_of, chown_of, limits_of, setquota_of, setgrace_of, quota_of, path_call_of, call_of}
 use Rattle.qline.specs.Journaled.{arity, in_one_case, is_fill, journaled_call_in, journaled_call_of, journaled_verb_of}
-use Rattle.qline.specs.Spelling.{call_words, IsCall}
+use Rattle.qline.specs.Spelling.{call_words}
+use Rattle.qplain.specs.Held.{IsCall}
 use Rattle.qline.proofs.ArgumentsFound.{any_id, any_kind, any_limits, any_number, any_owner, any_path}
 
 -- the word of a verb

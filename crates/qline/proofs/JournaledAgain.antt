@@ -7,7 +7,8 @@ use Rattle.qtext.proofs.WordsAgain.{data_again}
 use Rattle.qline.specs.Verbs.{verb_of}
 use Rattle.qline.specs.Calls.{create_of, mkdir_of, write_of, truncate_of, read_of, stat_of, link_of, unlink_of, rmdir_of, rename_of, chown_of, limits_of, setquota_of, setgrace_of, quota_of, path_call_of, call_of}
 use Rattle.qline.specs.Journaled.{in_one_case, journaled_call_in, journaled_call_of, journaled_verb_of}
-use Rattle.qline.specs.Spelling.{call_words, IsCall}
+use Rattle.qline.specs.Spelling.{call_words}
+use Rattle.qplain.specs.Held.{IsCall}
 use Rattle.qline.proofs.ArgumentsAgain.{any_id, kind_again, owner_again, path_again}
 use Rattle.qline.proofs.CallsAgain.{any_number, limits_again}
 use Rattle.qline.proofs.RepliesAgain.{lower_data}

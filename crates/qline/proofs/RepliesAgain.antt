@@ -16,7 +16,8 @@ use Rattle.qtext.specs.Words.{id_of}
 use Rattle.qtext.proofs.WordsAgain.{are_digits, data_again, number_again}
 use Rattle.qline.specs.Replies.{end_text}
 use Rattle.qline.specs.RepliesRead.{bytes_of, done_of, edquot_of, end_of, keyword, over_of, quota_of, refusal_of, reply_in, reply_of, reply_word_of, rise_of, signed, stat_of, type_of, words_of_reply}
-use Rattle.qline.specs.RepliesSpelled.{IsEnd, IsReply, reply_words}
+use Rattle.qline.specs.RepliesSpelled.{reply_words}
+use Rattle.qplain.specs.Held.{IsEnd, IsReply}
 use Rattle.qline.proofs.ArgumentsAgain.{data_word, decimal_word, digits_lack_dash, id_word, kind_again, kind_word}
 use Rattle.qline.proofs.CallsAgain.{IsWord, any_number, limits_again}
 

@@ -18,7 +18,8 @@ use Rattle.qtext.proofs.StepsFound.{not_false, Spells, chosen, kept, passed, sam
 use Rattle.qline.specs.Calls.{limits_of}
 use Rattle.qline.specs.Replies.{end_text}
 use Rattle.qline.specs.RepliesRead.{as_bad_reply, bytes_of, done_of, edquot_of, end_of, keyword, over_of, quota_of, refusal_of, reply_in, reply_of, reply_word_of, rise_of, signed, stat_of, type_of, words_of_reply}
-use Rattle.qline.specs.RepliesSpelled.{IsEnd, IsReply, refusal_words, reply_words}
+use Rattle.qline.specs.RepliesSpelled.{refusal_words, reply_words}
+use Rattle.qplain.specs.Held.{IsEnd, IsReply}
 use Rattle.qline.specs.declared.reply_word.ReplyWord.{ReplyWord}
 use Rattle.qline.specs.declared.reply_word.ReplyWord.TheVariants.{Done, Bytes, Stat, Quota, Refused}
 use Rattle.qline.proofs.ArgumentsFound.{any_id, any_kind, any_limits, any_number}

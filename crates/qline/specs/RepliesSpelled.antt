@@ -11,7 +11,7 @@ use Rattle.qplain.specs.declared.stat.Stat.{Stat}
 use Rattle.qtext.specs.Pieces.{data_text}
 use Rattle.qtext.specs.RuleWords.{kind_text, over_text}
 use Rattle.qline.specs.Replies.{end_text}
-use Rattle.qline.specs.Spelling.{AreLimits}
+use Rattle.qplain.specs.Held.{AreLimits}
 
 -- a refusal's name, and for a quota whose it is and which of its limits
 abbrev pub refusal_words : Refusal → List (List ℕ)
@@ -46,53 +46,3 @@ reply_words (QuotaReply q) = codes "quota" ∷ decimal q.blocks ∷ decimal q.in
     ∷ decimal q.limits.block_soft ∷ decimal q.limits.block_hard
     ∷ decimal q.limits.inode_soft ∷ decimal q.limits.inode_hard ∷ end_text q.block_end ∷ end_text q.inode_end ∷ []
 reply_words (Refused refusal) = codes "refused" ∷ refusal_words refusal
-
--- a grace end that stands is a number of 64 bits
-abbrev pub IsEnd : Option ℕ → Type 0
-IsEnd None = Unit {0}
-IsEnd (Some end) = end < 2 ^ 64
-
--- each number is one of 64 bits
-pub record IsChange (c : Change) : Type 0 where
-  pub blocks_charged : c.blocks_charged < 2 ^ 64
-  pub blocks_released : c.blocks_released < 2 ^ 64
-  pub inodes_charged : c.inodes_charged < 2 ^ 64
-  pub inodes_released : c.inodes_released < 2 ^ 64
-
--- a directory has no size and no blocks
-abbrev pub IsEmptyDirectory : Stat → Type 0
-IsEmptyDirectory s = s.dir ≡ true → (s.size ≡ 0) × (s.blocks ≡ 0)
-
--- where a reply is a directory's stat, it tells of no size and no blocks
-abbrev pub HasLawfulStat : Reply → Type 0
-HasLawfulStat (Done ino change) = Unit {0}
-HasLawfulStat (Bytes bytes) = Unit {0}
-HasLawfulStat (StatReply stat) = IsEmptyDirectory stat
-HasLawfulStat (QuotaReply quota) = Unit {0}
-HasLawfulStat (Refused refusal) = Unit {0}
-
--- the numbers of an inode are what their types can hold, and a directory has no size and no blocks
-pub record IsStat (s : Stat) : Type 0 where
-  pub ino : s.ino < 2 ^ 64
-  pub uid : s.uid < 2 ^ 32
-  pub gid : s.gid < 2 ^ 32
-  pub size : s.size < 2 ^ 64
-  pub blocks : s.blocks < 2 ^ 64
-  pub links : s.links < 2 ^ 64
-  pub empty : IsEmptyDirectory s
-
--- those of a record are
-pub record IsQuota (q : Quota) : Type 0 where
-  pub blocks : q.blocks < 2 ^ 64
-  pub inodes : q.inodes < 2 ^ 64
-  pub limits : AreLimits q.limits
-  pub block_end : IsEnd q.block_end
-  pub inode_end : IsEnd q.inode_end
-
--- the parts of a reply are what their types can hold
-abbrev pub IsReply : Reply → Type 0
-IsReply (Done ino change) = (ino < 2 ^ 64) × IsChange change
-IsReply (Bytes bytes) = IsBytes bytes
-IsReply (StatReply stat) = IsStat stat
-IsReply (QuotaReply quota) = IsQuota quota
-IsReply (Refused refusal) = Unit {0}

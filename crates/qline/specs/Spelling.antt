@@ -44,39 +44,3 @@ call_words (Chown path uid gid) = codes "chown" ∷ path ∷ owner_text uid ∷ 
 call_words (SetQuota kind id limits) = codes "setquota" ∷ kind_text kind ∷ decimal id ∷ limits_words limits
 call_words (SetGrace graces) = codes "setgrace" ∷ decimal graces.block ∷ decimal graces.inode ∷ []
 call_words (Quota kind id) = codes "quota" ∷ kind_text kind ∷ decimal id ∷ []
-
--- the caller's ids are ids, and its further groups are not too many
-pub record IsCaller (cred : Caller) : Type 0 where
-  pub uid : cred.uid < 2 ^ 32
-  pub gid : cred.gid < 2 ^ 32
-  pub few : length cred.more ≤ MAX_MORE_GROUPS
-  pub more : AllByRecursion (λ g. g < 2 ^ 32) cred.more
-
--- an owner that is named has an id of 32 bits
-abbrev pub IsOwner : Option ℕ → Type 0
-IsOwner None = Unit {0}
-IsOwner (Some id) = id < 2 ^ 32
-
--- each limit is a number of 64 bits
-pub record AreLimits (l : Limits) : Type 0 where
-  pub block_soft : l.block_soft < 2 ^ 64
-  pub block_hard : l.block_hard < 2 ^ 64
-  pub inode_soft : l.inode_soft < 2 ^ 64
-  pub inode_hard : l.inode_hard < 2 ^ 64
-
--- the parts of a call are what their types can hold
-abbrev pub IsCall : Call → Type 0
-IsCall (Create path) = ArePathBytes path
-IsCall (Mkdir path) = ArePathBytes path
-IsCall (Write path off bytes) = ArePathBytes path × (off < 2 ^ 64) × IsBytes bytes
-IsCall (Truncate path size) = ArePathBytes path × (size < 2 ^ 64)
-IsCall (Read path off len) = ArePathBytes path × (off < 2 ^ 64) × (len < 2 ^ 64)
-IsCall (Stat path) = ArePathBytes path
-IsCall (Link from to) = ArePathBytes from × ArePathBytes to
-IsCall (Unlink path) = ArePathBytes path
-IsCall (Rmdir path) = ArePathBytes path
-IsCall (Rename from to) = ArePathBytes from × ArePathBytes to
-IsCall (Chown path uid gid) = ArePathBytes path × IsOwner uid × IsOwner gid
-IsCall (SetQuota kind id limits) = (id < 2 ^ 32) × AreLimits limits
-IsCall (SetGrace graces) = (graces.block < 2 ^ 64) × (graces.inode < 2 ^ 64)
-IsCall (Quota kind id) = id < 2 ^ 32

@@ -19,7 +19,7 @@ use Rattle.qlaws.proofs.Tallying.{tallies_have_room, tally-one_more}
 use Rattle.qstore.specs.declared.ready.Ready.{Ready}
 use Rattle.qstore.specs.Ready.{committed}
 use Rattle.qstore.specs.Stored.{Stored}
-use Rattle.qjournal.specs.declared.journal.TheConstants.{MAX_ENTRIES}
+use Rattle.qplain.specs.declared.bounds.TheConstants.{MAX_ENTRIES}
 use Rattle.qhistory.specs.Past.{Past, longer}
 use Rattle.qhistory.proofs.Fronts.{prefix_self, prefix_trans}
 use Rattle.qboards.specs.declared.board_change.BoardChange.{BoardChange}

@@ -8,7 +8,7 @@ use Rattle.qplain.specs.declared.tallies.Tallies.{Tallies}
 use Rattle.qplain.specs.Setups.{IsLawfulSetup, Setting}
 use Rattle.qplain.specs.State.{State, start}
 use Rattle.qplain.specs.Journal.{IsLegal, play, tally_of}
-use Rattle.qjournal.specs.declared.journal.TheConstants.{MAX_ENTRIES}
+use Rattle.qplain.specs.declared.bounds.TheConstants.{MAX_ENTRIES}
 use Rattle.qhistory.specs.Past.{Past, past}
 use Rattle.qboards.specs.Boards.{shown_of, with_rows}
 

@@ -23,6 +23,8 @@ pub mod Step
 pub mod Journal
 pub mod Boards
 pub mod Transcripts
+pub mod Held
+pub mod Journals
 pub mod KeptCred
 pub mod KeptData
 pub mod KeptSetup

@@ -2,7 +2,9 @@
 #![tactic(auto)]
 
 pub use board::Board;
-pub use bounds::{FILE_LIMIT, MAX_DATA, MAX_LINKS, MAX_NAME, MAX_NUMBER, MAX_PATH, ROOT};
+pub use bounds::{
+    FILE_LIMIT, MAX_DATA, MAX_ENTRIES, MAX_LINES, MAX_LINKS, MAX_NAME, MAX_NUMBER, MAX_PATH, MAX_WORKERS, ROOT,
+};
 pub use call::Call;
 pub use call_fault::CallFault;
 pub use change::{Change, NO_CHANGE, ONE_INODE};
@@ -10,6 +12,7 @@ pub use cred::{Cred, MAX_MORE_GROUPS};
 pub use data::Data;
 pub use effect::{Effect, PlacedRow};
 pub use entry::Entry;
+pub use journal::Journal;
 pub use line::Line;
 pub use look_fault::LookFault;
 pub use path::Path;
@@ -19,6 +22,7 @@ pub use quota::Quota;
 pub use receipt::Receipt;
 pub use refusal::Refusal;
 pub use reply::Reply;
+pub use script::Script;
 pub use setup::{MAX_BLOCKS, MAX_INODES, Setup, SetupFault};
 pub use shared::Shared;
 pub use stat::Stat;
@@ -34,6 +38,7 @@ mod cred;
 mod data;
 mod effect;
 mod entry;
+mod journal;
 mod line;
 mod look_fault;
 mod path;
@@ -42,6 +47,7 @@ mod quota;
 mod receipt;
 mod refusal;
 mod reply;
+mod script;
 mod setup;
 mod shared;
 mod stat;

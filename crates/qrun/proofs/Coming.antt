@@ -6,7 +6,7 @@ use Rattle.qplain.specs.declared.look_fault.LookFault.{LookFault}
 use Rattle.qplain.specs.Setups.{Setting}
 use Rattle.qrun.specs.declared.outcome.Outcome.{Outcome}
 use Rattle.qplain.specs.declared.transcript.Transcript.{Transcript}
-use Rattle.qjournal.specs.Journals.{IsJournal, IsWorkers, Written}
+use Rattle.qplain.specs.Journals.{IsJournal, IsWorkers, Written}
 use Rattle.qrun.specs.Journaled.{IsPlayed, Journaled}
 use Rattle.qrun.specs.Left.{IsLeftOf, IsOneOf}
 use Rattle.qrun.specs.Replays.{IsReplayOf, transcripts_in}

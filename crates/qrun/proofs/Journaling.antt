@@ -13,7 +13,7 @@ use Rattle.qlaws.proofs.Tallying.{tallies_have_room, tally-one_more}
 use Rattle.qstore.specs.declared.ready.Ready.{Ready}
 use Rattle.qstore.specs.Ready.{committed}
 use Rattle.qstore.specs.Stored.{Stored}
-use Rattle.qjournal.specs.declared.journal.TheConstants.{MAX_ENTRIES}
+use Rattle.qplain.specs.declared.bounds.TheConstants.{MAX_ENTRIES}
 use Rattle.qplain.specs.Journal.{entry_of}
 use Rattle.qrun.specs.Journaled.{IsPlayed, Journaled}
 

@@ -26,7 +26,7 @@ use Rattle.qplain.specs.Step.{settle, settled, step}
 use Rattle.qlaws.specs.Laws.{IsLawful, IsSound}
 use Rattle.qlaws.proofs.Fitting.{sound-there}
 use Rattle.qlaws.proofs.Lawful.{steps_stay_lawful}
-use Rattle.qline.specs.RepliesSpelled.{HasLawfulStat}
+use Rattle.qplain.specs.Held.{HasLawfulStat}
 
 -- where the attempt comes to an answer, that has a lawful stat
 abbrev HasFairAnswer : Attempt → Type 0

@@ -11,7 +11,7 @@ use Rattle.qplain.specs.Step.{step}
 use Rattle.qstore.specs.Stored.{Stored}
 use Rattle.qplain.specs.declared.receipt.Receipt.{Receipt}
 use Rattle.qlaws.specs.Laws.{IsLawful}
-use Rattle.qjournal.specs.declared.journal.TheConstants.{MAX_ENTRIES}
+use Rattle.qplain.specs.declared.bounds.TheConstants.{MAX_ENTRIES}
 
 -- the setup that a store began with, the store, its journal, and what is counted of it
 pub record Journaled : Type 0 where

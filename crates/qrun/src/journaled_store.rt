@@ -12,8 +12,7 @@ ghost use Rattle.qrun.specs.Replays.{IsMismatch, IsMismatchAfter, line_of};
 
 use crate::ReplayFault;
 use qaudit::Difference;
-use qjournal::MAX_ENTRIES;
-use qplain::{Entry, Line, NoMemory, Receipt, Reply, Setup, Tallies};
+use qplain::{Entry, Line, MAX_ENTRIES, NoMemory, Receipt, Reply, Setup, Tallies};
 use qrows::audit;
 use qrules::RecordRow;
 use qstore::{Ready, Store};

@@ -3,7 +3,7 @@
 
 pub use journaled_store::JournaledStore;
 pub use outcome::{Outcome, outcome_of};
-pub use qjournal::MAX_ENTRIES;
+pub use qplain::MAX_ENTRIES;
 pub use replay_fault::ReplayFault;
 pub use replays::replay;
 

@@ -1,5 +1,5 @@
 ghost use Rattle.std.specs.Prelude.{All, IfOk};
-ghost use Rattle.qjournal.specs.Journals.{IsWorkers};
+ghost use Rattle.qplain.specs.Journals.{IsWorkers};
 ghost use Rattle.qrun.specs.Left.{IsLeftOf, IsOneOf};
 
 use crate::journaled_store::JournaledStore;

@@ -2,7 +2,7 @@
 ghost use Rattle.std.specs.Prelude.{◌≡◌, ◌≤◌, ℕ, List, Err, IfOk, length};
 ghost use Rattle.qplain.specs.declared.line.Line.{Line};
 ghost use Rattle.qplain.specs.State.{start};
-ghost use Rattle.qjournal.specs.declared.journal.TheConstants.{MAX_ENTRIES};
+ghost use Rattle.qplain.specs.declared.bounds.TheConstants.{MAX_ENTRIES};
 ghost use Rattle.qrun.specs.declared.outcome.Outcome.{Outcome};
 ghost use Rattle.qrun.specs.declared.replay_fault.ReplayFault.TheVariants.{Mismatch};
 ghost use Rattle.qrun.specs.Runs.{IsOutcomeOf};

@@ -13,12 +13,13 @@ use Rattle.qtext.specs.Words.{is_text_byte, parts, words}
 use Rattle.qtext.proofs.Joining.{lacks, parts_join, parts_first, passes_join, passes_weaker}
 use Rattle.qtext.proofs.Splitting.{some_part}
 use Rattle.qtext.proofs.WordsAgain.{text_lacks_feed}
-use Rattle.qline.specs.Spelling.{caller_text, call_words, IsCaller, IsCall}
+use Rattle.qline.specs.Spelling.{caller_text, call_words}
+use Rattle.qplain.specs.Held.{IsCaller, IsCall, IsLine, AreLines}
 use Rattle.qline.proofs.ArgumentsAgain.{decimal_word, word_lacks_space, word_is_text}
 use Rattle.qline.proofs.CallersAgain.{caller_word, caller_again}
 use Rattle.qline.proofs.CallsAgain.{IsWord, any_number, call_word, call_again}
 use Rattle.qscript.specs.Scripts.{raw_lines_from, line_in, line_of, at_line, script_of}
-use Rattle.qscript.specs.Spelling.{line_words, spelling, IsLine, AreLines}
+use Rattle.qscript.specs.Spelling.{line_words, spelling}
 use Rattle.qscript.proofs.RawLines.{more_lines, no_line}
 
 line_word : (l : Line) → IsLine l → AllByRecursion IsWord (line_words l)

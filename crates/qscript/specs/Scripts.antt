@@ -5,7 +5,7 @@ use Rattle.qplain.specs.declared.line.Line.{Line}
 use Rattle.qtext.specs.declared.text_fault.TextKind.{TextKind}
 use Rattle.qtext.specs.declared.text_fault.TextKind.TheVariants.{Cut, BadByte, BadNumber, BadCred, TooMany}
 use Rattle.qtext.specs.declared.text_fault.TextFault.{TextFault}
-use Rattle.qscript.specs.declared.script.TheConstants.{MAX_LINES}
+use Rattle.qplain.specs.declared.bounds.TheConstants.{MAX_LINES}
 use Rattle.qtext.specs.Reading.{◌>>=◌, each_of}
 use Rattle.qtext.specs.Words.{is_text_byte, parts, words, number}
 use Rattle.qline.specs.Callers.{caller_of}

@@ -2,8 +2,9 @@
 use Rattle.std.specs.Prelude.{ℕ, ◌<◌, ◌≤◌, ◌^◌, List, [], ◌∷◌, ◌++◌, length, decimal}
 use Rattle.std.specs.List.{flat_map, join_with_byte, AllByRecursion}
 use Rattle.qplain.specs.declared.line.Line.{Line}
-use Rattle.qline.specs.Spelling.{caller_text, call_words, IsCaller, IsCall}
-use Rattle.qscript.specs.declared.script.TheConstants.{MAX_LINES}
+use Rattle.qline.specs.Spelling.{caller_text, call_words}
+use Rattle.qplain.specs.Held.{IsCaller, IsCall}
+use Rattle.qplain.specs.declared.bounds.TheConstants.{MAX_LINES}
 
 -- MOMENT CALLER CALL
 abbrev pub line_words : Line → List (List ℕ)
@@ -16,14 +17,3 @@ line_text l = join_with_byte 0x20 (line_words l) ++ 10 ∷ []
 -- the lines of a script, spelled out
 abbrev pub spelling : List Line → List ℕ
 spelling ls = flat_map line_text ls
-
--- the parts of a line are what their types can hold
-pub record IsLine (l : Line) : Type 0 where
-  pub moment : l.moment < 2 ^ 64
-  pub cred : IsCaller l.cred
-  pub call : IsCall l.call
-
--- such lines, and no more than a script may have
-pub record AreLines (ls : List Line) : Type 0 where
-  pub few : length ls ≤ MAX_LINES
-  pub each : AllByRecursion IsLine ls

@@ -1,7 +1,7 @@
 //! One line of a script.
 ghost use Rattle.std.specs.Prelude.{map};
 ghost use Rattle.qtext.specs.Gives.{Gives};
-ghost use Rattle.qscript.specs.declared.script.TheConstants.{MAX_LINES};
+ghost use Rattle.qplain.specs.declared.bounds.TheConstants.{MAX_LINES};
 ghost use Rattle.qscript.specs.Scripts.{line_in, line_of};
 
 use crate::callers::Callers;

@@ -26,7 +26,7 @@ pub struct Script {
 impl Model for Script {
     ghost use Rattle.std.specs.Prelude.{List, ◌≤◌, length};
     ghost use Rattle.qplain.specs.declared.line.Line.{Line};
-    ghost use Rattle.qscript.specs.declared.script.TheConstants.{MAX_LINES};
+    ghost use Rattle.qplain.specs.declared.bounds.TheConstants.{MAX_LINES};
 
     ghost Value = { List Line };
 
@@ -53,7 +53,8 @@ fn lines_of(alloc: Global, text: &[u8]) -> Result<Items<Line>, TextFault>
 impl Script {
     ghost use Rattle.qscript.specs.Scripts.{script_of};
     ghost use Rattle.qtext.specs.TextFaults.{want_of_memory};
-    ghost use Rattle.qscript.specs.Spelling.{AreLines, spelling};
+    ghost use Rattle.qscript.specs.Spelling.{spelling};
+    ghost use Rattle.qplain.specs.Held.{AreLines};
 
     /// Reads a script: its lines, or the first line at fault with the first thing wrong in it.
     ///

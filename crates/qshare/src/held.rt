@@ -4,7 +4,7 @@ ghost use mathlib.Core.List.{IsPrefix};
 ghost use Rattle.qplain.specs.State.{start};
 ghost use Rattle.qplain.specs.Journal.{IsLegal, change_of, counted, entry_of};
 ghost use Rattle.qplain.specs.declared.call_fault.CallFault.TheVariants.{JournalFull};
-ghost use Rattle.qjournal.specs.declared.journal.TheConstants.{MAX_ENTRIES};
+ghost use Rattle.qplain.specs.declared.bounds.TheConstants.{MAX_ENTRIES};
 ghost use Rattle.qlocked.specs.Histories.{line_of};
 ghost use Rattle.qshare.specs.declared.held.TheConstants.{MAX_BATCH};
 

@@ -5,7 +5,7 @@ ghost use mathlib.Core.List.{IsPrefix};
 ghost use Rattle.qplain.specs.State.{start};
 ghost use Rattle.qplain.specs.Journal.{IsLegal, change_of, counted, entry_of, play, tally_of};
 ghost use Rattle.qplain.specs.declared.call_fault.CallFault.TheVariants.{JournalFull};
-ghost use Rattle.qjournal.specs.declared.journal.TheConstants.{MAX_ENTRIES};
+ghost use Rattle.qplain.specs.declared.bounds.TheConstants.{MAX_ENTRIES};
 ghost use Rattle.qhistory.specs.Shares.{AreThere, IsLeastMissing, sums_of};
 ghost use Rattle.qlocked.specs.Histories.{IsAt, line_of};
 

@@ -2,7 +2,8 @@
 ghost use Rattle.std.specs.Prelude.{◌≡◌, ◌≤◌, ◌+◌, ◌*◌, ◌++◌, length};
 ghost use Rattle.std.specs.List.{flat_map};
 ghost use Rattle.qtext.specs.Written.{Writes};
-ghost use Rattle.qline.specs.Spelling.{IsCaller, caller_text};
+ghost use Rattle.qline.specs.Spelling.{caller_text};
+ghost use Rattle.qplain.specs.Held.{IsCaller};
 ghost use Rattle.qspell.specs.Texts.{group_text};
 
 use qplain::Cred;

@@ -1,6 +1,6 @@
 -- What the program owes a job.
 use Rattle.std.specs.Prelude.{ℕ, ◌<◌, ◌≤◌, length}
-use Rattle.qjournal.specs.declared.journal.TheConstants.{MAX_WORKERS}
+use Rattle.qplain.specs.declared.bounds.TheConstants.{MAX_WORKERS}
 use Rattle.qjob.specs.declared.job.Job.{Job}
 use Rattle.qjob.specs.declared.job.Job.TheVariants.{Run, Replay}
 

@@ -1,6 +1,6 @@
 //! The whole program over files, output and fault lines.
 ghost use Rattle.std.specs.Prelude.{◌≡◌, ◌<◌, ◌≤◌, ◌⊎◌, ◌↔◌, length, Err, IfErr, IfOk, OnOk};
-ghost use Rattle.qjournal.specs.declared.journal.TheConstants.{MAX_WORKERS};
+ghost use Rattle.qplain.specs.declared.bounds.TheConstants.{MAX_WORKERS};
 ghost use Rattle.qtool.specs.Endings.{IsStatus, IsUntouchedAt};
 ghost use Rattle.qtool.specs.Jobs.{HasBatch, HasScript, HasSeats};
 ghost use Rattle.qtool.specs.declared.ending.Ending.TheVariants.{Output, TooManyScripts, TooManyWithBoards};
@@ -10,8 +10,7 @@ use crate::{
     Config, ConfigFault, FileFault, Files, Job, Journal, LineFault, Options, Outcome, Refuser,
     ReplayFault, RunFault, Script, TextFault, TextKind, replay, run, write_run,
 };
-use qjournal::MAX_WORKERS;
-use qplain::Line;
+use qplain::{Line, MAX_WORKERS};
 use qrules::Items;
 use std::alloc::Global;
 use std::io::Write;

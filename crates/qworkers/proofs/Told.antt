@@ -12,7 +12,7 @@ use Rattle.qplain.specs.declared.receipt.Receipt.{Receipt}
 use Rattle.qplain.specs.declared.transcript.Transcript.{Transcript}
 use Rattle.qplain.specs.Journal.{entries_of}
 use Rattle.qplain.specs.Transcripts.{Belongs, journaled_lines}
-use Rattle.qjournal.specs.declared.journal.TheConstants.{MAX_ENTRIES}
+use Rattle.qplain.specs.declared.bounds.TheConstants.{MAX_ENTRIES}
 use Rattle.qhistory.specs.Shares.{AreThere, Shared}
 use Rattle.qhistory.proofs.Fronts.{prefix_length}
 use Rattle.qrun.specs.Runs.{AreTranscriptsOf, IsFullBehind, IsFullOf, IsOutcomeOf}

@@ -12,7 +12,7 @@ use Rattle.qplain.specs.declared.receipt.Receipt.{Receipt}
 use Rattle.qplain.specs.declared.tallies.Tallies.{Tallies}
 use Rattle.qplain.specs.Journal.{change_of, counted, entries_of, entry_of, no_tally}
 use Rattle.qplain.specs.Transcripts.{journaled_line, journaled_lines}
-use Rattle.qjournal.specs.declared.journal.TheConstants.{MAX_ENTRIES}
+use Rattle.qplain.specs.declared.bounds.TheConstants.{MAX_ENTRIES}
 use Rattle.qhistory.proofs.Fronts.{prefix_length}
 use Rattle.qlocked.specs.Histories.{IsAt}
 use Rattle.qshare.specs.Holds.{Holding}

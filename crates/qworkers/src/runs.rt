@@ -2,7 +2,7 @@
 ghost use Rattle.std.specs.Prelude.{◌≡◌, ◌<◌, ◌≤◌, ◌^◌, length, IfErr, IfOk};
 ghost use Rattle.qplain.specs.Journal.{IsLegal, play, tally_of};
 ghost use Rattle.qplain.specs.State.{start};
-ghost use Rattle.qjournal.specs.declared.journal.TheConstants.{MAX_ENTRIES};
+ghost use Rattle.qplain.specs.declared.bounds.TheConstants.{MAX_ENTRIES};
 ghost use Rattle.qshare.specs.declared.held.TheConstants.{MAX_BATCH};
 ghost use Rattle.qshare.specs.declared.opening.TheConstants.{MAX_SEATS};
 ghost use Rattle.qgather.specs.Gathered.{IsGathered};

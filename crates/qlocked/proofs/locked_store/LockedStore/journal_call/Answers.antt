@@ -3,7 +3,7 @@ use Rattle.qplain.specs.declared.entry.Entry.{Entry}
 use Rattle.qplain.specs.declared.tallies.Tallies.{Tallies}
 use Rattle.qplain.specs.Journal.{change_of, counted}
 use Rattle.qplain.specs.State.{State}
-use Rattle.qjournal.specs.declared.journal.TheConstants.{MAX_ENTRIES}
+use Rattle.qplain.specs.declared.bounds.TheConstants.{MAX_ENTRIES}
 use Rattle.qstore.specs.Ready.{committed}
 use Rattle.qhistory.specs.Past.{longer}
 use Rattle.qlocked.specs.Histories.{line_of}

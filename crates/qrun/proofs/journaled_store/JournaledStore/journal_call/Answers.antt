@@ -1,5 +1,5 @@
 use Rattle.std.proofs.Common.{◌≡◌, ◌<◌, [], ◌∷◌, ◌++◌, length, refl, ap, ◌∙◌}
-use Rattle.qjournal.specs.declared.journal.TheConstants.{MAX_ENTRIES}
+use Rattle.qplain.specs.declared.bounds.TheConstants.{MAX_ENTRIES}
 use Rattle.qplain.specs.Journal.{counted, entry_of}
 use Rattle.qrun.specs.KeptJournaled.{journaled_of}
 use Rattle.qrun.proofs.Journaling.{can_count, carried_out, played_on}

@@ -1,0 +1,24 @@
+-- What always holds of a journal: its workers, and the entries that each of them may have.
+use Rattle.std.specs.Prelude.{ℕ, ◌<◌, ◌≤◌, List, length, All}
+use Rattle.qplain.specs.declared.bounds.TheConstants.{MAX_ENTRIES, MAX_WORKERS}
+use Rattle.qplain.specs.declared.entry.Entry.{Entry}
+use Rattle.qplain.specs.Held.{HasLawfulStat}
+
+-- how many workers there were, and their entries in the order of the journal
+pub record Written : Type 0 where
+  pub workers : ℕ
+  pub entries : List Entry
+
+-- as many workers as there may be
+abbrev pub IsWorkers : ℕ → Type 0
+IsWorkers workers = (0 < workers) × (workers ≤ MAX_WORKERS)
+
+-- an entry of one of so many workers, whose reply tells of no directory with bytes or blocks
+abbrev pub IsEntryOf : ℕ → Entry → Type 0
+IsEntryOf workers e = (0 < e.worker) × (e.worker ≤ workers) × HasLawfulStat e.reply
+
+-- such entries, no more than a journal may have, of 1 to 16 workers
+pub record IsJournal (j : Written) : Type 0 where
+  pub workers : IsWorkers j.workers
+  pub few : length j.entries ≤ MAX_ENTRIES
+  pub each : All (IsEntryOf j.workers) j.entries
