@@ -20,6 +20,7 @@ use Rattle.qlaws.proofs.Balance.{uses_add_up}
 use Rattle.qlaws.proofs.Tallying.{journals_stay_lawful, size-played}
 use Rattle.qboards.specs.Boards.{shown_of}
 use Rattle.qboards.specs.Laws.{BoardsAreWhole}
+use Rattle.qboards.specs.Looks.{IsBoardAnswer}
 use Rattle.qboards.specs.Whole.{IsWhole, account_in, sum_in}
 
 same_kind : (k l : Kind) → is_same_kind k l ≡ true → k ≡ l
@@ -77,6 +78,6 @@ boards_are_whole s history setup =
 
 -- so is what a look was shown
 pub shown_whole : (s : Setting) (history : List Entry) (look : Result Board LookFault) → IsLawfulSetup s
-    → IfOk look (λ b. b ≡ shown_of (start s) history) → IfOk look (IsWhole s)
+    → IsBoardAnswer (start s) history look → IfOk look (IsWhole s)
 shown_whole s history (Ok b) setup is = subst (IsWhole s) (sym is) (boards_are_whole s history setup)
 shown_whole s history (Err fault) setup is = tt

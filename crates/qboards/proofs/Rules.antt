@@ -14,7 +14,7 @@ use Rattle.qboards.specs.declared.rule.View.{View}
 use Rattle.qboards.specs.Boards.{shown_of}
 use Rattle.qboards.specs.Sheets.{board_in}
 use Rattle.qboards.specs.Views.{newcomer, Kept, Sight}
-use Rattle.qhistory.proofs.Fronts.{prefix_self, prefix_trans}
+use Rattle.qhistory.proofs.Prefixes.{prefix_self, prefix_trans}
 
 abbrev All : List Entry → List View → Type 0
 All log views = (seat : ℕ) (v : View) → get_elem? views seat ≡ some v → IsPrefix v.seen log
@@ -30,40 +30,40 @@ all_snoc log views w others mine j u e =
 
 module _ (book : Book) (start : State) where
   abbrev Holds : Sheet → List View → Type 0
-  Holds x = Kept book start x.front (board_in x)
+  Holds x = Kept book start x.prefix (board_in x)
 
-  pub begins : (x : Sheet) → x.front.book ≡ book → x.front.log ≡ [] → board_in x ≡ shown_of start [] → Holds x (newcomer ∷ [])
+  pub begins : (x : Sheet) → x.prefix.history ≡ book → x.prefix.entries ≡ [] → board_in x ≡ shown_of start [] → Holds x (newcomer ∷ [])
   begins x named none is = (named, is ∙ ap (shown_of start) (sym none), subst (IsLegal start) (sym none) tt, one)
     where
-      one : (seat : ℕ) (v : View) → get_elem? (newcomer ∷ []) seat ≡ some v → IsPrefix v.seen x.front.log
-      one zero v e = subst (λ (u : View). IsPrefix u.seen x.front.log) (some-injective _ _ e) (x.front.log, refl)
+      one : (seat : ℕ) (v : View) → get_elem? (newcomer ∷ []) seat ≡ some v → IsPrefix v.seen x.prefix.entries
+      one zero v e = subst (λ (u : View). IsPrefix u.seen x.prefix.entries) (some-injective _ _ e) (x.prefix.entries, refl)
       one (suc seat) v e = absurd (some-ne-none v (sym e))
 
   pub admits : Admits Holds newcomer
-  admits x views h = (h.0, h.1, h.2, all_snoc x.front.log views newcomer h.3 (x.front.log, refl))
+  admits x views h = (h.0, h.1, h.2, all_snoc x.prefix.entries views newcomer h.3 (x.prefix.entries, refl))
 
-  pub looks : (seat : ℕ) (v : View) (x : Sheet) → TurnsAt Holds seat v x x (λ v x y w. Sight book start v y.front (board_in y) w)
+  pub looks : (seat : ℕ) (v : View) (x : Sheet) → TurnsAt Holds seat v x x (λ v x y w. Sight book start v y.prefix (board_in y) w)
   looks seat v x views h at =
       let mine = h.3 seat v at in
-      let w : View = record { seen = x.front.log } in
-      (w, (h.0, h.1, h.2, all_set x.front.log views seat w h.3 (prefix_self x.front.log)), (refl, h.0, mine, h.2, h.1))
+      let w : View = record { seen = x.prefix.entries } in
+      (w, (h.0, h.1, h.2, all_set x.prefix.entries views seat w h.3 (prefix_self x.prefix.entries)), (refl, h.0, mine, h.2, h.1))
 
-  pub brings : (seat : ℕ) (v : View) (x y : Sheet) → IsPrefix x.front.log y.front.log → y.front.book ≡ book
-      → IsLegal start y.front.log → board_in y ≡ shown_of start y.front.log
-      → TurnsAt Holds seat v x y (λ v x y w. Sight book start v y.front (board_in y) w)
+  pub brings : (seat : ℕ) (v : View) (x y : Sheet) → IsPrefix x.prefix.entries y.prefix.entries → y.prefix.history ≡ book
+      → IsLegal start y.prefix.entries → board_in y ≡ shown_of start y.prefix.entries
+      → TurnsAt Holds seat v x y (λ v x y w. Sight book start v y.prefix (board_in y) w)
   brings seat v x y more named legal is views h at =
-      let w : View = record { seen = y.front.log } in
-      let others : All y.front.log views = λ j u e. prefix_trans u.seen x.front.log y.front.log (h.3 j u e) more in
-      (w, (named, is, legal, all_set y.front.log views seat w others (prefix_self y.front.log)), (refl, named, others seat v at, legal, is))
+      let w : View = record { seen = y.prefix.entries } in
+      let others : All y.prefix.entries views = λ j u e. prefix_trans u.seen x.prefix.entries y.prefix.entries (h.3 j u e) more in
+      (w, (named, is, legal, all_set y.prefix.entries views seat w others (prefix_self y.prefix.entries)), (refl, named, others seat v at, legal, is))
 
   pub forks : (seat : ℕ) (v : View) → Forks Holds seat v v v
   forks seat v x views h at =
       let mine = h.3 seat v at in
-      (h.0, h.1, h.2, all_snoc x.front.log (set views seat v) v (all_set x.front.log views seat v h.3 mine) mine)
+      (h.0, h.1, h.2, all_snoc x.prefix.entries (set views seat v) v (all_set x.prefix.entries views seat v h.3 mine) mine)
 
   pub merges : (seat : ℕ) (v : View) (other : ℕ) (w : View) → Merges Holds seat v other w w newcomer
   merges seat v other w x views h at apart there =
-      let theirs : IsPrefix w.seen x.front.log =
+      let theirs : IsPrefix w.seen x.prefix.entries =
       ⊎_elim (λ (t : (other ≡ seat) × (w ≡ w)). absurd (apart t.0))
       (λ (t : (other ≢ seat) × (get_elem? views other ≡ some w)). h.3 other w t.1) (at_set views seat other w w there) in
-      (h.0, h.1, h.2, all_set x.front.log (set views seat w) other newcomer (all_set x.front.log views seat w h.3 theirs) (x.front.log, refl))
+      (h.0, h.1, h.2, all_set x.prefix.entries (set views seat w) other newcomer (all_set x.prefix.entries views seat w h.3 theirs) (x.prefix.entries, refl))

@@ -2,6 +2,7 @@
 -- seen. A module that no public clause cites says so.
 pub mod Boards
 pub mod Whole
+pub mod Looks
 pub mod Laws
 pub mod Sheets
 pub mod Views

@@ -4,7 +4,7 @@ use mathlib.Core.Option.{some}
 use mathlib.Core.List.{IsPrefix}
 use lib.ListN.{get_elem?}
 use Rattle.logbook.specs.Pages.{Book}
-use Rattle.qhistory.specs.Past.{Past}
+use Rattle.qhistory.specs.Histories.{Recorded}
 use Rattle.qplain.specs.declared.board.Board.{Board}
 use Rattle.qplain.specs.State.{State}
 use Rattle.qplain.specs.Journal.{IsLegal}
@@ -16,13 +16,13 @@ abbrev pub newcomer : View
 newcomer = record { seen = [] }
 
 -- this is the board of the history, which is legal, and begins with what each reader has seen
-abbrev pub Kept : Book → State → Past → Board → List View → Type 0
-Kept book S front shown views =
-    (front.book ≡ book) × (shown ≡ shown_of S front.log) × IsLegal S front.log
-    × ((reader : ℕ) (v : View) → get_elem? views reader ≡ some v → IsPrefix v.seen front.log)
+abbrev pub Kept : Book → State → Recorded → Board → List View → Type 0
+Kept book S prefix shown views =
+    (prefix.history ≡ book) × (shown ≡ shown_of S prefix.entries) × IsLegal S prefix.entries
+    × ((reader : ℕ) (v : View) → get_elem? views reader ≡ some v → IsPrefix v.seen prefix.entries)
 
 -- this history is then seen, which begins with all that had been seen
-abbrev pub Sight : Book → State → View → Past → Board → View → Type 0
-Sight book S v front shown w =
-    (w.seen ≡ front.log) × (front.book ≡ book) × IsPrefix v.seen front.log × IsLegal S front.log
-    × (shown ≡ shown_of S front.log)
+abbrev pub Sight : Book → State → View → Recorded → Board → View → Type 0
+Sight book S v prefix shown w =
+    (w.seen ≡ prefix.entries) × (prefix.history ≡ book) × IsPrefix v.seen prefix.entries × IsLegal S prefix.entries
+    × (shown ≡ shown_of S prefix.entries)

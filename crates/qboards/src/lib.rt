@@ -4,7 +4,7 @@
 pub use board_change::BoardChange;
 pub use laws::boards_are_whole;
 pub use publisher::Publisher;
-pub use viewer::Viewer;
+pub use viewer::{Looked, Viewer};
 
 mod board_change;
 mod laws;

@@ -2,7 +2,7 @@
 use crate::sheet::Sheet;
 use atomic_table::{Join, Split};
 use crossbeam_utils::rule::{Outcome, Protocol};
-use qhistory::{House, Origin};
+use qhistory::StoreId;
 use qplain::Entry;
 use std::collections::LinkedList;
 use std::marker::PhantomData;
@@ -13,31 +13,31 @@ pub struct View {
 }
 
 /// The rule: the board is that of its history, which is legal, and begins with all that each reader has seen.
-pub struct Publishing<K, N> {
-    origin: PhantomData<(K, N)>,
+pub struct Publishing<S> {
+    store: PhantomData<S>,
 }
 
-impl<K: Origin, N: House> Protocol<Sheet, View> for Publishing<K, N> {
+impl<S: StoreId> Protocol<Sheet, View> for Publishing<S> {
     ghost use Rattle.qplain.specs.State.{start};
     ghost use Rattle.qboards.specs.Sheets.{board_in};
     ghost use Rattle.qboards.specs.Views.{Kept, newcomer};
 
-    ghost holds = { λ s. Kept N.names.book (start K.setting) s.front (board_in s) };
+    ghost holds = { λ s. Kept S.id.history (start S.id.setting) s.prefix (board_in s) };
 
     ghost first = { newcomer };
 }
 
 /// The history of what is published is then seen.
-pub struct Sees<K, N> {
-    origin: PhantomData<(K, N)>,
+pub struct Sees<S> {
+    store: PhantomData<S>,
 }
 
-impl<K: Origin, N: House> Outcome<Sheet, View> for Sees<K, N> {
+impl<S: StoreId> Outcome<Sheet, View> for Sees<S> {
     ghost use Rattle.qplain.specs.State.{start};
     ghost use Rattle.qboards.specs.Sheets.{board_in};
     ghost use Rattle.qboards.specs.Views.{Sight};
 
-    ghost then = { λ v x y w. Sight N.names.book (start K.setting) v y.front (board_in y) w };
+    ghost then = { λ v x y w. Sight S.id.history (start S.id.setting) v y.prefix (board_in y) w };
 }
 
 /// What the writing side tells a reader that has just sat down.

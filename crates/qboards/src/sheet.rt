@@ -1,6 +1,6 @@
 //! What is published: a board, with the history of which it is.
 ghost use Rattle.std.specs.Prelude.{◌≡◌, IfErr, IfOk, None, Some};
-ghost use Rattle.qplain.specs.declared.look_fault.LookFault.TheVariants.{ESRCH};
+ghost use Rattle.qplain.specs.declared.look_fault.LookFault.TheVariants.{ESRCH, OutOfMemory};
 ghost use Rattle.std.specs.List.{find};
 ghost use Rattle.qboards.specs.Boards.{changed_by, with_row, with_rows};
 ghost use Rattle.qboards.specs.Sheets.{board_in};
@@ -8,7 +8,7 @@ ghost use Rattle.qboards.specs.Whole.{is_row_of, row_in};
 
 use crate::board_change::BoardChange;
 use left_right::Absorb;
-use qhistory::Front;
+use qhistory::Prefix;
 use qplain::{Board, LookFault, NoMemory, PlacedRow};
 use qrules::{BoardRow, Items, Kind};
 use std::alloc::{AllocError, Global};
@@ -16,7 +16,7 @@ use std::alloc::{AllocError, Global};
 /// A board with its history, as a clause reads it. No value of it is made.
 pub struct Sealed {
     pub board: Board,
-    pub front: Front,
+    pub prefix: Prefix,
 }
 
 /// A board, and the history of which it is.
@@ -26,14 +26,14 @@ pub struct Sheet {
     pub(crate) rows: Vec<BoardRow>,
     pub(crate) blocks: u64,
     pub(crate) inodes: u64,
-    pub(crate) front: Front,
+    pub(crate) prefix: Prefix,
 }
 
 /// The change of one publication, and the history that it brings.
 #[derive(Drop)]
 pub struct Batch {
     pub(crate) change: BoardChange,
-    pub(crate) front: Front,
+    pub(crate) prefix: Prefix,
 }
 
 /// Puts a row in its place, if there is such a place.
@@ -79,8 +79,8 @@ fn find_row(rows: &[BoardRow], kind: Kind, id: u32) -> Option<BoardRow>
 
 impl Sheet {
     /// A sheet with a copy of this board.
-    pub(crate) fn with(alloc: Global, board: &Board, front: Front) -> Result<Sheet, NoMemory>
-        ensures front { IfOk result (λ s. s.front ≡ front) }
+    pub(crate) fn with(alloc: Global, board: &Board, prefix: Prefix) -> Result<Sheet, NoMemory>
+        ensures prefix { IfOk result (λ s. s.prefix ≡ prefix) }
         ensures board { IfOk result (λ s. board_in s ≡ board.now) }
     {
         let rows = Vec::from_slice(alloc, board.rows.as_slice())?;
@@ -89,7 +89,7 @@ impl Sheet {
             rows,
             blocks: board.blocks,
             inodes: board.inodes,
-            front,
+            prefix,
         })
     }
 
@@ -103,11 +103,14 @@ impl Sheet {
         self.inodes = change.inodes;
     }
 
-    /// A copy of the board.
-    pub(crate) fn copy_board(&self, alloc: Global) -> Result<Board, NoMemory>
-        ensures { IfOk result (λ b. b ≡ board_in self.now) }
+    /// A copy of the board. Err is OutOfMemory.
+    pub(crate) fn board(&self, alloc: Global) -> Result<Board, LookFault>
+        ensures ok { IfOk result (λ b. b ≡ board_in self.now) }
+        ensures err { IfErr result (λ f. f ≡ OutOfMemory) }
     {
-        let rows = Vec::from_slice(alloc, self.rows.as_slice())?;
+        let Ok(rows) = Vec::from_slice(alloc, self.rows.as_slice()) else {
+            return Err(LookFault::OutOfMemory);
+        };
         Ok(Board {
             version: self.version,
             rows: Items::new(rows),
@@ -115,9 +118,7 @@ impl Sheet {
             inodes: self.inodes,
         })
     }
-}
 
-impl Sheet {
     /// The row of a user or group under the board's version. Err is ESRCH, where there is none.
     pub(crate) fn record(&self, kind: Kind, id: u32) -> Result<(u64, BoardRow), LookFault>
         ensures ok { IfOk result (λ r. (r.0 ≡ (board_in self.now).version)
@@ -144,7 +145,7 @@ impl Absorb<Batch> for Sheet {
 
     fn absorb_first(&mut self, operation: &Batch, _other: &Sheet) -> Result<(), AllocError> {
         self.take_in(&operation.change);
-        self.front = operation.front.again();
+        self.prefix = operation.prefix.again();
         Ok(())
     }
 }

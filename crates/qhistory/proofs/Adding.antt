@@ -7,7 +7,7 @@ use prog.Atomic.{either}
 use Rattle.logbook.specs.Pages.{Cell, cell, keeps, no_nib, step, Moves, Goes}
 use Rattle.qplain.specs.declared.entry.Entry.{Entry}
 use Rattle.qhistory.specs.Laws.{IsKept, Adds}
-use Rattle.qhistory.proofs.Fronts.{prefix_whole}
+use Rattle.qhistory.proofs.Prefixes.{prefix_whole}
 
 abbrev pub shown : List Entry → List Entry
 shown log = []

@@ -1,10 +1,10 @@
--- What contracts see of a count.
+-- What contracts see of a part of a tally.
 use Rattle.std.specs.Prelude.{ℕ, ◌+◌, ◌≤◌}
 use Rattle.qplain.specs.declared.tallies.Tallies.{Tallies}
 
--- what was counted, and with how many parts of the ledgers
+-- what was counted, and with how many parts of the counters
 pub record Counted : Type 0 where
-  pub sums : Tallies
+  pub tally : Tallies
   pub parts : ℕ
 
 -- what two have counted together
@@ -18,9 +18,9 @@ sum_of t u = record {
 }
 
 -- each of the one's numbers is at most the other's
-pub record AreWithin (part whole : Tallies) : Type 0 where
-  pub blocks_charged : part.blocks_charged ≤ whole.blocks_charged
-  pub blocks_released : part.blocks_released ≤ whole.blocks_released
-  pub inodes_charged : part.inodes_charged ≤ whole.inodes_charged
-  pub inodes_released : part.inodes_released ≤ whole.inodes_released
-  pub calls : part.calls ≤ whole.calls
+pub record AreWithin (part all : Tallies) : Type 0 where
+  pub blocks_charged : part.blocks_charged ≤ all.blocks_charged
+  pub blocks_released : part.blocks_released ≤ all.blocks_released
+  pub inodes_charged : part.inodes_charged ≤ all.inodes_charged
+  pub inodes_released : part.inodes_released ≤ all.inodes_released
+  pub calls : part.calls ≤ all.calls

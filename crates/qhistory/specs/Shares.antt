@@ -4,28 +4,28 @@ use Rattle.std.specs.List.{list_any}
 use Rattle.qplain.specs.declared.entry.Entry.{Entry}
 use Rattle.qplain.specs.declared.tallies.Tallies.{Tallies}
 
--- a worker's number, the beginning of the history that it has seen, and what it has counted
-pub record Shared : Type 0 where
+-- a worker's number, the prefix of the history that it has seen, and what it has counted
+pub record HandedIn : Type 0 where
   pub worker : ℕ
   pub seen : List Entry
-  pub sums : Tallies
+  pub tally : Tallies
 
 -- what these shares have counted together
-abbrev pub sums_of : List Shared → Tallies
-sums_of shares = record {
-  blocks_charged = sum_by (λ s. s.sums.blocks_charged) shares;
-  blocks_released = sum_by (λ s. s.sums.blocks_released) shares;
-  inodes_charged = sum_by (λ s. s.sums.inodes_charged) shares;
-  inodes_released = sum_by (λ s. s.sums.inodes_released) shares;
-  calls = sum_by (λ s. s.sums.calls) shares;
+abbrev pub tally_of_shares : List HandedIn → Tallies
+tally_of_shares shares = record {
+  blocks_charged = sum_by (λ s. s.tally.blocks_charged) shares;
+  blocks_released = sum_by (λ s. s.tally.blocks_released) shares;
+  inodes_charged = sum_by (λ s. s.tally.inodes_charged) shares;
+  inodes_released = sum_by (λ s. s.tally.inodes_released) shares;
+  calls = sum_by (λ s. s.tally.calls) shares;
 }
 
 -- the shares of the first seats are there
-abbrev pub AreThere : List Shared → ℕ → Type 0
+abbrev pub AreThere : List HandedIn → ℕ → Type 0
 AreThere shares seats = (k : ℕ) → 0 < k → k ≤ seats → list_any (λ s. s.worker == k) shares ≡ true
 
 -- this is the least of the seats whose share is not there
-pub record IsLeastMissing (shares : List Shared) (seats worker : ℕ) : Type 0 where
+pub record IsLeastMissing (shares : List HandedIn) (seats worker : ℕ) : Type 0 where
   pub positive : 0 < worker
   pub seat : worker ≤ seats
   pub missing : list_any (λ s. s.worker == worker) shares ≡ false

@@ -1,20 +1,22 @@
-//! What the seats of a store have in common: one history, of which each has seen a beginning, and one tally, of which each
+//! What the seats of a store have in common: one history, of which each has seen a prefix, and one tally, of which each
 //! has counted a part.
 #![tactic(auto)]
 
-pub use books::Books;
-pub use count::Count;
-pub use front::{Front, Whole};
-pub use ledgers::Blanks;
-pub use names::{House, Origin};
-pub use parts::Parts;
+pub use counters::BlankCounters;
+pub use history::History;
+pub use prefix::Prefix;
+pub use seat_tally::SeatTally;
 pub use share::{Share, least_missing, together};
+pub use store_id::StoreId;
+pub use tally_part::TallyPart;
+pub use tally_total::TallyTotal;
 
-mod books;
-mod count;
-mod front;
+mod counters;
+mod history;
 mod law;
-mod ledgers;
-mod names;
-mod parts;
+mod prefix;
+mod seat_tally;
 mod share;
+mod store_id;
+mod tally_part;
+mod tally_total;

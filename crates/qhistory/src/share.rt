@@ -2,45 +2,45 @@
 ghost use Rattle.std.specs.Prelude.{◌≡◌, ◌==◌, ◌≤◌, length, None, IfSome};
 ghost use Rattle.std.specs.List.{list_any};
 ghost use Rattle.qplain.specs.Journal.{no_tally};
-ghost use Rattle.qhistory.specs.Past.{past};
-ghost use Rattle.qhistory.specs.Shares.{AreThere, IsLeastMissing, sums_of};
+ghost use Rattle.qhistory.specs.Histories.{recorded};
+ghost use Rattle.qhistory.specs.Shares.{AreThere, IsLeastMissing, tally_of_shares};
 
-use crate::count::Count;
-use crate::front::Front;
-use crate::names::House;
-use crate::parts::Parts;
+use crate::seat_tally::SeatTally;
+use crate::prefix::Prefix;
+use crate::store_id::StoreId;
+use crate::tally_part::TallyPart;
 use qplain::Tallies;
 use std::marker::Model;
 
-/// What one seat has seen and counted. Contracts see the worker's number, the beginning of the history, and the sums.
+/// What one seat has seen and counted. Contracts see the worker's number, the prefix of the history, and the tally.
 #[derive(Drop)]
-pub struct Share<N: House> {
+pub struct Share<S: StoreId> {
     worker: u64,
-    front: Front,
-    count: Count<N>,
+    prefix: Prefix,
+    count: SeatTally<S>,
 }
 
-impl<N: House> Model for Share<N> {
+impl<S: StoreId> Model for Share<S> {
     ghost use Rattle.std.specs.Prelude.{◌≡◌};
-    ghost use Rattle.qhistory.specs.Shares.{Shared};
+    ghost use Rattle.qhistory.specs.Shares.{HandedIn};
 
-    ghost Value = { Shared };
+    ghost Value = { HandedIn };
 
-    ghost view = { λ s. record { worker = s.worker; seen = s.front.log; sums = s.count.sums } };
+    ghost view = { λ s. record { worker = s.worker; seen = s.prefix.entries; tally = s.count.tally } };
 
-    ghost invariant = { λ s. (s.front.book ≡ N.names.book) × (s.count.parts ≡ 1) };
+    ghost invariant = { λ s. (s.prefix.history ≡ S.id.history) × (s.count.parts ≡ 1) };
 }
 
-impl<N: House> Share<N> {
+impl<S: StoreId> Share<S> {
     /// The share of a worker, who has seen this much of the history.
-    pub fn new(worker: u64, front: Front, count: Count<N>) -> Share<N>
-        requires front { front.book ≡ N.names.book }
+    pub fn new(worker: u64, prefix: Prefix, count: SeatTally<S>) -> Share<S>
+        requires prefix { prefix.history ≡ S.id.history }
         requires count { count.parts ≡ 1 }
-        ensures { result ≡ record { worker = worker; seen = front.log; sums = count.sums } }
+        ensures { result ≡ record { worker = worker; seen = prefix.entries; tally = count.tally } }
     {
         Share {
             worker,
-            front,
+            prefix,
             count,
         }
     }
@@ -53,42 +53,42 @@ impl<N: House> Share<N> {
     }
 
     /// How many calls its worker had journaled, and what they did to the totals.
-    pub fn sums(&self) -> Tallies
-        ensures { result ≡ self.now.sums }
+    pub fn tally(&self) -> Tallies
+        ensures { result ≡ self.now.tally }
     {
-        self.count.sums()
+        self.count.tally()
     }
 
-    /// The beginning of the history that its worker has seen.
-    pub fn front(&self) -> &Front
-        ensures { result.now ≡ past N.names.book self.now.seen }
+    /// The prefix of the history that its worker has seen.
+    pub fn prefix(&self) -> &Prefix
+        ensures { result.now ≡ recorded S.id.history self.now.seen }
     {
-        &self.front
+        &self.prefix
     }
 
-    /// The parts of the ledgers with which it was counted.
-    fn into_parts(self) -> Parts<N>
-        ensures { result ≡ record { sums = self.sums; parts = 1 } }
+    /// The parts of the counters with which it was counted.
+    fn into_parts(self) -> TallyPart<S>
+        ensures { result ≡ record { tally = self.tally; parts = 1 } }
     {
         self.count.into_parts()
     }
 }
 
 /// All shares in one: what they have counted together, with as many parts as they are.
-pub fn together<N: House>(rest: Parts<N>, shares: Vec<Share<N>>) -> Parts<N>
-    requires { rest ≡ record { sums = no_tally; parts = 0 } }
-    ensures whole { result ≡ record { sums = sums_of shares.items; parts = length shares.items } }
-    ensures few { length shares.items ≤ N.names.ledgers.parts }
+pub fn together<S: StoreId>(rest: TallyPart<S>, shares: Vec<Share<S>>) -> TallyPart<S>
+    requires { rest ≡ record { tally = no_tally; parts = 0 } }
+    ensures all { result ≡ record { tally = tally_of_shares shares.items; parts = length shares.items } }
+    ensures few { length shares.items ≤ S.id.counters.parts }
 {
-    let mut whole = rest;
+    let mut all = rest;
     for share in shares {
-        whole.merge(share.into_parts());
+        all.merge(share.into_parts());
     }
-    whole
+    all
 }
 
 /// Whether a share is this worker's.
-fn is_there<N: House>(shares: &[Share<N>], worker: u64) -> bool
+fn is_there<S: StoreId>(shares: &[Share<S>], worker: u64) -> bool
     ensures { result ≡ list_any (λ s. s.worker == worker) shares.now }
 {
     shares.iter().any(|share| share.worker == worker)
@@ -96,7 +96,7 @@ fn is_there<N: House>(shares: &[Share<N>], worker: u64) -> bool
 
 /// The least of the workers, from 1 to `seats`, whose share is not there. O(shares) for each of them.
 #[tactic(auto, using(crate::proofs::Present::all_there))]
-pub fn least_missing<N: House>(shares: &[Share<N>], seats: u64) -> Option<u64>
+pub fn least_missing<S: StoreId>(shares: &[Share<S>], seats: u64) -> Option<u64>
     ensures least { IfSome result (IsLeastMissing shares.now seats) }
     ensures all { result ≡ None → AreThere shares.now seats }
     ensures none { result ≡ None → seats ≤ length shares.now }

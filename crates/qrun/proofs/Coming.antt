@@ -1,5 +1,5 @@
 -- What a run of one worker comes to, put together of its parts.
-use Rattle.std.proofs.Common.{◌≡◌, ℕ, List, [], length, All, Result, Ok, Err, IfOk, sym, ap, refl, ◌∙◌}
+use Rattle.std.proofs.Common.{◌≡◌, ℕ, ◌≤◌, List, [], length, All, Result, Ok, Err, IfOk, sym, ap, refl, ◌∙◌}
 use Rattle.qplain.specs.declared.board.Board.{Board}
 use Rattle.qplain.specs.declared.line.Line.{Line}
 use Rattle.qplain.specs.declared.look_fault.LookFault.{LookFault}
@@ -7,69 +7,72 @@ use Rattle.qplain.specs.Setups.{Setting}
 use Rattle.qrun.specs.declared.outcome.Outcome.{Outcome}
 use Rattle.qplain.specs.declared.transcript.Transcript.{Transcript}
 use Rattle.qplain.specs.Journals.{IsJournal, IsWorkers, Written}
-use Rattle.qrun.specs.Journaled.{IsPlayed, Journaled}
 use Rattle.qrun.specs.Left.{IsLeftOf, IsOneOf}
 use Rattle.qrun.specs.Replays.{IsReplayOf, transcripts_in}
 use Rattle.qplain.specs.Transcripts.{Belongs}
 use Rattle.qrun.specs.Runs.{AreTranscriptsOf, IsOutcomeOf}
 use Rattle.qplain.specs.State.{start}
+use Rattle.qplain.specs.Journal.{IsLegal}
+use Rattle.qplain.specs.declared.entry.Entry.{Entry}
+use Rattle.qlaws.specs.Laws.{IsLawful}
+use Rattle.qplain.specs.declared.bounds.TheConstants.{MAX_ENTRIES}
 use Rattle.qcheck.specs.LawfulBoards.{AreLawful, boards_in}
 use Rattle.qrun.proofs.Stats.{legal-fair}
 
 -- the journal of a store that was played on by so many workers is one
-pub journal_left : (j : Journaled) (workers : ℕ) → IsPlayed j → IsWorkers workers → All (IsOneOf workers) j.journal
-    → IsJournal (record { workers = workers; entries = j.journal })
-journal_left j workers played lawful each = record {
-  workers = lawful;
-  few = played.few;
+pub journal_left : (setting : Setting) (journal : List Entry) (workers : ℕ) → IsLawful (start setting) → IsLegal (start setting) journal
+    → length journal ≤ MAX_ENTRIES → IsWorkers workers → All (IsOneOf workers) journal
+    → IsJournal (record { workers = workers; entries = journal })
+journal_left setting journal workers lawful legal few are each = record {
+  workers = are;
+  few = few;
   each = λ k d less.
       let one = each k d less in
-      (one.0, one.1, legal-fair (start j.setting) j.journal played.lawful played.legal k d less);
+      (one.0, one.1, legal-fair (start setting) journal lawful legal k d less);
 }
 
--- what is left of a store that was played on
-pub alone : (setting : Setting) (scripts : List (List Line)) (j : Journaled) (workers : ℕ) (transcripts : List Transcript)
-    (boards : List (Result Board LookFault)) (o : Outcome) → IsLeftOf j workers transcripts boards o → workers ≡ length scripts
-    → j.setting ≡ setting → AreTranscriptsOf 1 scripts j.journal transcripts → All (Belongs transcripts) j.journal
-    → AreLawful (start setting) j.journal (boards_in boards) → IsOutcomeOf setting scripts o
-alone setting scripts j workers transcripts boards o left each same told belong lawful = record {
-  setup = rw (left.setup, same) refl;
-  legal = rw (left.journal, sym same) left.played.legal;
-  workers = ap (λ journal. journal.workers) left.journal ∙ each;
-  few = rw left.journal left.played.few;
-  tallies = left.tallies;
-  store = rw (left.store, left.journal, sym same) left.played.state;
-  transcripts = rw (left.transcripts_are, left.journal) told;
-  belong = rw (left.transcripts_are, left.journal) belong;
-  boards = rw (left.boards_are, left.journal) lawful;
-  records = rw left.store left.records;
-  differences = rw left.store left.differences;
+-- what is left of a store that was played on by the workers of scripts
+pub alone : (setting : Setting) (scripts : List (List Line)) (journal : List Entry) (workers : ℕ) (transcripts : List Transcript)
+    (boards : List (Result Board LookFault)) (o : Outcome) → IsLeftOf setting journal workers transcripts boards o
+    → workers ≡ length scripts → AreTranscriptsOf 1 scripts journal transcripts → All (Belongs transcripts) journal
+    → AreLawful (start setting) journal (boards_in boards) → IsOutcomeOf setting scripts o
+alone setting scripts journal workers transcripts boards o left each told belong lawful = record {
+  setup = left.setup;
+  legal = rw left.journal_is left.legal;
+  workers = ap (λ j. j.workers) left.journal_is ∙ each;
+  few = rw left.journal_is left.few;
+  tallies = rw left.journal_is left.tallies;
+  store = rw left.journal_is left.store;
+  transcripts = rw (left.transcripts_are, left.journal_is) told;
+  belong = rw (left.transcripts_are, left.journal_is) belong;
+  boards = rw (left.boards_are, left.journal_is) lawful;
+  records = left.records;
+  differences = left.differences;
   agree = left.agree;
 }
 
 -- the same, if anything is left
-pub left_alone : {E : Type 0} (setting : Setting) (scripts : List (List Line)) (j : Journaled) (workers : ℕ)
+pub left_alone : {E : Type 0} (setting : Setting) (scripts : List (List Line)) (journal : List Entry) (workers : ℕ)
     (transcripts : List Transcript) (boards : List (Result Board LookFault)) (r : Result Outcome E)
-    → IfOk r (IsLeftOf j workers transcripts boards) → workers ≡ length scripts → j.setting ≡ setting
-    → AreTranscriptsOf 1 scripts j.journal transcripts → All (Belongs transcripts) j.journal
-    → AreLawful (start setting) j.journal (boards_in boards) → IfOk r (IsOutcomeOf setting scripts)
-left_alone setting scripts j workers transcripts boards (Ok o) left each same told belong lawful =
-    alone setting scripts j workers transcripts boards o left each same told belong lawful
-left_alone setting scripts j workers transcripts boards (Err fault) left each same told belong lawful = tt
+    → IfOk r (IsLeftOf setting journal workers transcripts boards) → workers ≡ length scripts
+    → AreTranscriptsOf 1 scripts journal transcripts → All (Belongs transcripts) journal
+    → AreLawful (start setting) journal (boards_in boards) → IfOk r (IsOutcomeOf setting scripts)
+left_alone setting scripts journal workers transcripts boards (Ok o) left each told belong lawful =
+    alone setting scripts journal workers transcripts boards o left each told belong lawful
+left_alone setting scripts journal workers transcripts boards (Err fault) left each told belong lawful = tt
 
 -- what is left of a store on which a journal was played again
-pub again : (setting : Setting) (written : Written) (j : Journaled) (o : Outcome)
-    → IsLeftOf j written.workers (transcripts_in written) [] o
-    → j.setting ≡ setting → j.journal ≡ written.entries → IsReplayOf setting written o
-again setting written j o left same journal = record {
-  setup = rw (left.setup, same) refl;
-  legal = rw (sym same, sym journal) left.played.legal;
-  journal = left.journal ∙ ap (λ entries. record { workers = written.workers; entries = entries }) journal;
-  tallies = left.tallies;
-  store = rw (left.store, sym same, sym journal) left.played.state;
+pub again : (setting : Setting) (written : Written) (o : Outcome)
+    → IsLeftOf setting written.entries written.workers (transcripts_in written) [] o → IsReplayOf setting written o
+again setting written o left = record {
+  setup = left.setup;
+  legal = left.legal;
+  journal = left.journal_is;
+  tallies = rw left.journal_is left.tallies;
+  store = left.store;
   transcripts = left.transcripts_are;
   boards = left.boards_are;
-  records = rw left.store left.records;
-  differences = rw left.store left.differences;
+  records = left.records;
+  differences = left.differences;
   agree = left.agree;
 }

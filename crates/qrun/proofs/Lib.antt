@@ -1,6 +1,5 @@
--- One more call of a journaled store, what a journal tells of directories, what a run comes to, a journal played
+-- What a journal tells of directories, what a run comes to, a journal played
 -- again, and that of a run.
-pub mod Journaling
 pub mod Stats
 pub mod Coming
 pub mod Replaying

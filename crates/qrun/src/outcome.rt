@@ -2,12 +2,13 @@ ghost use Rattle.std.specs.Prelude.{All, IfOk};
 ghost use Rattle.qplain.specs.Journals.{IsWorkers};
 ghost use Rattle.qrun.specs.Left.{IsLeftOf, IsOneOf};
 
-use crate::journaled_store::JournaledStore;
 use qaudit::Difference;
-use qjournal::Journal;
-use qplain::{Board, LookFault, NoMemory, Setup, Tallies, Transcript};
+use qplain::{Board, Journal, LookFault, NoMemory, Setup, Tallies, Transcript};
+use qrows::audit;
 use qrules::{Items, RecordRow};
 use qstore::Store;
+use qstore_journaled::{Ended, JournaledStore};
+use std::alloc::Global;
 
 /// What a run leaves: the setup that it began with, the store, its journal and the tallies of it, what each worker was
 /// answered, what its looks at the boards were given, in order, the store's quota records, and what an audit of the
@@ -26,6 +27,7 @@ pub struct Outcome {
 
 /// What is left of a store that was played on by so many workers, with these transcripts and these looks at its boards.
 pub fn outcome_of(
+    alloc: Global,
     store: JournaledStore,
     workers: u64,
     transcripts: Items<Transcript>,
@@ -33,11 +35,16 @@ pub fn outcome_of(
 ) -> Result<Outcome, NoMemory>
     requires workers { IsWorkers workers }
     requires each { All (IsOneOf workers) store.journal }
-    ensures { IfOk result (IsLeftOf store workers transcripts boards) }
+    ensures { IfOk result (IsLeftOf store.setting store.journal workers transcripts boards) }
 {
-    let records = store.record_rows()?;
-    let differences = store.audit(&records)?;
-    let (setup, store, journal, tallies) = store.into_parts();
+    let records = store.store().record_rows()?;
+    let differences = audit(alloc, store.store(), &records)?;
+    let Ended {
+        setup,
+        store,
+        journal,
+        tallies,
+    } = store.into_parts();
     Ok(Outcome {
         setup,
         store,

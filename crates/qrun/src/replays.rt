@@ -1,20 +1,74 @@
 //! Replays: journals played again on a store of their own.
-ghost use Rattle.std.specs.Prelude.{◌≡◌, ◌≤◌, ℕ, List, Err, IfOk, length};
+ghost use Rattle.std.specs.Prelude.{◌≡◌, ◌<◌, ◌≤◌, ◌++◌, ◌∷◌, [], ℕ, List, Err, IfOk, OnOk, length};
+ghost use Rattle.std.specs.Bool.{Decides};
+ghost use Rattle.qplain.specs.declared.bounds.TheConstants.{MAX_ENTRIES};
 ghost use Rattle.qplain.specs.declared.line.Line.{Line};
 ghost use Rattle.qplain.specs.State.{start};
-ghost use Rattle.qplain.specs.declared.bounds.TheConstants.{MAX_ENTRIES};
 ghost use Rattle.qrun.specs.declared.outcome.Outcome.{Outcome};
 ghost use Rattle.qrun.specs.declared.replay_fault.ReplayFault.TheVariants.{Mismatch};
 ghost use Rattle.qrun.specs.Runs.{IsOutcomeOf};
-ghost use Rattle.qrun.specs.Replays.{GivesBack, IsMismatch, IsReplayOf, line_of, transcript_in, transcripts_in};
+ghost use Rattle.qrun.specs.Replays.{GivesBack, IsMismatch, IsMismatchAfter, IsReplayOf, line_of, transcript_in, transcripts_in};
 
-use crate::journaled_store::{JournaledStore, line_of};
 use crate::outcome::outcome_of;
 use crate::{Outcome, ReplayFault};
-use qjournal::Journal;
-use qplain::{Entry, NoMemory, Receipt, Setup, Transcript};
+use qplain::{Entry, Journal, Line, NoMemory, Receipt, Reply, Setup, Transcript};
 use qrules::Items;
+use qstore_journaled::JournaledStore;
 use std::alloc::Global;
+
+/// Whether the two replies are the same.
+fn are_same(one: &Reply, other: &Reply) -> bool
+    ensures { Decides result (one.now ≡ other.now) }
+{
+    one == other
+}
+
+/// Makes the call of an entry again and journals it. Where the reply would be another than the entry's, that is told by
+/// its place, and nothing is done.
+fn replay_entry(store: &mut JournaledStore, entry: &Entry) -> Result<(), ReplayFault>
+    requires few { length store.old.journal < MAX_ENTRIES }
+    ensures setting { store.new.setting ≡ store.old.setting }
+    ensures ok { OnOk result (store.new.journal ≡ store.old.journal ++ entry.now ∷ []) }
+    ensures mismatch { (place : ℕ) → result ≡ Err (Mismatch place)
+        → IsMismatchAfter (start store.old.setting) store.old.journal entry.now place }
+{
+    // What is ready is large: a `?` would move it once more.
+    let Ok(next) = store.ready(entry.worker, &entry.cred, entry.moment, &entry.call) else {
+        return Err(ReplayFault::Memory);
+    };
+    if !are_same(&next.entry().reply, &entry.reply) {
+        return Err(ReplayFault::Mismatch(store.entries().len() as u64 + 1));
+    }
+    let _receipt = store.commit(next);
+    Ok(())
+}
+
+/// Plays the entries again, one after the other, on a store that has just begun, up to the first whose reply is another
+/// than the store's.
+fn replay_all(store: &mut JournaledStore, entries: &[Entry]) -> Result<(), ReplayFault>
+    requires fresh { store.old.journal ≡ [] }
+    requires few { length entries.now ≤ MAX_ENTRIES }
+    ensures setting { store.new.setting ≡ store.old.setting }
+    ensures ok { OnOk result (store.new.journal ≡ entries.now) }
+    ensures mismatch { (place : ℕ) → result ≡ Err (Mismatch place)
+        → IsMismatch (start store.old.setting) entries.now place }
+{
+    for entry in entries {
+        replay_entry(store, entry)?;
+    }
+    Ok(())
+}
+
+/// The line of an entry, which shares what its call has.
+fn line_of(entry: &Entry) -> Result<Line, NoMemory>
+    ensures { IfOk result (λ line. line ≡ line_of entry.now) }
+{
+    Ok(Line {
+        cred: entry.cred.copy()?,
+        moment: entry.moment,
+        call: entry.call.copy()?,
+    })
+}
 
 /// The transcript of a worker: its own entries, of which nothing is copied, and no others.
 fn transcript_of(alloc: Global, worker: u64, entries: &[Entry]) -> Result<Transcript, NoMemory>
@@ -64,10 +118,10 @@ fn play_again(
         → IsMismatch (start setup) journal.now.entries place }
 {
     let mut store = JournaledStore::new(alloc, setup, seed)?;
-    store.replay(journal.entries())?;
+    replay_all(&mut store, journal.entries())?;
     let transcripts = transcripts_of(alloc, journal)?;
     let no_boards = Items::new(Vec::new(alloc));
-    Ok(outcome_of(store, journal.workers(), transcripts, no_boards)?)
+    Ok(outcome_of(alloc, store, journal.workers(), transcripts, no_boards)?)
 }
 
 /// Plays a journal again on a new store of the setup, one entry after the other, whoever's they are.

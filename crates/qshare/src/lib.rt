@@ -1,14 +1,24 @@
 //! A store that many seats share: one lock, a seat for each worker, and the end, at which what they counted adds up.
 #![tactic(auto)]
 
+pub use boards::Boards;
+pub use end_fault::EndFault;
 pub use held::{Held, MAX_BATCH};
+pub use no_boards::NoBoards;
 pub use opening::{MAX_SEATS, Opened};
-pub use seat::Seat;
+pub use published::Published;
+pub use qstore_journaled::{Ended, JournaledStore};
+pub use seat::{Blind, Seat};
 pub use share_fault::ShareFault;
-pub use shared::{Missing, Shared};
+pub use shared::Shared;
 
+mod boards;
+mod end_fault;
 mod held;
+mod locked_store;
+mod no_boards;
 mod opening;
+mod published;
 mod seat;
 mod share_fault;
 mod shared;

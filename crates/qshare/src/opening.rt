@@ -1,51 +1,56 @@
-//! How a shared store is made: first a store, then its name, then its seats.
+//! How a shared store is made: first a store, then its identity, then its seats.
 ghost use Rattle.std.specs.Prelude.{◌≡◌, ◌<◌, ◌≤◌, ◌⊎◌, [], length, Err, IfOk, IfErr};
-ghost use Rattle.qplain.specs.State.{start};
 ghost use Rattle.qplain.specs.Journal.{board_of, no_tally};
-ghost use Rattle.qboards.specs.Boards.{shown_of};
-ghost use Rattle.qhistory.specs.Past.{past};
+ghost use Rattle.qplain.specs.Setups.{IsLawfulSetup};
+ghost use Rattle.qplain.specs.State.{start};
+ghost use Rattle.qhistory.specs.Histories.{recorded};
 ghost use Rattle.qshare.specs.Seats.{seats_of};
 ghost use Rattle.qshare.specs.declared.share_fault.ShareFault.TheVariants.{Seats};
 
-use crate::seat::Seat;
+use crate::boards::Boards;
+use crate::locked_store::LockedStore;
+use crate::no_boards::NoBoards;
+use crate::published::Published;
+use crate::seat::{Blind, Seat};
 use crate::share_fault::ShareFault;
 use crate::shared::Shared;
-use qboards::Publisher;
-use qhistory::{Blanks, Front, House, Origin, Parts, Whole};
-use qlocked::LockedStore;
+use qboards::{Publisher, Viewer};
+use qhistory::{BlankCounters, History, Prefix, StoreId, TallyPart};
 use qplain::{Board, NoMemory, Setup};
 use qrules::Items;
 use qstore::Store;
+use qstore_journaled::JournaledStore;
 use std::alloc::Global;
-use std::marker::{Model, PhantomData};
+use std::marker::Model;
 use std::sync::Wait;
 
 /// The most seats that a store may have.
 pub const MAX_SEATS: u64 = 16;
 
-/// A shared store that has no name yet. Contracts see the names that it can have.
+/// A shared store that has no identity yet. Contracts see the identity that it can have.
 #[derive(Drop)]
-pub struct Opened<K: Origin> {
+pub struct Opened {
     alloc: Global,
-    setup: Setup,
-    store: Store,
-    whole: Whole,
-    blanks: Blanks,
+    store: JournaledStore,
+    history: History,
+    counters: BlankCounters,
     seats: u64,
-    origin: PhantomData<K>,
 }
 
-impl<K: Origin> Model for Opened<K> {
+impl Model for Opened {
     ghost use Rattle.std.specs.Prelude.{◌≡◌, ◌<◌, ◌≤◌, []};
-    ghost use Rattle.qplain.specs.State.{start};
-    ghost use Rattle.qhistory.specs.Names.{Names};
+    ghost use Rattle.qhistory.specs.StoreIds.{Identity};
 
-    ghost Value = { Names };
+    ghost Value = { Identity };
 
-    ghost view = { λ o. record { book = o.whole.book; ledgers = o.blanks } };
+    ghost view = { λ o. record {
+      setting = o.store.setting;
+      history = o.history.history;
+      counters = o.counters;
+    } };
 
-    ghost invariant = { λ o. (o.setup ≡ K.setting) × (o.store.state ≡ start K.setting) × (o.whole.log ≡ [])
-        × (0 < o.seats) × (o.seats ≤ 16) × (o.blanks.parts ≡ o.seats) };
+    ghost invariant = { λ o. (o.store.journal ≡ []) × (o.history.entries ≡ []) × (0 < o.seats) × (o.seats ≤ 16)
+        × (o.counters.parts ≡ o.seats) };
 }
 
 /// The board of a new store.
@@ -61,55 +66,101 @@ fn first_board(store: &Store) -> Result<Board, NoMemory>
 }
 
 /// The writing side of the boards of a new store, with a place for each seat's reader.
-fn first_publisher<K: Origin, N: House, R: Wait + Drop>(
+fn first_publisher<S: StoreId, R: Wait + Drop>(
     alloc: Global,
     rt: R,
-    store: &Store,
-    front: &Front,
+    store: &JournaledStore,
+    prefix: &Prefix,
     seats: u64,
-) -> Result<Publisher<K, N, R>, NoMemory>
-    requires store { store.now.state ≡ start K.setting }
-    requires front { front.now ≡ past N.names.book [] }
+) -> Result<Publisher<S, R>, NoMemory>
+    requires store { (store.now.setting ≡ S.id.setting) × (store.now.journal ≡ []) }
+    requires prefix { prefix.now ≡ recorded S.id.history [] }
     requires seats { (0 < seats) × (seats ≤ MAX_SEATS) }
-    ensures { IfOk result (λ p. p ≡ []) }
+    ensures published { IfOk result (λ p. p ≡ []) }
+    ensures setup { IsLawfulSetup S.id.setting }
 {
-    let board = first_board(store)?;
-    Publisher::new(alloc, rt, &board, front, seats as usize)
+    let board = first_board(store.store())?;
+    Publisher::new(alloc, rt, &board, prefix, seats as usize)
 }
 
-/// The seats of a new store, numbered from 1.
-fn new_seats<K: Origin, N: House, R: Wait + Drop>(
+/// The seats of a new store whose boards can be looked at, numbered from 1, each with a viewer of its own.
+fn viewing_seats<S: StoreId, R: Wait + Drop>(
     alloc: Global,
-    store: &mut LockedStore<K, N, R>,
+    publisher: &mut Publisher<S, R>,
+    prefix: &Prefix,
     count: u64,
-    mut all: Parts<N>,
-) -> Result<Vec<Seat<K, N>>, ShareFault>
-    requires store { (store.old.journal ≡ []) × (store.old.published ≡ []) }
-    requires all { all ≡ record { sums = no_tally; parts = count } }
-    ensures seats { IfOk result (λ seats. seats.items ≡ seats_of count) }
-    ensures few { result ≡ Err Seats → ⊥ }
+    mut all: TallyPart<S>,
+) -> Result<Vec<Seat<S, Viewer<S>>>, ShareFault>
+    requires setup { IsLawfulSetup S.id.setting }
+    requires publisher { publisher.old ≡ [] }
+    requires prefix { prefix.now ≡ recorded S.id.history [] }
+    requires all { all ≡ record { tally = no_tally; parts = count } }
+    ensures publisher { publisher.new ≡ [] }
+    ensures seats { IfOk result (λ seats. seats.items ≡ seats_of count) × (result ≡ Err Seats → ⊥) }
 {
     let mut seats = Vec::new(alloc);
     for before in 0..count {
         let Ok(()) = seats.reserve(1) else {
             return Err(ShareFault::OutOfMemory);
         };
-        let Ok(viewer) = store.viewer() else {
+        let Ok(viewer) = Viewer::new(alloc, publisher, prefix.again()) else {
             return Err(ShareFault::NoReader);
         };
-        seats.push_reserved(Seat::new(alloc, before + 1, viewer, all.split_off()));
+        seats.push_reserved(Seat::new(before + 1, prefix.again(), all.split_off(), viewer));
     }
     Ok(seats)
 }
 
-impl<K: Origin> Opened<K> {
+/// The seats of a new store whose boards nobody can look at, numbered from 1.
+fn blind_seats<S: StoreId>(
+    alloc: Global,
+    prefix: &Prefix,
+    count: u64,
+    mut all: TallyPart<S>,
+) -> Result<Vec<Seat<S, Blind>>, ShareFault>
+    requires prefix { prefix.now ≡ recorded S.id.history [] }
+    requires all { all ≡ record { tally = no_tally; parts = count } }
+    ensures seats { IfOk result (λ seats. seats.items ≡ seats_of count) }
+    ensures fault { IfErr result (λ fault. fault ≡ ShareFault.OutOfMemory) }
+{
+    let mut seats = Vec::new(alloc);
+    for before in 0..count {
+        let Ok(()) = seats.reserve(1) else {
+            return Err(ShareFault::OutOfMemory);
+        };
+        seats.push_reserved(Seat::new(before + 1, prefix.again(), all.split_off(), Blind));
+    }
+    Ok(seats)
+}
+
+/// A new store of the setup, for so many seats.
+fn open_store(
+    alloc: Global,
+    setup: Setup,
+    seats: u64,
+    seed: u64,
+) -> Result<Opened, NoMemory>
+    requires few { (0 < seats) × (seats ≤ MAX_SEATS) }
+    ensures setting { IfOk result (λ o. o.setting ≡ setup) }
+    ensures seats { IfOk result (λ o. o.counters.parts ≡ seats) }
+{
+    Ok(Opened {
+        alloc,
+        store: JournaledStore::new(alloc, setup, seed)?,
+        history: History::new(),
+        counters: BlankCounters::new(seats),
+        seats,
+    })
+}
+
+impl Opened {
     /// A new store of the setup, for 1 to 16 seats.
     ///
     /// The hashes of names begin at `seed`, which may be any number. Seats is told first. After an Err nothing was
     /// made.
-    pub fn new(alloc: Global, setup: Setup, seats: u64, seed: u64) -> Result<Opened<K>, ShareFault>
-        requires { setup ≡ K.setting }
-        ensures seats { IfOk result (λ o. o.ledgers.parts ≡ seats) }
+    pub fn new(alloc: Global, setup: Setup, seats: u64, seed: u64) -> Result<Opened, ShareFault>
+        ensures setting { IfOk result (λ o. o.setting ≡ setup) }
+        ensures seats { IfOk result (λ o. o.counters.parts ≡ seats) }
         ensures refused { (0 < seats) × (seats ≤ MAX_SEATS)
             → IfErr result (λ fault. fault ≡ ShareFault.OutOfMemory) }
         ensures most { (seats ≡ 0) ⊎ (MAX_SEATS < seats) → result ≡ Err ShareFault.Seats }
@@ -123,59 +174,64 @@ impl<K: Origin> Opened<K> {
         }
     }
 
-    /// The store under a name, behind its lock, and its seats, which are numbered from 1.
+    /// The store under its identity, behind its lock, and its seats, which are numbered from 1 and can look at its
+    /// boards.
     ///
-    /// An Err is OutOfMemory, or NoReader where a seat got no reader of the boards; then nothing is left.
-    pub fn named<N: House, R: Wait + Drop>(
+    /// `rt` is how a drop of the store waits for who looks. An Err is OutOfMemory, or NoReader where a seat got no
+    /// reader of the boards; then nothing is left.
+    pub fn with_viewers<S: StoreId, R: Wait + Drop>(
         self,
         rt: R,
-    ) -> Result<(Shared<K, N, R>, Vec<Seat<K, N>>), ShareFault>
-        requires { self ≡ N.names }
-        ensures seats { IfOk result (λ r. r.1.items ≡ seats_of N.names.ledgers.parts) }
+    ) -> Result<(Shared<S, Published<S, R>>, Vec<Seat<S, Viewer<S>>>), ShareFault>
+        requires { self ≡ S.id }
+        ensures seats { IfOk result (λ r. r.1.items ≡ seats_of S.id.counters.parts) }
         ensures few { result ≡ Err Seats → ⊥ }
     {
         let Opened {
             alloc,
-            setup,
             store,
-            whole,
-            blanks,
+            history,
+            counters,
             seats,
-            origin: _,
         } = self;
-        let (books, mut all) = blanks.open::<N>();
+        let (tally, mut all) = counters.open::<S>();
         let rest = all.empty();
-        let front = whole.front();
-        let Ok(publisher) = first_publisher::<K, N, R>(alloc, rt, &store, &front, seats) else {
+        let prefix = history.prefix();
+        let Ok(mut publisher) = first_publisher::<S, R>(alloc, rt, &store, &prefix, seats) else {
             return Err(ShareFault::OutOfMemory);
         };
-        let mut locked = LockedStore::new(
-            alloc, setup, store, whole, books, seats, rest, publisher,
-        );
-        let seats = new_seats(alloc, &mut locked, seats, all)?;
-        Ok((Shared::over(locked), seats))
+        let made = viewing_seats(alloc, &mut publisher, &prefix, seats, all)?;
+        let boards = Published {
+            alloc,
+            publisher,
+            waiting: Vec::new(alloc),
+        };
+        let locked = LockedStore::new(store, history, tally, seats, rest, boards);
+        Ok((Shared::over(locked), made))
     }
-}
 
-/// A new store of the setup, for so many seats.
-fn open_store<K: Origin>(
-    alloc: Global,
-    setup: Setup,
-    seats: u64,
-    seed: u64,
-) -> Result<Opened<K>, NoMemory>
-    requires setup { setup ≡ K.setting }
-    requires few { (0 < seats) × (seats ≤ MAX_SEATS) }
-    ensures seats { IfOk result (λ o. o.ledgers.parts ≡ seats) }
-{
-    let store = Store::new(alloc, setup.copy(alloc)?, seed)?;
-    Ok(Opened {
-        alloc,
-        setup,
-        store,
-        whole: Whole::new(),
-        blanks: Blanks::new(seats),
-        seats,
-        origin: PhantomData,
-    })
+    /// The store under its identity, behind its lock, and its seats, which are numbered from 1. Nobody can look at its
+    /// boards, so a call takes less than with viewers; else all is the same.
+    ///
+    /// An Err is OutOfMemory; then nothing is left.
+    pub fn without_viewers<S: StoreId>(
+        self,
+    ) -> Result<(Shared<S, NoBoards>, Vec<Seat<S, Blind>>), ShareFault>
+        requires { self ≡ S.id }
+        ensures seats { IfOk result (λ r. r.1.items ≡ seats_of S.id.counters.parts) }
+        ensures fault { IfErr result (λ fault. fault ≡ ShareFault.OutOfMemory) }
+    {
+        let Opened {
+            alloc,
+            store,
+            history,
+            counters,
+            seats,
+        } = self;
+        let (tally, mut all) = counters.open::<S>();
+        let rest = all.empty();
+        let made = blind_seats(alloc, &history.prefix(), seats, all)?;
+        let locked = LockedStore::new(store, history, tally, seats, rest, NoBoards);
+        Ok((Shared::over(locked), made))
+    }
 }

@@ -1,69 +1,61 @@
 //! A store that many seats share.
-ghost use Rattle.std.specs.Prelude.{◌≡◌, ◌<◌, ◌≤◌, length, All, Err, IfOk, IfErr, OnErr};
+ghost use Rattle.std.specs.Prelude.{◌≡◌, ◌≤◌, ◌↔◌, length, Err, IfErr, IfOk, OnErr};
 ghost use Rattle.std.specs.Result.{IsOk};
-ghost use mathlib.Core.List.{IsPrefix};
-ghost use Rattle.qplain.specs.State.{start};
-ghost use Rattle.qplain.specs.Journal.{IsLegal, change_of, counted, entry_of, play, tally_of};
-ghost use Rattle.qplain.specs.declared.call_fault.CallFault.TheVariants.{JournalFull};
 ghost use Rattle.qplain.specs.declared.bounds.TheConstants.{MAX_ENTRIES};
-ghost use Rattle.qhistory.specs.Shares.{AreThere, IsLeastMissing, sums_of};
-ghost use Rattle.qlocked.specs.Histories.{IsAt, line_of};
+ghost use Rattle.qplain.specs.declared.call_fault.CallFault.TheVariants.{JournalFull};
+ghost use Rattle.qhistory.specs.Shares.{AreThere};
+ghost use Rattle.qstore_journaled.specs.Lines.{line_of};
+ghost use Rattle.qshare.specs.Calls.{IsCalled};
+ghost use Rattle.qshare.specs.Ends.{IsEndOf};
+ghost use Rattle.qshare.specs.Missing.{IsMissing};
+ghost use Rattle.qshare.specs.Seats.{HasSeenOn};
 
+use crate::boards::Boards;
+use crate::end_fault::EndFault;
+use crate::locked_store::LockedStore;
 use crate::seat::Seat;
-use qhistory::{House, Origin, Share, least_missing};
-use qlocked::{Ended, LockedStore};
+use qhistory::{Share, StoreId, least_missing};
 use qplain::{Call, CallFault, Cred, Receipt};
+use qstore_journaled::JournaledStore;
 use std::sync::{Mutex, Wait};
 
 /// A store that many seats share, under one lock.
 ///
 /// Whenever the lock is free the store is exactly what its journal leaves when one thread plays it on the plain
-/// machine, and each journaled reply is that machine's: this is the invariant of what lies under it.
+/// machine, and each journaled reply is that machine's: this is the invariant of the `JournaledStore` that lies under
+/// it.
 #[derive(Drop)]
-pub struct Shared<K: Origin, N: House, R: Wait + Drop> {
-    pub(crate) lock: Mutex<LockedStore<K, N, R>>,
-}
-
-/// The share of this worker is not there. The store and the shares are given back.
-#[derive(Drop)]
-pub struct Missing<K: Origin, N: House, R: Wait + Drop> {
-    pub worker: u64,
-    pub shared: Shared<K, N, R>,
-    pub shares: Vec<Share<N>>,
+pub struct Shared<S: StoreId, B: Boards<S> + Drop> {
+    pub(crate) lock: Mutex<LockedStore<S, B>>,
 }
 
 /// Makes a call on a store whose lock is held, publishes all that waits, and lets the seat see it.
-fn call_locked<K: Origin, N: House, R: Wait + Drop, W: Wait>(
+fn call_locked<S: StoreId, B: Boards<S> + Drop, V: Drop, W: Wait>(
     rt: &W,
-    store: &mut LockedStore<K, N, R>,
-    seat: &mut Seat<K, N>,
+    store: &mut LockedStore<S, B>,
+    seat: &mut Seat<S, V>,
     cred: &Cred,
     moment: u64,
     call: &Call,
 ) -> Result<Receipt, CallFault>
-    ensures published { store.new.published ≡ store.new.journal }
-    ensures seen { IsPrefix seat.old.seen seat.new.seen }
-    ensures legal { IsLegal (start K.setting) seat.new.seen }
-    ensures stands { IfOk result (λ r. IsAt seat.new.seen r.place
-        (entry_of seat.old.worker (line_of cred.now moment call.now) r.reply)) }
-    ensures later { IfOk result (λ r. length seat.old.seen < r.place) }
-    ensures counted { IfOk result (λ r. seat.new.sums ≡ counted seat.old.sums (change_of r.reply)) }
-    ensures kept { OnErr result (seat.new.sums ≡ seat.old.sums) }
-    ensures worker { seat.new.worker ≡ seat.old.worker }
-    ensures full { IfErr result (λ f. f ≡ JournalFull → length seat.new.seen ≡ MAX_ENTRIES) }
+    ensures seen { HasSeenOn S.id.setting seat.old seat.new }
+    ensures called { IfOk result (IsCalled (line_of cred.now moment call.now) seat.old seat.new) }
+    ensures kept { OnErr result (seat.new.tally ≡ seat.old.tally) }
+    ensures full { IfErr result (λ f. (f ≡ JournalFull) ↔ (length seat.new.seen ≡ MAX_ENTRIES)) }
     ensures stays_full { MAX_ENTRIES ≤ length seat.old.seen → result ≡ Err JournalFull }
+    ensures published { store.new.published ≡ store.new.journal }
 {
-    store.await_covered(rt, seat.front());
+    store.await_seen(rt, seat.prefix());
     let worker = seat.worker;
-    let answer = store.apply(rt, worker, &mut seat.count, cred, moment, call);
+    let answer = store.apply(rt, worker, &mut seat.tally, cred, moment, call);
     store.publish();
-    seat.catch_up(rt, store);
+    seat.catch_up(store);
     answer
 }
 
-impl<K: Origin, N: House, R: Wait + Drop> Shared<K, N, R> {
+impl<S: StoreId, B: Boards<S> + Drop> Shared<S, B> {
     /// This store behind a lock.
-    pub(crate) fn over(store: LockedStore<K, N, R>) -> Shared<K, N, R> {
+    pub(crate) fn over(store: LockedStore<S, B>) -> Shared<S, B> {
         Shared {
             lock: Mutex::new(store),
         }
@@ -75,49 +67,42 @@ impl<K: Origin, N: House, R: Wait + Drop> Shared<K, N, R> {
     /// place, behind all that it had seen. Err is JournalFull, told first, where the journal has its 65,536 entries, or
     /// OutOfMemory; it changes nothing, and the call is in no journal. Moments, refusals and costs are those of
     /// `Store::ready`.
-    pub fn call<W: Wait>(
+    pub fn call<V: Drop, W: Wait>(
         &self,
         rt: &W,
-        seat: &mut Seat<K, N>,
+        seat: &mut Seat<S, V>,
         cred: &Cred,
         moment: u64,
         call: &Call,
     ) -> Result<Receipt, CallFault>
-        ensures seen { IsPrefix seat.old.seen seat.new.seen }
-        ensures legal { IsLegal (start K.setting) seat.new.seen }
-        ensures stands { IfOk result (λ r. IsAt seat.new.seen r.place
-            (entry_of seat.old.worker (line_of cred.now moment call.now) r.reply)) }
-        ensures later { IfOk result (λ r. length seat.old.seen < r.place) }
-        ensures counted { IfOk result (λ r. seat.new.sums ≡ counted seat.old.sums (change_of r.reply)) }
-        ensures kept { OnErr result (seat.new.sums ≡ seat.old.sums) }
-        ensures worker { seat.new.worker ≡ seat.old.worker }
-        ensures full { IfErr result (λ f. f ≡ JournalFull → length seat.new.seen ≡ MAX_ENTRIES) }
+        ensures seen { HasSeenOn S.id.setting seat.old seat.new }
+        ensures called { IfOk result (IsCalled (line_of cred.now moment call.now) seat.old seat.new) }
+        ensures kept { OnErr result (seat.new.tally ≡ seat.old.tally) }
+        ensures full { IfErr result (λ f. (f ≡ JournalFull) ↔ (length seat.new.seen ≡ MAX_ENTRIES)) }
         ensures stays_full { MAX_ENTRIES ≤ length seat.old.seen → result ≡ Err JournalFull }
     {
         let mut store = self.lock.lock(rt);
         call_locked(rt, &mut *store, seat, cred, moment, call)
     }
 
-    /// Ends the store, where the shares of all its seats are there: what they have seen are beginnings of its journal,
+    /// Ends the store, where the shares of all its seats are there: what they have seen are prefixes of its journal,
     /// and what they have counted is the journal's tally.
     ///
     /// An Err names the least worker whose share is not there, and gives store and shares back. It takes no memory.
-    pub fn end<W: Wait>(self, rt: &W, shares: Vec<Share<N>>) -> Result<Ended, Missing<K, N, R>>
-        ensures setup { IfOk result (λ e. e.setup ≡ K.setting) }
-        ensures store { IfOk result (λ e. e.store.state ≡ play (start K.setting) e.journal.items) }
-        ensures legal { IfOk result (λ e. IsLegal (start K.setting) e.journal.items) }
-        ensures few { IfOk result (λ e. length e.journal.items ≤ MAX_ENTRIES) }
-        ensures tallies { IfOk result (λ e. e.tallies ≡ tally_of e.journal.items) }
-        ensures sums { IfOk result (λ e. e.tallies ≡ sums_of shares.items) }
-        ensures seen { IfOk result (λ e. All (λ s. IsPrefix s.seen e.journal.items) shares.items) }
-        ensures missing { IfErr result (λ m. (m.shares.items ≡ shares.items)
-            × IsLeastMissing shares.items N.names.ledgers.parts m.worker) }
-        ensures all { AreThere shares.items N.names.ledgers.parts → IsOk result }
+    pub fn end<W: Wait>(
+        self,
+        rt: &W,
+        shares: Vec<Share<S>>,
+    ) -> Result<JournaledStore, EndFault<S, B>>
+        ensures setting { IfOk result (λ j. j.setting ≡ S.id.setting) }
+        ensures end { IfOk result (IsEndOf shares.items) }
+        ensures missing { IfErr result (IsMissing shares.items S.id.counters.parts) }
+        ensures all { AreThere shares.items S.id.counters.parts → IsOk result }
     {
         let Shared { lock } = self;
         let store = lock.into_inner();
         match least_missing(&shares, store.seats()) {
-            Some(worker) => Err(Missing {
+            Some(worker) => Err(EndFault::Missing {
                 worker,
                 shared: Shared::over(store),
                 shares,

@@ -8,7 +8,7 @@ use Rattle.qplain.specs.declared.line.Line.{Line}
 use Rattle.qplain.specs.declared.transcript.Transcript.{Transcript}
 use Rattle.qplain.specs.Journal.{entries_of}
 use Rattle.qplain.specs.Transcripts.{Belongs, journaled_lines}
-use Rattle.qhistory.specs.Shares.{Shared}
+use Rattle.qhistory.specs.Shares.{HandedIn}
 use Rattle.qgather.specs.Gathered.{IsGathered}
 use Rattle.qworkers.specs.Told.{AreTold, AreToldFrom}
 use Rattle.qworkers.specs.Work.{IsSubsequence}
@@ -29,7 +29,7 @@ owned n journal t = length (numbered n t.worker journal)
 -- ---- transcripts of the workers from one number on
 
 -- none is of a worker before it
-none_before : (worker : ℕ) (scripts : List (List Line)) (shares : List Shared) (ts : List Transcript) (k : ℕ) → AreToldFrom worker scripts shares ts
+none_before : (worker : ℕ) (scripts : List (List Line)) (shares : List HandedIn) (ts : List Transcript) (k : ℕ) → AreToldFrom worker scripts shares ts
     → k < worker → owners k ts ≡ 0
 unfolding AreToldFrom
 none_before worker [] [] [] k told less = refl
@@ -43,7 +43,7 @@ none_before worker (l ∷ scripts) [] ts k told less = absurd told
 none_before worker (l ∷ scripts) (s ∷ shares) [] k told less = absurd told
 
 -- and no two are of one worker
-at_most_one : (worker : ℕ) (scripts : List (List Line)) (shares : List Shared) (ts : List Transcript) (k : ℕ) → AreToldFrom worker scripts shares ts
+at_most_one : (worker : ℕ) (scripts : List (List Line)) (shares : List HandedIn) (ts : List Transcript) (k : ℕ) → AreToldFrom worker scripts shares ts
     → owners k ts ≤ 1
 unfolding AreToldFrom
 at_most_one worker [] [] [] k told = omega arith
@@ -127,16 +127,16 @@ abbrev AreOwn : List Entry → Transcript → Type 0
 AreOwn journal t = journaled_lines t.worker t.lines t.answers ≡ entries_of journal t.worker
 
 -- workers have counted no more calls than entries are theirs, and where these are as many, their receipts are all of them
-own_by : (worker : ℕ) (scripts : List (List Line)) (shares : List Shared) (ts : List Transcript) (journal : List Entry)
+own_by : (worker : ℕ) (scripts : List (List Line)) (shares : List HandedIn) (ts : List Transcript) (journal : List Entry)
     → AreToldFrom worker scripts shares ts → All (λ s. IsPrefix s.seen journal) shares
-    → (sum_by (λ s. s.sums.calls) shares ≤ sum_by (owned 1 journal) ts)
-    × (sum_by (owned 1 journal) ts ≤ sum_by (λ s. s.sums.calls) shares → All (AreOwn journal) ts)
+    → (sum_by (λ s. s.tally.calls) shares ≤ sum_by (owned 1 journal) ts)
+    × (sum_by (owned 1 journal) ts ≤ sum_by (λ s. s.tally.calls) shares → All (AreOwn journal) ts)
 unfolding AreToldFrom
 own_by worker [] [] [] journal told seen = (omega arith, λ many. All-nil (AreOwn journal))
 own_by worker (lines ∷ scripts) (s ∷ shares) (t ∷ ts) journal told seen =
     let one = told.0 in
-    let Seen : Shared → Type 0 = λ s. IsPrefix s.seen journal in
-    let calls : Shared → ℕ = λ s. s.sums.calls in
+    let Seen : HandedIn → Type 0 = λ s. IsPrefix s.seen journal in
+    let calls : HandedIn → ℕ = λ s. s.tally.calls in
     let receipts = journaled_lines t.worker t.lines t.answers in
     let same : journaled_lines worker lines t.answers ≡ receipts = rw (one.worker_is, one.lines_are) refl in
     let among : IsSubsequence receipts (entries_of journal t.worker) =
@@ -158,8 +158,8 @@ own_by worker (l ∷ scripts) [] ts journal told seen = absurd told
 own_by worker (l ∷ scripts) (s ∷ shares) [] journal told seen = absurd told
 
 -- so where the calls that workers have counted are the journal's length, journal and transcripts tell the same
-pub all_gathered : (scripts : List (List Line)) (shares : List Shared) (ts : List Transcript) (journal : List Entry)
-    → AreTold scripts shares ts → All (λ s. IsPrefix s.seen journal) shares → sum_by (λ s. s.sums.calls) shares ≡ length journal
+pub all_gathered : (scripts : List (List Line)) (shares : List HandedIn) (ts : List Transcript) (journal : List Entry)
+    → AreTold scripts shares ts → All (λ s. IsPrefix s.seen journal) shares → sum_by (λ s. s.tally.calls) shares ≡ length journal
     → IsGathered journal ts
 all_gathered scripts shares ts journal told seen counted =
     let own = own_by 1 scripts shares ts journal told seen in

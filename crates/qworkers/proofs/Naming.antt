@@ -46,9 +46,9 @@ names_none n (Ok x) none = tt
 names_none n (Err e) none = fault_of_any n e none
 
 -- the watcher's seat is new
-idle_last : (n : ℕ) (b : Bool) → IfSome (if b then None else Some (new_seat (n + 1))) (λ s. s.sums ≡ no_tally)
+idle_last : (n : ℕ) (b : Bool) → IfSome (if b then None else Some (new_seat (n + 1))) (λ s. s.tally ≡ no_tally)
 idle_last n true = tt
 idle_last n false = refl
 
-pub watcher_idle : (n boards : ℕ) → IfSome (watcher_for n boards) (λ s. s.sums ≡ no_tally)
+pub watcher_idle : (n boards : ℕ) → IfSome (watcher_for n boards) (λ s. s.tally ≡ no_tally)
 watcher_idle n boards = idle_last n (boards == 0)

@@ -9,8 +9,8 @@ use Rattle.qplain.specs.declared.receipt.Receipt.{Receipt}
 use Rattle.qplain.specs.Journal.{entries_of}
 use Rattle.qplain.specs.Transcripts.{journaled_line, journaled_lines}
 use Rattle.qlaws.proofs.Playing.{own-one_more}
-use Rattle.qhistory.proofs.Fronts.{prefix_shorter}
-use Rattle.qlocked.specs.Histories.{IsAt}
+use Rattle.qhistory.proofs.Prefixes.{prefix_shorter}
+use Rattle.qshare.specs.Calls.{IsAt}
 use Rattle.qworkers.specs.Work.{IsSubsequence}
 use Rattle.qworkers.proofs.Subsequences.{among_more, one_more_among}
 

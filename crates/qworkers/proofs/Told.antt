@@ -13,8 +13,8 @@ use Rattle.qplain.specs.declared.transcript.Transcript.{Transcript}
 use Rattle.qplain.specs.Journal.{entries_of}
 use Rattle.qplain.specs.Transcripts.{Belongs, journaled_lines}
 use Rattle.qplain.specs.declared.bounds.TheConstants.{MAX_ENTRIES}
-use Rattle.qhistory.specs.Shares.{AreThere, Shared}
-use Rattle.qhistory.proofs.Fronts.{prefix_length}
+use Rattle.qhistory.specs.Shares.{AreThere, HandedIn}
+use Rattle.qhistory.proofs.Prefixes.{prefix_length}
 use Rattle.qrun.specs.Runs.{AreTranscriptsOf, IsFullBehind, IsFullOf, IsOutcomeOf}
 use Rattle.qplain.specs.Setups.{Setting}
 use Rattle.qplain.specs.State.{start}
@@ -32,8 +32,8 @@ unfolding AreToldFrom
 none_told worker = tt
 
 -- one transcript more
-pub one_more_told : (worker : ℕ) (scripts : List (List Line)) (shares : List Shared) (ts : List Transcript) (lines : List Line)
-    (share : Shared) (t : Transcript)
+pub one_more_told : (worker : ℕ) (scripts : List (List Line)) (shares : List HandedIn) (ts : List Transcript) (lines : List Line)
+    (share : HandedIn) (t : Transcript)
     → AreToldFrom worker scripts shares ts → IsTold (worker + length scripts) lines share t
     → AreToldFrom worker (scripts ++ lines ∷ []) (shares ++ share ∷ []) (ts ++ t ∷ [])
 unfolding AreToldFrom
@@ -46,7 +46,7 @@ one_more_told worker (l ∷ scripts) [] ts lines share t told one = absurd told
 one_more_told worker (l ∷ scripts) (s ∷ shares) [] lines share t told one = absurd told
 
 -- there are as many shares and transcripts as scripts
-pub as_many : (worker : ℕ) (scripts : List (List Line)) (shares : List Shared) (ts : List Transcript) → AreToldFrom worker scripts shares ts
+pub as_many : (worker : ℕ) (scripts : List (List Line)) (shares : List HandedIn) (ts : List Transcript) → AreToldFrom worker scripts shares ts
     → (length shares ≡ length scripts) × (length ts ≡ length scripts)
 unfolding AreToldFrom
 as_many worker [] [] [] told = (refl, refl)
@@ -58,18 +58,18 @@ as_many worker (l ∷ scripts) [] ts told = absurd told
 as_many worker (l ∷ scripts) (s ∷ shares) [] told = absurd told
 
 -- a share is there where it is the first, or among those behind it
-one_there : (k worker : ℕ) (s : Shared) (shares : List Shared) → s.worker ≡ worker → worker ≤ k
+one_there : (k worker : ℕ) (s : HandedIn) (shares : List HandedIn) → s.worker ≡ worker → worker ≤ k
     → (worker + 1 ≤ k → list_any (λ s. s.worker == k) shares ≡ true) → (b : Bool) → (s.worker == k) ≡ b
     → list_any (λ s. s.worker == k) (s ∷ shares) ≡ true
 one_there k worker s shares own from behind true is =
-    subst (λ (b : Bool). (b || list_any (λ (x : Shared). x.worker == k) shares) ≡ true) (sym is) refl
+    subst (λ (b : Bool). (b || list_any (λ (x : HandedIn). x.worker == k) shares) ≡ true) (sym is) refl
 one_there k worker s shares own from behind false is =
     let other : (worker == k) ≡ false = ap (λ w. w == k) (sym own) ∙ is in
     let later : worker + 1 ≤ k = grind (arith, tests, from, other) in
-    subst (λ (b : Bool). (b || list_any (λ (x : Shared). x.worker == k) shares) ≡ true) (sym is) (behind later)
+    subst (λ (b : Bool). (b || list_any (λ (x : HandedIn). x.worker == k) shares) ≡ true) (sym is) (behind later)
 
 -- the shares of all workers are there
-there_from : (worker : ℕ) (scripts : List (List Line)) (shares : List Shared) (ts : List Transcript) → AreToldFrom worker scripts shares ts
+there_from : (worker : ℕ) (scripts : List (List Line)) (shares : List HandedIn) (ts : List Transcript) → AreToldFrom worker scripts shares ts
     → (k : ℕ) → worker ≤ k → k < worker + length scripts → list_any (λ s. s.worker == k) shares ≡ true
 unfolding AreToldFrom
 there_from worker [] [] [] told k from less = absurd (omega (arith, from, less))
@@ -81,7 +81,7 @@ there_from worker [] [] (t ∷ ts) told k from less = absurd told
 there_from worker (l ∷ scripts) [] ts told k from less = absurd told
 there_from worker (l ∷ scripts) (s ∷ shares) [] told k from less = absurd told
 
-pub all_there : (scripts : List (List Line)) (shares : List Shared) (ts : List Transcript) → AreTold scripts shares ts → AreThere shares (length scripts)
+pub all_there : (scripts : List (List Line)) (shares : List HandedIn) (ts : List Transcript) → AreTold scripts shares ts → AreThere shares (length scripts)
 all_there scripts shares ts told k positive few = there_from 1 scripts shares ts told k positive (omega (arith, few))
 
 -- who was told of a full journal has seen a beginning of this one, which is no longer than it may be
@@ -93,7 +93,7 @@ full_of journal seen answers begins few all k d less told =
     omega (arith, few, behind, grown)
 
 -- the transcripts are those of the scripts, where their receipts stand for the workers' own entries
-pub transcripts_from : (worker : ℕ) (scripts : List (List Line)) (shares : List Shared) (ts : List Transcript) (journal : List Entry)
+pub transcripts_from : (worker : ℕ) (scripts : List (List Line)) (shares : List HandedIn) (ts : List Transcript) (journal : List Entry)
     → AreToldFrom worker scripts shares ts
     → All (λ s. IsPrefix s.seen journal) shares → length journal ≤ MAX_ENTRIES
     → All (λ t. journaled_lines t.worker t.lines t.answers ≡ entries_of journal t.worker) ts
@@ -109,10 +109,10 @@ transcripts_from worker (lines ∷ scripts) (s ∷ shares) (t ∷ ts) journal to
         lines_are = one.lines_are;
         each = one.work.each;
         own = rw (sym one.worker_is, sym one.lines_are) mine;
-        full = full_of journal s.seen t.answers (All-head (λ (s : Shared). IsPrefix s.seen journal) s shares seen) few one.work.are.full;
+        full = full_of journal s.seen t.answers (All-head (λ (s : HandedIn). IsPrefix s.seen journal) s shares seen) few one.work.are.full;
         first = one.work.are.first;
       },
-      transcripts_from (worker + 1) scripts shares ts journal told.1 (All-tail (λ (s : Shared). IsPrefix s.seen journal) s shares seen) few
+      transcripts_from (worker + 1) scripts shares ts journal told.1 (All-tail (λ (s : HandedIn). IsPrefix s.seen journal) s shares seen) few
           (All-tail (λ (t : Transcript). journaled_lines t.worker t.lines t.answers ≡ entries_of journal t.worker) t ts own),
     )
 transcripts_from worker [] (s ∷ shares) ts journal told seen few own = absurd told
@@ -121,7 +121,7 @@ transcripts_from worker (l ∷ scripts) [] ts journal told seen few own = absurd
 transcripts_from worker (l ∷ scripts) (s ∷ shares) [] journal told seen few own = absurd told
 
 -- the scripts are the transcripts' lines
-pub lines_told : (worker : ℕ) (scripts : List (List Line)) (shares : List Shared) (ts : List Transcript) → AreToldFrom worker scripts shares ts
+pub lines_told : (worker : ℕ) (scripts : List (List Line)) (shares : List HandedIn) (ts : List Transcript) → AreToldFrom worker scripts shares ts
     → lines_of ts ≡ scripts
 unfolding AreToldFrom
 lines_told worker [] [] [] told = refl
@@ -133,7 +133,7 @@ lines_told worker (l ∷ scripts) [] ts told = absurd told
 lines_told worker (l ∷ scripts) (s ∷ shares) [] told = absurd told
 
 -- each line is answered
-pub each_told : (worker : ℕ) (scripts : List (List Line)) (shares : List Shared) (ts : List Transcript) → AreToldFrom worker scripts shares ts
+pub each_told : (worker : ℕ) (scripts : List (List Line)) (shares : List HandedIn) (ts : List Transcript) → AreToldFrom worker scripts shares ts
     → All (λ t. length t.answers ≡ length t.lines) ts
 unfolding AreToldFrom
 each_told worker [] [] [] told = All-nil (λ (t : Transcript). length t.answers ≡ length t.lines)
@@ -146,7 +146,7 @@ each_told worker (l ∷ scripts) [] ts told = absurd told
 each_told worker (l ∷ scripts) (s ∷ shares) [] told = absurd told
 
 -- who comes earlier is none of these
-none_earlier : (earlier worker : ℕ) (scripts : List (List Line)) (shares : List Shared) (ts : List Transcript) → AreToldFrom worker scripts shares ts
+none_earlier : (earlier worker : ℕ) (scripts : List (List Line)) (shares : List HandedIn) (ts : List Transcript) → AreToldFrom worker scripts shares ts
     → earlier < worker → AllByRecursion (λ t. (earlier == t.worker) ≡ false) ts
 unfolding AreToldFrom
 none_earlier earlier worker [] [] [] told less = tt
@@ -160,7 +160,7 @@ none_earlier earlier worker (l ∷ scripts) [] ts told less = absurd told
 none_earlier earlier worker (l ∷ scripts) (s ∷ shares) [] told less = absurd told
 
 -- each transcript is of another worker
-pub apart_told : (worker : ℕ) (scripts : List (List Line)) (shares : List Shared) (ts : List Transcript) → AreToldFrom worker scripts shares ts
+pub apart_told : (worker : ℕ) (scripts : List (List Line)) (shares : List HandedIn) (ts : List Transcript) → AreToldFrom worker scripts shares ts
     → IsDistinct (λ one other. one.worker == other.worker) ts
 unfolding AreToldFrom IsDistinct
 apart_told worker [] [] [] told = tt
@@ -175,7 +175,7 @@ apart_told worker (l ∷ scripts) [] ts told = absurd told
 apart_told worker (l ∷ scripts) (s ∷ shares) [] told = absurd told
 
 -- the workers' numbers are within these bounds
-within_told : (low high worker : ℕ) (scripts : List (List Line)) (shares : List Shared) (ts : List Transcript) → AreToldFrom worker scripts shares ts
+within_told : (low high worker : ℕ) (scripts : List (List Line)) (shares : List HandedIn) (ts : List Transcript) → AreToldFrom worker scripts shares ts
     → low ≤ worker → worker + length scripts ≤ high → All (λ w. (low ≤ w) × (w < high)) (map (λ t. t.worker) ts)
 unfolding AreToldFrom
 within_told low high worker [] [] [] told from most = All-nil (λ w. (low ≤ w) × (w < high))
@@ -189,7 +189,7 @@ within_told low high worker (l ∷ scripts) [] ts told from most = absurd told
 within_told low high worker (l ∷ scripts) (s ∷ shares) [] told from most = absurd told
 
 -- an entry that belongs to one of them is of one of so many workers
-pub one_of : (scripts : List (List Line)) (shares : List Shared) (ts : List Transcript) (journal : List Entry) → AreTold scripts shares ts
+pub one_of : (scripts : List (List Line)) (shares : List HandedIn) (ts : List Transcript) (journal : List Entry) → AreTold scripts shares ts
     → All (Belongs ts) journal → All (IsOneOf (length ts)) journal
 one_of scripts shares ts journal told belong k d less =
     let many : length ts ≡ length scripts = (as_many 1 scripts shares ts told).1 in
@@ -198,7 +198,7 @@ one_of scripts shares ts journal told belong k d less =
     (omega (arith, within.0), omega (arith, within.1, many))
 
 -- what is left of a store whose journal was held against what was told, and against what looks were given
-pub gathered_told : (setting : Setting) (journal : List Entry) (ts : List Transcript) (shares : List Shared)
+pub gathered_told : (setting : Setting) (journal : List Entry) (ts : List Transcript) (shares : List HandedIn)
     (looks : List (Result Board LookFault)) (j : Journaled) (workers : ℕ) (o : Outcome)
     → AreTold (lines_of ts) shares ts → All (λ s. IsPrefix s.seen journal) shares → length journal ≤ MAX_ENTRIES → IsGathered journal ts
     → AreLawful (start setting) journal (boards_in looks)

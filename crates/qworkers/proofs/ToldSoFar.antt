@@ -2,7 +2,7 @@
 use Rattle.std.proofs.Common.{◌≡◌, ℕ, suc, ◌+◌, ◌<◌, List, [], ◌∷◌, ◌++◌, length, slice_index_or, refl, sym, subst, ◌∙◌, append-nil, append_assoc, length-append, arith}
 use Rattle.qplain.specs.declared.line.Line.{Line}
 use Rattle.qplain.specs.declared.transcript.Transcript.{Transcript}
-use Rattle.qhistory.specs.Shares.{Shared}
+use Rattle.qhistory.specs.Shares.{HandedIn}
 use Rattle.qworkers.specs.Told.{AreTold}
 use Rattle.qworkers.specs.Work.{AreWorks, Done, IsWork}
 use Rattle.qworkers.proofs.Told.{none_told, one_more_told}
@@ -31,7 +31,7 @@ works_from worker [] (d ∷ works) many each = absurd (omega (arith, many))
 works_from worker (lines ∷ scripts) [] many each = absurd (omega (arith, many))
 
 -- what is told so far, and what is left
-pub record IsToldSoFar (scripts : List (List Line)) (shares : List Shared) (ts : List Transcript) (rest : List (List Line)) (left : List Done) : Type 0 where
+pub record IsToldSoFar (scripts : List (List Line)) (shares : List HandedIn) (ts : List Transcript) (rest : List (List Line)) (left : List Done) : Type 0 where
   pub before : List (List Line)
   pub parts : before ++ rest ≡ scripts
   pub told : AreTold before shares ts
@@ -47,7 +47,7 @@ told_first scripts works all = record {
 }
 
 -- one transcript more
-pub told_next : (scripts : List (List Line)) (shares : List Shared) (ts : List Transcript) (lines : List Line)
+pub told_next : (scripts : List (List Line)) (shares : List HandedIn) (ts : List Transcript) (lines : List Line)
     (rest : List (List Line)) (d : Done) (left : List Done)
     → IsToldSoFar scripts shares ts (lines ∷ rest) (d ∷ left)
     → IsToldSoFar scripts (shares ++ d.share ∷ []) (ts ++ record { worker = d.share.worker; lines = lines; answers = d.answers } ∷ []) rest left
@@ -61,7 +61,7 @@ told_next scripts shares ts lines rest d left so_far = record {
 }
 
 -- nothing is left
-pub told_last : (scripts : List (List Line)) (shares : List Shared) (ts : List Transcript) (rest : List (List Line))
+pub told_last : (scripts : List (List Line)) (shares : List HandedIn) (ts : List Transcript) (rest : List (List Line))
     → IsToldSoFar scripts shares ts rest [] → AreTold scripts shares ts
 unfolding AreWorksFrom
 told_last scripts shares ts [] so_far =
@@ -69,19 +69,19 @@ told_last scripts shares ts [] so_far =
 told_last scripts shares ts (lines ∷ rest) so_far = absurd so_far.works
 
 -- no work is left without its script
-pub no_more : (scripts : List (List Line)) (shares : List Shared) (ts : List Transcript) (d : Done) (left : List Done)
+pub no_more : (scripts : List (List Line)) (shares : List HandedIn) (ts : List Transcript) (d : Done) (left : List Done)
     → IsToldSoFar scripts shares ts [] (d ∷ left) → ⊥
 unfolding AreWorksFrom
 no_more scripts shares ts d left so_far = so_far.works
 
 -- no work is left at all
-pub told_ended : (scripts : List (List Line)) (shares : List Shared) (ts : List Transcript) (rest : List (List Line)) (left : List Done)
+pub told_ended : (scripts : List (List Line)) (shares : List HandedIn) (ts : List Transcript) (rest : List (List Line)) (left : List Done)
     → length left ≡ 0 → IsToldSoFar scripts shares ts rest left → AreTold scripts shares ts
 told_ended scripts shares ts rest [] none so_far = told_last scripts shares ts rest so_far
 told_ended scripts shares ts rest (d ∷ left) none so_far = absurd (omega (arith, none))
 
 -- no work is left behind all scripts
-pub no_script : (scripts : List (List Line)) (shares : List Shared) (ts : List Transcript) (rest : List (List Line)) (d : Done) (left : List Done)
+pub no_script : (scripts : List (List Line)) (shares : List HandedIn) (ts : List Transcript) (rest : List (List Line)) (d : Done) (left : List Done)
     → length rest ≡ 0 → IsToldSoFar scripts shares ts rest (d ∷ left) → ⊥
 no_script scripts shares ts [] d left none so_far = no_more scripts shares ts d left so_far
 no_script scripts shares ts (lines ∷ rest) d left none so_far = absurd (omega (arith, none))

@@ -13,8 +13,8 @@ use Rattle.qplain.specs.declared.entry.Entry.{Entry}
 use Rattle.qplain.specs.declared.look_fault.LookFault.{LookFault}
 use Rattle.qplain.specs.State.{State}
 use Rattle.qplain.specs.Journal.{board_of, play}
-use Rattle.qhistory.specs.Shares.{AreThere, Shared}
-use Rattle.qhistory.proofs.Fronts.{prefix_length}
+use Rattle.qhistory.specs.Shares.{AreThere, HandedIn}
+use Rattle.qhistory.proofs.Prefixes.{prefix_length}
 use Rattle.qcheck.specs.LawfulBoards.{AreLawful, IsBoardOf, NeverFall, boards_in}
 use Rattle.qcheck.proofs.Seeing.{boards_in-append}
 use Rattle.qrun.specs.declared.outcome.Outcome.{Outcome}
@@ -27,18 +27,18 @@ all_front P xs ys all k d less =
     subst P (get_or_append_left xs ys d k less) (all k d (omega (arith, less, length-append xs ys)))
 
 -- the share of the next seat behind those that are there
-there_last : (n k : ℕ) (shares : List Shared) (s : Shared) (b : Bool) → (s.worker == k) ≡ b → AreThere shares n → s.worker ≡ n + 1
+there_last : (n k : ℕ) (shares : List HandedIn) (s : HandedIn) (b : Bool) → (s.worker == k) ≡ b → AreThere shares n → s.worker ≡ n + 1
     → 0 < k → k ≤ n + 1 → list_any (λ x. x.worker == k) (shares ++ s ∷ []) ≡ true
 there_last n k shares s true is there own positive few =
     let found : (list_any (λ x. x.worker == k) shares || ((s.worker == k) || false)) ≡ true =
     rw is (or-true (list_any (λ x. x.worker == k) shares)) in
-    list_any-append (λ (x : Shared). x.worker == k) shares (s ∷ []) ∙ found
+    list_any-append (λ (x : HandedIn). x.worker == k) shares (s ∷ []) ∙ found
 there_last n k shares s false is there own positive few =
     let low : k ≤ n = grind (arith, tests, is, own, few) in
     let found : (list_any (λ x. x.worker == k) shares || ((s.worker == k) || false)) ≡ true = rw (there k positive low) refl in
-    list_any-append (λ (x : Shared). x.worker == k) shares (s ∷ []) ∙ found
+    list_any-append (λ (x : HandedIn). x.worker == k) shares (s ∷ []) ∙ found
 
-there_by : (S : State) (n boards : ℕ) (shares : List Shared) (watch : Option Watched) (b : Bool) → AreThere shares n
+there_by : (S : State) (n boards : ℕ) (shares : List HandedIn) (watch : Option Watched) (b : Bool) → AreThere shares n
     → IsWatchOf S boards (if b then None else Some (new_seat (n + 1))) watch
     → AreThere (shares ++ shares_in watch) (if b then n else n + 1)
 there_by S n boards shares watch true there none =
@@ -48,7 +48,7 @@ there_by S n boards shares (Some w) false there looked =
 there_by S n boards shares None false there looked = absurd looked
 
 -- the shares of all seats are there
-pub all_seats_there : (S : State) (n boards : ℕ) (shares : List Shared) (watch : Option Watched) → AreThere shares n
+pub all_seats_there : (S : State) (n boards : ℕ) (shares : List HandedIn) (watch : Option Watched) → AreThere shares n
     → IsWatchOf S boards (watcher_for n boards) watch → AreThere (shares ++ shares_in watch) (seats_for n boards)
 all_seats_there S n boards shares watch there looked = there_by S n boards shares watch (boards == 0) there looked
 
@@ -78,17 +78,17 @@ looks_counted boards looks (Err fault) many is = tt
 
 -- who watches has counted no call
 idle_by : (S : State) (n boards : ℕ) (watch : Option Watched) (b : Bool) → IsWatchOf S boards (if b then None else Some (new_seat (n + 1))) watch
-    → sum_by (λ s. s.sums.calls) (shares_in watch) ≡ 0
+    → sum_by (λ s. s.tally.calls) (shares_in watch) ≡ 0
 idle_by S n boards None b looked = refl
 idle_by S n boards (Some w) true looked = absurd cc
-idle_by S n boards (Some w) false looked = omega (arith, looked.idle, sum_by-cons (λ (s : Shared). s.sums.calls) w.share [])
+idle_by S n boards (Some w) false looked = omega (arith, looked.idle, sum_by-cons (λ (s : HandedIn). s.tally.calls) w.share [])
 
 -- so all calls are the workers'
-pub calls_counted : (S : State) (n boards : ℕ) (own shares : List Shared) (watch : Option Watched) (calls : ℕ)
-    → IsWatchOf S boards (watcher_for n boards) watch → shares ≡ own ++ shares_in watch → sum_by (λ s. s.sums.calls) shares ≡ calls
-    → sum_by (λ s. s.sums.calls) own ≡ calls
+pub calls_counted : (S : State) (n boards : ℕ) (own shares : List HandedIn) (watch : Option Watched) (calls : ℕ)
+    → IsWatchOf S boards (watcher_for n boards) watch → shares ≡ own ++ shares_in watch → sum_by (λ s. s.tally.calls) shares ≡ calls
+    → sum_by (λ s. s.tally.calls) own ≡ calls
 calls_counted S n boards own shares watch calls looked parts all =
-    let f : Shared → ℕ = λ s. s.sums.calls in
+    let f : HandedIn → ℕ = λ s. s.tally.calls in
     omega (arith, all, ap (sum_by f) parts, sum_by-append f own (shares_in watch), idle_by S n boards watch (boards == 0) looked)
 
 -- ---- lawful boards
@@ -155,13 +155,13 @@ lawful_by : (S : State) (n boards : ℕ) (watch : Option Watched) (journal : Lis
 lawful_by S n boards None journal b looked seen = no_boards S journal
 lawful_by S n boards (Some w) journal true looked seen = absurd cc
 lawful_by S n boards (Some w) journal false looked seen =
-    lawful_more S w.share.seen journal (boards_in w.looks) (All-head (λ (s : Shared). IsPrefix s.seen journal) w.share [] seen) looked.lawful
+    lawful_more S w.share.seen journal (boards_in w.looks) (All-head (λ (s : HandedIn). IsPrefix s.seen journal) w.share [] seen) looked.lawful
 
 -- the boards that were looked at are the journal's, where that begins with all that was seen
-pub looks_lawful : (S : State) (n boards : ℕ) (own shares : List Shared) (watch : Option Watched) (looks : List (Result Board LookFault))
+pub looks_lawful : (S : State) (n boards : ℕ) (own shares : List HandedIn) (watch : Option Watched) (looks : List (Result Board LookFault))
     (journal : List Entry) → IsWatchOf S boards (watcher_for n boards) watch → shares ≡ own ++ shares_in watch → looks ≡ looks_in watch
     → All (λ s. IsPrefix s.seen journal) shares → AreLawful S journal (boards_in looks)
 looks_lawful S n boards own shares watch looks journal looked parts is seen =
-    let Seen : Shared → Type 0 = λ s. IsPrefix s.seen journal in
+    let Seen : HandedIn → Type 0 = λ s. IsPrefix s.seen journal in
     subst (λ ls. AreLawful S journal (boards_in ls)) (sym is)
     (lawful_by S n boards watch journal (boards == 0) looked (all_behind Seen own (shares_in watch) (subst (All Seen) parts seen)))

@@ -13,8 +13,8 @@ use Rattle.qplain.specs.declared.tallies.Tallies.{Tallies}
 use Rattle.qplain.specs.Journal.{change_of, counted, entries_of, entry_of, no_tally}
 use Rattle.qplain.specs.Transcripts.{journaled_line, journaled_lines}
 use Rattle.qplain.specs.declared.bounds.TheConstants.{MAX_ENTRIES}
-use Rattle.qhistory.proofs.Fronts.{prefix_length}
-use Rattle.qlocked.specs.Histories.{IsAt}
+use Rattle.qhistory.proofs.Prefixes.{prefix_length}
+use Rattle.qshare.specs.Calls.{IsAt}
 use Rattle.qshare.specs.Holds.{Holding}
 use Rattle.qshare.specs.Seats.{Seated}
 use Rattle.qrun.specs.Runs.{FullIsToldFirst, IsFullBehind}
@@ -33,10 +33,10 @@ no_answers worker lines seen = record {
 }
 
 -- a new seat has been given none
-pub none_answered_yet : (lines : List Line) (seat : Seated) (answers : List (Result Receipt CallFault)) → seat.sums ≡ no_tally
-    → length answers ≡ 0 → AreAnswers seat.worker lines seat.seen seat.sums.calls answers
+pub none_answered_yet : (lines : List Line) (seat : Seated) (answers : List (Result Receipt CallFault)) → seat.tally ≡ no_tally
+    → length answers ≡ 0 → AreAnswers seat.worker lines seat.seen seat.tally.calls answers
 none_answered_yet lines seat answers new none =
-    subst (AreAnswers seat.worker lines seat.seen seat.sums.calls) (sym (nil_from_length answers none))
+    subst (AreAnswers seat.worker lines seat.seen seat.tally.calls) (sym (nil_from_length answers none))
     (subst (λ t. AreAnswers seat.worker lines seat.seen t.calls []) (sym new) (no_answers seat.worker lines seat.seen))
 
 -- the next line
@@ -136,22 +136,22 @@ counts_none (Err fault) old new is = ap (λ t. t.calls) is
 -- one more answer under a lock that is held, where this much is journaled
 pub one_more_held : (lines : List Line) (old new : Holding) (before behind : Seated) (answers after : List (Result Receipt CallFault))
     (line : Line) (answer : Result Receipt CallFault)
-    → AreAnswers before.worker lines old.journal before.sums.calls answers → slice_get lines (length answers) ≡ Some line
+    → AreAnswers before.worker lines old.journal before.tally.calls answers → slice_get lines (length answers) ≡ Some line
     → IfOk answer (λ r. new.journal ≡ old.journal ++ entry_of before.worker line r.reply ∷ [])
     → IfOk answer (λ r. r.place ≡ length old.journal + 1)
-    → IfOk answer (λ r. behind ≡ record before { sums = counted before.sums (change_of r.reply) })
+    → IfOk answer (λ r. behind ≡ record before { tally = counted before.tally (change_of r.reply) })
     → OnErr answer ((new ≡ old) × (behind ≡ before))
     → ((answer ≡ Err JournalFull) ↔ (length old.journal ≡ MAX_ENTRIES))
     → (MAX_ENTRIES ≤ length old.journal → answer ≡ Err JournalFull) → after ≡ answers ++ answer ∷ []
-    → AreAnswers behind.worker lines new.journal behind.sums.calls after
+    → AreAnswers behind.worker lines new.journal behind.tally.calls after
 one_more_held lines old new before behind answers after line (Ok r) so_far there journal place counts same full stays is =
-    subst (λ s. AreAnswers s.worker lines new.journal s.sums.calls after) (sym counts)
-    (one_more before.worker lines old.journal new.journal before.sums.calls (before.sums.calls + 1) answers after line (Ok r) so_far there
+    subst (λ s. AreAnswers s.worker lines new.journal s.tally.calls after) (sym counts)
+    (one_more before.worker lines old.journal new.journal before.tally.calls (before.tally.calls + 1) answers after line (Ok r) so_far there
     (entry_of before.worker line r.reply ∷ [], sym journal) (old.journal, [], journal, place) (omega (arith, place)) refl tt tt stays is)
 one_more_held lines old new before behind answers after line (Err fault) so_far there journal place counts same full stays is =
     let as_was : new.journal ≡ old.journal = ap (λ h. h.journal) same.0 in
-    subst (λ s. AreAnswers s.worker lines new.journal s.sums.calls after) (sym same.1)
-    (one_more before.worker lines old.journal new.journal before.sums.calls before.sums.calls answers after line (Err fault) so_far there
+    subst (λ s. AreAnswers s.worker lines new.journal s.tally.calls after) (sym same.1)
+    (one_more before.worker lines old.journal new.journal before.tally.calls before.tally.calls answers after line (Err fault) so_far there
     ([], append-nil old.journal ∙ sym as_was) tt tt tt refl (λ told. ap length as_was ∙ full.0 (ap Err told)) stays is)
 
 -- there is room for all further lines
@@ -162,10 +162,10 @@ room_left Rest old new (Ok r) lines before taken same few = omega (arith, taken,
 room_left Rest old new (Err fault) lines before taken same few = omega (arith, ap (λ h. h.room) same.0, few)
 
 -- the seat is the same worker's
-pub same_worker : (Rest : Type 0) (old new : Seated) (answer : Result Receipt CallFault) (sums : Receipt → Tallies)
-    → IfOk answer (λ r. new ≡ record old { sums = sums r }) → OnErr answer (Rest × (new ≡ old)) → new.worker ≡ old.worker
-same_worker Rest old new (Ok r) sums counted same = ap (λ s. s.worker) counted
-same_worker Rest old new (Err fault) sums counted same = ap (λ s. s.worker) same.1
+pub same_worker : (Rest : Type 0) (old new : Seated) (answer : Result Receipt CallFault) (tally : Receipt → Tallies)
+    → IfOk answer (λ r. new ≡ record old { tally = tally r }) → OnErr answer (Rest × (new ≡ old)) → new.worker ≡ old.worker
+same_worker Rest old new (Ok r) tally counted same = ap (λ s. s.worker) counted
+same_worker Rest old new (Err fault) tally counted same = ap (λ s. s.worker) same.1
 
 -- who sees more has seen all that was told
 pub seen_more : (worker : ℕ) (lines : List Line) (calls : ℕ) (old new : List Entry) (answers : List (Result Receipt CallFault))

@@ -4,19 +4,19 @@ use Rattle.qplain.specs.declared.board.Board.{Board}
 use Rattle.qplain.specs.declared.look_fault.LookFault.{LookFault}
 use Rattle.qplain.specs.State.{State}
 use Rattle.qcheck.specs.LawfulBoards.{AreLawful, boards_in}
-use Rattle.qhistory.specs.Shares.{Shared}
+use Rattle.qhistory.specs.Shares.{HandedIn}
 use Rattle.qshare.specs.Seats.{Seated, new_seat}
 
 -- a watcher's share, and what each of its looks was given
 pub record Watched : Type 0 where
-  pub share : Shared
+  pub share : HandedIn
   pub looks : List (Result Board LookFault)
 
 -- the share of this watcher, who has made no call, and so many looks: the boards are lawful, from this state on, over
 -- the history that it has seen
 pub record IsWatch (S : State) (worker boards : ℕ) (w : Watched) : Type 0 where
   pub worker_is : w.share.worker ≡ worker
-  pub idle : w.share.sums.calls ≡ 0
+  pub idle : w.share.tally.calls ≡ 0
   pub each : length w.looks ≡ boards
   pub lawful : AreLawful S w.share.seen (boards_in w.looks)
 
@@ -35,7 +35,7 @@ IsWatchOf S boards (Some seat) None = ⊥
 IsWatchOf S boards (Some seat) (Some w) = IsWatch S seat.worker boards w
 
 -- the share of who has looked
-abbrev pub shares_in : Option Watched → List Shared
+abbrev pub shares_in : Option Watched → List HandedIn
 shares_in None = []
 shares_in (Some w) = w.share ∷ []
 

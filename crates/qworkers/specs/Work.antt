@@ -7,12 +7,15 @@ use Rattle.qplain.specs.declared.receipt.Receipt.{Receipt}
 use Rattle.qplain.specs.Journal.{entries_of}
 use Rattle.qplain.specs.Transcripts.{journaled_lines}
 use Rattle.qplain.specs.declared.bounds.TheConstants.{MAX_ENTRIES}
-use Rattle.qhistory.specs.Shares.{Shared}
+use mathlib.Core.List.{IsPrefix}
+use Rattle.qhistory.specs.Shares.{HandedIn}
+use Rattle.qshare.specs.Holds.{Holding}
+use Rattle.qshare.specs.Seats.{Seated}
 use Rattle.qrun.specs.Runs.{FullIsToldFirst, IsFullBehind}
 
 -- a worker's share, and its answers
 pub record Done : Type 0 where
-  pub share : Shared
+  pub share : HandedIn
   pub answers : List (Result Receipt CallFault)
 
 -- who is told of a full journal has seen one
@@ -35,11 +38,21 @@ pub record AreAnswers (worker : ℕ) (lines : List Line) (seen : List Entry) (ca
   pub own : IsSubsequence (journaled_lines worker lines answers) (entries_of seen worker)
   pub counted : calls ≡ length (journaled_lines worker lines answers)
 
+-- the answers to the first lines of the worker who has this seat
+abbrev pub HasAnswers : List Line → Seated → List (Result Receipt CallFault) → Type 0
+HasAnswers lines seat answers = AreAnswers seat.worker lines seat.seen seat.tally.calls answers
+
+-- the worker who has this seat holds the lock, may make so many calls under it, and has seen a prefix of the journal
+pub record MayMake (many : ℕ) (held : Holding) (seat : Seated) : Type 0 where
+  pub by : seat.worker ≡ held.by
+  pub room : many ≤ held.room
+  pub begins : IsPrefix seat.seen held.journal
+
 -- the share of the worker who has played this script, and an answer to each line
 pub record IsWork (worker : ℕ) (lines : List Line) (d : Done) : Type 0 where
   pub worker_is : d.share.worker ≡ worker
   pub each : length d.answers ≡ length lines
-  pub are : AreAnswers worker lines d.share.seen d.share.sums.calls d.answers
+  pub are : AreAnswers worker lines d.share.seen d.share.tally.calls d.answers
 
 -- each worker, from 1, has played its script
 pub record AreWorks (scripts : List (List Line)) (works : List Done) : Type 0 where

@@ -1,84 +1,76 @@
 //! All threads of a run: one for each worker, and one that looks at the boards.
-ghost use Rattle.std.specs.Prelude.{◌≡◌, ◌<◌, ◌≤◌, ℕ, List, length, slice_index_or, IfErr, IfOk, IfSome};
+ghost use Rattle.std.specs.Prelude.{◌≡◌, ◌<◌, List, length, slice_index_or};
 ghost use denote.Param.Send.{IsSend, IsSync};
 ghost use Rattle.qplain.specs.declared.line.Line.{Line};
-ghost use Rattle.qplain.specs.Journal.{no_tally};
-ghost use Rattle.qplain.specs.State.{start};
-ghost use Rattle.qshare.specs.Seats.{seats_of};
-ghost use Rattle.qshare.specs.declared.held.TheConstants.{MAX_BATCH};
-ghost use Rattle.qworkers.specs.RunFaults.{IsFaultOf};
-ghost use Rattle.qworkers.specs.Watching.{IsWatchOf};
-ghost use Rattle.qworkers.specs.Work.{AreWorks};
+ghost use Rattle.qworkers.specs.Crews.{ArePlayed, IsCrew};
 
 use crate::gate::Gate;
 use crate::options::Options;
 use crate::run_fault::RunFault;
 use crate::watcher::{Watch, watch_all};
 use crate::worker::{Plays, Work, play, worker_of};
-use qhistory::{House, Origin};
-use qplain::Line;
-use qrules::Items;
-use qshare::{Seat, Shared};
+use qboards::Viewer;
+use qhistory::StoreId;
+use qplain::{Line, Script};
+use qshare::{Boards, Seat, Shared};
 use std::alloc::Global;
+use std::marker::Model;
 use std::sync::Wait;
 use std::thread;
 use std::thread::Threads;
 
 /// What the threads of a run have done.
 #[derive(Drop)]
-pub(crate) struct Played<N: House> {
-    pub(crate) works: Vec<Work<N>>,
-    pub(crate) watch: Option<Watch<N>>,
+pub(crate) struct Played<S: StoreId> {
+    pub(crate) works: Vec<Work<S>>,
+    pub(crate) watch: Option<Watch<S>>,
 }
 
-/// The script of this index, which there is.
-fn script_at(scripts: &[Items<Line>], index: usize) -> &[Line]
+impl<S: StoreId> Model for Played<S> {
+    ghost use Rattle.qworkers.specs.Crews.{Performed};
+
+    ghost Value = { Performed };
+
+    ghost view = { λ p. record { works = p.works.items; watch = p.watch } };
+}
+
+/// The lines of the script of this index, which there is.
+fn script_at(scripts: &[Script], index: usize) -> &[Line]
     requires { index < length scripts.now }
     ensures { (default : List Line) → result.now ≡ slice_index_or scripts.now index default }
 {
-    scripts[index].as_slice()
+    scripts[index].lines()
 }
 
 /// Plays each script in a thread of its own; once all are started the watcher looks, in its own, and all are joined.
 ///
 /// Where a start is refused, no later one is made, and those before are waited for; the worker is named.
-pub(crate) fn play_all<K, N, G, R, W>(
+pub(crate) fn play_all<S, B, V, G, R>(
     rt: &R,
     alloc: Global,
-    shared: &Shared<K, N, W>,
+    shared: &Shared<S, B>,
     gate: &G,
     options: Options,
-    seats: Vec<Seat<K, N>>,
-    watcher: Option<Seat<K, N>>,
-    scripts: &[Items<Line>],
-) -> Result<Played<N>, RunFault>
+    seats: Vec<Seat<S, V>>,
+    watcher: Option<Seat<S, Viewer<S>>>,
+    scripts: &[Script],
+) -> Result<Played<S>, RunFault>
 where
-    K: Origin + Send + Sync + 'static,
-    N: House + Send + Sync + 'static,
+    S: StoreId + Send + Sync + 'static,
+    B: Boards<S> + Drop + Send,
+    V: Drop + Send,
     G: Gate + Sync,
     R: Threads + Wait + Sync,
-    W: Wait + Drop + Send,
-    requires seats { seats.items ≡ seats_of (length scripts.now) }
-    requires watcher { IfSome watcher (λ s. s.sums ≡ no_tally) }
-    requires batch { (0 < options.batch) × (options.batch ≤ MAX_BATCH) }
-    ensures works { IfOk result (λ p. AreWorks scripts.now p.works.items) }
-    ensures watch { IfOk result (λ p. IsWatchOf (start K.setting) options.boards watcher p.watch) }
-    ensures fault { (n : ℕ) → length scripts.now ≤ n → IfSome watcher (λ s. (0 < s.worker) × (s.worker ≤ n))
-        → IfErr result (IsFaultOf n) }
+    requires { IsCrew (length scripts.now) options seats.items watcher }
+    ensures { ArePlayed S.id.setting scripts.now options.boards result }
 {
     thread::scope(
         thread::scope_env(),
         rt,
-        |scope| -> Result<Played<N>, RunFault>
-            requires marks { IsSync R.row × IsSync G.row × IsSend K.row × IsSync K.row × IsSend N.row
-                × IsSync N.row × IsSend W.row }
-            requires seats { seats.items ≡ seats_of (length scripts.now) }
-            requires watcher { IfSome watcher (λ s. s.sums ≡ no_tally) }
-            requires batch { (0 < options.batch) × (options.batch ≤ MAX_BATCH) }
-            ensures works { IfOk result (λ p. AreWorks scripts.entry.now p.works.items) }
-            ensures watch { IfOk result (λ p. IsWatchOf (start K.setting) options.boards watcher p.watch) }
-            ensures fault { (n : ℕ) → length scripts.entry.now ≤ n
-                → IfSome watcher (λ s. (0 < s.worker) × (s.worker ≤ n)) → IfErr result (IsFaultOf n) }
+        |scope| -> Result<Played<S>, RunFault>
+            requires marks { IsSync R.row × IsSync G.row × IsSend S.row × IsSync S.row × IsSend B.row × IsSend V.row }
+            requires crew { IsCrew (length scripts.entry.now) options seats.items watcher }
+            ensures { ArePlayed S.id.setting scripts.entry.now options.boards result }
         {
             let mut running = Vec::with_capacity(alloc, seats.len())?;
             for seat in seats {

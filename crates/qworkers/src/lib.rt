@@ -4,8 +4,9 @@
 pub use gate::{Gate, NoGate};
 pub use options::Options;
 pub use run_fault::RunFault;
-pub use runs::{run, run_with};
+pub use runs::run_scripts;
 
+mod concluding;
 mod crew;
 mod gate;
 mod options;

@@ -6,18 +6,18 @@ ghost use Rattle.qworkers.specs.Work.{AreWorks};
 
 use crate::watcher::{Look, Watch};
 use crate::worker::Work;
-use qhistory::{House, Share};
-use qplain::{Line, NoMemory, Transcript};
+use qhistory::{Share, StoreId};
+use qplain::{NoMemory, Script, Transcript};
 use qrules::Items;
 use std::alloc::Global;
 
 /// The shares of the workers, and their transcripts: each has its script, which was lent to its thread.
 #[tactic(auto, using(crate::proofs::ToldSoFar::told_first, crate::proofs::ToldSoFar::told_next, crate::proofs::ToldSoFar::told_last, crate::proofs::ToldSoFar::no_more))]
-pub(crate) fn tell_all<N: House>(
+pub(crate) fn tell_all<S: StoreId>(
     alloc: Global,
-    scripts: Vec<Items<Line>>,
-    works: Vec<Work<N>>,
-) -> Result<(Vec<Share<N>>, Vec<Transcript>), NoMemory>
+    scripts: Vec<Script>,
+    works: Vec<Work<S>>,
+) -> Result<(Vec<Share<S>>, Vec<Transcript>), NoMemory>
     requires { AreWorks scripts.items works.items }
     ensures { IfOk result (λ told. AreTold scripts.items told.0.items told.1.items) }
 {
@@ -25,13 +25,13 @@ pub(crate) fn tell_all<N: House>(
     let mut transcripts = Vec::with_capacity(alloc, works.len())?;
     let mut rest = scripts.into_iter();
     for work in works {
-        let Some(lines) = rest.next() else {
+        let Some(script) = rest.next() else {
             break;
         };
         let Work { share, answers } = work;
         transcripts.push_reserved(Transcript {
             worker: share.worker(),
-            lines,
+            lines: script.into_lines(),
             answers: Items::new(answers),
         });
         shares.push_reserved(share);
@@ -40,11 +40,11 @@ pub(crate) fn tell_all<N: House>(
 }
 
 /// The shares of all seats, that of the watcher last, and what its looks were given.
-pub(crate) fn hand_in<N: House>(
+pub(crate) fn hand_in<S: StoreId>(
     alloc: Global,
-    shares: Vec<Share<N>>,
-    watch: Option<Watch<N>>,
-) -> Result<(Vec<Share<N>>, Vec<Look>), NoMemory>
+    shares: Vec<Share<S>>,
+    watch: Option<Watch<S>>,
+) -> Result<(Vec<Share<S>>, Vec<Look>), NoMemory>
     ensures shares { IfOk result (λ r. r.0.items ≡ shares.items ++ shares_in watch) }
     ensures looks { IfOk result (λ r. r.1.items ≡ looks_in watch) }
 {

@@ -1,13 +1,14 @@
 //! Who looks at the boards of a run: a seat, and the thread in which it looks.
-ghost use Rattle.std.specs.Prelude.{◌≡◌, ◌<◌, ◌≤◌, ℕ, vec_len, vec_capacity, IfErr, IfOk, IfSome};
+ghost use Rattle.std.specs.Prelude.{◌≡◌, ◌+◌, ◌<◌, ◌≤◌, ℕ, Some, vec_len, vec_capacity, IfErr, IfOk, IfSome};
 ghost use Rattle.qplain.specs.Journal.{no_tally};
 ghost use Rattle.qplain.specs.State.{start};
-ghost use Rattle.qshare.specs.Seats.{seats_of};
+ghost use Rattle.qshare.specs.Seats.{new_seat, seats_of};
 ghost use Rattle.qworkers.specs.RunFaults.{IsFaultOf};
-ghost use Rattle.qworkers.specs.Watching.{IsWatch, IsWatchOf, seats_for, watcher_for};
+ghost use Rattle.qworkers.specs.Watching.{IsWatch, IsWatchOf};
 
 use crate::run_fault::RunFault;
-use qhistory::{House, Origin, Share};
+use qboards::Viewer;
+use qhistory::{Share, StoreId};
 use qplain::{Board, LookFault};
 use qshare::Seat;
 use std::alloc::Global;
@@ -20,12 +21,12 @@ pub(crate) type Look = Result<Board, LookFault>;
 
 /// What a watcher has done: its share, and what each of its looks was given.
 #[derive(Drop)]
-pub(crate) struct Watch<N: House> {
-    pub(crate) share: Share<N>,
+pub(crate) struct Watch<S: StoreId> {
+    pub(crate) share: Share<S>,
     pub(crate) looks: Vec<Look>,
 }
 
-impl<N: House> Model for Watch<N> {
+impl<S: StoreId> Model for Watch<S> {
     ghost use Rattle.qworkers.specs.Watching.{Watched};
 
     ghost Value = { Watched };
@@ -35,42 +36,38 @@ impl<N: House> Model for Watch<N> {
 
 /// That this watcher looks so many times.
 #[derive(Drop)]
-pub(crate) struct Watches<K> {
+pub(crate) struct Watches<S> {
     worker: u64,
     boards: u64,
-    origin: PhantomData<K>,
+    store: PhantomData<S>,
 }
 
-impl<K: Origin, N: House> Promise<Watch<N>> for Watches<K> {
+impl<S: StoreId> Promise<Watch<S>> for Watches<S> {
     ghost use Rattle.qplain.specs.State.{start};
     ghost use Rattle.qworkers.specs.Watching.{IsWatch};
 
-    ghost kept_by = { λ p w. IsWatch (start K.setting) p.worker p.boards w };
+    ghost kept_by = { λ p w. IsWatch (start S.id.setting) p.worker p.boards w };
 }
 
-/// The seats of the workers, one for each script, and that of the watcher, which is the last, where boards are wanted.
-pub(crate) fn part_seats<K: Origin, N: House>(
-    seats: Vec<Seat<K, N>>,
+/// The seats of the workers of so many scripts, and that of who looks at the boards, which is the last.
+pub(crate) fn part_watcher<S: StoreId>(
+    seats: Vec<Seat<S, Viewer<S>>>,
     scripts: usize,
-    boards: u64,
-) -> (Vec<Seat<K, N>>, Option<Seat<K, N>>)
-    requires { seats.items ≡ seats_of (seats_for scripts boards) }
+) -> (Vec<Seat<S, Viewer<S>>>, Option<Seat<S, Viewer<S>>>)
+    requires { seats.items ≡ seats_of (scripts + 1) }
     ensures workers { result.0.items ≡ seats_of scripts }
-    ensures watcher { result.1 ≡ watcher_for scripts boards }
+    ensures watcher { result.1 ≡ Some (new_seat (scripts + 1)) }
 {
     let mut seats = seats;
-    if boards == 0 {
-        return (seats, None);
-    }
     let watcher = seats.pop();
     (seats, watcher)
 }
 
 /// Looks so many times, one after the other. No look waits.
-fn look_on<K: Origin, N: House>(seat: Seat<K, N>, looks: Vec<Look>, boards: u64) -> Watch<N>
-    requires seat { seat.sums ≡ no_tally }
+fn look_on<S: StoreId>(seat: Seat<S, Viewer<S>>, looks: Vec<Look>, boards: u64) -> Watch<S>
+    requires seat { seat.tally ≡ no_tally }
     requires room { (vec_len looks ≡ 0) × (boards ≤ vec_capacity looks) }
-    ensures { IsWatch (start K.setting) seat.worker boards result }
+    ensures { IsWatch (start S.id.setting) seat.worker boards result }
 {
     let mut seat = seat;
     let mut looks = looks;
@@ -84,26 +81,25 @@ fn look_on<K: Origin, N: House>(seat: Seat<K, N>, looks: Vec<Look>, boards: u64)
 }
 
 /// Looks so many times in a thread of its own, and waits until it has done so.
-fn look_beside<K, N, R>(
+fn look_beside<S, R>(
     rt: &R,
     alloc: Global,
-    seat: Seat<K, N>,
+    seat: Seat<S, Viewer<S>>,
     boards: u64,
-) -> Result<Watch<N>, RunFault>
+) -> Result<Watch<S>, RunFault>
 where
-    K: Origin + Send + Sync + 'static,
-    N: House + Send + Sync + 'static,
+    S: StoreId + Send + Sync + 'static,
     R: Threads,
-    requires seat { seat.sums ≡ no_tally }
-    ensures watch { IfOk result (IsWatch (start K.setting) seat.worker boards) }
+    requires seat { seat.tally ≡ no_tally }
+    ensures watch { IfOk result (IsWatch (start S.id.setting) seat.worker boards) }
     ensures fault { (n : ℕ) → 0 < seat.worker → seat.worker ≤ n → IfErr result (IsFaultOf n) }
 {
     let looks = Vec::with_capacity(alloc, boards as usize)?;
     let worker = seat.worker();
-    let watches: Watches<K> = Watches {
+    let watches: Watches<S> = Watches {
         worker,
         boards,
-        origin: PhantomData,
+        store: PhantomData,
     };
     match thread::spawn_with(rt, watches, move || look_on(seat, looks, boards)) {
         Ok(handle) => Ok(handle.join(rt)),
@@ -112,18 +108,17 @@ where
 }
 
 /// The same for a seat that may be none.
-pub(crate) fn watch_all<K, N, R>(
+pub(crate) fn watch_all<S, R>(
     rt: &R,
     alloc: Global,
-    watcher: Option<Seat<K, N>>,
+    watcher: Option<Seat<S, Viewer<S>>>,
     boards: u64,
-) -> Result<Option<Watch<N>>, RunFault>
+) -> Result<Option<Watch<S>>, RunFault>
 where
-    K: Origin + Send + Sync + 'static,
-    N: House + Send + Sync + 'static,
+    S: StoreId + Send + Sync + 'static,
     R: Threads,
-    requires seat { IfSome watcher (λ s. s.sums ≡ no_tally) }
-    ensures watch { IfOk result (IsWatchOf (start K.setting) boards watcher) }
+    requires seat { IfSome watcher (λ s. s.tally ≡ no_tally) }
+    ensures watch { IfOk result (IsWatchOf (start S.id.setting) boards watcher) }
     ensures fault { (n : ℕ) → IfSome watcher (λ s. (0 < s.worker) × (s.worker ≤ n)) → IfErr result (IsFaultOf n) }
 {
     match watcher {

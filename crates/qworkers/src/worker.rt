@@ -1,14 +1,13 @@
 //! One worker: a seat, a script, and the thread in which it is played.
 ghost use Rattle.std.specs.Prelude.{◌≡◌, ◌+◌, ◌<◌, ◌≤◌, length, vec_len, vec_capacity, IfOk};
-ghost use mathlib.Core.List.{IsPrefix};
 ghost use Rattle.qplain.specs.Journal.{no_tally};
 ghost use Rattle.qshare.specs.declared.held.TheConstants.{MAX_BATCH};
-ghost use Rattle.qworkers.specs.Work.{AreAnswers, IsWork};
+ghost use Rattle.qworkers.specs.Work.{HasAnswers, IsWork, MayMake};
 
 use crate::gate::Gate;
-use qhistory::{House, Origin, Share};
+use qhistory::{Share, StoreId};
 use qplain::{CallFault, Line, NoMemory, Receipt};
-use qshare::{Held, Seat, Shared};
+use qshare::{Boards, Held, Seat, Shared};
 use std::alloc::Global;
 use std::marker::Model;
 use std::sync::Wait;
@@ -19,12 +18,12 @@ pub(crate) type Answer = Result<Receipt, CallFault>;
 
 /// What a worker has done: its share, and an answer to each of its lines.
 #[derive(Drop)]
-pub(crate) struct Work<N: House> {
-    pub(crate) share: Share<N>,
+pub(crate) struct Work<S: StoreId> {
+    pub(crate) share: Share<S>,
     pub(crate) answers: Vec<Answer>,
 }
 
-impl<N: House> Model for Work<N> {
+impl<S: StoreId> Model for Work<S> {
     ghost use Rattle.qworkers.specs.Work.{Done};
 
     ghost Value = { Done };
@@ -39,7 +38,7 @@ pub(crate) struct Plays<'a> {
     pub(crate) lines: &'a [Line],
 }
 
-impl<'a, N: House> Promise<Work<N>> for Plays<'a> {
+impl<'a, S: StoreId> Promise<Work<S>> for Plays<'a> {
     ghost use Rattle.qworkers.specs.Work.{IsWork};
 
     ghost kept_by = { λ p w. IsWork p.worker p.lines.now w };
@@ -48,28 +47,28 @@ impl<'a, N: House> Promise<Work<N>> for Plays<'a> {
 /// All that a worker takes with it: its seat, its script, which is the caller's, for how many lines at a time it takes
 /// the lock, and room for the answers.
 #[derive(Drop)]
-pub(crate) struct Worker<'a, 'b, 'c, 'd, K: Origin, N: House, G: Gate, R: Wait, W: Wait + Drop> {
+pub(crate) struct Worker<'a, 'b, 'c, 'd, S: StoreId, B: Boards<S> + Drop, V: Drop, G: Gate, R: Wait> {
     pub(crate) rt: &'a R,
-    pub(crate) shared: &'b Shared<K, N, W>,
+    pub(crate) shared: &'b Shared<S, B>,
     pub(crate) gate: &'c G,
     pub(crate) lines: &'d [Line],
     pub(crate) batch: usize,
-    pub(crate) seat: Seat<K, N>,
+    pub(crate) seat: Seat<S, V>,
     pub(crate) answers: Vec<Answer>,
 }
 
 /// A worker with a new seat, and with room for an answer to each of its lines.
-pub(crate) fn worker_of<'a, 'b, 'c, 'd, K: Origin, N: House, G: Gate, R: Wait, W: Wait + Drop>(
+pub(crate) fn worker_of<'a, 'b, 'c, 'd, S: StoreId, B: Boards<S> + Drop, V: Drop, G: Gate, R: Wait>(
     alloc: Global,
     rt: &'a R,
-    shared: &'b Shared<K, N, W>,
+    shared: &'b Shared<S, B>,
     gate: &'c G,
     lines: &'d [Line],
     batch: u64,
-    seat: Seat<K, N>,
-) -> Result<Worker<'a, 'b, 'c, 'd, K, N, G, R, W>, NoMemory>
-    requires seat { seat.sums ≡ no_tally }
-    ensures seat { IfOk result (λ w. (w.seat.worker ≡ seat.worker) × (w.seat.sums ≡ no_tally)) }
+    seat: Seat<S, V>,
+) -> Result<Worker<'a, 'b, 'c, 'd, S, B, V, G, R>, NoMemory>
+    requires seat { seat.tally ≡ no_tally }
+    ensures seat { IfOk result (λ w. (w.seat.worker ≡ seat.worker) × (w.seat.tally ≡ no_tally)) }
     ensures lines { IfOk result (λ w. w.lines.now ≡ lines.now) }
     ensures batch { IfOk result (λ w. w.batch ≡ batch) }
     ensures room { IfOk result (λ w. (vec_len w.answers ≡ 0) × (length lines.now ≤ vec_capacity w.answers)) }
@@ -86,15 +85,15 @@ pub(crate) fn worker_of<'a, 'b, 'c, 'd, K: Origin, N: House, G: Gate, R: Wait, W
 }
 
 /// Makes the calls of a script one after the other, and goes on after any answer.
-fn play_each<K: Origin, N: House, G: Gate, R: Wait, W: Wait + Drop>(
+fn play_each<S: StoreId, B: Boards<S> + Drop, V: Drop, G: Gate, R: Wait>(
     rt: &R,
-    shared: &Shared<K, N, W>,
+    shared: &Shared<S, B>,
     gate: &G,
     lines: &[Line],
-    mut seat: Seat<K, N>,
+    mut seat: Seat<S, V>,
     mut answers: Vec<Answer>,
-) -> Work<N>
-    requires seat { seat.sums ≡ no_tally }
+) -> Work<S>
+    requires seat { seat.tally ≡ no_tally }
     requires room { (vec_len answers ≡ 0) × (length lines.now ≤ vec_capacity answers) }
     ensures { IsWork seat.worker lines.now result }
 {
@@ -113,22 +112,21 @@ fn play_each<K: Origin, N: House, G: Gate, R: Wait, W: Wait + Drop>(
 }
 
 /// Makes the next calls of a script, of which there are at most 64, under a lock that is held, and then gives it back.
-fn play_held<K: Origin, N: House, R: Wait, W: Wait + Drop>(
+fn play_held<S: StoreId, B: Boards<S> + Drop, V: Drop, R: Wait>(
     rt: &R,
-    held: Held<'_, K, N, W>,
+    held: Held<'_, S, B>,
     lines: &[Line],
     many: usize,
-    seat: &mut Seat<K, N>,
+    seat: &mut Seat<S, V>,
     answers: &mut Vec<Answer>,
 )
-    requires begins { IsPrefix seat.old.seen held.journal }
-    requires room { many ≤ held.room }
-    requires few { vec_len answers.old + many ≤ length lines.now }
-    requires place { length lines.now ≤ vec_capacity answers.old }
-    requires answered { AreAnswers seat.old.worker lines.now seat.old.seen seat.old.sums.calls answers.old.items }
-    ensures answered { AreAnswers seat.new.worker lines.now seat.new.seen seat.new.sums.calls answers.new.items }
-    ensures many { vec_len answers.new ≡ vec_len answers.old + many }
-    ensures same { (seat.new.worker ≡ seat.old.worker) × (vec_capacity answers.new ≡ vec_capacity answers.old) }
+    requires held { MayMake many held seat.old }
+    requires room { (vec_len answers.old + many ≤ length lines.now) × (length lines.now ≤ vec_capacity answers.old) }
+    requires answered { HasAnswers lines.now seat.old answers.old.items }
+    ensures answered { HasAnswers lines.now seat.new answers.new.items }
+    ensures many { (vec_len answers.new ≡ vec_len answers.old + many)
+        × (vec_capacity answers.new ≡ vec_capacity answers.old) }
+    ensures worker { seat.new.worker ≡ seat.old.worker }
 {
     let mut held = held;
     for _ in 0..many {
@@ -141,22 +139,22 @@ fn play_held<K: Origin, N: House, R: Wait, W: Wait + Drop>(
 
 /// Makes the next calls of a script under one taking of the lock, and waits at the gate before the first and after the
 /// last of them.
-fn play_batch<K: Origin, N: House, G: Gate, R: Wait, W: Wait + Drop>(
+fn play_batch<S: StoreId, B: Boards<S> + Drop, V: Drop, G: Gate, R: Wait>(
     rt: &R,
-    shared: &Shared<K, N, W>,
+    shared: &Shared<S, B>,
     gate: &G,
     lines: &[Line],
     many: usize,
-    seat: &mut Seat<K, N>,
+    seat: &mut Seat<S, V>,
     answers: &mut Vec<Answer>,
 )
-    requires batch { many ≤ MAX_BATCH }
-    requires few { vec_len answers.old + many ≤ length lines.now }
-    requires place { length lines.now ≤ vec_capacity answers.old }
-    requires answered { AreAnswers seat.old.worker lines.now seat.old.seen seat.old.sums.calls answers.old.items }
-    ensures answered { AreAnswers seat.new.worker lines.now seat.new.seen seat.new.sums.calls answers.new.items }
-    ensures many { vec_len answers.new ≡ vec_len answers.old + many }
-    ensures same { (seat.new.worker ≡ seat.old.worker) × (vec_capacity answers.new ≡ vec_capacity answers.old) }
+    requires room { (many ≤ MAX_BATCH) × (vec_len answers.old + many ≤ length lines.now)
+        × (length lines.now ≤ vec_capacity answers.old) }
+    requires answered { HasAnswers lines.now seat.old answers.old.items }
+    ensures answered { HasAnswers lines.now seat.new answers.new.items }
+    ensures many { (vec_len answers.new ≡ vec_len answers.old + many)
+        × (vec_capacity answers.new ≡ vec_capacity answers.old) }
+    ensures worker { seat.new.worker ≡ seat.old.worker }
 {
     let worker = seat.worker();
     let first = answers.len() + 1;
@@ -167,17 +165,17 @@ fn play_batch<K: Origin, N: House, G: Gate, R: Wait, W: Wait + Drop>(
 }
 
 /// Makes the calls of a script, so many at a time under one taking of the lock.
-fn play_batches<K: Origin, N: House, G: Gate, R: Wait, W: Wait + Drop>(
+fn play_batches<S: StoreId, B: Boards<S> + Drop, V: Drop, G: Gate, R: Wait>(
     rt: &R,
-    shared: &Shared<K, N, W>,
+    shared: &Shared<S, B>,
     gate: &G,
     lines: &[Line],
     batch: usize,
-    mut seat: Seat<K, N>,
+    mut seat: Seat<S, V>,
     mut answers: Vec<Answer>,
-) -> Work<N>
+) -> Work<S>
     requires batch { (0 < batch) × (batch ≤ MAX_BATCH) }
-    requires seat { seat.sums ≡ no_tally }
+    requires seat { seat.tally ≡ no_tally }
     requires room { (vec_len answers ≡ 0) × (length lines.now ≤ vec_capacity answers) }
     ensures { IsWork seat.worker lines.now result }
 {
@@ -192,11 +190,11 @@ fn play_batches<K: Origin, N: House, G: Gate, R: Wait, W: Wait + Drop>(
 }
 
 /// Plays a worker's script.
-pub(crate) fn play<K: Origin, N: House, G: Gate, R: Wait, W: Wait + Drop>(
-    worker: Worker<'_, '_, '_, '_, K, N, G, R, W>,
-) -> Work<N>
+pub(crate) fn play<S: StoreId, B: Boards<S> + Drop, V: Drop, G: Gate, R: Wait>(
+    worker: Worker<'_, '_, '_, '_, S, B, V, G, R>,
+) -> Work<S>
     requires batch { (0 < worker.batch) × (worker.batch ≤ MAX_BATCH) }
-    requires seat { worker.seat.sums ≡ no_tally }
+    requires seat { worker.seat.tally ≡ no_tally }
     requires room { (vec_len worker.answers ≡ 0) × (length worker.lines.now ≤ vec_capacity worker.answers) }
     ensures { IsWork worker.entry.seat.worker worker.entry.lines.now result }
 {

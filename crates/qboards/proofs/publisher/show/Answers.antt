@@ -12,9 +12,12 @@ use Rattle.qboards.proofs.publisher.show.Goals as goal
 pub publish_as-requires : goal.publish_as-requires
 publish_as-requires g c next is =
     let x = c.args.writer.desk.shown.value in
-    let S : State = start g.K.Origin.setting in
-    let all : sealed_in next ≡ board_and S c.args.front.now = is ∙ c.requires.waits in
-    let log : next.front.log ≡ c.args.front.now.log = ap (λ (s : Sealed). s.front.log) all in
-    let more : IsPrefix x.front.log next.front.log = subst (λ (l : List Entry). IsPrefix x.front.log l) (sym log) c.requires.goes_on in
-    let board : board_in next ≡ shown_of S next.front.log = ap (λ (s : Sealed). s.board) all ∙ ap (shown_of S) (sym log) in
-    brings _ _ _ _ x next more (ap (λ (s : Sealed). s.front.book) all ∙ c.requires.book) (subst (IsLegal S) (sym log) c.requires.legal) board
+    let S : State = start g.S.StoreId.id.setting in
+    let on = c.requires.leads.on in
+    let all : sealed_in next ≡ board_and S c.args.prefix.now = is ∙ c.requires.leads.leads in
+    let entries : next.prefix.entries ≡ c.args.prefix.now.entries = ap (λ (s : Sealed). s.prefix.entries) all in
+    let more : IsPrefix x.prefix.entries next.prefix.entries =
+    subst (λ (l : List Entry). IsPrefix x.prefix.entries l) (sym entries) on.begins in
+    let board : board_in next ≡ shown_of S next.prefix.entries = ap (λ (s : Sealed). s.board) all ∙ ap (shown_of S) (sym entries) in
+    brings _ _ _ _ x next more (ap (λ (s : Sealed). s.prefix.history) all ∙ on.of.history)
+    (subst (IsLegal S) (sym entries) on.of.legal) board

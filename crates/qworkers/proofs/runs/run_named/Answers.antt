@@ -1,6 +1,6 @@
 use Rattle.std.proofs.Common.{◌≡◌, ◌++◌, true, false, All, IfOk, IfSome, ◌<◌, ◌≤◌, length, sum_by, ap, subst, sym, ◌∙◌}
 use mathlib.Core.List.{IsPrefix}
-use Rattle.qhistory.specs.Shares.{AreThere, Shared}
+use Rattle.qhistory.specs.Shares.{AreThere, HandedIn}
 use Rattle.qplain.specs.Journal.{no_tally}
 use Rattle.qplain.specs.State.{start}
 use Rattle.qcheck.specs.LawfulBoards.{AreLawful, boards_in}
@@ -22,7 +22,7 @@ conclude-requires-clause-told g c =
     let own = c.in_ok-own.own.items in
     let ts = c.in_ok-own.transcripts.items in
     let journal = c.in-Ok-end.ended.journal.items in
-    let Seen : Shared → Type 0 = λ s. IsPrefix s.seen journal in
+    let Seen : HandedIn → Type 0 = λ s. IsPrefix s.seen journal in
     record {
       shares = own;
       told = subst (λ ls. AreTold ls own ts) (sym (lines_told 1 c.args.scripts.items own ts c.in_ok-own.ensures)) c.in_ok-own.ensures;
@@ -31,7 +31,7 @@ conclude-requires-clause-told g c =
 
 pub play_all-requires-clause-watcher : goal.play_all-requires-clause-watcher
 play_all-requires-clause-watcher g c κs within =
-    subst (λ o. IfSome o (λ s. s.sums ≡ no_tally)) (sym c.part_seats-seats.ensures.watcher) (watcher_idle c.len.result c.args.options.boards)
+    subst (λ o. IfSome o (λ s. s.tally ≡ no_tally)) (sym c.part_seats-seats.ensures.watcher) (watcher_idle c.len.result c.args.options.boards)
 
 pub conclude-requires-clause-gathered : goal.conclude-requires-clause-gathered
 conclude-requires-clause-gathered g c =
@@ -39,14 +39,14 @@ conclude-requires-clause-gathered g c =
     let scripts = c.args.scripts.items in
     let journal = c.in-Ok-end.ended.journal.items in
     let watch = c.in_ok-played.played.watch in
-    let Seen : Shared → Type 0 = λ s. IsPrefix s.seen journal in
-    let S = start g.K.Origin.setting in
+    let Seen : HandedIn → Type 0 = λ s. IsPrefix s.seen journal in
+    let S = start g.S.StoreId.id.setting in
     let boards = c.args.options.boards in
     let looked : IsWatchOf S boards (watcher_for (length scripts) boards) watch =
     watched_from S (length scripts) c.len.result boards c.part_seats-seats.result.1 watch c.part_seats-seats.ensures.watcher
     (c.len.ensures ∙ c.args.scripts.ok.0) c.in_ok-played.ensures.watch in
-    let calls : sum_by (λ s. s.sums.calls) c.in_ok-shares.shares.items ≡ length journal =
-    ap (λ t. t.calls) (sym c.in-Ok-end.ensures.sums ∙ c.in-Ok-end.ensures.tallies) in
+    let calls : sum_by (λ s. s.tally.calls) c.in_ok-shares.shares.items ≡ length journal =
+    ap (λ t. t.calls) (sym c.in-Ok-end.ensures.tally ∙ c.in-Ok-end.ensures.tallies) in
     all_gathered scripts own c.in_ok-own.transcripts.items journal c.in_ok-own.ensures
     (all_front Seen own (shares_in watch) (subst (All Seen) c.in_ok-shares.ensures.shares c.in-Ok-end.ensures.seen))
     (calls_counted S (length scripts) boards own c.in_ok-shares.shares.items watch (length journal) looked c.in_ok-shares.ensures.shares calls)
@@ -56,7 +56,7 @@ conclude-requires-clause-lawful g c =
     let scripts = c.args.scripts.items in
     let journal = c.in-Ok-end.ended.journal.items in
     let watch = c.in_ok-played.played.watch in
-    let S = start g.K.Origin.setting in
+    let S = start g.S.StoreId.id.setting in
     let boards = c.args.options.boards in
     let looks = c.in_ok-shares.looks.items in
     let looked : IsWatchOf S boards (watcher_for (length scripts) boards) watch =
@@ -72,13 +72,13 @@ unreachable-requires g c =
     let scripts = c.args.scripts.items in
     let boards = c.args.options.boards in
     let watch = c.in_ok-played.played.watch in
-    let S = start g.K.Origin.setting in
+    let S = start g.S.StoreId.id.setting in
     let looked : IsWatchOf S boards (watcher_for (length scripts) boards) watch =
     watched_from S (length scripts) c.len.result boards c.part_seats-seats.result.1 watch c.part_seats-seats.ensures.watcher
     (c.len.ensures ∙ c.args.scripts.ok.0) c.in_ok-played.ensures.watch in
     let there : AreThere (own ++ shares_in watch) (seats_for (length scripts) boards) =
     all_seats_there S (length scripts) boards own watch (all_there scripts own c.in_ok-own.transcripts.items c.in_ok-own.ensures) looked in
-    let all : AreThere c.in_ok-shares.shares.items g.N.House.names.ledgers.parts =
+    let all : AreThere c.in_ok-shares.shares.items g.S.StoreId.id.counters.parts =
     subst (AreThere c.in_ok-shares.shares.items) (sym c.requires.seats)
     (subst (λ xs. AreThere xs (seats_for (length scripts) boards)) (sym c.in_ok-shares.ensures.shares) there) in
     let wrong : false ≡ true = c.in-Err-end.ensures.all all in
@@ -88,7 +88,7 @@ pub returns-clause-outcome : goal.returns-clause-outcome
 returns-clause-outcome g c =
     let ts = c.in_ok-own.transcripts.items in
     let lines = lines_told 1 c.args.scripts.items c.in_ok-own.own.items ts c.in_ok-own.ensures in
-    subst (λ ls. IfOk c.conclude.result (IsOutcomeOf g.K.Origin.setting ls)) lines
+    subst (λ ls. IfOk c.conclude.result (IsOutcomeOf g.S.StoreId.id.setting ls)) lines
     (subst (λ s. IfOk c.conclude.result (IsOutcomeOf s (lines_of ts))) c.in-Ok-end.ensures.setup c.conclude.ensures.outcome)
 
 pub returns-clause-looks : goal.returns-clause-looks
@@ -96,7 +96,7 @@ returns-clause-looks g c =
     let scripts = c.args.scripts.items in
     let boards = c.args.options.boards in
     let watch = c.in_ok-played.played.watch in
-    let S = start g.K.Origin.setting in
+    let S = start g.S.StoreId.id.setting in
     let looked : IsWatchOf S boards (watcher_for (length scripts) boards) watch =
     watched_from S (length scripts) c.len.result boards c.part_seats-seats.result.1 watch c.part_seats-seats.ensures.watcher
     (c.len.ensures ∙ c.args.scripts.ok.0) c.in_ok-played.ensures.watch in

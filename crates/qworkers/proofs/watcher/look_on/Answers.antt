@@ -11,8 +11,8 @@ loop-init g c = (
   c.requires.room.1,
   refl,
   c.requires.seat,
-  subst (λ looks. AreLawful (start g.K.Origin.setting) c.args.seat.seen (boards_in looks))
-      (sym (nil_from_length c.args.looks.items (sym c.args.looks.ok.0 ∙ c.requires.room.0))) (no_boards (start g.K.Origin.setting) c.args.seat.seen),
+  subst (λ looks. AreLawful (start g.S.StoreId.id.setting) c.args.seat.seen (boards_in looks))
+      (sym (nil_from_length c.args.looks.items (sym c.args.looks.ok.0 ∙ c.requires.room.0))) (no_boards (start g.S.StoreId.id.setting) c.args.seat.seen),
 )
 
 pub loop-preserved : goal.loop-preserved
@@ -24,6 +24,6 @@ loop-preserved g c =
       omega (arith, pushed.capacity, so_far.1),
       looked.same.0 ∙ so_far.2,
       looked.same.1 ∙ so_far.3,
-      look_more (start g.K.Origin.setting) c.loop.seat.seen c.board.new.self.seen c.loop.looks.items c.push_reserved.new.self.items c.board.result so_far.4
+      look_more (start g.S.StoreId.id.setting) c.loop.seat.seen c.board.new.self.seen c.loop.looks.items c.push_reserved.new.self.items c.board.result so_far.4
           looked.seen looked.board pushed.items,
     )

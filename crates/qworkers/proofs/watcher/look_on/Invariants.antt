@@ -7,4 +7,4 @@ use Rattle.qworkers.proofs.watcher.look_on.Given as goal
 
 abbrev pub invariant-loop : goal.invariant-loop
 invariant-loop g l = (vec_len l.looks ≡ l.counter) × (l.boards ≤ vec_capacity l.looks) × (l.seat.worker ≡ l.fn.seat.worker)
-    × (l.seat.sums ≡ no_tally) × AreLawful (start g.K.Origin.setting) l.seat.seen (boards_in l.looks.items)
+    × (l.seat.tally ≡ no_tally) × AreLawful (start g.S.StoreId.id.setting) l.seat.seen (boards_in l.looks.items)

@@ -21,12 +21,12 @@ loop-before-preserved g c =
     let answer = c.call-answer.result in
     let old = c.loop-before.seat in
     let new = c.call-answer.new.seat in (
-      subst (λ w. AreAnswers w lines new.seen new.sums.calls c.push_reserved.new.self.items) (sym called.worker)
-          (one_more old.worker lines old.seen new.seen old.sums.calls new.sums.calls c.loop-before.answers.items c.push_reserved.new.self.items line
+      subst (λ w. AreAnswers w lines new.seen new.tally.calls c.push_reserved.new.self.items) (sym called.worker)
+          (one_more old.worker lines old.seen new.seen old.tally.calls new.tally.calls c.loop-before.answers.items c.push_reserved.new.self.items line
           answer so_far.0
           (next_line lines c.loop-before.before (length c.loop-before.answers.items) line line c.index-lines-before.is c.loop-before-test.true
           (sym c.loop-before.answers.ok.0 ∙ so_far.1))
-          called.seen called.stands called.later (counts_one answer old.sums new.sums called.counted) (counts_none answer old.sums new.sums called.kept)
+          called.seen called.stands called.later (counts_one answer old.tally new.tally called.counted) (counts_none answer old.tally new.tally called.kept)
           called.full called.stays_full pushed.items),
       omega (arith, pushed.len, so_far.1),
       omega (arith, pushed.capacity, so_far.2),

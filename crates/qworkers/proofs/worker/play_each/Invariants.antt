@@ -4,5 +4,5 @@ use Rattle.qworkers.specs.Work.{AreAnswers}
 use Rattle.qworkers.proofs.worker.play_each.Given as goal
 
 abbrev pub invariant-loop-before : goal.invariant-loop-before
-invariant-loop-before g l = AreAnswers l.seat.worker l.lines l.seat.seen l.seat.sums.calls l.answers.items × (vec_len l.answers ≡ l.before)
+invariant-loop-before g l = AreAnswers l.seat.worker l.lines l.seat.seen l.seat.tally.calls l.answers.items × (vec_len l.answers ≡ l.before)
     × (length l.lines ≤ vec_capacity l.answers) × (l.seat.worker ≡ l.worker)

@@ -4,7 +4,7 @@ use Rattle.qworkers.proofs.worker.play_held.Goals as goal
 
 pub loop-init : goal.loop-init
 loop-init g c = (
-  seen_more c.args.seat.now.worker c.args.lines.now c.args.seat.now.sums.calls c.args.seat.now.seen c.args.held.journal c.args.answers.now.items
+  seen_more c.args.seat.now.worker c.args.lines.now c.args.seat.now.tally.calls c.args.seat.now.seen c.args.held.journal c.args.answers.now.items
       c.requires.answered c.requires.begins,
   omega arith,
   refl,

@@ -20,7 +20,7 @@ worker_of-requires g c =
     let seated = c.loop-seat.invariant.0 in
     let next = seat_next (length c.captures.scripts.now) seated.0 (into_iter_items c.next.new.self) c.in-Some.seat
     (ap (λ xs. seated.0 ++ xs) (sym c.in-Some.ensures.steps.0) ∙ seated.1) in
-    record { seat = ap (λ s. s.sums) next.0 }
+    record { seat = ap (λ s. s.tally) next.0 }
 
 pub loop-seat-preserved : goal.loop-seat-preserved
 loop-seat-preserved g c =
@@ -77,7 +77,7 @@ returns-in-Ok-join_promised g c =
             subst (λ ls. IsWork (k + 1) ls (slice_index_or works.items k d)) script
             (subst (λ m. IsWork m h.promise.lines.now (slice_index_or works.items k d)) worker at.1.kept);
       };
-      watch = subst (λ w. IsWatchOf (start g.K.Origin.setting) c.captures.options-boards w c.in_ok-watch.watch) c.loop-seat.invariant.3
+      watch = subst (λ w. IsWatchOf (start g.S.StoreId.id.setting) c.captures.options-boards w c.in_ok-watch.watch) c.loop-seat.invariant.3
           c.in_ok-watch.ensures.watch;
       fault = λ n few watcher. tt;
     }

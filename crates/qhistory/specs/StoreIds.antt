@@ -1,0 +1,34 @@
+-- What a store is told from another by.
+use Rattle.std.specs.Prelude.{ℕ, []}
+use Rattle.logbook.specs.Pages.{Book}
+use Rattle.qplain.specs.Setups.{Setting}
+
+-- the five counters of a tally, and how many parts each has
+pub record Counters : Type 0 where
+  pub blocks_charged : ℕ
+  pub blocks_released : ℕ
+  pub inodes_charged : ℕ
+  pub inodes_released : ℕ
+  pub calls : ℕ
+  pub parts : ℕ
+
+-- the setting that it starts from, which history it has, and which counters, of as many parts as it has seats
+pub record Identity : Type 0 where
+  pub setting : Setting
+  pub history : Book
+  pub counters : Counters
+
+-- the identity of no store
+abbrev pub no_identity : Identity
+no_identity = record {
+  setting = record { blocks = 0; inodes = 0; graces = record { block = 0; inode = 0 }; users = []; groups = [] };
+  history = record { number = 0; log_name = 0; cells_name = 0 };
+  counters = record {
+    blocks_charged = 0;
+    blocks_released = 0;
+    inodes_charged = 0;
+    inodes_released = 0;
+    calls = 0;
+    parts = 0;
+  };
+}

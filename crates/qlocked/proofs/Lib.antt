@@ -1,2 +1,0 @@
--- A call and a publication keep a locked store sound.
-mod Keeping

@@ -1,2 +1,0 @@
--- What a call leaves of a journal.
-mod Growing

@@ -1,0 +1,13 @@
+-- What the end of a shared store gives, and what it gives back where a share is missing.
+use Rattle.std.specs.Prelude.{◌≡◌, ℕ, List, All}
+use mathlib.Core.List.{IsPrefix}
+use Rattle.qplain.specs.Journal.{tally_of}
+use Rattle.qhistory.specs.Shares.{HandedIn, tally_of_shares}
+use Rattle.qstore_journaled.specs.Journaled.{IsPlayed, Journaled}
+
+-- a store that is what its journal leaves; what the shares have counted is the journal's tally, and each has seen a
+-- prefix of it
+pub record IsEndOf (shares : List HandedIn) (j : Journaled) : Type 0 where
+  pub played : IsPlayed j
+  pub tally : tally_of_shares shares ≡ tally_of j.journal
+  pub seen : All (λ s. IsPrefix s.seen j.journal) shares

@@ -1,0 +1,24 @@
+-- The rows of calls that wait to be published. No public clause cites this module.
+use Rattle.std.specs.Prelude.{◌≡◌, List}
+use Rattle.qrules.specs.declared.board_row.BoardRow.{BoardRow}
+use Rattle.qplain.specs.declared.effect.PlacedRow.{PlacedRow}
+use Rattle.qplain.specs.declared.entry.Entry.{Entry}
+use Rattle.qplain.specs.Journal.{board_of}
+use Rattle.qplain.specs.Setups.{Setting}
+use Rattle.qplain.specs.State.{State, start}
+use Rattle.qboards.specs.Boards.{shown_of, with_rows}
+
+-- the rows of a state's board
+abbrev pub rows_of : State → List BoardRow
+rows_of S = (board_of S 0).rows
+
+-- from whatever rows the first list leads to those of the state before, the other leads to those of the state after
+pub record LeadsOn (waiting : List PlacedRow) (before : State) (with_call : List PlacedRow) (after : State) : Type 0 where
+  pub leads : (rows : List BoardRow) → with_rows rows waiting ≡ rows_of before
+      → with_rows rows with_call ≡ rows_of after
+
+-- the board of the first history is published, and the rows that wait lead from its rows to those of the journal's
+pub record Waits (setting : Setting) (shown : List Entry) (waiting : List PlacedRow) (published journal : List Entry)
+    : Type 0 where
+  pub shown_is : shown ≡ published
+  pub leads : with_rows (shown_of (start setting) published).rows waiting ≡ (shown_of (start setting) journal).rows

@@ -1,0 +1,29 @@
+//! Why a shared store was not ended.
+ghost use Rattle.std.specs.Prelude.{◌≡◌};
+ghost use Rattle.qshare.specs.ShareFaults.{end_fault_number};
+
+use crate::boards::Boards;
+use crate::shared::Shared;
+use qhistory::{Share, StoreId};
+
+/// Why a shared store was not ended. It gives the store and the shares back, unchanged.
+#[derive(Drop)]
+pub enum EndFault<S: StoreId, B: Boards<S> + Drop> {
+    /// The share of this worker is not there.
+    Missing {
+        worker: u64,
+        shared: Shared<S, B>,
+        shares: Vec<Share<S>>,
+    },
+}
+
+impl<S: StoreId, B: Boards<S> + Drop> EndFault<S, B> {
+    /// The number under which it is known.
+    pub fn number(&self) -> u32
+        ensures { result ≡ end_fault_number }
+    {
+        match self {
+            EndFault::Missing { .. } => 25,
+        }
+    }
+}

@@ -1,0 +1,173 @@
+//! The value under a shared store's lock.
+ghost use Rattle.std.specs.Prelude.{◌≡◌, ◌<◌, ◌≤◌, ◌↔◌, [], length, All, Err, IfOk, OnErr};
+ghost use mathlib.Core.List.{IsPrefix};
+ghost use Rattle.qplain.specs.declared.bounds.TheConstants.{MAX_ENTRIES};
+ghost use Rattle.qplain.specs.declared.call_fault.CallFault.TheVariants.{JournalFull};
+ghost use Rattle.qplain.specs.Journal.{IsLegal, no_tally};
+ghost use Rattle.qplain.specs.State.{start};
+ghost use Rattle.qhistory.specs.Histories.{recorded};
+ghost use Rattle.qstore_journaled.specs.Lines.{line_of};
+ghost use Rattle.qshare.specs.Calls.{IsJournaled};
+ghost use Rattle.qshare.specs.Ends.{IsEndOf};
+
+use crate::boards::Boards;
+use qhistory::{History, Prefix, SeatTally, Share, StoreId, TallyPart, TallyTotal, together};
+use qplain::{Call, CallFault, Cred, Receipt};
+use qstore_journaled::JournaledStore;
+use std::marker::Model;
+use std::sync::Wait;
+
+/// A journaled store with its history, how much of that is published, the tally of it, and what is done for those who
+/// look at its boards: what lies under the lock. Contracts see the journal, and how much of it is published.
+#[derive(Drop)]
+pub(crate) struct LockedStore<S: StoreId, B: Boards<S>> {
+    store: JournaledStore,
+    history: History,
+    published: Prefix,
+    tally: TallyTotal<S>,
+    /// How many seats there are.
+    seats: u64,
+    /// No part of the tally.
+    rest: TallyPart<S>,
+    boards: B,
+}
+
+impl<S: StoreId, B: Boards<S>> Model for LockedStore<S, B> {
+    ghost use Rattle.qshare.specs.Locked.{IsLockedOf, Locked};
+
+    ghost Value = { Locked };
+
+    ghost view = { λ d. record { journal = d.store.journal; published = d.published.entries } };
+
+    ghost invariant = { λ d. IsLockedOf S.id d.store d.history d.published d.tally d.rest d.seats
+        × B.waits d.boards d.published.entries d.store.journal };
+}
+
+impl<S: StoreId, B: Boards<S>> LockedStore<S, B> {
+    /// A new store under its lock, with an empty journal, for so many seats.
+    pub(crate) fn new(
+        store: JournaledStore,
+        history: History,
+        tally: TallyTotal<S>,
+        seats: u64,
+        rest: TallyPart<S>,
+        boards: B,
+    ) -> LockedStore<S, B>
+        requires store { (store.setting ≡ S.id.setting) × (store.journal ≡ []) }
+        requires history { history ≡ recorded S.id.history [] }
+        requires seats { seats ≡ S.id.counters.parts }
+        requires tally { (tally ≡ no_tally) × (rest ≡ record { tally = no_tally; parts = 0 }) }
+        requires boards { B.waits boards [] [] }
+        ensures { (result.journal ≡ []) × (result.published ≡ []) }
+    {
+        LockedStore {
+            published: history.prefix(),
+            store,
+            history,
+            tally,
+            seats,
+            rest,
+            boards,
+        }
+    }
+
+    /// The number of seats.
+    pub(crate) fn seats(&self) -> u64
+        ensures { result ≡ S.id.counters.parts }
+    {
+        self.seats
+    }
+
+    /// Makes a call and journals it; what it does to the boards waits to be published.
+    ///
+    /// Err is JournalFull, told first, where the journal has its 65,536 entries, or OutOfMemory; it changes nothing.
+    pub(crate) fn apply<W: Wait>(
+        &mut self,
+        rt: &W,
+        worker: u64,
+        mine: &mut SeatTally<S>,
+        cred: &Cred,
+        moment: u64,
+        call: &Call,
+    ) -> Result<Receipt, CallFault>
+        requires parts { 0 < mine.old.parts }
+        ensures ok { IfOk result (IsJournaled worker (line_of cred.now moment call.now) self.old.journal
+            self.new.journal mine.old.tally mine.new.tally) }
+        ensures stays { (mine.new.parts ≡ mine.old.parts) × (self.new.published ≡ self.old.published) }
+        ensures err { OnErr result ((self.new ≡ self.old) × (mine.new ≡ mine.old)) }
+        ensures full { (result ≡ Err JournalFull) ↔ (length self.old.journal ≡ MAX_ENTRIES) }
+        ensures legal { IsLegal (start S.id.setting) self.new.journal × (length self.old.journal ≤ MAX_ENTRIES) }
+    {
+        // What is ready is large: a `?` would move it once more.
+        let next = match self.store.ready(worker, cred, moment, call) {
+            Ok(next) => next,
+            Err(fault) => return Err(fault),
+        };
+        let Ok(()) = self.boards.note(&self.store, &next) else {
+            return Err(CallFault::OutOfMemory);
+        };
+        self.history.add(rt, next.entry());
+        self.tally.count_call(mine, next.change(), next.tallies());
+        Ok(self.store.commit(next))
+    }
+
+    /// Publishes the whole journal, with its board where somebody can look at it. It takes no memory but for the log of
+    /// the boards, which has its room.
+    pub(crate) fn publish(&mut self)
+        ensures { (self.new.journal ≡ self.old.journal) × (self.new.published ≡ self.old.journal) }
+    {
+        let history = self.history.prefix();
+        self.boards.publish(&self.store, &self.published, history.again());
+        self.published = history;
+    }
+
+    /// What is published.
+    pub(crate) fn published(&self) -> &Prefix
+        ensures published { result.now ≡ recorded S.id.history self.now.published }
+        ensures legal { IsLegal (start S.id.setting) self.now.journal }
+    {
+        &self.published
+    }
+
+    /// Waits until what is published begins with what a seat has seen, which it does: the loop ends at its first turn,
+    /// but no clause of `logbook` says that only what was published was seen.
+    pub(crate) fn await_seen<W: Wait>(&self, rt: &W, seen: &Prefix)
+        requires { seen.now.history ≡ S.id.history }
+        ensures published { IsPrefix seen.now.entries self.now.published }
+        ensures journal { IsPrefix self.now.published self.now.journal }
+    {
+        for _ in rt.forever() {
+            if self.published.begins_with(seen) {
+                return;
+            }
+        }
+        unreachable!()
+    }
+
+    /// Waits until the journal begins with what each seat has seen, which it does.
+    fn await_all<W: Wait>(&self, rt: &W, shares: &[Share<S>])
+        ensures { All (λ s. IsPrefix s.seen self.now.journal) shares.now }
+    {
+        for share in shares {
+            self.await_seen(rt, share.prefix());
+        }
+    }
+
+    /// What is left, for who hands in the shares of all seats: what they have counted is the journal's tally.
+    pub(crate) fn close<W: Wait>(self, rt: &W, shares: Vec<Share<S>>) -> JournaledStore
+        requires { S.id.counters.parts ≤ length shares.items }
+        ensures setting { result.setting ≡ S.id.setting }
+        ensures end { IsEndOf shares.items result }
+    {
+        self.await_all(rt, &shares);
+        let LockedStore {
+            store,
+            mut tally,
+            rest,
+            ..
+        } = self;
+        let mut all = together(rest, shares);
+        tally.reconcile(&mut all);
+        store
+    }
+}

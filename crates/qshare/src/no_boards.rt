@@ -1,0 +1,20 @@
+ghost use Rattle.std.specs.Prelude.{◌≡◌};
+
+use crate::boards::Boards;
+use qhistory::{Prefix, StoreId};
+use qplain::NoMemory;
+use qstore_journaled::{JournaledStore, Next};
+
+/// Nobody can look at the boards of the store: nothing is published and nothing waits.
+#[derive(Clone, Copy, Debug)]
+pub struct NoBoards;
+
+impl<S: StoreId> Boards<S> for NoBoards {
+    ghost waits = { λ b published journal. Unit {0} };
+
+    fn note(&mut self, _store: &JournaledStore, _next: &Next) -> Result<(), NoMemory> {
+        Ok(())
+    }
+
+    fn publish(&mut self, _store: &JournaledStore, _published: &Prefix, _history: Prefix) {}
+}

@@ -1,0 +1,79 @@
+//! The boards of a shared store, published for those who look.
+ghost use Rattle.std.specs.Prelude.{◌≡◌, ◌≤◌, ◌+◌, vec_len, vec_capacity, IfOk, OnErr};
+ghost use Rattle.qstore.specs.Ready.{committed};
+ghost use Rattle.qstore_journaled.specs.Next.{CanFollow};
+ghost use Rattle.qshare.specs.declared.published.TheConstants.{MOST_ROWS};
+ghost use Rattle.qshare.specs.Waiting.{LeadsOn};
+
+use crate::boards::Boards;
+use qboards::{BoardChange, Publisher};
+use qhistory::{Prefix, StoreId};
+use qplain::{NoMemory, PlacedRow};
+use qstore_journaled::{JournaledStore, Next};
+use std::alloc::Global;
+use std::sync::Wait;
+
+/// How many rows a call changes at most: those of two users and of two groups.
+const MOST_ROWS: usize = 4;
+
+/// The writing side of the boards, and the rows that the calls since the last publication change, one after the other.
+#[derive(Drop)]
+pub struct Published<S: StoreId, R: Wait + Drop> {
+    pub(crate) alloc: Global,
+    pub(crate) publisher: Publisher<S, R>,
+    pub(crate) waiting: Vec<PlacedRow>,
+}
+
+/// Makes room for the rows of one call more: for these alone where none waits, since a publication takes the list away.
+/// Most calls change no row, so it is out of line.
+#[inline(never)]
+fn make_room(waiting: &mut Vec<PlacedRow>) -> Result<(), NoMemory>
+    ensures same { waiting.new.items ≡ waiting.old.items }
+    ensures room { IfOk result (λ _. vec_len waiting.new + MOST_ROWS ≤ vec_capacity waiting.new) }
+{
+    if waiting.is_empty() {
+        waiting.reserve_exact(MOST_ROWS)?;
+    } else {
+        waiting.reserve(MOST_ROWS)?;
+    }
+    Ok(())
+}
+
+/// Lets the rows wait that a ready call changes, if it may change any, behind the others. An Err, for want of memory,
+/// leaves the others as they were.
+fn let_wait(
+    waiting: &mut Vec<PlacedRow>,
+    store: &JournaledStore,
+    next: &Next,
+) -> Result<(), NoMemory>
+    requires { CanFollow store.now next.now }
+    ensures rows { IfOk result (λ _. LeadsOn waiting.old.items store.now.stored.state
+        waiting.new.items (committed store.now.stored next.now.ready).0) }
+    ensures err { OnErr result (waiting.new.items ≡ waiting.old.items) }
+{
+    if next.may_change_rows() {
+        make_room(waiting)?;
+        store.push_changed_rows(next, waiting);
+    }
+    Ok(())
+}
+
+impl<S: StoreId, R: Wait + Drop> Boards<S> for Published<S, R> {
+    ghost use Rattle.qshare.specs.Waiting.{Waits};
+
+    ghost waits = { λ b published journal. Waits S.id.setting b.publisher b.waiting.items published journal };
+
+    fn note(&mut self, store: &JournaledStore, next: &Next) -> Result<(), NoMemory> {
+        let_wait(&mut self.waiting, store, next)
+    }
+
+    fn publish(&mut self, store: &JournaledStore, _published: &Prefix, history: Prefix) {
+        let change = BoardChange {
+            version: store.entries().len() as u64,
+            rows: std::mem::replace(&mut self.waiting, Vec::new(self.alloc)),
+            blocks: store.store().blocks(),
+            inodes: store.store().inodes(),
+        };
+        self.publisher.publish(change, history);
+    }
+}

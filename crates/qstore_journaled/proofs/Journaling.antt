@@ -1,0 +1,66 @@
+-- A journaled store that makes one call more is again what its journal leaves.
+use Rattle.std.proofs.Common.{◌≡◌, ℕ, ◌+◌, ◌<◌, [], ◌∷◌, ◌++◌, length, refl, sym, ap, ◌∙◌, arith}
+use Rattle.std.proofs.lemmas.List.{length-append}
+use Rattle.qplain.specs.declared.bounds.TheConstants.{MAX_ENTRIES}
+use Rattle.qplain.specs.declared.change.Change.{Change}
+use Rattle.qplain.specs.declared.entry.Entry.{Entry}
+use Rattle.qplain.specs.declared.line.Line.{Line}
+use Rattle.qplain.specs.declared.reply.Reply.{Reply}
+use Rattle.qplain.specs.Setups.{IsLawfulSetup, Setting}
+use Rattle.qplain.specs.State.{State, start}
+use Rattle.qplain.specs.Journal.{CanCount, change_of, counted, play, played, tally_of}
+use Rattle.qplain.specs.Step.{step}
+use Rattle.qlaws.proofs.Playing.{legal-one_more, play-one_more}
+use Rattle.qlaws.proofs.Start.{start_is_lawful}
+use Rattle.qlaws.proofs.Tallying.{tallies_have_room, tally-one_more}
+use Rattle.qstore.specs.declared.ready.Ready.{Ready}
+use Rattle.qstore.specs.Ready.{committed}
+use Rattle.qstore.specs.Stored.{Stored}
+use Rattle.qstore_journaled.specs.Journaled.{IsPlayed, IsSameJournaled, Journaled}
+
+-- a new store is what the empty journal leaves
+pub begins : (j : Journaled) → IsLawfulSetup j.setting → j.stored.state ≡ start j.setting → j.journal ≡ [] → IsPlayed j
+begins j lawful state none = record {
+  setup = lawful;
+  lawful = start_is_lawful j.setting lawful;
+  legal = rw none tt;
+  state = rw none state;
+  few = rw none (omega arith);
+}
+
+-- with the same setup, state and journal it is so, whatever room there is
+pub stays : (old new : Journaled) → IsPlayed old → IsSameJournaled old new → IsPlayed new
+stays old new is same = record {
+  setup = rw same.setting is.setup;
+  lawful = rw same.setting is.lawful;
+  legal = rw (same.setting, same.journal) is.legal;
+  state = rw (same.setting, same.journal, same.state) is.state;
+  few = rw same.journal is.few;
+}
+
+-- one entry more, whose reply and state are the plain machine's
+pub played_on : (old new : Journaled) (e : Entry) → IsPlayed old → length old.journal < MAX_ENTRIES → new.setting ≡ old.setting
+    → new.journal ≡ old.journal ++ e ∷ [] → new.stored.state ≡ (played old.stored.state e).0
+    → e.reply ≡ (played old.stored.state e).1 → IsPlayed new
+played_on old new e is few setting journal state reply =
+    let S : State = start old.setting in
+    let same : played old.stored.state e ≡ played (play S old.journal) e = ap (λ T. played T e) is.state in
+    let left : new.stored.state ≡ play S (old.journal ++ e ∷ []) =
+    state ∙ ap (λ (p : State × Reply). p.0) same ∙ sym (play-one_more S old.journal e) in
+    let count : length (old.journal ++ e ∷ []) ≡ length old.journal + 1 = length-append old.journal (e ∷ []) in
+    record {
+      setup = rw setting is.setup;
+      lawful = rw setting is.lawful;
+      legal = rw (setting, journal) (legal-one_more S old.journal e is.legal (reply ∙ ap (λ (p : State × Reply). p.1) same));
+      state = rw (setting, journal) left;
+      few = rw (journal, count) (omega arith);
+    }
+
+-- what is ready may be counted
+pub can_count : (j : Journaled) (reply : Reply) (line : Line) → IsPlayed j → length j.journal < MAX_ENTRIES
+    → reply ≡ (step j.stored.state line.cred line.moment line.call).1 → CanCount (tally_of j.journal) (change_of reply)
+can_count j reply line is few stepped =
+    let S : State = start j.setting in
+    let next : reply ≡ (step (play S j.journal) line.cred line.moment line.call).1 =
+    stepped ∙ ap (λ T. (step T line.cred line.moment line.call).1) is.state in
+    rw next (tallies_have_room j.setting j.journal line.cred line.moment line.call is.setup is.legal (omega (arith, few)))

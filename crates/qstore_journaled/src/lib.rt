@@ -1,0 +1,10 @@
+//! A store beside the setup that it began with and the journal of its calls: it is always what the journal leaves.
+#![tactic(auto)]
+
+pub use ended::Ended;
+pub use journaled_store::JournaledStore;
+pub use next::Next;
+
+mod ended;
+mod journaled_store;
+mod next;
