@@ -1,8 +1,8 @@
 use Rattle.std.proofs.Common.{drop}
 use Rattle.std.specs.List.{flat_map}
 use Rattle.qtext.specs.Written.{Partly}
-use Rattle.qoutcome.specs.Audits.{difference_text}
-use Rattle.qoutcome.proofs.audit_text.put_differences.Given as goal
+use Rattle.qaudit.specs.Audits.{difference_text}
+use Rattle.qaudit.proofs.audit_text.put_differences.Given as goal
 
 abbrev pub invariant-loop-difference : goal.invariant-loop-difference
 invariant-loop-difference g l =

@@ -2,10 +2,9 @@
 ghost use Rattle.std.specs.Prelude.{◌≡◌, length};
 ghost use Rattle.std.specs.List.{flat_map};
 ghost use Rattle.qtext.specs.Written.{Writes};
-ghost use Rattle.qoutcome.specs.Audits.{audit_head, audit_text, difference_text, link_text, owner_text, use_text};
+ghost use Rattle.qaudit.specs.Audits.{audit_head, audit_text, difference_text, link_text, owner_text, use_text};
 
-use crate::WriteFault;
-use qaudit::{CountRow, Difference, LinkRow};
+use crate::{CountRow, Difference, LinkRow};
 use qrules::{Kind, RecordRow};
 use qtext::{Piece, RefusedWrite, kind_word, put_pieces};
 use std::io::Write;
@@ -104,9 +103,9 @@ fn put_head<W: Write>(out: &mut W, count: u64) -> Result<(), RefusedWrite>
 ///
 /// Blocks are of 4096 bytes. After an Err some beginning of the text went out.
 #[tactic(auto, using(qtext::proofs::Fronts::front_of_first, qtext::proofs::Fronts::writes_then))]
-pub fn write_audit<W: Write>(differences: &[Difference], out: &mut W) -> Result<(), WriteFault>
+pub fn put_audit<W: Write>(out: &mut W, differences: &[Difference]) -> Result<(), RefusedWrite>
     ensures { Writes (W.contents out.old) (W.contents out.new) result (audit_text differences.now) }
 {
     put_head(out, differences.len() as u64)?;
-    Ok(put_differences(out, differences)?)
+    put_differences(out, differences)
 }

@@ -1,7 +1,7 @@
 use Rattle.std.proofs.Common.{drop}
 use Rattle.qaudit.specs.Reports.{report_text}
 use Rattle.qtext.specs.Written.{Partly}
-use Rattle.qaudit.proofs.reports.put_rows.Given as goal
+use Rattle.qaudit.proofs.reports.put_report.Given as goal
 
 abbrev pub invariant-loop-row : goal.invariant-loop-row
 invariant-loop-row g l = Partly (g.W.Write.contents l.fn.out) (g.W.Write.contents l.out)

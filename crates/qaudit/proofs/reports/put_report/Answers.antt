@@ -1,6 +1,6 @@
 use Rattle.qaudit.specs.Reports.{row_text}
 use Rattle.qtext.proofs.Fronts.{rows_end, rows_go_on, rows_refused}
-use Rattle.qaudit.proofs.reports.put_rows.Goals as goal
+use Rattle.qaudit.proofs.reports.put_report.Goals as goal
 
 pub loop-row-preserved : goal.loop-row-preserved
 loop-row-preserved g c = rows_go_on _ _ _ (row_text c.args.moment) _ _ c.row-item.result _ c.row-item.is

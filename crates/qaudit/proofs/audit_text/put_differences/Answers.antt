@@ -1,6 +1,6 @@
 use Rattle.qtext.proofs.Fronts.{rows_end, rows_go_on, rows_refused}
-use Rattle.qoutcome.specs.Audits.{difference_text}
-use Rattle.qoutcome.proofs.audit_text.put_differences.Goals as goal
+use Rattle.qaudit.specs.Audits.{difference_text}
+use Rattle.qaudit.proofs.audit_text.put_differences.Goals as goal
 
 pub loop-difference-preserved : goal.loop-difference-preserved
 loop-difference-preserved g c =
