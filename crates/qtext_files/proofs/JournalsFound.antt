@@ -103,7 +103,7 @@ journal_found text j e =
 
 -- what was answered, where it was a journal
 pub journal_read_found : (text : List ℕ) (answer : Result Written TextFault) → (answer ≡ journal_of text) ⊎ (answer ≡ Err want_of_memory)
-    → IfOk answer (λ j. journal_spelling j ≡ text)
-journal_read_found text (Ok j) (inl e) = (journal_found text j (sym e)).0
-journal_read_found text (Ok j) (inr e) = cc e
-journal_read_found text (Err fault) e = tt
+    → IfOk answer (λ j. journal_spelling j ≡ text) × IfOk answer (λ j. AllByRecursion IsHeld j.entries)
+journal_read_found text (Ok j) (inl e) = let so = journal_found text j (sym e) in (so.0, so.2)
+journal_read_found text (Ok j) (inr e) = absurd (cc e)
+journal_read_found text (Err fault) e = (tt, tt)

@@ -2,6 +2,7 @@
 pub mod RawLines
 pub mod LinesAgain
 pub mod ScriptsAgain
+pub mod ScriptsFound
 pub mod Entries
 pub mod JournalsAgain
 pub mod EntriesFound

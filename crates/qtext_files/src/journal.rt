@@ -84,6 +84,9 @@ impl FromText for Journal {
         // A journal that was read is spelled so, byte by byte.
         ensures spelled { IfOk result (λ j. journal_spelling j ≡ text.now) }
 
+        // Its entries can be spelled out.
+        ensures held { IfOk result (λ j. AllByRecursion IsHeld j.entries) }
+
         // A journal that is spelled out is read again.
         ensures again { (j : Written) → IsJournal j → AllByRecursion IsHeld j.entries → text.now ≡ journal_spelling j
             → (result ≡ Ok j) ⊎ (result ≡ Err want_of_memory) }

@@ -49,6 +49,9 @@ impl FromText for Script {
         // What the text says, want of memory aside.
         ensures exact { (result ≡ script_of text.now) ⊎ (result ≡ Err want_of_memory) }
 
+        // Lines that were read can be spelled out.
+        ensures held { IfOk result AreLines }
+
         // Lines that are spelled out are read again.
         ensures again { (lines : List Line) → AreLines lines → text.now ≡ script_spelling lines
             → (result ≡ Ok lines) ⊎ (result ≡ Err want_of_memory) }
