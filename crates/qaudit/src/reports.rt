@@ -89,7 +89,15 @@ fn put_row<W: Write>(out: &mut W, row: &RecordRow, moment: u64) -> Result<(), Re
     )
 }
 
-fn put_rows<W: Write>(out: &mut W, rows: &[RecordRow], moment: u64) -> Result<(), RefusedWrite>
+/// Writes the report: one line a quota record, in the order of the rows, as of the moment. It takes no memory.
+///
+/// Use and limits of blocks are in KiB, graces in seconds (profile, after repquota(8)). A place of a column is one
+/// character. After an Err some beginning of the text went out.
+pub fn put_report<W: Write>(
+    out: &mut W,
+    rows: &[RecordRow],
+    moment: u64,
+) -> Result<(), RefusedWrite>
     ensures { Writes (W.contents out.old) (W.contents out.new) result (report_text rows.now moment) }
 {
     for row in rows {
@@ -98,14 +106,11 @@ fn put_rows<W: Write>(out: &mut W, rows: &[RecordRow], moment: u64) -> Result<()
     Ok(())
 }
 
-/// Writes the report: one line a quota record, in the order of the rows, as of the moment. It takes no memory.
-///
-/// Use and limits of blocks are in KiB, graces in seconds (profile, after repquota(8)). A place of a column is one
-/// character. After an Err some beginning of the text went out.
+/// The report, of which a refusal has its number.
 pub fn report<W: Write>(rows: &[RecordRow], moment: u64, out: &mut W) -> Result<(), ReportFault>
     ensures { Writes (W.contents out.old) (W.contents out.new) result (report_text rows.now moment) }
 {
-    match put_rows(out, rows, moment) {
+    match put_report(out, rows, moment) {
         Ok(()) => Ok(()),
         Err(RefusedWrite) => Err(ReportFault::Write),
     }

@@ -1,18 +1,20 @@
--- Calls that were read are spelled out in the words that stood there.
+-- Calls that were read have parts that their types can hold, and those of journals are spelled out in the words that stood there.
 use Rattle.std.proofs.Common.{◌≡◌, ℕ, suc, ◌+◌, true, false, not, List, [], ◌∷◌, length, take, Ok, refl, ◌∙◌, arith, codes}
 use Rattle.std.specs.Prelude.{nat_lt}
 use Rattle.std.specs.List.{list_any}
 use Rattle.std.specs.Char.{is_ascii_uppercase}
 use Rattle.qplain.specs.declared.call.Call.{Call}
 use Rattle.qtext.specs.declared.text_fault.TextKind.TheVariants.{BadHex, BadNumber, BadVerb, WordCount}
-use Rattle.qtext.specs.Data.{data_of}
+use Rattle.qtext.specs.Data.{byte_of, data_of}
+use Rattle.qtext.specs.Words.{number_of}
 use Rattle.qtext.proofs.Joining.{not_true}
 use Rattle.qtext.proofs.StepsFound.{not_false, passed, same_ok, step_found, told, word_found}
-use Rattle.qtext.proofs.DataFound.{data_found}
+use Rattle.qtext.proofs.DataFound.{byte_fits, data_fits, data_found, equal_fits}
+use Rattle.qline.specs.declared.call.TheConstants.{MAX_FILL}
 use Rattle.qline.specs.declared.verb.Verb.{Verb}
 use Rattle.qline.specs.declared.verb.Verb.TheVariants as verb
 use Rattle.qline.specs.Verbs.{verb_of}
-use Rattle.qline.specs.Calls.{create_of, mkdir_of, write_of, truncate_of, read_of, stat_of, link_of, unlink_of, rmdir_of, rename_of, chown_of, limits_of, setquota_of, setgrace_of, quota_of, path_call_of, call_of}
+use Rattle.qline.specs.Calls.{create_of, mkdir_of, write_of, fill_of, truncate_of, read_of, stat_of, link_of, unlink_of, rmdir_of, rename_of, chown_of, limits_of, setquota_of, setgrace_of, quota_of, path_call_of, call_of, call_in}
 use Rattle.qline.specs.Journaled.{arity, in_one_case, is_fill, journaled_call_in, journaled_call_of, journaled_verb_of}
 use Rattle.qline.specs.Spelling.{call_words}
 use Rattle.qplain.specs.Held.{IsCall}
@@ -56,63 +58,84 @@ verb_found word v e =
     (told verb_text word verb.Quota _ v (λ none. absurd (cc none))))))))))))))))
     e
 
--- the words are those of the call, whose parts are what their types can hold
-abbrev IsSpelled : Verb → List (List ℕ) → Call → Type 0
-IsSpelled v arguments call = (call_words call ≡ verb_text v ∷ arguments) × IsCall call
+-- the parts of the call are what their types can hold, and where a journal may have it, the words are those of the call
+record IsRead (v : Verb) (arguments : List (List ℕ)) (call : Call) : Type 0 where
+  pub fits : IsCall call
+  pub spelled : is_fill v ≡ false → in_one_case v arguments ≡ true → call_words call ≡ verb_text v ∷ arguments
 
-call_found : (v : Verb) (arguments : List (List ℕ)) (call : Call) → is_fill v ≡ false → in_one_case v arguments ≡ true
-    → call_of v arguments ≡ Ok call → IsSpelled v arguments call
-unfolding in_one_case call_of path_call_of create_of mkdir_of write_of truncate_of read_of stat_of link_of unlink_of rmdir_of rename_of chown_of setquota_of
-    setgrace_of quota_of
-call_found verb.Create (p ∷ []) call journaled case e = word_found any_path p _ e λ path is fits e. rw (← same_ok e) (rw is refl, fits)
-call_found verb.Mkdir (p ∷ []) call journaled case e = word_found any_path p _ e λ path is fits e. rw (← same_ok e) (rw is refl, fits)
-call_found verb.Stat (p ∷ []) call journaled case e = word_found any_path p _ e λ path is fits e. rw (← same_ok e) (rw is refl, fits)
-call_found verb.Unlink (p ∷ []) call journaled case e = word_found any_path p _ e λ path is fits e. rw (← same_ok e) (rw is refl, fits)
-call_found verb.Rmdir (p ∷ []) call journaled case e = word_found any_path p _ e λ path is fits e. rw (← same_ok e) (rw is refl, fits)
-call_found verb.Link (f ∷ t ∷ []) call journaled case e =
+call_read : (v : Verb) (arguments : List (List ℕ)) (call : Call) → call_of v arguments ≡ Ok call → IsRead v arguments call
+unfolding in_one_case call_of path_call_of create_of mkdir_of write_of fill_of truncate_of read_of stat_of link_of unlink_of rmdir_of rename_of chown_of
+    setquota_of setgrace_of quota_of
+call_read verb.Create (p ∷ []) call e =
+    word_found any_path p _ e λ path is fits e. rw (← same_ok e) (record { fits = fits; spelled = λ _ _. rw is refl })
+call_read verb.Mkdir (p ∷ []) call e =
+    word_found any_path p _ e λ path is fits e. rw (← same_ok e) (record { fits = fits; spelled = λ _ _. rw is refl })
+call_read verb.Stat (p ∷ []) call e =
+    word_found any_path p _ e λ path is fits e. rw (← same_ok e) (record { fits = fits; spelled = λ _ _. rw is refl })
+call_read verb.Unlink (p ∷ []) call e =
+    word_found any_path p _ e λ path is fits e. rw (← same_ok e) (record { fits = fits; spelled = λ _ _. rw is refl })
+call_read verb.Rmdir (p ∷ []) call e =
+    word_found any_path p _ e λ path is fits e. rw (← same_ok e) (record { fits = fits; spelled = λ _ _. rw is refl })
+call_read verb.Link (f ∷ t ∷ []) call e =
     word_found any_path f _ e λ from is_from from_fits e.
     word_found any_path t _ e λ to is_to to_fits e.
-    rw (← same_ok e) (rw (is_from, is_to) refl, (from_fits, to_fits))
-call_found verb.Rename (f ∷ t ∷ []) call journaled case e =
+    rw (← same_ok e) (record { fits = (from_fits, to_fits); spelled = λ _ _. rw (is_from, is_to) refl })
+call_read verb.Rename (f ∷ t ∷ []) call e =
     word_found any_path f _ e λ from is_from from_fits e.
     word_found any_path t _ e λ to is_to to_fits e.
-    rw (← same_ok e) (rw (is_from, is_to) refl, (from_fits, to_fits))
-call_found verb.Write (p ∷ o ∷ d ∷ []) call journaled case e =
+    rw (← same_ok e) (record { fits = (from_fits, to_fits); spelled = λ _ _. rw (is_from, is_to) refl })
+call_read verb.Write (p ∷ o ∷ d ∷ []) call e =
     word_found any_path p _ e λ path is_path path_fits e.
     word_found any_number o _ e λ off is_off off_fits e.
     step_found (data_of d) _ e λ bytes is_data e.
-    let so = data_found d bytes is_data (not_true (list_any is_ascii_uppercase d) case) in
-    rw (← same_ok e) (rw (is_path, is_off, so.0) refl, (path_fits, off_fits, so.1))
-call_found verb.Truncate (p ∷ s ∷ []) call journaled case e =
+    rw (← same_ok e) (record {
+      fits = (path_fits, off_fits, data_fits d bytes is_data);
+      spelled = λ _ case. rw (is_path, is_off, data_found d bytes is_data (not_true (list_any is_ascii_uppercase d) case)) refl;
+    })
+call_read verb.Fill (p ∷ o ∷ c ∷ b ∷ []) call e =
+    word_found any_path p _ e λ path is_path path_fits e.
+    word_found any_number o _ e λ off is_off off_fits e.
+    step_found (number_of BadNumber MAX_FILL c) _ e λ count is_count e.
+    step_found (byte_of b) _ e λ byte is_byte e.
+    rw (← same_ok e) (record {
+      fits = (path_fits, off_fits, equal_fits count byte (byte_fits b byte is_byte));
+      spelled = λ journaled. absurd (cc journaled);
+    })
+call_read verb.Truncate (p ∷ s ∷ []) call e =
     word_found any_path p _ e λ path is_path path_fits e.
     word_found any_number s _ e λ size is_size size_fits e.
-    rw (← same_ok e) (rw (is_path, is_size) refl, (path_fits, size_fits))
-call_found verb.Read (p ∷ o ∷ l ∷ []) call journaled case e =
+    rw (← same_ok e) (record { fits = (path_fits, size_fits); spelled = λ _ _. rw (is_path, is_size) refl })
+call_read verb.Read (p ∷ o ∷ l ∷ []) call e =
     word_found any_path p _ e λ path is_path path_fits e.
     word_found any_number o _ e λ off is_off off_fits e.
     word_found any_number l _ e λ len is_len len_fits e.
-    rw (← same_ok e) (rw (is_path, is_off, is_len) refl, (path_fits, off_fits, len_fits))
-call_found verb.Chown (p ∷ u ∷ g ∷ []) call journaled case e =
+    rw (← same_ok e) (record { fits = (path_fits, off_fits, len_fits); spelled = λ _ _. rw (is_path, is_off, is_len) refl })
+call_read verb.Chown (p ∷ u ∷ g ∷ []) call e =
     word_found any_path p _ e λ path is_path path_fits e.
     word_found any_owner u _ e λ uid is_uid uid_fits e.
     word_found any_owner g _ e λ gid is_gid gid_fits e.
-    rw (← same_ok e) (rw (is_path, is_uid, is_gid) refl, (path_fits, uid_fits, gid_fits))
-call_found verb.SetQuota (k ∷ i ∷ bs ∷ bh ∷ is ∷ ih ∷ []) call journaled case e =
+    rw (← same_ok e) (record { fits = (path_fits, uid_fits, gid_fits); spelled = λ _ _. rw (is_path, is_uid, is_gid) refl })
+call_read verb.SetQuota (k ∷ i ∷ bs ∷ bh ∷ is ∷ ih ∷ []) call e =
     word_found any_kind k _ e λ kind is_kind kind_fits e.
     word_found (any_id BadNumber) i _ e λ id is_id id_fits e.
     step_found (limits_of bs bh is ih) _ e λ limits are_limits e.
     let so = any_limits bs bh is ih limits are_limits in
-    rw (← same_ok e) (rw (is_kind, is_id, so.0) refl, (id_fits, so.1))
-call_found verb.SetGrace (b ∷ i ∷ []) call journaled case e =
+    rw (← same_ok e) (record { fits = (id_fits, so.1); spelled = λ _ _. rw (is_kind, is_id, so.0) refl })
+call_read verb.SetGrace (b ∷ i ∷ []) call e =
     word_found any_number b _ e λ block is_block block_fits e.
     word_found any_number i _ e λ inode is_inode inode_fits e.
-    rw (← same_ok e) (rw (is_block, is_inode) refl, (block_fits, inode_fits))
-call_found verb.Quota (k ∷ i ∷ []) call journaled case e =
+    rw (← same_ok e) (record { fits = (block_fits, inode_fits); spelled = λ _ _. rw (is_block, is_inode) refl })
+call_read verb.Quota (k ∷ i ∷ []) call e =
     word_found any_kind k _ e λ kind is_kind kind_fits e.
     word_found (any_id BadNumber) i _ e λ id is_id id_fits e.
-    rw (← same_ok e) (rw (is_kind, is_id) refl, id_fits)
-call_found verb.Fill arguments call journaled case e = absurd (cc journaled)
-call_found v arguments call journaled case e = absurd (cc e)
+    rw (← same_ok e) (record { fits = id_fits; spelled = λ _ _. rw (is_kind, is_id) refl })
+call_read v arguments call e = absurd (cc e)
+
+-- a call that was read has parts that their types can hold
+pub call_fits : (words : List (List ℕ)) (call : Call) → call_in words ≡ Ok call → IsCall call
+unfolding call_in
+call_fits [] call e = absurd (cc e)
+call_fits (w ∷ arguments) call e = step_found (verb_of w) _ e λ v is_verb e. (call_read v arguments call e).fits
 
 -- a verb that a journal may have
 journaled_verb_found : (word : List ℕ) (v : Verb) → journaled_verb_of word ≡ Ok v → (verb_text v ≡ word) × (is_fill v ≡ false)
@@ -123,12 +146,13 @@ journaled_verb_found word v e =
     rw (← same_ok so.1) (verb_found word found is, so.0)
 
 journaled_call_found : (v : Verb) (arguments : List (List ℕ)) (call : Call) → is_fill v ≡ false → journaled_call_of v arguments ≡ Ok call
-    → IsSpelled v arguments call
+    → (call_words call ≡ verb_text v ∷ arguments) × IsCall call
 unfolding journaled_call_of
 journaled_call_found v arguments call journaled e =
     step_found (call_of v arguments) _ e λ found is e.
     let so = passed (not (in_one_case v arguments)) (Ok found) BadHex call e in
-    rw (← same_ok so.1) (call_found v arguments found journaled (not_false (in_one_case v arguments) so.0) is)
+    let read = call_read v arguments found is in
+    rw (← same_ok so.1) (read.spelled journaled (not_false (in_one_case v arguments) so.0), read.fits)
 
 take_first : (n : ℕ) (w : List ℕ) (ws : List (List ℕ)) → take (1 + n) (w ∷ ws) ≡ w ∷ take n ws
 take_first n w ws = let more : 1 + n ≡ suc n = omega arith in rw more refl

@@ -13,7 +13,7 @@ use Rattle.qtext.specs.declared.text_fault.TextKind.TheVariants.{BadReply}
 use Rattle.qtext.specs.Data.{data_of}
 use Rattle.qtext.specs.RuleWords.{over_text}
 use Rattle.qtext.specs.Words.{number}
-use Rattle.qtext.proofs.DataFound.{data_found}
+use Rattle.qtext.proofs.DataFound.{data_fits, data_found}
 use Rattle.qtext.proofs.StepsFound.{not_false, Spells, chosen, kept, passed, same_ok, same_word, step_found, told, word_found}
 use Rattle.qline.specs.Calls.{limits_of}
 use Rattle.qline.specs.Replies.{end_text}
@@ -150,8 +150,7 @@ reply_found Done (n ∷ b ∷ bu ∷ bd ∷ i ∷ iu ∷ id ∷ []) r e =
 reply_found Bytes (digits ∷ []) r e =
     let low = passed (list_any is_ascii_uppercase digits) _ BadReply r e in
     step_found (data_of digits) _ low.1 λ bytes are e.
-    let so = data_found digits bytes are low.0 in
-    rw (← same_ok e) (rw so.0 refl, so.1)
+    rw (← same_ok e) (rw (data_found digits bytes are low.0) refl, data_fits digits bytes are)
 reply_found Stat (n ∷ t ∷ u ∷ g ∷ s ∷ b ∷ l ∷ []) r e =
     word_found any_number n _ e λ ino is_ino ino_fits e.
     word_found type_found t _ e λ dir is_dir dir_fits e.

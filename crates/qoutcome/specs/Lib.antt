@@ -1,4 +1,3 @@
--- In reading order: audits, looks at the boards, and outcomes of runs.
-pub mod Audits
+-- In reading order: looks at the boards, and outcomes of runs.
 pub mod Boards
 pub mod Outcomes

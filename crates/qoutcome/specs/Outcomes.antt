@@ -3,6 +3,7 @@ use Rattle.std.specs.Prelude.{ℕ, List, [], ◌∷◌, ◌++◌, codes, decimal
 use Rattle.std.specs.List.{concat, flat_map}
 use Rattle.qrules.specs.Sort.{Inodes, Blocks}
 use Rattle.qplain.specs.Use.{total_of}
+use Rattle.qaudit.specs.Audits.{audit_text}
 use Rattle.qaudit.specs.Reports.{report_text}
 use Rattle.qplain.specs.declared.call_fault.CallFault.{CallFault}
 use Rattle.qplain.specs.declared.call_fault.CallFault.TheVariants.{JournalFull, OutOfMemory}
@@ -11,7 +12,6 @@ use Rattle.qplain.specs.declared.tallies.Tallies.{Tallies}
 use Rattle.qplain.specs.declared.transcript.Transcript.{Transcript}
 use Rattle.qrun.specs.declared.outcome.Outcome.{Outcome}
 use Rattle.qline.specs.Replies.{reply_text}
-use Rattle.qoutcome.specs.Audits.{audit_text}
 use Rattle.qoutcome.specs.Boards.{boards_text}
 
 -- the word of a call that is not journaled

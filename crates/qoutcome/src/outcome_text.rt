@@ -1,17 +1,14 @@
 //! Outcomes as text.
 ghost use Rattle.std.specs.Prelude.{◌≡◌, codes, decimal, ◌∷◌, []};
 ghost use Rattle.std.specs.List.{concat};
-ghost use Rattle.qaudit.specs.Reports.{report_text};
 ghost use Rattle.qtext.specs.Written.{Writes};
 ghost use Rattle.qoutcome.specs.Outcomes.{moment_text, outcome_text, run_text, tally_text, told_text, totals_text};
 
 use crate::WriteFault;
-use crate::audit_text::write_audit;
 use crate::boards_text::put_boards;
 use crate::transcript_text::put_transcripts;
-use qaudit::report;
+use qaudit::{put_audit, put_report};
 use qplain::Tallies;
-use qrules::RecordRow;
 use qrun::Outcome;
 use qtext::{Piece, RefusedWrite, put_pieces};
 use std::io::Write;
@@ -63,15 +60,6 @@ fn put_tally<W: Write>(out: &mut W, tallies: Tallies) -> Result<(), RefusedWrite
     put_pieces(out, &pieces)
 }
 
-fn put_report<W: Write>(out: &mut W, rows: &[RecordRow], moment: u64) -> Result<(), RefusedWrite>
-    ensures { Writes (W.contents out.old) (W.contents out.new) result (report_text rows.now moment) }
-{
-    match report(rows, moment, out) {
-        Ok(()) => Ok(()),
-        Err(_) => Err(RefusedWrite),
-    }
-}
-
 /// Writes the transcripts, and then the boards.
 #[tactic(auto, using(qtext::proofs::Fronts::front_of_first, qtext::proofs::Fronts::writes_then))]
 fn put_told<W: Write>(out: &mut W, outcome: &Outcome) -> Result<(), RefusedWrite>
@@ -83,13 +71,13 @@ fn put_told<W: Write>(out: &mut W, outcome: &Outcome) -> Result<(), RefusedWrite
 
 /// Writes the transcripts, the boards, the report as of the moment, and the totals.
 #[tactic(auto, using(qtext::proofs::Fronts::front_of_first, qtext::proofs::Fronts::writes_then))]
-fn put_run<W: Write>(outcome: &Outcome, moment: u64, out: &mut W) -> Result<(), WriteFault>
+fn put_run<W: Write>(out: &mut W, outcome: &Outcome, moment: u64) -> Result<(), RefusedWrite>
     ensures { Writes (W.contents out.old) (W.contents out.new) result (run_text outcome.now moment) }
 {
     put_told(out, outcome)?;
     put_moment(out, moment)?;
     put_report(out, outcome.records.as_slice(), moment)?;
-    Ok(put_totals(out, outcome)?)
+    put_totals(out, outcome)
 }
 
 /// Writes what a run came to: each worker's transcript, what the looks at the boards were given where there were any, the
@@ -98,6 +86,19 @@ fn put_run<W: Write>(outcome: &Outcome, moment: u64, out: &mut W) -> Result<(), 
 ///
 /// Totals and bounds are in blocks of 4096 bytes and in inodes; the report is in KiB (profile, after repquota(8)).
 /// After an Err some beginning of the text went out.
+pub fn put_outcome<W: Write>(
+    out: &mut W,
+    outcome: &Outcome,
+    moment: u64,
+) -> Result<(), RefusedWrite>
+    ensures { Writes (W.contents out.old) (W.contents out.new) result (outcome_text outcome.now moment) }
+{
+    put_run(out, outcome, moment)?;
+    put_tally(out, outcome.tallies)?;
+    put_audit(out, outcome.differences.as_slice())
+}
+
+/// The outcome, of which a refusal has its number.
 pub fn write_outcome<W: Write>(
     outcome: &Outcome,
     moment: u64,
@@ -105,7 +106,8 @@ pub fn write_outcome<W: Write>(
 ) -> Result<(), WriteFault>
     ensures { Writes (W.contents out.old) (W.contents out.new) result (outcome_text outcome.now moment) }
 {
-    put_run(outcome, moment, out)?;
-    put_tally(out, outcome.tallies)?;
-    write_audit(outcome.differences.as_slice(), out)
+    match put_outcome(out, outcome, moment) {
+        Ok(()) => Ok(()),
+        Err(RefusedWrite) => Err(WriteFault::Write),
+    }
 }

@@ -1,7 +1,5 @@
 ghost use Rattle.std.specs.Prelude.{◌≡◌};
 
-use qtext::RefusedWrite;
-
 /// Why a text was not written whole.
 #[derive(Clone, Copy, Debug, PartialEq, Eq)]
 pub enum WriteFault {
@@ -17,11 +15,5 @@ impl WriteFault {
         match self {
             WriteFault::Write => 62,
         }
-    }
-}
-
-impl From<RefusedWrite> for WriteFault {
-    fn from(_refused: RefusedWrite) -> WriteFault {
-        WriteFault::Write
     }
 }

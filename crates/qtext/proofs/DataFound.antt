@@ -1,5 +1,5 @@
--- Data that were read in lower case are spelled out as they stood.
-use Rattle.std.proofs.Common.{◌≡◌, ℕ, ◌+◌, ◌*◌, ◌/◌, ◌%◌, ◌<◌, zero, suc, Bool, true, false, cond, ◌&&◌, eqb, ltb, List, [], ◌∷◌, length, slice_index, Option, Some, None, Result, Ok, Err, refl, sym, ◌∙◌, arith, inl, inr, codes}
+-- Data that were read are bytes, and those in lower case are spelled out as they stood.
+use Rattle.std.proofs.Common.{◌≡◌, ℕ, ◌+◌, ◌*◌, ◌/◌, ◌%◌, ◌<◌, zero, suc, Bool, true, false, cond, ◌&&◌, eqb, ltb, ◌⊎◌, List, [], ◌∷◌, length, slice_index, replicate, Option, Some, None, Result, Ok, Err, refl, sym, ◌∙◌, arith, inl, inr, codes}
 use Rattle.std.specs.List.{list_any}
 use Rattle.std.specs.Char.{is_ascii_uppercase}
 use Rattle.std.specs.Str.{bytes_eq}
@@ -9,9 +9,9 @@ use Rattle.hex.specs.declared.error.FromHexError.{FromHexError}
 use Rattle.hex.proofs.HexLemmas.{decode_of-even, decode_of-ok}
 use Rattle.std.proofs.lemmas.Bool.Decides.{nat_tests}
 use Rattle.qtext.specs.declared.text_fault.TextKind.TheVariants.{BadHex}
-use Rattle.qtext.specs.Data.{data_of, hex_or_fault}
+use Rattle.qtext.specs.Data.{byte_of, data_of, hex_or_fault}
 use Rattle.qtext.specs.Pieces.{data_text}
-use Rattle.qtext.proofs.StepsFound.{passed, same_word}
+use Rattle.qtext.proofs.StepsFound.{kept, passed, same_ok, same_word, step_found}
 
 -- the digit that stands for so much
 abbrev lower_digit : ℕ → ℕ
@@ -81,6 +81,10 @@ hex_found : {bytes : List ℕ} (decoded : Result (List ℕ) FromHexError) → he
 hex_found (Ok bs) e = cc e
 hex_found (Err fault) e = absurd (cc e)
 
+-- bytes that were decoded are bytes
+decoded_fits : (word bytes : List ℕ) → hex_or_fault (decode_of word) ≡ Ok bytes → IsBytes bytes
+decoded_fits word bytes e = (decode_of-ok word bytes (hex_found (decode_of word) e)).3
+
 some_data : (bs : List ℕ) → 0 < length bs → data_text bs ≡ encode_lower bs
 some_data [] some = absurd (omega arith)
 some_data (b ∷ bs) some = refl
@@ -89,25 +93,49 @@ no_bytes : IsBytes []
 no_bytes i = omega arith
 
 digits_found : (word bytes : List ℕ) → 0 < length word → decode_of word ≡ Ok bytes → list_any is_ascii_uppercase word ≡ false
-    → (data_text bytes ≡ word) × IsBytes bytes
+    → data_text bytes ≡ word
 digits_found word bytes some e low =
     let is = decode_of-ok word bytes e in
-    let pairs = pairs_found 0 word bytes (sym (decode_of-even word is.0) ∙ e) low in
-    (some_data bytes (omega (arith, is.2)) ∙ pairs, is.3)
+    some_data bytes (omega (arith, is.2)) ∙ pairs_found 0 word bytes (sym (decode_of-even word is.0) ∙ e) low
 
-pub data_found : (word bytes : List ℕ) → data_of word ≡ Ok bytes → list_any is_ascii_uppercase word ≡ false
-    → (data_text bytes ≡ word) × IsBytes bytes
+-- what was read is no bytes, or it was decoded from digits
+read_as : (word bytes : List ℕ) → data_of word ≡ Ok bytes
+    → ((word ≡ codes "-") × (bytes ≡ [])) ⊎ ((0 < length word) × (hex_or_fault (decode_of word) ≡ Ok bytes))
 unfolding data_of
-data_found word bytes e low = by (bytes_eq word (codes "-")) refl e
+read_as word bytes e = by (bytes_eq word (codes "-")) refl e
   where
     by : (dash : Bool) → bytes_eq word (codes "-") ≡ dash
         → cond dash (Ok []) (cond (eqb (length word) 0) (Err BadHex) (hex_or_fault (decode_of word))) ≡ Ok bytes
-        → (data_text bytes ≡ word) × IsBytes bytes
-    by true is e =
-        let same = same_word word (codes "-") is in
-        let none : [] ≡ bytes = cc e in
-        rw (← none, same) (refl, no_bytes)
+        → ((word ≡ codes "-") × (bytes ≡ [])) ⊎ ((0 < length word) × (hex_or_fault (decode_of word) ≡ Ok bytes))
+    by true is e = inl (same_word word (codes "-") is, cc e)
     by false is e =
         let some = passed (eqb (length word) 0) (hex_or_fault (decode_of word)) BadHex bytes e in
-        let digits = hex_found (decode_of word) some.1 in
-        digits_found word bytes (omega (arith, eqb-false _ _ some.0)) digits low
+        inr (omega (arith, eqb-false _ _ some.0), some.1)
+
+-- data that were read are bytes
+pub data_fits : (word bytes : List ℕ) → data_of word ≡ Ok bytes → IsBytes bytes
+data_fits word bytes e = elim (read_as word bytes e) [
+  | inl none ↦ rw none.1 no_bytes
+  | inr some ↦ decoded_fits word bytes some.1
+]
+
+-- those without digits in upper case are spelled as they stood
+pub data_found : (word bytes : List ℕ) → data_of word ≡ Ok bytes → list_any is_ascii_uppercase word ≡ false → data_text bytes ≡ word
+data_found word bytes e low = elim (read_as word bytes e) [
+  | inl none ↦ rw (none.0, none.1) refl
+  | inr some ↦ digits_found word bytes some.0 (hex_found (decode_of word) some.1) low
+]
+
+-- a byte that was read is one
+pub byte_fits : (word : List ℕ) (byte : ℕ) → byte_of word ≡ Ok byte → byte < 256
+unfolding byte_of
+byte_fits word byte e =
+    let two = kept (eqb (length word) 2) _ BadHex byte e in
+    step_found (hex_or_fault (decode_of word)) _ two.1 λ bytes are e.
+    rw (← same_ok e) (decoded_fits word bytes are 0)
+
+-- so many equal bytes are bytes
+pub equal_fits : (count byte : ℕ) → byte < 256 → IsBytes (replicate count byte)
+equal_fits zero byte lt i = omega arith
+equal_fits (suc count) byte lt zero = lt
+equal_fits (suc count) byte lt (suc i) = equal_fits count byte lt i

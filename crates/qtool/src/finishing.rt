@@ -2,13 +2,14 @@
 ghost use Rattle.std.specs.Prelude.{◌≡◌, Err, IfOk, IfErr};
 ghost use Rattle.std.specs.Io.KnownBytes.{Appends};
 ghost use Rattle.qtext.specs.Written.{AppendsFront, Writes};
-ghost use Rattle.qjournal.specs.Spelling.{spelling};
 ghost use Rattle.qoutcome.specs.Outcomes.{outcome_text};
+ghost use Rattle.qtext_files.specs.Spelling.{journal_spelling};
 ghost use Rattle.qtool.specs.declared.finishing.Refuser.TheVariants.{Output};
 
-use crate::{Files, Outcome, write_outcome};
-use qjournal::{Journal, write_journal};
+use crate::{Files, Journal, Outcome};
+use qoutcome::put_outcome;
 use qtext::RefusedWrite;
+use qtext_files::put_journal;
 use std::io::Write;
 
 /// What refused what came of a run.
@@ -22,10 +23,10 @@ pub enum Refuser {
 
 /// Writes the outcome with the report at the moment, and flushes it.
 #[tactic(auto, using(crate::proofs::Flushes::refused_at_the_flush, qtext::proofs::Fronts::keeps_appends))]
-fn put_outcome<W: Write>(outcome: &Outcome, at: u64, out: &mut W) -> Result<(), RefusedWrite>
+fn finish_outcome<W: Write>(outcome: &Outcome, at: u64, out: &mut W) -> Result<(), RefusedWrite>
     ensures { Writes (W.contents out.old) (W.contents out.new) result (outcome_text outcome.now at) }
 {
-    if write_outcome(outcome, at, out).is_err() || out.flush().is_err() {
+    if put_outcome(out, outcome, at).is_err() || out.flush().is_err() {
         return Err(RefusedWrite);
     }
     Ok(())
@@ -33,10 +34,10 @@ fn put_outcome<W: Write>(outcome: &Outcome, at: u64, out: &mut W) -> Result<(), 
 
 /// Writes the journal, and flushes it.
 #[tactic(auto, using(crate::proofs::Flushes::refused_at_the_flush, qtext::proofs::Fronts::keeps_appends))]
-fn put_journal<W: Write>(journal: &Journal, out: &mut W) -> Result<(), RefusedWrite>
-    ensures { Writes (W.contents out.old) (W.contents out.new) result (spelling journal.now) }
+fn finish_journal<W: Write>(journal: &Journal, out: &mut W) -> Result<(), RefusedWrite>
+    ensures { Writes (W.contents out.old) (W.contents out.new) result (journal_spelling journal.now) }
 {
-    if write_journal(journal, out).is_err() || out.flush().is_err() {
+    if put_journal(out, journal).is_err() || out.flush().is_err() {
         return Err(RefusedWrite);
     }
     Ok(())
@@ -49,7 +50,7 @@ fn keep_journal<F: Files>(
     name: &str,
 ) -> Result<(), RefusedWrite> {
     match files.create(name) {
-        Ok(mut file) => put_journal(journal, &mut file),
+        Ok(mut file) => finish_journal(journal, &mut file),
         Err(_) => Err(RefusedWrite),
     }
 }
@@ -73,7 +74,7 @@ pub fn write_run<F: Files, O: Write>(
         → AppendsFront (O.contents out.old) (O.contents out.new) (outcome_text outcome.now at) }
     ensures no_file { result ≡ Err Output → files.new ≡ files.old }
 {
-    if put_outcome(outcome, at, out).is_err() {
+    if finish_outcome(outcome, at, out).is_err() {
         return Err(Refuser::Output);
     }
     match journal {

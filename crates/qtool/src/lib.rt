@@ -7,12 +7,13 @@ pub use program::tool;
 pub use qcheck::{BoardFault, check_boards};
 pub use qconfig::{Config, ConfigFault};
 pub use qjob::{Job, LineFault};
-pub use qjournal::Journal;
 pub use qoutcome::{WriteFault, write_outcome};
-pub use qplain::{Board, CallFault, LookFault, Receipt, Transcript};
+pub use qplain::{
+    Board, CallFault, Journal, LookFault, MAX_LINES, Receipt, Script, Transcript,
+};
 pub use qrun::{Outcome, ReplayFault};
-pub use qscript::{MAX_LINES, Script};
 pub use qtext::{TextFault, TextKind};
+pub use qtext_files::{FromText, write_journal};
 pub use qworkers::{Options, RunFault};
 pub use runs::{replay, run};
 

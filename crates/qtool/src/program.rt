@@ -7,8 +7,8 @@ ghost use Rattle.qtool.specs.declared.ending.Ending.TheVariants.{Output, TooMany
 
 use crate::ending::Ending;
 use crate::{
-    Config, ConfigFault, FileFault, Files, Job, Journal, LineFault, Options, Outcome, Refuser,
-    ReplayFault, RunFault, Script, TextFault, TextKind, replay, run, write_run,
+    Config, ConfigFault, FileFault, Files, FromText, Job, Journal, LineFault, Options, Outcome,
+    Refuser, ReplayFault, RunFault, Script, TextFault, TextKind, replay, run, write_run,
 };
 use qplain::{Line, MAX_WORKERS};
 use qrules::Items;
@@ -113,7 +113,7 @@ fn read_scripts<F: Files>(
     for name in names {
         number += 1;
         let script = script(alloc, files, number, name.as_str())?;
-        if scripts.push(Items::new(script.into_lines())).is_err() {
+        if scripts.push(script.into_lines()).is_err() {
             return Err(Ending::Memory);
         }
     }

@@ -1,8 +1,8 @@
 //! What the tests begin with.
 use qconfig::Config;
-use qplain::{Line, Setup};
+use qplain::{Line, Script, Setup};
 use qrules::Items;
-use qscript::Script;
+use qtext_files::FromText;
 use std::alloc::Global;
 use std::test::Fail;
 
@@ -26,7 +26,7 @@ pub(crate) fn setup(alloc: Global) -> Result<Setup, Fail> {
 /// The lines of a script.
 pub(crate) fn lines(alloc: Global, text: &[u8]) -> Result<Items<Line>, Fail> {
     match Script::read(alloc, text) {
-        Ok(script) => Ok(Items::new(script.into_lines())),
+        Ok(script) => Ok(script.into_lines()),
         Err(_) => Err(Fail::from("the script")),
     }
 }

@@ -1,8 +1,7 @@
 //! Audits of rows made by hand.
 ghost use Rattle.std.specs.Prelude.{◌≤◌, ◌^◌, length};
 
-use qaudit::{compare, recount};
-use qoutcome::write_audit;
+use qaudit::{compare, put_audit, recount};
 use qrules::{InodeRow, Kind, Limits, NameRow, PrincipalName, RecordRow};
 use std::alloc::{AllocError, Global};
 
@@ -61,7 +60,7 @@ fn told(
     let counts = recount(alloc, inodes, &name_rows)?;
     let differences = compare(alloc, &counts, &record_rows)?;
     let mut text = Vec::new(alloc);
-    write_audit(&differences, &mut text).map_err(|_| AllocError)?;
+    put_audit(&mut text, &differences).map_err(|_| AllocError)?;
     Ok(text)
 }
 

@@ -4,7 +4,7 @@ use crate::memory_files::{CONFIG, JOURNAL, OUTCOME};
 use crate::short::Short;
 use qplain::{Board, LookFault};
 use qrules::Items;
-use qtool::{Config, Journal, Outcome, replay, write_outcome};
+use qtool::{Config, FromText, Journal, Outcome, replay, write_outcome};
 use std::alloc::Global;
 use std::test::Fail;
 

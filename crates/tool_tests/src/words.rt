@@ -1,7 +1,7 @@
 //! What is read of a caller, and what `Display` shows of a fault.
 
 use qplain::Cred;
-use qtool::{ConfigFault, Script, TextFault, TextKind};
+use qtool::{ConfigFault, FromText, Script, TextFault, TextKind};
 use std::test::Fail;
 
 #[test]

@@ -1,5 +1,5 @@
 use Rattle.qaudit.specs.Reports.{report_text}
-use Rattle.qtext.proofs.Fronts.{appends_then, front_of_first, front_of_second, refused_first, refused_last}
+use Rattle.qtext.proofs.Fronts.{appends_then, front_of_first, front_of_second, refused_first, writes_then}
 use Rattle.qoutcome.specs.Outcomes.{moment_text, told_text, totals_text}
 use Rattle.qoutcome.proofs.outcome_text.put_run.Goals as goal
 
@@ -17,9 +17,9 @@ returns-in_err-put_report g c =
     (appends_then _ _ _ (told_text c.args.outcome.now) (moment_text c.args.moment) c.in_ok-put_told.ensures
     c.in_ok-put_moment.ensures) (rw c.as_slice.ensures at c.in_err-put_report.ensures))
 
-pub returns-in_err-put_totals : goal.returns-in_err-put_totals
-returns-in_err-put_totals g c =
-    refused_last _ _ _ _ _ (totals_text c.args.outcome.now) c.from_residual-in_err-put_totals.ensures.0
+pub returns : goal.returns
+returns g c =
+    writes_then _ _ _ _ _ (totals_text c.args.outcome.now)
     (appends_then _ _ _ _ (report_text c.args.outcome.now.records c.args.moment)
     (appends_then _ _ _ (told_text c.args.outcome.now) (moment_text c.args.moment) c.in_ok-put_told.ensures
-    c.in_ok-put_moment.ensures) (rw c.as_slice.ensures at c.in_ok-put_report.ensures)) c.in_err-put_totals.ensures
+    c.in_ok-put_moment.ensures) (rw c.as_slice.ensures at c.in_ok-put_report.ensures)) c.put_totals.ensures

@@ -1,4 +1,0 @@
-use Rattle.qjournal.proofs.writing.put_head.Goals as goal
-
-pub returns : goal.returns
-returns g c = rw (c.number.ensures.text, c.text.ensures.text, c.clear.ensures) at c.put_end.ensures

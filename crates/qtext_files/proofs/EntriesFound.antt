@@ -1,0 +1,144 @@
+-- The head and the entries of a journal that were read are spelled out as they stood in their lines.
+use Rattle.std.proofs.Common.{◌≡◌, ℕ, ◌≤◌, ◌<◌, ◌==◌, true, cond, not, List, [], ◌∷◌, drop, Ok, Err, refl, sym, arith, codes, decimal}
+use Rattle.std.specs.Prelude.{nat_lt}
+use Rattle.std.specs.List.{join_with_byte, list_all}
+use Rattle.std.specs.Str.{bytes_eq}
+use Rattle.std.proofs.lemmas.Bool.{eqb-false, ltb-false}
+use Rattle.std.proofs.lemmas.List.{take-append-drop}
+use Rattle.qplain.specs.declared.entry.Entry.{Entry}
+use Rattle.qplain.specs.declared.reply.Reply.{Reply}
+use Rattle.qplain.specs.declared.reply.Reply.TheVariants.{Done, Bytes, Stat as StatReply, Quota as QuotaReply, Refused}
+use Rattle.qtext.specs.declared.text_fault.TextKind.{TextKind}
+use Rattle.qtext.specs.declared.text_fault.TextKind.TheVariants.{BadByte, BadHead, BadNumber, BadReply, Cut, TooMany}
+use Rattle.qtext.specs.Reading.{◌>>=◌}
+use Rattle.qtext.specs.Words.{is_text_byte, number_of, words}
+use Rattle.qtext.proofs.StepsFound.{joined, not_false, Spells, kept, passed, same_ok, same_word, step_found, word_found}
+use Rattle.qtext.proofs.WordsFound.{number_found}
+use Rattle.qline.specs.Journaled.{journaled_call_in}
+use Rattle.qline.specs.RepliesRead.{reply_in}
+use Rattle.qline.specs.RepliesSpelled.{reply_words}
+use Rattle.qplain.specs.Held.{HasLawfulStat, IsReply, IsHeld}
+use Rattle.qline.proofs.ArgumentsFound.{any_number}
+use Rattle.qline.proofs.CallersFound.{any_caller}
+use Rattle.qline.proofs.CallsFound.{journaled_found}
+use Rattle.qline.proofs.RepliesFound.{any_reply}
+use Rattle.qtext_files.specs.RawLines.{RawLine}
+use Rattle.qtext_files.specs.Journals.{answer_in, at_entry, entry_in, journal_entry_of, head_in, head_of, head_keyword, workers_told, worker_of, workers_of}
+use Rattle.qplain.specs.Journals.{IsEntryOf, IsWorkers}
+use Rattle.qtext_files.proofs.RawLines.{in_line_found}
+use Rattle.qtext_files.specs.Spelling.{entry_words, head_words}
+
+-- ---- words
+
+-- a number from 1 to the most
+from_one : (fault : TextKind) (most : ℕ) (word : List ℕ) (n : ℕ) → most ≤ 16
+    → (number_of fault most word >>= λ found. cond (found == 0) (Err fault) (Ok found)) ≡ Ok n → (decimal n ≡ word) × (0 < n) × (n ≤ most)
+from_one fault most word n few e =
+    step_found (number_of fault most word) _ e λ found is e.
+    let some = passed (found == 0) (Ok found) fault n e in
+    let so = number_found fault most word found (omega (arith, few)) is in
+    rw (← same_ok some.1) (so.0, omega (arith, eqb-false found 0 some.0), so.1)
+
+any_worker : (workers : ℕ) → workers ≤ 16 → Spells decimal (λ worker. (0 < worker) × (worker ≤ workers)) (worker_of workers)
+unfolding worker_of
+any_worker workers few word worker e = let so = from_one BadNumber workers word worker few e in (so.0, (so.1, so.2))
+
+any_workers : Spells decimal IsWorkers workers_of
+unfolding workers_of
+any_workers word workers e = let so = from_one BadHead 16 word workers (omega arith) e in (so.0, (so.1, so.2))
+
+keyword_found : (wanted word : List ℕ) (u : Unit {0}) → head_keyword wanted word ≡ Ok u → wanted ≡ word
+unfolding head_keyword
+keyword_found wanted word u e = sym (same_word word wanted (kept _ (Ok tt) BadHead u e).0)
+
+answer_found : (words : List (List ℕ)) (r : Reply) → answer_in words ≡ Ok r → (codes "=>" ∷ reply_words r ≡ words) × IsReply r
+unfolding answer_in
+answer_found [] r e = absurd (cc e)
+answer_found (arrow ∷ words) r e =
+    let is = kept (bytes_eq arrow (codes "=>")) (reply_in words) BadReply r e in
+    let so = any_reply words r is.1 in
+    (rw (so.0, same_word arrow (codes "=>") is.0) refl, so.1)
+
+-- ---- lines
+
+-- an entry of one of so many workers, whose parts are what their types can hold
+abbrev pub IsEntry : ℕ → Entry → Type 0
+IsEntry workers e = IsEntryOf workers e × IsHeld e
+
+lawful : (r : Reply) → IsReply r → HasLawfulStat r
+lawful (Done ino change) fits = tt
+lawful (Bytes bytes) fits = tt
+lawful (StatReply stat) fits = fits.empty
+lawful (QuotaReply quota) fits = tt
+lawful (Refused refusal) fits = tt
+
+in_found : (workers : ℕ) (ws : List (List ℕ)) (entry : Entry) → workers ≤ 16 → entry_in workers ws ≡ Ok entry
+    → (entry_words entry ≡ ws) × IsEntry workers entry
+unfolding entry_in
+in_found workers [] entry few e = absurd (cc e)
+in_found workers (w ∷ []) entry few e = step_found (worker_of workers w) _ e λ worker is e. absurd (cc e)
+in_found workers (w ∷ m ∷ []) entry few e =
+    word_found (any_worker workers few) w _ e λ worker is_worker worker_fits e.
+    word_found any_number m _ e λ moment is_moment moment_fits e.
+    absurd (cc e)
+in_found workers (w ∷ m ∷ c ∷ behind) entry few e =
+    word_found (any_worker workers few) w _ e λ worker is_worker worker_fits e.
+    word_found any_number m _ e λ moment is_moment moment_fits e.
+    word_found any_caller c _ e λ cred is_cred cred_fits e.
+    step_found (journaled_call_in behind) _ e λ called is_called e.
+    step_found (answer_in (drop called.1 behind)) _ e λ reply is_reply e.
+    let call = journaled_found behind called is_called in
+    let answer = answer_found (drop called.1 behind) reply is_reply in
+    rw (← same_ok e) (
+      rw (is_worker, is_moment, is_cred, call.0, answer.0, take-append-drop called.1 behind) refl,
+      (
+        (worker_fits.0, worker_fits.1, lawful reply answer.1),
+        record { moment = moment_fits; cred = cred_fits; call = call.1; reply = answer.1 },
+      ),
+    )
+
+-- a line that holds an entry
+pub record HoldsEntry (workers : ℕ) (l : RawLine) (entry : Entry) : Type 0 where
+  pub whole : l.whole ≡ true
+  pub few : l.number ≤ 65537
+  pub text : join_with_byte 32 (entry_words entry) ≡ l.bytes
+  pub fits : IsEntry workers entry
+
+pub entry_found : (workers : ℕ) (l : RawLine) (entry : Entry) → workers ≤ 16 → at_entry workers l ≡ Ok entry → HoldsEntry workers l entry
+unfolding at_entry journal_entry_of
+entry_found workers l entry few e =
+    let near = passed (nat_lt 65537 l.number) _ TooMany entry (in_line_found l.number (journal_entry_of workers l) e) in
+    let whole = passed (not l.whole) _ Cut entry near.1 in
+    let text = passed (not (list_all is_text_byte l.bytes)) _ BadByte entry whole.1 in
+    let so = in_found workers (words l.bytes) entry few text.1 in
+    record {
+      whole = not_false l.whole whole.0;
+      few = ltb-false 65537 l.number near.0;
+      text = joined 32 l.bytes _ so.0;
+      fits = so.1;
+    }
+
+head_in_found : (ws : List (List ℕ)) (workers : ℕ) → head_in ws ≡ Ok workers → (head_words workers ≡ ws) × IsWorkers workers
+unfolding head_in workers_told
+head_in_found (q ∷ j ∷ v ∷ n ∷ w ∷ []) workers e =
+    step_found (head_keyword (codes "quotafs") q) _ e λ t is_q e.
+    step_found (head_keyword (codes "journal") j) _ e λ u is_j e.
+    step_found (head_keyword (codes "1") v) _ e λ x is_v e.
+    step_found (head_keyword (codes "workers") n) _ e λ y is_n e.
+    let so = any_workers w workers e in
+    (rw (so.0, ← keyword_found _ q t is_q, ← keyword_found _ j u is_j, ← keyword_found _ v x is_v, ← keyword_found _ n y is_n) refl, so.1)
+head_in_found ws workers e = absurd (cc e)
+
+-- a line that is the head
+pub record HoldsHead (l : RawLine) (workers : ℕ) : Type 0 where
+  pub whole : l.whole ≡ true
+  pub text : join_with_byte 32 (head_words workers) ≡ l.bytes
+  pub fits : IsWorkers workers
+
+pub head_found : (l : RawLine) (workers : ℕ) → head_of l ≡ Ok workers → HoldsHead l workers
+unfolding head_of
+head_found l workers e =
+    let whole = passed (not l.whole) _ Cut workers e in
+    let text = passed (not (list_all is_text_byte l.bytes)) _ BadByte workers whole.1 in
+    let so = head_in_found (words l.bytes) workers text.1 in
+    record { whole = not_false l.whole whole.0; text = joined 32 l.bytes _ so.0; fits = so.1 }

@@ -1,0 +1,130 @@
+-- Journals that are spelled out are read again.
+use Rattle.std.proofs.Common.{◌≡◌, ◌⊎◌, ℕ, ◌+◌, ◌≤◌, ◌<◌, ◌==◌, true, false, ltb, List, [], ◌∷◌, ◌++◌, length, drop, Result, Ok, Err, inl, inr, refl, ap, ◌∙◌, arith, tests, codes, decimal}
+use Rattle.std.specs.List.{flat_map, join_with_byte, AllByRecursion}
+use Rattle.std.proofs.lemmas.Bool.{le-ltb}
+use Rattle.std.proofs.lemmas.List.Elements.{recursion_from_All}
+use Rattle.qplain.specs.declared.entry.Entry.{Entry}
+use Rattle.qtext.specs.declared.text_fault.TextFault.{TextFault}
+use Rattle.qtext.specs.declared.text_fault.TextKind.TheVariants.{BadHead, BadNumber}
+use Rattle.qtext.specs.Reading.{each_of}
+use Rattle.qtext.specs.TextFaults.{want_of_memory}
+use Rattle.qtext.specs.Words.{parts}
+use Rattle.qtext.proofs.WordsAgain.{number_again}
+use Rattle.qline.specs.RepliesSpelled.{reply_words}
+use Rattle.qline.specs.Spelling.{call_words, caller_text}
+use Rattle.qline.proofs.ArgumentsAgain.{decimal_word}
+use Rattle.qline.proofs.CallersAgain.{caller_again, caller_word}
+use Rattle.qline.proofs.CallsAgain.{IsWord, any_number, call_word}
+use Rattle.qline.proofs.JournaledAgain.{journaled_again}
+use Rattle.qline.proofs.RepliesAgain.{reply_again, reply_word}
+use Rattle.qtext_files.specs.RawLines.{raw_lines_from}
+use Rattle.qtext_files.proofs.EntriesFound.{IsEntry}
+use Rattle.qtext_files.proofs.LinesAgain.{joined_is_text, joined_parts, raw_again}
+use Rattle.qtext_files.proofs.RawLines.{no_line}
+use Rattle.qtext_files.specs.Journals.{answer_in, at_entry, entry_in, journal_entry_of, head_in, head_of, journal_in, journal_of, head_keyword, workers_told, worker_of, workers_of}
+use Rattle.qplain.specs.Journals.{IsEntryOf, IsJournal, IsWorkers, Written}
+use Rattle.qtext_files.specs.Spelling.{entry_text, entry_words, head_words, journal_spelling}
+use Rattle.qplain.specs.Held.{IsHeld}
+
+-- ---- entries
+
+entries : (workers : ℕ) (es : List Entry) → AllByRecursion (IsEntryOf workers) es → AllByRecursion IsHeld es → AllByRecursion (IsEntry workers) es
+entries workers [] of held = tt
+entries workers (e ∷ es) of held = ((of.0, held.0), entries workers es of.1 held.1)
+
+-- ---- words
+
+-- what stands in front is dropped
+drop_front : (xs ys : List (List ℕ)) → drop (length xs) (xs ++ ys) ≡ ys
+drop_front [] ys = refl
+drop_front (x ∷ xs) ys = drop_front xs ys
+
+both : (xs ys : List (List ℕ)) → AllByRecursion IsWord xs → AllByRecursion IsWord ys → AllByRecursion IsWord (xs ++ ys)
+both [] ys a b = b
+both (x ∷ xs) ys a b = (a.0, both xs ys a.1 b)
+
+worker_again : (workers worker : ℕ) → workers ≤ 16 → 0 < worker → worker ≤ workers → worker_of workers (decimal worker) ≡ Ok worker
+unfolding worker_of
+worker_again workers worker few some le =
+    let none : (worker == 0) ≡ false = grind (arith, tests) in
+    rw (number_again BadNumber workers worker (omega arith) le, none) refl
+
+workers_again : (workers : ℕ) → IsWorkers workers → workers_of (decimal workers) ≡ Ok workers
+unfolding workers_of
+workers_again workers is =
+    let some : 0 < workers = is.0 in
+    let few : workers ≤ 16 = is.1 in
+    let none : (workers == 0) ≡ false = grind (arith, tests) in
+    rw (number_again BadHead 16 workers (omega arith) few, none) refl
+
+entry_word : (workers : ℕ) (e : Entry) → workers ≤ 16 → IsEntry workers e → AllByRecursion IsWord (entry_words e)
+entry_word workers e few fits =
+    let le = fits.0.1 in (
+      decimal_word e.worker (omega (arith, le)),
+      (
+        decimal_word e.moment fits.1.moment,
+        (
+          caller_word e.cred fits.1.cred,
+          both (call_words e.call) (codes "=>" ∷ reply_words e.reply) (call_word e.call fits.1.call) (refl, reply_word e.reply fits.1.reply),
+        ),
+      ),
+    )
+
+head_word : (workers : ℕ) → IsWorkers workers → AllByRecursion IsWord (head_words workers)
+head_word workers is = let few = is.1 in (refl, (refl, (refl, (refl, (decimal_word workers (omega (arith, few)), tt)))))
+
+in_again : (workers : ℕ) (e : Entry) → workers ≤ 16 → IsEntry workers e → entry_in workers (entry_words e) ≡ Ok e
+unfolding entry_in answer_in
+in_again workers e few fits =
+    rw (
+      worker_again workers e.worker few fits.0.0 fits.0.1,
+      any_number e.moment fits.1.moment,
+      caller_again e.cred fits.1.cred,
+      journaled_again e.call fits.1.call (codes "=>" ∷ reply_words e.reply),
+      drop_front (call_words e.call) (codes "=>" ∷ reply_words e.reply),
+      reply_again e.reply fits.1.reply,
+    ) refl
+
+-- ---- lines
+
+at_again : (workers n : ℕ) (e : Entry) → workers ≤ 16 → n ≤ 65537 → IsEntry workers e
+    → at_entry workers (record { number = n; bytes = join_with_byte 32 (entry_words e); whole = true }) ≡ Ok e
+unfolding at_entry journal_entry_of
+at_again workers n e few le fits =
+    let near : ltb 65537 n ≡ false = le-ltb _ _ le in
+    let word = entry_word workers e few fits in
+    rw (near, joined_is_text _ _ word, joined_parts _ _ word, in_again workers e few fits) refl
+
+each_again : (workers n : ℕ) (es : List Entry) → workers ≤ 16 → n + length es ≤ 65538 → AllByRecursion (IsEntry workers) es
+    → each_of (at_entry workers) (raw_lines_from n (parts 10 (flat_map entry_text es))) ≡ Ok es
+unfolding each_of
+each_again workers n [] few le fits = ap (each_of (at_entry workers)) (no_line n)
+each_again workers n (e ∷ es) few le fits =
+    let near : n ≤ 65537 = omega arith in
+    let rest : n + 1 + length es ≤ 65538 = omega arith in
+    ap (each_of (at_entry workers)) (raw_again n (decimal e.worker) (decimal e.moment ∷ caller_text e.cred
+    ∷ (call_words e.call ++ codes "=>" ∷ reply_words e.reply)) (flat_map entry_text es) (entry_word workers e few fits.0))
+    ∙ rw (at_again workers n e few near fits.0, each_again workers (n + 1) es few rest fits.1) refl
+
+head_again : (workers : ℕ) → IsWorkers workers → head_of (record { number = 1; bytes = join_with_byte 32 (head_words workers); whole = true }) ≡ Ok workers
+unfolding head_of head_in workers_told head_keyword
+head_again workers is =
+    let word = head_word workers is in
+    rw (joined_is_text _ _ word, joined_parts _ _ word, workers_again workers is) refl
+
+-- what a journal says that is spelled out
+pub journal_again : (j : Written) → IsJournal j → AllByRecursion IsHeld j.entries → journal_of (journal_spelling j) ≡ Ok j
+unfolding journal_in
+journal_again j is held =
+    let workers : j.workers ≤ 16 = is.workers.1 in
+    let few : length j.entries ≤ 65536 = is.few in
+    let lines = raw_again 1 (codes "quotafs") (codes "journal" ∷ codes "1" ∷ codes "workers" ∷ decimal j.workers ∷ [])
+    (flat_map entry_text j.entries) (head_word j.workers is.workers) in
+    let each = entries j.workers j.entries (recursion_from_All (IsEntryOf j.workers) j.entries is.each) held in
+    rw (lines, head_again j.workers is.workers, each_again j.workers 2 j.entries workers (omega arith) each) refl
+
+-- what was answered, where a journal was spelled out
+pub journal_read_again : (text : List ℕ) (answer : Result Written TextFault) → (answer ≡ journal_of text) ⊎ (answer ≡ Err want_of_memory)
+    → (j : Written) → IsJournal j → AllByRecursion IsHeld j.entries → text ≡ journal_spelling j → (answer ≡ Ok j) ⊎ (answer ≡ Err want_of_memory)
+journal_read_again text answer (inl e) j is held same = inl (e ∙ ap journal_of same ∙ journal_again j is held)
+journal_read_again text answer (inr e) j is held same = inr e

@@ -1,0 +1,10 @@
+-- The lines of a text; that scripts and journals that are spelled out are read again; what those are that were read.
+pub mod RawLines
+pub mod LinesAgain
+pub mod ScriptsAgain
+pub mod ScriptsFound
+pub mod Entries
+pub mod JournalsAgain
+pub mod EntriesFound
+pub mod JournalsFound
+mod EntriesJoined

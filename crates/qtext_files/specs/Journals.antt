@@ -1,0 +1,101 @@
+-- Journals: their workers and entries, or the first line at fault with the first thing wrong in it.
+use Rattle.std.specs.Prelude.{ℕ, ◌+◌, ◌==◌, not, List, [], ◌∷◌, drop, codes, Result, Ok, Err, nat_lt, if◌then◌else◌}
+use Rattle.std.specs.List.{list_all}
+use Rattle.std.specs.Str.{bytes_eq}
+use Rattle.qplain.specs.declared.entry.Entry.{Entry}
+use Rattle.qplain.specs.declared.reply.Reply.{Reply}
+use Rattle.qtext.specs.declared.text_fault.TextKind.{TextKind}
+use Rattle.qtext.specs.declared.text_fault.TextKind.TheVariants.{Cut, BadByte, BadNumber, BadCred, TooMany, BadHead, BadReply}
+use Rattle.qtext.specs.declared.text_fault.TextFault.{TextFault}
+use Rattle.qtext.specs.Reading.{◌>>=◌, each_of}
+use Rattle.qtext.specs.Words.{is_text_byte, words, number, number_of}
+use Rattle.qline.specs.Callers.{caller_of}
+use Rattle.qline.specs.Journaled.{journaled_call_in}
+use Rattle.qline.specs.RepliesRead.{reply_in}
+use Rattle.qplain.specs.Journals.{Written}
+use Rattle.qtext_files.specs.RawLines.{RawLine, in_line, raw_lines}
+use Rattle.qplain.specs.declared.bounds.TheConstants.{MAX_ENTRIES, MAX_WORKERS}
+
+-- the number of a worker, of which there are so many, from 1
+unfoldable pub worker_of : ℕ → List ℕ → Result ℕ TextKind
+worker_of workers word = do
+  worker ← number_of BadNumber workers word
+  if worker == 0 then Err BadNumber else Ok worker
+
+-- => and a reply
+unfoldable pub answer_in : List (List ℕ) → Result Reply TextKind
+answer_in [] = Err BadReply
+answer_in (arrow ∷ reply) = if bytes_eq arrow (codes "=>") then reply_in reply else Err BadReply
+
+-- WORKER MOMENT CALLER CALL => REPLY
+unfoldable pub entry_in : ℕ → List (List ℕ) → Result Entry TextKind
+entry_in workers [] = Err BadNumber
+entry_in workers (w ∷ []) = do
+  worker ← worker_of workers w
+  Err BadNumber
+entry_in workers (w ∷ m ∷ []) = do
+  worker ← worker_of workers w
+  moment ← number m
+  Err BadCred
+entry_in workers (w ∷ m ∷ c ∷ behind) = do
+  worker ← worker_of workers w
+  moment ← number m
+  cred ← caller_of c
+  called ← journaled_call_in behind
+  reply ← answer_in (drop called.1 behind)
+  Ok (record { worker = worker; cred = cred; moment = moment; call = called.0; reply = reply })
+
+-- the entry in a line, of so many workers, or the first thing wrong in it
+unfoldable pub journal_entry_of : ℕ → RawLine → Result Entry TextKind
+journal_entry_of workers l =
+    if nat_lt (MAX_ENTRIES + 1) l.number then Err TooMany
+    else if not l.whole then Err Cut
+    else if not (list_all is_text_byte l.bytes) then Err BadByte
+    else entry_in workers (words l.bytes)
+
+-- the word is the one that stands in every head
+unfoldable pub head_keyword : List ℕ → List ℕ → Result Unit TextKind
+head_keyword wanted word = if bytes_eq word wanted then Ok tt else Err BadHead
+
+-- how many workers there are
+unfoldable pub workers_of : List ℕ → Result ℕ TextKind
+workers_of word = do
+  workers ← number_of BadHead MAX_WORKERS word
+  if workers == 0 then Err BadHead else Ok workers
+
+-- quotafs journal 1 workers W in its five words, of which W is told
+unfoldable pub workers_told : List ℕ → List ℕ → List ℕ → List ℕ → List ℕ → Result ℕ TextKind
+workers_told q j e n w = do
+  program ← head_keyword (codes "quotafs") q
+  journal ← head_keyword (codes "journal") j
+  edition ← head_keyword (codes "1") e
+  noun ← head_keyword (codes "workers") n
+  workers_of w
+
+-- the five words of a head, of which the last is told
+unfoldable pub head_in : List (List ℕ) → Result ℕ TextKind
+head_in (q ∷ j ∷ e ∷ n ∷ w ∷ []) = workers_told q j e n w
+head_in _ = Err BadHead
+
+-- how many workers the first line tells of, or the first thing wrong in it
+unfoldable pub head_of : RawLine → Result ℕ TextKind
+head_of l =
+    if not l.whole then Err Cut
+    else if not (list_all is_text_byte l.bytes) then Err BadByte
+    else head_in (words l.bytes)
+
+-- the entry in a line, or the fault that is told of it
+unfoldable pub at_entry : ℕ → RawLine → Result Entry TextFault
+at_entry workers l = in_line l.number (journal_entry_of workers l)
+
+-- what the lines of a journal say; a journal of no line has no head
+unfoldable pub journal_in : List RawLine → Result Written TextFault
+journal_in [] = Err (record { line = 1; kind = BadHead })
+journal_in (head ∷ lines) = do
+  workers ← in_line 1 (head_of head)
+  entries ← each_of (at_entry workers) lines
+  Ok (record { workers = workers; entries = entries })
+
+-- what a journal says: its workers and entries, or the first line at fault
+abbrev pub journal_of : List ℕ → Result Written TextFault
+journal_of text = journal_in (raw_lines text)

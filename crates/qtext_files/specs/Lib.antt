@@ -1,0 +1,5 @@
+-- In reading order: the lines of a text, what a script says, what a journal says, and how both are spelled out.
+pub mod RawLines
+pub mod Scripts
+pub mod Journals
+pub mod Spelling

@@ -1,0 +1,123 @@
+//! One entry of a journal.
+ghost use Rattle.std.specs.Prelude.{◌+◌, map};
+ghost use Rattle.qtext.specs.Gives.{Gives};
+ghost use Rattle.qplain.specs.declared.bounds.TheConstants.{MAX_ENTRIES};
+ghost use Rattle.qtext_files.specs.Journals.{answer_in, entry_in, journal_entry_of, worker_of};
+
+use crate::callers::Callers;
+use crate::lines::ReadLine;
+use crate::raw_line::NextLine;
+use qline::{Paths, journaled_call_in, reply_in};
+use qplain::{Entry, MAX_ENTRIES, Reply};
+use qtext::{ReadFault, TextKind, number, number_of};
+use std::alloc::Global;
+
+/// The number of a worker, of which there are so many, from 1.
+#[tactic(auto, unfolding(crate::specs::Journals::worker_of))]
+fn worker_of(workers: u64, word: &[u8]) -> Result<u64, ReadFault>
+    ensures { Gives result (worker_of workers word.now) }
+{
+    let worker = number_of(TextKind::BadNumber, workers, word)?;
+    if worker == 0 {
+        return Err(ReadFault::Fault(TextKind::BadNumber));
+    }
+    Ok(worker)
+}
+
+/// `=>` and a reply.
+#[tactic(auto, unfolding(crate::specs::Journals::answer_in))]
+fn answer_in(alloc: Global, words: &[&[u8]]) -> Result<Reply, ReadFault>
+    ensures { Gives result (answer_in (map (λ word. word.now) words.now)) }
+{
+    match words {
+        [] => Err(ReadFault::Fault(TextKind::BadReply)),
+        [arrow, reply @ ..] => {
+            if *arrow == b"=>".as_slice() {
+                return reply_in(alloc, reply);
+            }
+            Err(ReadFault::Fault(TextKind::BadReply))
+        }
+    }
+}
+
+/// `WORKER MOMENT CALLER CALL => REPLY`.
+#[tactic(auto, unfolding(crate::specs::Journals::entry_in))]
+fn entry_in<'a>(
+    alloc: Global,
+    callers: &mut Callers<'a>,
+    paths: &mut Paths<'a>,
+    workers: u64,
+    words: &[&'a [u8]],
+) -> Result<Entry, ReadFault>
+    ensures { Gives result (entry_in workers (map (λ word. word.now) words.now)) }
+{
+    match words {
+        [] => Err(ReadFault::Fault(TextKind::BadNumber)),
+        [worker] => {
+            worker_of(workers, worker)?;
+            Err(ReadFault::Fault(TextKind::BadNumber))
+        }
+        [worker, moment] => {
+            worker_of(workers, worker)?;
+            number(moment)?;
+            Err(ReadFault::Fault(TextKind::BadCred))
+        }
+        [worker, moment, cred, behind @ ..] => {
+            let worker = worker_of(workers, worker)?;
+            let moment = number(moment)?;
+            let cred = callers.read(alloc, cred)?;
+            let (call, taken) = journaled_call_in(alloc, paths, behind)?;
+            let reply = answer_in(alloc, behind.split_at(taken).1)?;
+            Ok(Entry {
+                worker,
+                cred,
+                moment,
+                call,
+                reply,
+            })
+        }
+    }
+}
+
+/// Reads the entries of a journal of so many workers, and keeps the last caller and a page of paths.
+#[derive(Drop)]
+pub(crate) struct EntryReader<'a> {
+    pub(crate) alloc: Global,
+    pub(crate) workers: u64,
+    pub(crate) callers: Callers<'a>,
+    pub(crate) paths: Paths<'a>,
+}
+
+impl<'a> ReadLine<'a> for EntryReader<'a> {
+    type Item = Entry;
+
+    ghost says = { λ r l. journal_entry_of r.workers l };
+
+    ghost most = { λ _. MAX_ENTRIES + 1 };
+
+    #[tactic(auto, unfolding(crate::specs::Journals::journal_entry_of))]
+    fn read(
+        &mut self,
+        number: u64,
+        line: &NextLine<'a>,
+        words: &[&'a [u8]],
+    ) -> Result<Entry, ReadFault> {
+        if number > MAX_ENTRIES as u64 + 1 {
+            return Err(ReadFault::Fault(TextKind::TooMany));
+        }
+        if !line.whole {
+            return Err(ReadFault::Fault(TextKind::Cut));
+        }
+        if !line.is_text {
+            return Err(ReadFault::Fault(TextKind::BadByte));
+        }
+        self.paths.begin_line(line.after);
+        entry_in(
+            self.alloc,
+            &mut self.callers,
+            &mut self.paths,
+            self.workers,
+            words,
+        )
+    }
+}

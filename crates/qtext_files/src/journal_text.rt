@@ -1,0 +1,70 @@
+//! Journals as text.
+ghost use Rattle.std.specs.Prelude.{◌≡◌};
+ghost use Rattle.std.specs.List.{flat_map};
+ghost use Rattle.qtext.specs.Written.{Writes};
+ghost use Rattle.qtext_files.specs.Spelling.{entry_text, head_text, journal_spelling};
+
+use qplain::{Entry, Journal};
+use qspell::{WriteFault, put_call, put_caller, put_reply};
+use qtext::{RefusedWrite, TextLine};
+use std::io::Write;
+
+/// `quotafs journal 1 workers W`.
+fn put_head<W: Write>(out: &mut W, line: &mut TextLine, workers: u64) -> Result<(), RefusedWrite>
+    ensures { Writes (W.contents out.old) (W.contents out.new) result (head_text workers) }
+{
+    line.clear();
+    line.text(b"quotafs journal 1 workers ");
+    line.number(workers);
+    line.put_end(out)
+}
+
+/// `WORKER MOMENT CALLER CALL => REPLY`.
+fn put_entry<W: Write>(out: &mut W, line: &mut TextLine, entry: &Entry) -> Result<(), RefusedWrite>
+    ensures { Writes (W.contents out.old) (W.contents out.new) result (entry_text entry.now) }
+{
+    line.clear();
+    line.number(entry.worker);
+    line.field(entry.moment);
+    line.byte(b' ');
+    put_caller(line, &entry.cred);
+    line.byte(b' ');
+    put_call(out, line, &entry.call)?;
+    line.text(b" => ");
+    put_reply(out, line, &entry.reply)
+}
+
+fn put_entries<W: Write>(
+    out: &mut W,
+    line: &mut TextLine,
+    entries: &[Entry],
+) -> Result<(), RefusedWrite>
+    ensures { Writes (W.contents out.old) (W.contents out.new) result (flat_map entry_text entries.now) }
+{
+    for entry in entries {
+        put_entry(out, line, entry)?;
+    }
+    Ok(())
+}
+
+/// Writes the journal in its one spelling: the head, and a line for each entry, data in lower case and numbers without
+/// leading zeros. It takes no memory.
+///
+/// After an Err some beginning of the text went out.
+pub fn put_journal<W: Write>(out: &mut W, journal: &Journal) -> Result<(), RefusedWrite>
+    ensures { Writes (W.contents out.old) (W.contents out.new) result (journal_spelling journal.now) }
+{
+    let mut line = TextLine::new();
+    put_head(out, &mut line, journal.workers())?;
+    put_entries(out, &mut line, journal.entries())
+}
+
+/// The journal, of which a refusal has its number.
+pub fn write_journal<W: Write>(journal: &Journal, out: &mut W) -> Result<(), WriteFault>
+    ensures { Writes (W.contents out.old) (W.contents out.new) result (journal_spelling journal.now) }
+{
+    match put_journal(out, journal) {
+        Ok(()) => Ok(()),
+        Err(RefusedWrite) => Err(WriteFault::Write),
+    }
+}

@@ -1,0 +1,17 @@
+//! Scripts and journals as text, read and written.
+#![tactic(auto)]
+
+pub use from_text::FromText;
+pub use journal_text::{put_journal, write_journal};
+pub use qspell::WriteFault;
+
+mod callers;
+mod entry;
+mod from_text;
+mod head;
+mod journal;
+mod journal_text;
+mod line;
+mod lines;
+mod raw_line;
+mod script;
