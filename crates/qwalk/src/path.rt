@@ -2,7 +2,7 @@
 ghost use Rattle.std.specs.Prelude.{◌≡◌, ◌∷◌, ◌<◌, length, option_map, Some, IfSome};
 ghost use Rattle.std.specs.List.{position, slice_split};
 ghost use Rattle.qplain.specs.Walk.{components, is_name, is_slash};
-ghost use Rattle.qpath.specs.Paths.{name_in, parts_in, path_fault};
+ghost use Rattle.qwalk.specs.Paths.{name_in, parts_in, path_fault};
 
 use qplain::{MAX_NAME, MAX_PATH, Refusal};
 
@@ -14,7 +14,7 @@ fn slash_in(text: &str) -> Option<usize>
 }
 
 /// The text before the first slash, and that behind it, if there is one. O(bytes before it).
-pub fn cut(text: &str) -> (&str, Option<&str>)
+pub(crate) fn cut(text: &str) -> (&str, Option<&str>)
     ensures parts { slice_split is_slash text.now ≡ result.0.now ∷ parts_in (option_map (λ rest. rest.now) result.1) }
     ensures less { IfSome result.1 (λ rest. length rest.now < length text.now) }
 {
@@ -25,7 +25,7 @@ pub fn cut(text: &str) -> (&str, Option<&str>)
 }
 
 /// The components of a path that is written as it may be, with slashes between them, if there are any: `/` has none.
-pub fn names_of(path: &str) -> Option<&str>
+pub(crate) fn names_of(path: &str) -> Option<&str>
     ensures { components path.now ≡ parts_in (option_map (λ names. names.now) result) }
 {
     match path.as_bytes() {
@@ -57,7 +57,7 @@ fn is_name(name: &str) -> bool
 
 /// What is wrong with a path: EINVAL for its form, else ENAMETOOLONG of a component above 255 bytes, or of the whole
 /// above 4095. O(bytes).
-pub fn fault_of(path: &str) -> Option<Refusal>
+pub(crate) fn fault_of(path: &str) -> Option<Refusal>
     ensures { result ≡ path_fault path.now }
 {
     if path.as_bytes().first() != Some(&b'/') {

@@ -1,8 +1,8 @@
 use Rattle.std.proofs.Common.{◌≡◌, [], ◌∷◌, rules, sym, ap, ◌∙◌}
 use Rattle.qplain.specs.Arguments.{paths_of}
-use Rattle.qpath.specs.Paths.{path_fault, paths_fault}
-use Rattle.qpath.proofs.Parts.{path_fault-one}
-use Rattle.qpath.proofs.call_paths.paths_fault.Goals as goal
+use Rattle.qwalk.specs.Paths.{path_fault, paths_fault}
+use Rattle.qwalk.proofs.Paths.{path_fault-one}
+use Rattle.qwalk.proofs.call_paths.paths_fault.Goals as goal
 
 pub returns-in-Create : goal.returns-in-Create
 returns-in-Create c =

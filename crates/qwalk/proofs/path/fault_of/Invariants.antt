@@ -2,8 +2,8 @@ use Rattle.std.proofs.Common.{◌≡◌, ◌+◌, true, ◌||◌, nat_lt, length
 use Rattle.std.specs.List.{list_all, list_any}
 use Rattle.qplain.specs.Walk.{components, is_name, is_slash, is_too_long}
 use Rattle.qplain.specs.declared.bounds.TheConstants.{MAX_NAME}
-use Rattle.qpath.specs.Paths.{parts_in}
-use Rattle.qpath.proofs.path.fault_of.Given as goal
+use Rattle.qwalk.specs.Paths.{parts_in}
+use Rattle.qwalk.proofs.path.fault_of.Given as goal
 
 -- the components that are read are names, and it is known whether one was too long
 abbrev pub invariant-loop-behind : goal.invariant-loop-behind

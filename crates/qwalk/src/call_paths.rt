@@ -1,7 +1,7 @@
 //! What is wrong with the paths of a call.
 ghost use Rattle.std.specs.Prelude.{◌≡◌, ◌∷◌, []};
 ghost use Rattle.qplain.specs.Arguments.{paths_of};
-ghost use Rattle.qpath.specs.Paths.{paths_fault};
+ghost use Rattle.qwalk.specs.Paths.{paths_fault};
 
 use crate::path::fault_of;
 use qplain::{Call, Refusal};

@@ -1,4 +1,4 @@
--- Where a path is cut at its first slash.
+-- Where a path is cut at its first slash, and what is wrong with one path and with two.
 use Rattle.std.proofs.Common.{◌≡◌, ◌≢◌, ℕ, ◌+◌, Bool, true, false, not, ◌&&◌, ◌||◌, cond, nat_lt, List, ◌∷◌, [], length, take, drop, Option, Some, None, refl, sym, ap, ◌∙◌, arith, tests}
 use Rattle.std.specs.List.{position, position_or_len, slice_split}
 use Rattle.std.proofs.lemmas.List.Sums.{fails_before_first}
@@ -6,7 +6,7 @@ use Rattle.std.proofs.lemmas.List.Splits.{slice_split_first, slice_split_none}
 use Rattle.qplain.specs.declared.refusal.Refusal.{Refusal}
 use Rattle.qplain.specs.declared.refusal.Refusal.TheVariants.{EINVAL, ENAMETOOLONG}
 use Rattle.qplain.specs.Walk.{is_too_long, is_well_formed}
-use Rattle.qpath.specs.Paths.{path_fault, paths_fault}
+use Rattle.qwalk.specs.Paths.{path_fault, paths_fault}
 
 -- what a slot that is found says of the test
 found_at : (b : Bool) (n at : ℕ) → cond b (Some n) None ≡ Some at → (b ≡ true) × (n ≡ at)

@@ -1,8 +1,8 @@
 use Rattle.std.proofs.Common.{rules, ◌≡◌, Some, ◌∙◌}
-use Rattle.qpath.proofs.Parts.{faults-bad, faults-first, faults-second}
 use Rattle.qplain.specs.declared.refusal.Refusal.TheVariants.{EINVAL}
-use Rattle.qpath.specs.Paths.{path_fault}
-use Rattle.qpath.proofs.call_paths.fault_of_both.Goals as goal
+use Rattle.qwalk.proofs.Paths.{faults-bad, faults-first, faults-second}
+use Rattle.qwalk.specs.Paths.{path_fault}
+use Rattle.qwalk.proofs.call_paths.fault_of_both.Goals as goal
 
 pub returns-then-eq : goal.returns-then-eq
 returns-then-eq c =

@@ -3,8 +3,8 @@ use Rattle.std.specs.List.{slice_split}
 use Rattle.std.proofs.lemmas.List.Quantifiers.{position-Some}
 use Rattle.std.proofs.lemmas.Str.{IsCharBoundary-after_ascii, IsCharBoundary-before_ascii}
 use Rattle.qplain.specs.Walk.{is_slash}
-use Rattle.qpath.proofs.Parts.{slice_split-no_position, slice_split-position}
-use Rattle.qpath.proofs.path.cut.Goals as goal
+use Rattle.qwalk.proofs.Paths.{slice_split-no_position, slice_split-position}
+use Rattle.qwalk.proofs.path.cut.Goals as goal
 
 low : (byte : ℕ) → is_slash byte ≡ true → byte < 128
 low byte is = grind (arith, tests, is)

@@ -1,23 +1,12 @@
--- What stands at a number, and what a name leads to.
+-- Where a directory is empty, a name in it leads nowhere.
 use Rattle.std.proofs.Common.{◌≡◌, ℕ, ◌==◌, Bool, true, false, not, cond, List, [], ◌∷◌, Option, Some, None, refl, arith, tests}
 use Rattle.std.specs.BTreeMap.{is_at}
 use Rattle.std.specs.List.{list_any}
 use Rattle.std.specs.Map.{lookup}
 use Rattle.std.proofs.lemmas.Bool.{or_parts}
-use Rattle.qplain.specs.State.{Inode, NameKey, State, is_dir, name_key_cmp, named}
+use Rattle.qplain.specs.State.{NameKey, State, name_key_cmp, named}
 use Rattle.qplain.specs.Use.{is_empty}
 use Rattle.qlaws.proofs.Sweeping.{key-dir}
-
--- where a directory stands an inode does, which is one
-pub record IsThere (o : Option Inode) : Type 0 where
-  pub inode : Inode
-  pub there : o ≡ Some inode
-  pub directory : inode.dir ≡ true
-
--- it is told from the inode
-pub directory-there : (o : Option Inode) → is_dir o ≡ true → IsThere o
-directory-there None stands = cc
-directory-there (Some inode) stands = record { inode = inode; there = refl; directory = stands }
 
 -- where no name stands in a directory, none is found in it
 pub none-in : (number : ℕ) (names : List (NameKey × ℕ)) → list_any (λ e. e.0.0 == number) names ≡ false → (name : List ℕ)

@@ -1,11 +1,11 @@
--- How a tree keeps the inodes and names of a state, and beside them the link counts.
-use Rattle.std.specs.Prelude.{◌≡◌, ℕ, List}
+-- What a tree has of a state: its inodes and names, and beside them the link counts; and where a file stands.
+use Rattle.std.specs.Prelude.{◌≡◌, ℕ, false, List, Some}
 use Rattle.std.specs.Option.{option_map}
 use Rattle.std.specs.Ordering.{nat_cmp}
 use Rattle.std.specs.BTreeMap.{is_at}
 use Rattle.std.specs.List.Sorted.{IsStrictlySortedBy}
 use Rattle.std.specs.Map.{keys_of, lookup}
-use Rattle.qplain.specs.State.{State, inode_at}
+use Rattle.qplain.specs.State.{Inode, State, inode_at}
 use Rattle.qplain.specs.Use.{links_of}
 use Rattle.qtree.specs.Tree.{RoomyTree}
 
@@ -21,3 +21,9 @@ pub record IsTreeOf (S : State) (tree : RoomyTree) : Type 0 where
   pub names : tree.names ≡ S.names
   pub links : AreLinks S tree.links
   pub in_order : IsStrictlySortedBy nat_cmp (keys_of tree.links)
+
+-- the inode is there, and a file
+pub record IsFile (S : State) (number : ℕ) : Type 0 where
+  pub inode : Inode
+  pub there : inode_at S number ≡ Some inode
+  pub is_file : inode.dir ≡ false

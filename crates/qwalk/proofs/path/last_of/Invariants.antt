@@ -1,8 +1,8 @@
 use Rattle.std.proofs.Common.{◌≡◌, ◌+◌, [], ◌∷◌, length, option_map, unwrap_or}
 use Rattle.qplain.specs.Walk.{last_name}
-use Rattle.qpath.specs.Paths.{parts_in}
-use Rattle.qpath.specs.Paths.{name_in}
-use Rattle.qpath.proofs.path.last_of.Given as goal
+use Rattle.qwalk.specs.Paths.{parts_in}
+use Rattle.qwalk.specs.Paths.{name_in}
+use Rattle.qwalk.proofs.path.last_of.Given as goal
 use denote.Shadow.{shadow}
 use denote.Text.{Utf8}
 
