@@ -1,22 +1,20 @@
 -- The kept link counts, and the tree, after a further name of a file.
-use Rattle.std.proofs.Common.{◌≡◌, ℕ, ◌+◌, ◌^◌, ◌<◌, ◌≤◌, Bool, true, false, cond, nat_lt, List, Option, Some, None, refl, sym, ap, subst, ◌∙◌, arith, tests}
+use Rattle.std.proofs.Common.{◌≡◌, ℕ, ◌+◌, ◌^◌, ◌<◌, Bool, true, false, cond, List, Option, Some, None, refl, sym, ap, subst, ◌∙◌, arith}
 use Rattle.std.specs.Ordering.{nat_cmp}
 use Rattle.std.specs.Cmp.{eq_by_cmp_equiv, nat_cmp_total}
 use Rattle.std.specs.BTreeMap.{insert_entry, is_at}
 use Rattle.std.specs.List.Sorted.{IsStrictlySortedBy}
 use Rattle.std.specs.Map.{lookup, set_value}
 use Rattle.std.proofs.lemmas.Map.{keys-set_value, lookup-set_value}
-use Rattle.qplain.specs.declared.bounds.TheConstants.{MAX_LINKS}
 use Rattle.qplain.specs.Names.{with_name}
 use Rattle.qplain.specs.State.{Inode, State, inode_at, is_directory, name_key_cmp, named}
 use Rattle.qplain.specs.Use.{links_of}
 use Rattle.qlaws.specs.Laws.{IsLawful}
-use Rattle.qlaws.proofs.FewLinks.{few-links}
-use Rattle.qlaws.proofs.Filtering.{All-lookup}
+use Rattle.qlaws.proofs.Bounding.{links-bounded}
 use Rattle.qlaws.proofs.Naming.{links_of-linked, links_of-linked-others}
 use Rattle.qlaws.proofs.Tables.{same-number}
 use Rattle.qtree.specs.Tree.{RoomyTree}
-use Rattle.qchange.specs.Trees.{AreLinks, IsTreeOf}
+use Rattle.qtree.specs.TreeOf.{AreLinks, IsTreeOf}
 use Rattle.qchange.specs.Changes.{CanLink}
 use Rattle.qchange.proofs.Links.{kept-some, links-there, links_at, other-number}
 use Rattle.qchange.proofs.Making.{InOrder}
@@ -67,13 +65,7 @@ tree-linked S tree after dir name number is lawful can inodes names links = reco
         links (links_of S number false)
         (links-there S tree.links number can.file.inode is.links can.file.there ∙ ap (λ b. Some (links_of S number b)) can.file.is_file)
 
--- an inode that is there has no more links than an inode may have
-pub links-bounded : (S : State) (number : ℕ) (inode : Inode) → IsLawful S → inode_at S number ≡ Some inode → links_of S number inode.dir ≤ MAX_LINKS
-links-bounded S number inode lawful there =
-    let few = All-lookup (λ e. nat_lt MAX_LINKS (links_of S e.0 e.1.dir) ≡ false) S.inodes number inode (few-links S lawful.parts.links) there in
-    grind (arith, tests, few)
-
--- so one more may be counted
+-- of an inode that is there one link more may be counted
 pub may-count : (S : State) (tree : RoomyTree) (number : ℕ) (inode : Inode) → IsTreeOf S tree → IsLawful S → inode_at S number ≡ Some inode
     → (links : ℕ) × (lookup (is_at (nat_cmp number)) tree.links ≡ Some links) × links + 1 < 2 ^ 64
 may-count S tree number inode is lawful there =

@@ -1,5 +1,5 @@
--- What the proofs of more than one file share: what stands where, the link counts, then the tree after each change.
-pub mod Directories
+-- What the proofs of more than one file share: empty directories, the link counts, then the tree after each change.
+pub mod EmptyDirectories
 pub mod Links
 pub mod Making
 pub mod ParentLinks

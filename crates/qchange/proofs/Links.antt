@@ -18,7 +18,7 @@ use Rattle.qlaws.proofs.Tables.{lookup-insert_new, same-number}
 use Rattle.qlaws.proofs.Settling.{absent-next}
 use Rattle.qlaws.proofs.Linking.{inode_at-created, inode_at-with_inode, links_of-created-others, links_of-new_file}
 use Rattle.qlaws.proofs.Removing.{inode_at-last, inodes-more, links_of-unlinked, links_of-unlinked-others}
-use Rattle.qchange.specs.Trees.{AreLinks}
+use Rattle.qtree.specs.TreeOf.{AreLinks}
 
 -- the links of what stands at a number, if an inode does
 abbrev pub links_at : State → ℕ → Option Inode → Option ℕ

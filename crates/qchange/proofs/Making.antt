@@ -15,7 +15,7 @@ use Rattle.qlaws.specs.Laws.{IsLawful}
 use Rattle.qlaws.proofs.Orders.{sorted-insert, sorted-remove}
 use Rattle.qlaws.proofs.Removing.{inodes-last, inodes-more}
 use Rattle.qtree.specs.Tree.{RoomyTree}
-use Rattle.qchange.specs.Trees.{AreLinks, IsTreeOf}
+use Rattle.qtree.specs.TreeOf.{AreLinks, IsTreeOf}
 use Rattle.qchange.specs.Changes.{CanUnlink, altered, altered_at}
 use Rattle.qchange.proofs.Links.{links-changed, links-created, links-last, links-more, links-there, some-links}
 

@@ -1,5 +1,5 @@
 -- The kept link counts, and the tree, after directories come and go.
-use Rattle.std.proofs.Common.{◌≡◌, ℕ, ◌+◌, ◌-◌, ◌≤◌, Bool, true, false, nat_lt, cond, List, Option, Some, None, refl, sym, ap, subst, ◌∙◌, arith, tests}
+use Rattle.std.proofs.Common.{◌≡◌, ℕ, ◌+◌, ◌-◌, ◌≤◌, Bool, true, false, cond, List, Option, Some, None, refl, sym, ap, subst, ◌∙◌, arith}
 use Rattle.std.specs.Ordering.{nat_cmp}
 use Rattle.std.specs.Cmp.{eq_by_cmp_equiv, nat_cmp_total, unsigned_ties}
 use Rattle.std.specs.BTreeMap.{insert_entry, is_at}
@@ -12,34 +12,27 @@ use Rattle.qplain.specs.Names.{created, swept, without_name}
 use Rattle.qplain.specs.State.{Inode, State, inode_at, is_dir, is_directory, name_key_cmp, named, new_directory}
 use Rattle.qplain.specs.Use.{links_of, names_to}
 use Rattle.qlaws.specs.Laws.{IsLawful}
-use Rattle.qlaws.proofs.FewLinks.{few-links}
-use Rattle.qlaws.proofs.Filtering.{All-lookup}
+use Rattle.qlaws.proofs.Bounding.{links-bounded}
 use Rattle.qlaws.proofs.Linking.{inode_at-created, links_of-created-elsewhere, links_of-created-files, links_of-created-parent, links_of-new_directory}
 use Rattle.qlaws.proofs.Orders.{sorted-insert, sorted-remove}
 use Rattle.qlaws.proofs.Removing.{inode_at-last, inodes-last, links_of-rmdir-others, links_of-rmdir-parent, one_name}
 use Rattle.qlaws.proofs.Settling.{absent-next}
 use Rattle.qlaws.proofs.Tables.{lookup-insert_new, same-number}
 use Rattle.qtree.specs.Tree.{RoomyTree}
-use Rattle.qchange.specs.Trees.{AreLinks, IsTreeOf}
+use Rattle.qtree.specs.TreeOf.{AreLinks, IsTreeOf}
+use Rattle.qtree.proofs.Directories.{directory-there}
 use Rattle.qchange.specs.Changes.{CanRmdir}
 use Rattle.qchange.proofs.Links.{kept-some, links-there, links_at, none-kept}
 use Rattle.qchange.proofs.Making.{InOrder}
-use Rattle.qchange.proofs.Directories.{directory-there}
 
 -- the links that are kept of a directory are those it has, and few
 pub parent-links : (S : State) (links : List (ℕ × ℕ)) (dir : ℕ) → AreLinks S links → IsLawful S → is_directory S dir ≡ true
     → (lookup (is_at (nat_cmp dir)) links ≡ Some (links_of S dir true)) × links_of S dir true ≤ MAX_LINKS
 parent-links S links dir kept lawful stands =
-    let parent = directory-there (inode_at S dir) stands in
-    let few : nat_lt MAX_LINKS (links_of S dir parent.inode.dir) ≡ false =
-    All-lookup (λ e. nat_lt MAX_LINKS (links_of S e.0 e.1.dir) ≡ false) S.inodes dir parent.inode (few-links S lawful.parts.links) parent.there in
-    let bound : nat_lt MAX_LINKS (links_of S dir true) ≡ false = ap (λ b. nat_lt MAX_LINKS (links_of S dir b)) (sym parent.directory) ∙ few in (
+    let parent = directory-there (inode_at S dir) stands in (
       links-there S links dir parent.inode kept parent.there ∙ ap (λ b. Some (links_of S dir b)) parent.directory,
-      within (links_of S dir true) bound,
+      subst (λ b. links_of S dir b ≤ MAX_LINKS) parent.directory (links-bounded S dir parent.inode lawful parent.there),
     )
-  where
-    within : (n : ℕ) → nat_lt MAX_LINKS n ≡ false → n ≤ MAX_LINKS
-    within n h = grind (arith, tests, h)
 
 -- with another count kept for one number, that is found there, and elsewhere what was
 pub lookup-recounted : (links : List (ℕ × ℕ)) (number old new q : ℕ) → lookup (is_at (nat_cmp number)) links ≡ Some old

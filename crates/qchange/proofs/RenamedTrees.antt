@@ -20,7 +20,7 @@ use Rattle.qlaws.proofs.Sweeping.{key-dir}
 use Rattle.qlaws.proofs.Tables.{same-number}
 use Rattle.qtree.specs.Room.{Room}
 use Rattle.qtree.specs.Tree.{RoomyTree}
-use Rattle.qchange.specs.Trees.{AreLinks, IsTreeOf}
+use Rattle.qtree.specs.TreeOf.{AreLinks, IsTreeOf}
 use Rattle.qchange.specs.Changes.{CanRename}
 use Rattle.qchange.proofs.Links.{links_at}
 use Rattle.qchange.proofs.Making.{InOrder}

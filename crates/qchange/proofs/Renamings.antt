@@ -15,12 +15,12 @@ use Rattle.qlaws.proofs.Sweeping.{key-dir}
 use Rattle.qlaws.proofs.Tables.{same-number}
 use Rattle.qtree.specs.Room.{Room}
 use Rattle.qtree.specs.Tree.{RoomyTree}
-use Rattle.qchange.specs.Trees.{AreLinks, IsTreeOf}
+use Rattle.qtree.specs.TreeOf.{AreLinks, IsTreeOf}
+use Rattle.qtree.proofs.Directories.{directory-there}
 use Rattle.qchange.specs.Moves.{moved_links}
 use Rattle.qchange.specs.Changes.{CanRename}
 use Rattle.qchange.proofs.Making.{InOrder}
 use Rattle.qchange.proofs.ParentLinks.{order-recounted, parent-links}
-use Rattle.qchange.proofs.Directories.{directory-there}
 use Rattle.qchange.proofs.Recounts.{AreCounts, counts-agree, counts-recounted, recount}
 
 module _ (S : State) (room : Room) (lawful : IsLawful S) (dir : ℕ) (name : List ℕ) (number to_dir : ℕ) (to_name : List ℕ)

@@ -9,8 +9,9 @@ use Rattle.qplain.specs.Files.{with_inode}
 use Rattle.qplain.specs.Names.{created, swept, with_name, without_name}
 use Rattle.qplain.specs.Renames.{passes, renamed}
 use Rattle.qplain.specs.Owners.{with_owners}
-use Rattle.qpath.specs.Paths.{name_in}
 use Rattle.qtree.specs.Room.{Room, file_room, name_room}
+use Rattle.qtree.specs.TreeOf.{IsFile}
+use Rattle.qwalk.specs.Paths.{name_in}
 use Rattle.qchange.specs.declared.tree_change.TreeChange.{TreeChange}
 use Rattle.qchange.specs.declared.tree_change.TreeChange.TheVariants.{Create, Mkdir, Write, Truncate, Unlink, Rmdir, Link, Rename, Chown}
 
@@ -52,12 +53,6 @@ pub record CanWrite (S : State) (room : Room) (number off spare : ℕ) (bytes : 
   pub bound : off + length bytes ≤ MAX_SIZE
   pub file_there : is_some (file_room room number) ≡ true
   pub file_room : IfSome (file_room room number) (λ f. IsReadyToPut f off (length bytes) spare)
-
--- the inode is there, and a file
-pub record IsFile (S : State) (number : ℕ) : Type 0 where
-  pub inode : Inode
-  pub there : inode_at S number ≡ Some inode
-  pub is_file : inode.dir ≡ false
 
 -- the file may be cut off or grow
 pub record CanTruncate (S : State) (number size : ℕ) : Type 0 where

@@ -1,4 +1,3 @@
 -- In reading order. A module that no public clause cites says so.
 pub mod Changes
-pub mod Trees
 pub mod Moves

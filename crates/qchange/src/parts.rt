@@ -7,12 +7,12 @@ ghost use Rattle.qplain.specs.State.{State, is_dir, new_directory};
 ghost use Rattle.qplain.specs.Names.{created, swept, with_name, without_name};
 ghost use Rattle.qplain.specs.Renames.{renamed};
 ghost use Rattle.qlaws.specs.Laws.{IsLawful};
-ghost use Rattle.qchange.specs.Trees.{IsTreeOf};
+ghost use Rattle.qtree.specs.TreeOf.{IsTreeOf};
+ghost use Rattle.qwalk.specs.Paths.{name_in};
 ghost use Rattle.qchange.specs.Changes.{CanCreate, CanLink, CanRename, CanRmdir, CanUnlink};
-ghost use Rattle.qpath.specs.Paths.{name_in};
 
 use crate::replacement::{drop_replaced, led_to, move_node};
-use qpath::last_of;
+use qwalk::last_of;
 use qplain::Path;
 use qtree::{Node, Tree};
 use std::alloc::Global;

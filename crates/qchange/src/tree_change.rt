@@ -2,7 +2,7 @@
 ghost use Rattle.std.specs.Prelude.{◌≡◌};
 ghost use Rattle.qplain.specs.State.{State};
 ghost use Rattle.qlaws.specs.Laws.{IsLawful};
-ghost use Rattle.qchange.specs.Trees.{IsTreeOf};
+ghost use Rattle.qtree.specs.TreeOf.{IsTreeOf};
 ghost use Rattle.qchange.specs.Changes.{CanChange, changed};
 
 use crate::parts::{add_directory, add_name, rename, take_directory, take_name};

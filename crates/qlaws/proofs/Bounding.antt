@@ -12,7 +12,7 @@ use Rattle.qplain.specs.State.{Inode, State, inode_at, is_dir, is_directory, nam
 use Rattle.qplain.specs.Use.{has_name, has_too_many_links, is_empty, links_of}
 use Rattle.qplain.specs.Names.{created, with_name, without_name}
 use Rattle.qplain.specs.Renames.{passes, renamed}
-use Rattle.qlaws.specs.Laws.{FitsTogether}
+use Rattle.qlaws.specs.Laws.{FitsTogether, IsLawful}
 use Rattle.qlaws.proofs.Tables.{All-insert_new, absent-fresh}
 use Rattle.qlaws.proofs.Orders.{sorted-insert}
 use Rattle.qlaws.proofs.Fitting.{or_right}
@@ -24,6 +24,12 @@ use Rattle.qlaws.proofs.Renaming.{has_name-renamed, outside}
 use Rattle.qlaws.proofs.Relinking.{links_of-renamed-directory, links_of-renamed-file}
 use Rattle.qlaws.proofs.Naming.{links_of-linked, links_of-linked-others}
 use Rattle.qlaws.proofs.Linking.{inode_at-created-there, links_of-created-elsewhere, links_of-created-files, links_of-created-parent, links_of-new_directory}
+
+-- in a lawful state an inode has no more links than an inode may have
+pub links-bounded : (S : State) (number : ℕ) (inode : Inode) → IsLawful S → inode_at S number ≡ Some inode → links_of S number inode.dir ≤ MAX_LINKS
+links-bounded S number inode lawful there =
+    let few = All-lookup (λ e. nat_lt MAX_LINKS (links_of S e.0 e.1.dir) ≡ false) S.inodes number inode (few-links S lawful.parts.links) there in
+    grind (arith, tests, few)
 
 -- the inode has no more links than it may have, or is that of this number
 abbrev pub is_few : State → ℕ → ℕ × Inode → Bool

@@ -9,11 +9,11 @@ use Rattle.qplain.specs.Setups.{IsLawfulSetup, Setting}
 use Rattle.qplain.specs.State.{State, root, start}
 use Rattle.qplain.specs.Use.{links_of}
 use Rattle.qlaws.proofs.Start.{start_is_lawful}
+use Rattle.qtree.specs.TreeOf.{AreLinks}
+use Rattle.qchange.proofs.Making.{InOrder}
 use Rattle.qledger.specs.Books.{AreBooksOf, AreInRange}
-use Rattle.qchange.specs.Trees.{AreLinks}
 use Rattle.qstore.specs.Kept.{IsCounted, state_of}
 use Rattle.qstore.specs.declared.store.Store.TheInside.{Inside}
-use Rattle.qchange.proofs.Making.{InOrder}
 
 -- the root directory has the links of a directory with no name in it
 links-by : (s : Setting) (number : ℕ) (b : Bool)

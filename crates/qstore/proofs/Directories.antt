@@ -12,7 +12,7 @@ use Rattle.qplain.specs.Walk.{led_to}
 use Rattle.qlaws.specs.Laws.{IsLawful}
 use Rattle.qlaws.proofs.Bounding.{too_many-directory}
 use Rattle.qlaws.proofs.Removing.{Replaces-last, one_name}
-use Rattle.qchange.proofs.Directories.{directory-there}
+use Rattle.qtree.proofs.Directories.{directory-there}
 use Rattle.qledger.specs.declared.claim.Claim.{Claim}
 use Rattle.qstore.specs.Decided.{IsAsked, IsClaimed, IsWhole}
 use Rattle.qstore.specs.Stored.{Stored}

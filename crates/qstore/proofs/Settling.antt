@@ -3,17 +3,17 @@ use Rattle.std.proofs.Common.{◌≡◌, ℕ, Bool, true, false, List, Option, S
 use Rattle.std.specs.Option.{option_map}
 use Rattle.qplain.specs.State.{Holder, Inode, State, inode_at}
 use Rattle.qplain.specs.Use.{links_of}
+use Rattle.qtree.specs.TreeOf.{AreLinks, IsTreeOf}
+use Rattle.qchange.specs.declared.tree_change.TreeChange.{TreeChange}
+use Rattle.qchange.specs.declared.tree_change.TreeChange.TheVariants.{Create, Mkdir, Write, Truncate, Unlink, Rmdir, Link, Rename, Chown}
+use Rattle.qchange.specs.Changes.{altered_at, changed}
 use Rattle.qledger.specs.Bills.{settled}
 use Rattle.qledger.specs.Books.{AreBooksOf, AreInRange, Books}
 use Rattle.qledger.specs.KeptHolders.{holders_in}
 use Rattle.qledger.proofs.Booked.{in_range-settled}
-use Rattle.qchange.specs.declared.tree_change.TreeChange.{TreeChange}
-use Rattle.qchange.specs.declared.tree_change.TreeChange.TheVariants.{Create, Mkdir, Write, Truncate, Unlink, Rmdir, Link, Rename, Chown}
 use Rattle.qstore.specs.declared.store.Store.TheInside.{Inside}
-use Rattle.qchange.specs.Trees.{AreLinks, IsTreeOf}
 use Rattle.qstore.specs.Kept.{IsCounted, state_of, stored_of}
 use Rattle.qstore.specs.Ready.{CanSettle, billed}
-use Rattle.qchange.specs.Changes.{altered_at, changed}
 use Rattle.qstore.specs.Stored.{IsSound, Stored}
 
 -- what no change of inodes and names touches

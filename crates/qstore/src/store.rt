@@ -9,7 +9,7 @@ ghost use Rattle.qplain.specs.Arguments.{has_bad_number};
 ghost use Rattle.qplain.specs.Calls.{attempt_of};
 ghost use Rattle.qplain.specs.Step.{settle, step};
 ghost use Rattle.qlaws.specs.Laws.{IsLawful, PassesNoLimit};
-ghost use Rattle.qchange.specs.Trees.{IsTreeOf};
+ghost use Rattle.qtree.specs.TreeOf.{IsTreeOf};
 ghost use Rattle.qledger.specs.Books.{HasSlots};
 ghost use Rattle.qstore.specs.Stored.{IsSameStore, IsSound, Stored};
 ghost use Rattle.qstore.specs.Decided.{IsDecided, IsWhole};

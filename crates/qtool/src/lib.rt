@@ -4,7 +4,7 @@
 pub use files::{FileFault, Files};
 pub use finishing::{Refuser, write_run};
 pub use program::tool;
-pub use qcheck::{BoardFault, check_boards};
+pub use qaudit_checks::{BoardFault, check_boards};
 pub use qconfig::{Config, ConfigFault};
 pub use qjob::{Job, LineFault};
 pub use qoutcome::{WriteFault, write_outcome};

@@ -1,4 +1,5 @@
--- What the proofs of more than one file share: entries in key order, tables, the names in all directories, the tree, rows.
+-- What the proofs of more than one file share: entries in key order, tables, the names in all directories, the tree, rows;
+-- then what the crates above cite of directories.
 pub mod InOrder
 pub mod Read
 pub mod Numbered
@@ -10,3 +11,4 @@ pub mod Changed
 pub mod Pushed
 pub mod Shuffled
 pub mod Rows
+pub mod Directories

@@ -4,3 +4,4 @@ pub mod InOrder
 pub mod Names
 pub mod Nodes
 pub mod Tree
+pub mod TreeOf

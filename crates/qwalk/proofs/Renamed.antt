@@ -12,11 +12,10 @@ use Rattle.qplain.specs.Rights.{may_remove}
 use Rattle.qplain.specs.State.{Inode, State, inode_at, is_dir, is_directory, named}
 use Rattle.qplain.specs.Use.{has_too_many_links, is_empty, links_of}
 use Rattle.qlaws.specs.Laws.{IsLawful}
-use Rattle.qlaws.proofs.Bounding.{too_many-renamed}
+use Rattle.qlaws.proofs.Bounding.{links-bounded, too_many-renamed}
 use Rattle.qlaws.proofs.Relinking.{links_of-moved-file, links_of-moved-to, links_of-moved-within}
+use Rattle.qtree.proofs.Directories.{directory-there}
 use Rattle.qwalk.specs.Faults.{adds_too_many, rename_fault}
-use Rattle.qchange.proofs.Directories.{directory-there}
-use Rattle.qchange.proofs.FurtherNames.{links-bounded}
 
 -- ---- the links that are asked
 

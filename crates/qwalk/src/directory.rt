@@ -3,7 +3,7 @@ ghost use Rattle.std.specs.Prelude.{◌≡◌, ◌+◌, nat_lt, true, not};
 ghost use Rattle.qplain.specs.Renames.{passes};
 ghost use Rattle.qplain.specs.State.{State, is_directory};
 ghost use Rattle.qplain.specs.Use.{is_empty, links_of};
-ghost use Rattle.qchange.specs.Trees.{IsTreeOf};
+ghost use Rattle.qtree.specs.TreeOf.{IsTreeOf};
 
 use crate::walk::inode;
 use qplain::MAX_LINKS;

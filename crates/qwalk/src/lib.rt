@@ -1,15 +1,19 @@
-//! Walks along the names of a tree, and what calls ask of it before they change it. No question changes anything.
+//! Paths, walks along the names of a tree, and what calls ask of it before they change it. No question changes anything.
 #![tactic(auto)]
 
+pub use call_paths::paths_fault;
 pub use directory::{has_all_links, is_empty};
 pub use links::{FurtherName, further_name};
+pub use path::last_of;
 pub use renames::{Renaming, is_its_own, places_of, rename_fault};
 pub use rights::{is_own, may_give, may_remove, may_write};
 pub use stats::stat_of;
 pub use walk::{Found, Place, find, inode, place_of};
 
+mod call_paths;
 mod directory;
 mod links;
+mod path;
 mod renames;
 mod rights;
 mod stats;

@@ -5,8 +5,7 @@ ghost use Rattle.qplain.specs.Names.{link_to, with_name};
 ghost use Rattle.qplain.specs.State.{State, is_directory, named};
 ghost use Rattle.qlaws.specs.Laws.{IsLawful};
 ghost use Rattle.qtree.specs.Nodes.{is_dir_content};
-ghost use Rattle.qchange.specs.Changes.{IsFile};
-ghost use Rattle.qchange.specs.Trees.{IsTreeOf};
+ghost use Rattle.qtree.specs.TreeOf.{IsFile, IsTreeOf};
 ghost use Rattle.qwalk.specs.Faults.{link_fault};
 
 use crate::walk::{Found, find, place_of};

@@ -7,9 +7,9 @@ ghost use Rattle.qplain.specs.Caller.{Caller};
 ghost use Rattle.qplain.specs.Renames.{meets, passes, rename_as, rename_from};
 ghost use Rattle.qplain.specs.State.{Inode, State, inode_at, is_directory, named};
 ghost use Rattle.qplain.specs.Walk.{components};
-ghost use Rattle.qpath.specs.Paths.{name_in};
 ghost use Rattle.qtree.specs.Nodes.{inode_of, is_dir_content};
-ghost use Rattle.qchange.specs.Trees.{IsTreeOf};
+ghost use Rattle.qtree.specs.TreeOf.{IsTreeOf};
+ghost use Rattle.qwalk.specs.Paths.{name_in};
 ghost use Rattle.qwalk.specs.Faults.{adds_too_many, rename_fault};
 
 use crate::directory::{has_all_links, leads_to_directory, leads_to_file, leads_to_names};

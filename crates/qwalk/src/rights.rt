@@ -5,7 +5,7 @@ ghost use Rattle.qplain.specs.State.{State, inode_at};
 ghost use Rattle.qplain.specs.Rights.{is_member, is_own, may_give, may_remove, may_write, owns};
 ghost use Rattle.qplain.specs.Renames.{passes};
 ghost use Rattle.qtree.specs.Nodes.{inode_of};
-ghost use Rattle.qchange.specs.Trees.{IsTreeOf};
+ghost use Rattle.qtree.specs.TreeOf.{IsTreeOf};
 
 use crate::walk::inode;
 use qplain::Cred;

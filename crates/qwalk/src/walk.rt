@@ -7,12 +7,12 @@ ghost use Rattle.qplain.specs.Renames.{meets};
 ghost use Rattle.qplain.specs.State.{Inode, State, inode_at, is_directory, named};
 ghost use Rattle.qplain.specs.Use.{links_of};
 ghost use Rattle.qplain.specs.Attempt.{Attempt, Refuse, at_path, in_place};
-ghost use Rattle.qpath.specs.Paths.{name_in};
 ghost use Rattle.qtree.specs.Nodes.{inode_of};
-ghost use Rattle.qchange.specs.Trees.{IsTreeOf};
+ghost use Rattle.qtree.specs.TreeOf.{IsTreeOf};
+ghost use Rattle.qwalk.specs.Paths.{name_in};
 ghost use Rattle.qwalk.specs.Parents.{parent};
 
-use qpath::{cut, names_of};
+use crate::path::{cut, names_of};
 use qplain::{ROOT, Refusal};
 use qtree::{Node, Tree};
 

@@ -1,7 +1,7 @@
 //! Boards held against a journal: some that were written by hand, and those of a run.
 
 use crate::given::{lines, setup};
-use qcheck::{BoardFault, check_boards, check_looks};
+use qaudit_checks::{BoardFault, check_boards, check_looks};
 use qplain::{Board, Entry, Line, LookFault, Refusal, Reply};
 use qrules::{BoardRow, Items, Kind, Limits};
 use qrun::Outcome;

@@ -2,7 +2,7 @@
 ghost use Rattle.std.specs.Prelude.{◌≡◌, length, IfOk};
 
 use crate::given::{FIRST_FILES, lines};
-use qgather::{Mismatch, gather};
+use qaudit_checks::{Mismatch, gather};
 use qplain::{CallFault, Entry, Receipt, Refusal, Reply, Transcript};
 use qrules::Items;
 use std::alloc::Global;

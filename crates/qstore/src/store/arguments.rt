@@ -9,7 +9,7 @@ ghost use Rattle.qstore.specs.Stored.{IsSound};
 
 use crate::store::Store;
 use qledger::Slots;
-use qpath::paths_fault;
+use qwalk::paths_fault;
 use qplain::{Call, Cred, MAX_DATA, Refusal};
 use qrules::{Kind, MAX_MOMENT};
 

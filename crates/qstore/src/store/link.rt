@@ -5,8 +5,8 @@ ghost use Rattle.qplain.specs.Attempt.{Becomes, at_path};
 ghost use Rattle.qplain.specs.Names.{link_to, with_name};
 ghost use Rattle.qplain.specs.State.{is_directory, named};
 ghost use Rattle.qplain.specs.Step.{settle};
+ghost use Rattle.qtree.specs.TreeOf.{IsFile};
 ghost use Rattle.qstore.specs.Decided.{IsDecided, IsWhole};
-ghost use Rattle.qchange.specs.Changes.{IsFile};
 ghost use Rattle.qstore.specs.Ready.{IsRefused};
 ghost use Rattle.qstore.specs.Stored.{IsSameStore};
 

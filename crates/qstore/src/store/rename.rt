@@ -9,11 +9,11 @@ ghost use Rattle.qplain.specs.State.{Inode, inode_at, is_directory, named};
 ghost use Rattle.qplain.specs.Step.{settle};
 ghost use Rattle.qplain.specs.Use.{is_empty};
 ghost use Rattle.qtree.specs.Room.{Room, name_room};
+ghost use Rattle.qwalk.specs.Paths.{name_in};
+ghost use Rattle.qchange.specs.Changes.{CanRename};
 ghost use Rattle.qledger.specs.Books.{HasSlots};
 ghost use Rattle.qstore.specs.Decided.{IsAsked, IsDecided, IsWhole};
-ghost use Rattle.qchange.specs.Changes.{CanRename};
 ghost use Rattle.qstore.specs.Ready.{IsRefused};
-ghost use Rattle.qpath.specs.Paths.{name_in};
 ghost use Rattle.qstore.specs.Stored.{IsSameStore};
 
 use crate::ready::Ready;

@@ -7,10 +7,10 @@ ghost use Rattle.qplain.specs.Names.{rmdir_as};
 ghost use Rattle.qplain.specs.State.{is_directory, named};
 ghost use Rattle.qplain.specs.Step.{settle};
 ghost use Rattle.qplain.specs.Use.{is_empty};
+ghost use Rattle.qwalk.specs.Paths.{name_in};
 ghost use Rattle.qledger.specs.Books.{HasSlots};
 ghost use Rattle.qstore.specs.Decided.{IsDecided, IsWhole};
 ghost use Rattle.qstore.specs.Ready.{IsRefused};
-ghost use Rattle.qpath.specs.Paths.{name_in};
 ghost use Rattle.qstore.specs.Stored.{IsSameStore};
 
 use crate::file_type::FileType;

@@ -7,12 +7,12 @@ ghost use Rattle.qplain.specs.Names.{swept, unlink_as, without_name};
 ghost use Rattle.qplain.specs.State.{State, named};
 ghost use Rattle.qplain.specs.Step.{settle};
 ghost use Rattle.qtree.specs.Room.{Room};
+ghost use Rattle.qwalk.specs.Paths.{name_in};
+ghost use Rattle.qchange.specs.Changes.{CanChange, changed};
 ghost use Rattle.qledger.specs.Books.{HasSlots};
 ghost use Rattle.qstore.specs.Decided.{IsAsked, IsDecided, IsWhole};
 ghost use Rattle.qstore.specs.FileTypes.{CanRemove};
-ghost use Rattle.qchange.specs.Changes.{CanChange, changed};
 ghost use Rattle.qstore.specs.Ready.{IsRefused};
-ghost use Rattle.qpath.specs.Paths.{name_in};
 ghost use Rattle.qstore.specs.Stored.{IsSameStore};
 
 use crate::file_type::FileType;

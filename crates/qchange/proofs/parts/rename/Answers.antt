@@ -4,7 +4,7 @@ use Rattle.std.specs.Map.{lookup}
 use Rattle.qplain.specs.State.{name_key_cmp, named}
 use Rattle.qplain.specs.Use.{links_of}
 use Rattle.qlaws.proofs.Finding.{led-inode}
-use Rattle.qpath.specs.Paths.{name_in}
+use Rattle.qwalk.specs.Paths.{name_in}
 use Rattle.qchange.proofs.ParentLinks.{parent-links}
 use Rattle.qchange.proofs.RenamedTrees.{no-names, tree-onto, tree-onto-none}
 use Rattle.qchange.proofs.Renamings.{leaves, moved-tree}

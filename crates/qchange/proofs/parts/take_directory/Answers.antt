@@ -3,8 +3,8 @@ use Rattle.std.specs.BTreeMap.{is_at}
 use Rattle.std.specs.Map.{lookup, remove_entry}
 use Rattle.qplain.specs.State.{name_key_cmp}
 use Rattle.qplain.specs.Use.{links_of}
-use Rattle.qpath.specs.Paths.{name_in}
-use Rattle.qchange.proofs.Directories.{empty-none}
+use Rattle.qwalk.specs.Paths.{name_in}
+use Rattle.qchange.proofs.EmptyDirectories.{empty-none}
 use Rattle.qchange.proofs.ParentLinks.{parent-links, tree-removed}
 use Rattle.qchange.proofs.parts.take_directory.Goals as goal
 

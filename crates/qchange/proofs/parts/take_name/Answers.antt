@@ -2,8 +2,8 @@ use Rattle.std.proofs.Common.{ap, subst, sym, ◌∙◌}
 use Rattle.std.specs.BTreeMap.{is_at}
 use Rattle.std.specs.Map.{remove_entry}
 use Rattle.qplain.specs.State.{name_key_cmp}
-use Rattle.qchange.specs.Trees.{AreLinks}
-use Rattle.qpath.specs.Paths.{name_in}
+use Rattle.qtree.specs.TreeOf.{AreLinks}
+use Rattle.qwalk.specs.Paths.{name_in}
 use Rattle.qchange.proofs.Making.{InOrder, tree-unlinked}
 use Rattle.qchange.proofs.parts.take_name.Goals as goal
 

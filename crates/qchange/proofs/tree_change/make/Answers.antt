@@ -5,8 +5,8 @@ use Rattle.std.specs.Ordering.{nat_cmp}
 use Rattle.qblocks.specs.File.{after_truncate, after_write}
 use Rattle.qplain.specs.Owners.{with_owners}
 use Rattle.qlaws.proofs.Settling.{absent-next}
+use Rattle.qtree.specs.TreeOf.{IsTreeOf}
 use Rattle.qchange.specs.declared.tree_change.TreeChange.{TreeChange}
-use Rattle.qchange.specs.Trees.{IsTreeOf}
 use Rattle.qchange.specs.Changes.{CanChange, changed}
 use Rattle.qchange.proofs.Making.{tree-altered, tree-created}
 use Rattle.qchange.proofs.tree_change.make.Goals as goal

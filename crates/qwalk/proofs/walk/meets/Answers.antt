@@ -1,7 +1,7 @@
 use Rattle.std.proofs.Common.{rules, option_map, sym}
 use Rattle.std.specs.List.{slice_split}
 use Rattle.qplain.specs.Walk.{is_slash}
-use Rattle.qpath.specs.Paths.{parts_in}
+use Rattle.qwalk.specs.Paths.{parts_in}
 use Rattle.qwalk.proofs.Walks.{meets_from-on, meets_from-stops}
 use Rattle.qwalk.proofs.walk.meets.Goals as goal
 

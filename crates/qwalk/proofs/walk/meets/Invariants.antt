@@ -3,8 +3,8 @@ use Rattle.qplain.specs.Renames.{meets}
 use Rattle.qplain.specs.State.{State}
 use Rattle.qplain.specs.Walk.{components}
 use Rattle.qlaws.proofs.Meeting.{meets_from}
-use Rattle.qpath.specs.Paths.{parts_in}
-use Rattle.qchange.specs.Trees.{IsTreeOf}
+use Rattle.qtree.specs.TreeOf.{IsTreeOf}
+use Rattle.qwalk.specs.Paths.{parts_in}
 use Rattle.qwalk.proofs.walk.meets.Given as goal
 
 -- what the walk meets is what it meets from what is reached

@@ -1,6 +1,6 @@
 use Rattle.std.proofs.Common.{rules, Ok, option_map, ap, sym, ◌∙◌}
 use Rattle.qplain.specs.Walk.{is_slash, last_name}
-use Rattle.qpath.specs.Paths.{parts_in}
+use Rattle.qwalk.specs.Paths.{parts_in}
 use Rattle.qwalk.specs.Parents.{parent}
 use Rattle.qwalk.proofs.Walks.{parent-from, parent_from-stops, told-fault}
 use Rattle.qwalk.proofs.walk.parent.Goals as goal

@@ -4,8 +4,8 @@ use denote.Text.{Utf8}
 use Rattle.std.specs.List.{slice_split}
 use Rattle.qplain.specs.State.{State}
 use Rattle.qplain.specs.Walk.{is_slash, last_name}
-use Rattle.qpath.specs.Paths.{parts_in}
-use Rattle.qchange.specs.Trees.{IsTreeOf}
+use Rattle.qtree.specs.TreeOf.{IsTreeOf}
+use Rattle.qwalk.specs.Paths.{parts_in}
 use Rattle.qwalk.specs.Parents.{parent}
 use Rattle.qwalk.proofs.Walks.{parent_from}
 use Rattle.qwalk.proofs.walk.parent.Given as goal

@@ -1,6 +1,6 @@
 use Rattle.std.proofs.Common.{rules, option_map}
 use Rattle.qlaws.proofs.Walking.{walk-fault}
-use Rattle.qpath.specs.Paths.{parts_in}
+use Rattle.qwalk.specs.Paths.{parts_in}
 use Rattle.qwalk.proofs.walk.walk.Goals as goal
 
 pub returns-in_err-reached : goal.returns-in_err-reached

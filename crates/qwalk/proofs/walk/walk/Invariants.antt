@@ -1,8 +1,8 @@
 use Rattle.std.proofs.Common.{◌≡◌, ◌+◌, length, fold, option_map, unwrap_or, Ok}
 use Rattle.qplain.specs.State.{State}
 use Rattle.qplain.specs.Walk.{components, follow, walk}
-use Rattle.qpath.specs.Paths.{parts_in}
-use Rattle.qchange.specs.Trees.{IsTreeOf}
+use Rattle.qtree.specs.TreeOf.{IsTreeOf}
+use Rattle.qwalk.specs.Paths.{parts_in}
 use Rattle.qwalk.proofs.walk.walk.Given as goal
 
 -- the walk goes on from what is reached

@@ -7,11 +7,11 @@ use Rattle.qplain.specs.Renames.{passes, rename_as, rename_from}
 use Rattle.qplain.specs.State.{inode_at, named}
 use Rattle.qplain.specs.Step.{settle}
 use Rattle.qplain.specs.Walk.{components}
+use Rattle.qwalk.specs.Paths.{name_in}
+use Rattle.qwalk.proofs.Renamed.{rename-own, some-inode}
 use Rattle.qstore.specs.Decided.{IsDecided}
 use Rattle.qstore.specs.Ready.{IsRefused}
-use Rattle.qpath.specs.Paths.{name_in}
 use Rattle.qstore.proofs.Deciding.{decided-answered}
-use Rattle.qwalk.proofs.Renamed.{rename-own, some-inode}
 use Rattle.qstore.proofs.store.Store.decide_rename.Goals as goal
 
 pub returns-then-is_its_own-clause-decided : goal.returns-then-is_its_own-clause-decided

@@ -1,10 +1,10 @@
 use Rattle.std.proofs.Common.{rules, ◌≡◌, [], string_bytes, refl, sym, ap, subst}
 use Rattle.qplain.specs.Renames.{renamed}
 use Rattle.qplain.specs.State.{State}
+use Rattle.qwalk.specs.Paths.{name_in}
+use Rattle.qchange.specs.Changes.{CanRename}
 use Rattle.qstore.specs.Decided.{IsBilled}
 use Rattle.qstore.specs.Kept.{stored_of}
-use Rattle.qchange.specs.Changes.{CanRename}
-use Rattle.qpath.specs.Paths.{name_in}
 use Rattle.qstore.specs.Stored.{Stored}
 use Rattle.qstore.proofs.Calls.{same-with_room}
 use Rattle.qstore.proofs.Deciding.{decided-billed, decided-unbilled}

@@ -7,11 +7,11 @@ use Rattle.qplain.specs.Step.{settle}
 use Rattle.qplain.specs.Use.{is_empty}
 use Rattle.qplain.specs.Walk.{components}
 use Rattle.qtree.specs.Nodes.{inode_of}
+use Rattle.qwalk.specs.Paths.{name_in}
+use Rattle.qwalk.proofs.Renamed.{rename-becomes, rename-refused, tests-passed}
 use Rattle.qstore.specs.Decided.{IsDecided}
 use Rattle.qstore.specs.Ready.{IsRefused}
-use Rattle.qpath.specs.Paths.{name_in}
 use Rattle.qstore.proofs.Deciding.{decided-refused}
-use Rattle.qwalk.proofs.Renamed.{rename-becomes, rename-refused, tests-passed}
 use Rattle.qstore.proofs.store.Store.rename_over.Goals as goal
 
 pub returns-in-Some-rename_fault-clause-decided : goal.returns-in-Some-rename_fault-clause-decided

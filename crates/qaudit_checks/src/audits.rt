@@ -1,0 +1,29 @@
+//! The audit of a store.
+ghost use Rattle.std.specs.Prelude.{◌≡◌, [], OnOk, IfOk};
+ghost use Rattle.qaudit_checks.specs.OwnRows.{differences_in, record_rows};
+
+use qaudit::{Difference, compare, recount};
+use qplain::NoMemory;
+use qrules::RecordRow;
+use qstore::Store;
+use std::alloc::Global;
+
+/// Counts the store's own rows afresh, and holds them against its records (quotacheck(8)): it finds nothing.
+///
+/// O((i + n) log (i + n)) for i inodes and n names. An Err is want of memory, and leaves nothing made.
+pub fn audit(
+    alloc: Global,
+    store: &Store,
+    records: &[RecordRow],
+) -> Result<Vec<Difference>, NoMemory>
+    requires own { records.now ≡ record_rows store.now.state }
+    ensures differences { IfOk result (λ found. found.items ≡ differences_in store.now.state) }
+    ensures none { IfOk result (λ found. found.items ≡ []) }
+{
+    // The store's blocks fit 64 bits, so those of its rows do.
+    let _blocks = store.blocks();
+    let inodes = store.inode_rows()?;
+    let names = store.name_rows()?;
+    let counts = recount(alloc, &inodes, &names)?;
+    compare(alloc, &counts, records)
+}

@@ -1,2 +1,0 @@
--- Boards seen one after the other.
-pub mod Seeing

@@ -1,3 +1,0 @@
--- What the proofs of more than one file share.
-pub mod Seeing
-pub mod Finding

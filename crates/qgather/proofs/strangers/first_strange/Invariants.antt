@@ -1,8 +1,0 @@
-use Rattle.std.proofs.Common.{◌≡◌, ◌+◌, Some}
-use Rattle.qplain.specs.Transcripts.{Belongs}
-use Rattle.qgather.specs.Found.{AllBefore}
-use Rattle.qgather.proofs.strangers.first_strange.Given as goal
-
-abbrev pub invariant-loop-entry : goal.invariant-loop-entry
-invariant-loop-entry l = (l.place ≡ l.entry-index)
-    × AllBefore l.entries (Some (l.entry-index + 1)) (λ e. Unit {0}) (λ k e. Belongs l.transcripts e)

@@ -1,5 +1,0 @@
-use Rattle.std.proofs.Common.{Contains, map, take}
-use Rattle.qgather.proofs.strangers.has_transcript.Given as goal
-
-abbrev pub invariant-loop-transcript : goal.invariant-loop-transcript
-invariant-loop-transcript l = Contains (map (λ t. t.worker) (take l.transcript-index l.transcripts)) l.worker → ⊥

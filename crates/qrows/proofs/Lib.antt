@@ -1,8 +1,0 @@
--- Rows of a table, numbers in order, names in any order, and the three parts of an audit of a state's own rows.
-pub mod Rows
-pub mod Ids
-pub mod AnyOrder
-pub mod Uses
-pub mod Owners
-pub mod Links
-pub mod Agree

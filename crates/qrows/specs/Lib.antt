@@ -1,2 +1,0 @@
--- The rows of a state, and what an audit of them finds.
-pub mod Own
