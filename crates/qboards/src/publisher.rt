@@ -73,11 +73,7 @@ fn put<S: StoreId, R: Wait>(writer: &mut BoardWriter<S>, rt: &R, batch: Batch)
 }
 
 /// Publishes what waits in the log, with which the board is that of this history.
-fn show<S: StoreId, R: Wait>(
-    writer: BoardWriter<S>,
-    rt: &R,
-    prefix: &Prefix,
-) -> BoardWriter<S>
+fn show<S: StoreId, R: Wait>(writer: BoardWriter<S>, rt: &R, prefix: &Prefix) -> BoardWriter<S>
     requires leads { LeadsTo S.id writer.desk.shown.value (drop writer.behind writer.log.items) prefix.now }
     ensures published { IsPublished S.id result.desk.shown.value (known result.desk.place).seen
         (drop result.behind result.log.items) }

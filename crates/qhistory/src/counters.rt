@@ -2,9 +2,9 @@
 ghost use Rattle.std.specs.Prelude.{◌≡◌};
 ghost use Rattle.qplain.specs.Journal.{no_tally};
 
-use crate::tally_total::TallyTotal;
 use crate::store_id::StoreId;
 use crate::tally_part::TallyPart;
+use crate::tally_total::TallyTotal;
 use std::marker::{Model, PhantomData};
 use std::sync::ledger::{Blank, Ledger};
 

@@ -5,8 +5,8 @@ ghost use Rattle.qplain.specs.Journal.{no_tally};
 ghost use Rattle.qhistory.specs.Histories.{recorded};
 ghost use Rattle.qhistory.specs.Shares.{AreThere, IsLeastMissing, tally_of_shares};
 
-use crate::seat_tally::SeatTally;
 use crate::prefix::Prefix;
+use crate::seat_tally::SeatTally;
 use crate::store_id::StoreId;
 use crate::tally_part::TallyPart;
 use qplain::Tallies;

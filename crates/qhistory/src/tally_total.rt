@@ -3,8 +3,8 @@ ghost use Rattle.std.specs.Prelude.{◌≡◌, ◌<◌};
 ghost use Rattle.qplain.specs.Journal.{counted};
 ghost use Rattle.qhistory.specs.Counted.{AreWithin};
 
-use crate::seat_tally::SeatTally;
 use crate::counters::{BlocksCharged, BlocksReleased, Calls, InodesCharged, InodesReleased};
+use crate::seat_tally::SeatTally;
 use crate::store_id::StoreId;
 use crate::tally_part::TallyPart;
 use qplain::{Change, Tallies};

@@ -16,7 +16,7 @@ use Rattle.qplain.specs.Journal.{IsLegal}
 use Rattle.qplain.specs.declared.entry.Entry.{Entry}
 use Rattle.qlaws.specs.Laws.{IsLawful}
 use Rattle.qplain.specs.declared.bounds.TheConstants.{MAX_ENTRIES}
-use Rattle.qcheck.specs.LawfulBoards.{AreLawful, boards_in}
+use Rattle.qaudit_checks.specs.LawfulBoards.{AreLawful, boards_in}
 use Rattle.qrun.proofs.Stats.{legal-fair}
 
 -- the journal of a store that was played on by so many workers is one

@@ -11,7 +11,7 @@ use Rattle.qplain.specs.Setups.{Setting}
 use Rattle.qplain.specs.State.{State, start}
 use Rattle.qplain.specs.Journal.{IsLegal, play, played, tally_of}
 use Rattle.qstore.specs.Rows.{record_row_of}
-use Rattle.qrows.specs.Own.{differences_in}
+use Rattle.qaudit_checks.specs.OwnRows.{differences_in}
 use Rattle.qrun.specs.declared.outcome.Outcome.{Outcome}
 use Rattle.qrun.specs.declared.replay_fault.ReplayFault.{ReplayFault}
 use Rattle.qrun.specs.declared.replay_fault.ReplayFault.TheVariants.{Memory, Mismatch}

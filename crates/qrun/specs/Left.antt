@@ -9,7 +9,7 @@ use Rattle.qplain.specs.Setups.{Setting}
 use Rattle.qplain.specs.State.{start}
 use Rattle.qplain.specs.Journal.{IsLegal, play, tally_of}
 use Rattle.qstore.specs.Rows.{record_row_of}
-use Rattle.qrows.specs.Own.{differences_in}
+use Rattle.qaudit_checks.specs.OwnRows.{differences_in}
 use Rattle.qrun.specs.declared.outcome.Outcome.{Outcome}
 
 -- the entry is of one of so many workers

@@ -6,9 +6,9 @@ use Rattle.qplain.specs.Setups.{Setting}
 use Rattle.qplain.specs.State.{start}
 use Rattle.qplain.specs.Journal.{IsLegal, entries_of, play, tally_of}
 use Rattle.qplain.specs.Transcripts.{Belongs, journaled_lines}
-use Rattle.qcheck.specs.LawfulBoards.{AreLawful, boards_in}
+use Rattle.qaudit_checks.specs.LawfulBoards.{AreLawful, boards_in}
 use Rattle.qstore.specs.Rows.{record_row_of}
-use Rattle.qrows.specs.Own.{differences_in}
+use Rattle.qaudit_checks.specs.OwnRows.{differences_in}
 use Rattle.qplain.specs.declared.call_fault.CallFault.{CallFault}
 use Rattle.qplain.specs.declared.call_fault.CallFault.TheVariants.{JournalFull, OutOfMemory}
 use Rattle.qplain.specs.declared.bounds.TheConstants.{MAX_ENTRIES}

@@ -3,8 +3,8 @@ ghost use Rattle.qplain.specs.Journals.{IsWorkers};
 ghost use Rattle.qrun.specs.Left.{IsLeftOf, IsOneOf};
 
 use qaudit::Difference;
+use qaudit_checks::audit;
 use qplain::{Board, Journal, LookFault, NoMemory, Setup, Tallies, Transcript};
-use qrows::audit;
 use qrules::{Items, RecordRow};
 use qstore::Store;
 use qstore_journaled::{Ended, JournaledStore};

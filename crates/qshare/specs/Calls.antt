@@ -1,5 +1,6 @@
 -- What a call leaves that was journaled.
-use Rattle.std.specs.Prelude.{◌≡◌, ℕ, ◌+◌, ◌<◌, List, [], ◌∷◌, ◌++◌, length}
+use Rattle.std.specs.Prelude.{◌≡◌, ℕ, ◌+◌, ◌<◌, ◌≤◌, List, [], ◌∷◌, ◌++◌, length}
+use Rattle.qplain.specs.declared.bounds.TheConstants.{MAX_ENTRIES}
 use Rattle.qplain.specs.declared.entry.Entry.{Entry}
 use Rattle.qplain.specs.declared.line.Line.{Line}
 use Rattle.qplain.specs.declared.receipt.Receipt.{Receipt}
@@ -36,8 +37,9 @@ pub record IsHeldCall (line : Line) (old new : Holding) (before after : Seated) 
   pub seat : after ≡ record before { tally = after.tally }
   pub room : new.room + 1 ≡ old.room
 
--- the same worker holds the lock, nothing more is published, and the journal is legal
+-- the same worker holds the lock, nothing more is published, and the journal is legal and no longer than it may be
 pub record StaysHeld (setting : Setting) (old new : Holding) : Type 0 where
   pub by : new.by ≡ old.by
   pub published : new.published ≡ old.published
   pub legal : IsLegal (start setting) new.journal
+  pub few : length new.journal ≤ MAX_ENTRIES

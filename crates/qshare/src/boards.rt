@@ -10,7 +10,7 @@ use qplain::NoMemory;
 use qstore_journaled::{JournaledStore, Next};
 
 /// What lies under a shared store's lock for those who look at its boards: `Published`, or `NoBoards` where nobody can.
-pub trait Boards<S: StoreId> {
+pub trait Boards<S: StoreId>: Drop {
     /// The board of the first history is published, and what waits leads from it to the board of the second.
     ghost waits: { Self → List Entry → List Entry → Type 0 };
 

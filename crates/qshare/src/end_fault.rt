@@ -8,7 +8,7 @@ use qhistory::{Share, StoreId};
 
 /// Why a shared store was not ended. It gives the store and the shares back, unchanged.
 #[derive(Drop)]
-pub enum EndFault<S: StoreId, B: Boards<S> + Drop> {
+pub enum EndFault<S: StoreId, B: Boards<S>> {
     /// The share of this worker is not there.
     Missing {
         worker: u64,
@@ -17,7 +17,7 @@ pub enum EndFault<S: StoreId, B: Boards<S> + Drop> {
     },
 }
 
-impl<S: StoreId, B: Boards<S> + Drop> EndFault<S, B> {
+impl<S: StoreId, B: Boards<S>> EndFault<S, B> {
     /// The number under which it is known.
     pub fn number(&self) -> u32
         ensures { result ≡ end_fault_number }

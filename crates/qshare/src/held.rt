@@ -25,13 +25,13 @@ pub const MAX_BATCH: usize = 64;
 ///
 /// Dropped, it gives the lock back with its changes waiting; the next `call` or `release` of any seat publishes them.
 #[derive(Drop)]
-pub struct Held<'a, S: StoreId, B: Boards<S> + Drop> {
+pub struct Held<'a, S: StoreId, B: Boards<S>> {
     store: MutexGuard<'a, LockedStore<S, B>>,
     by: u64,
     room: usize,
 }
 
-impl<'a, S: StoreId, B: Boards<S> + Drop> Model for Held<'a, S, B> {
+impl<'a, S: StoreId, B: Boards<S>> Model for Held<'a, S, B> {
     ghost use Rattle.std.specs.Prelude.{◌≤◌};
     ghost use Rattle.std.specs.Sync.Mutex.{mutex_guard_value};
     ghost use Rattle.qshare.specs.declared.held.TheConstants.{MAX_BATCH};
@@ -49,7 +49,7 @@ impl<'a, S: StoreId, B: Boards<S> + Drop> Model for Held<'a, S, B> {
     ghost invariant = { λ h. h.room ≤ MAX_BATCH };
 }
 
-impl<S: StoreId, B: Boards<S> + Drop> Shared<S, B> {
+impl<S: StoreId, B: Boards<S>> Shared<S, B> {
     /// Takes the lock, for which it waits, for up to 64 calls of the seat's worker. What is published begins with what
     /// the seat has seen, and the journal with that.
     pub fn hold<V: Drop, W: Wait>(&self, rt: &W, seat: &Seat<S, V>) -> Held<'_, S, B>
@@ -68,7 +68,7 @@ impl<S: StoreId, B: Boards<S> + Drop> Shared<S, B> {
     }
 }
 
-impl<'a, S: StoreId, B: Boards<S> + Drop> Held<'a, S, B> {
+impl<'a, S: StoreId, B: Boards<S>> Held<'a, S, B> {
     /// 64 less the calls that were journaled through it.
     pub fn room(&self) -> usize
         ensures { result ≡ self.now.room }

@@ -96,7 +96,7 @@ impl<S: StoreId, B: Boards<S>> LockedStore<S, B> {
         ensures stays { (mine.new.parts ≡ mine.old.parts) × (self.new.published ≡ self.old.published) }
         ensures err { OnErr result ((self.new ≡ self.old) × (mine.new ≡ mine.old)) }
         ensures full { (result ≡ Err JournalFull) ↔ (length self.old.journal ≡ MAX_ENTRIES) }
-        ensures legal { IsLegal (start S.id.setting) self.new.journal × (length self.old.journal ≤ MAX_ENTRIES) }
+        ensures legal { IsLegal (start S.id.setting) self.new.journal × (length self.new.journal ≤ MAX_ENTRIES) }
     {
         // What is ready is large: a `?` would move it once more.
         let next = match self.store.ready(worker, cred, moment, call) {
@@ -117,7 +117,8 @@ impl<S: StoreId, B: Boards<S>> LockedStore<S, B> {
         ensures { (self.new.journal ≡ self.old.journal) × (self.new.published ≡ self.old.journal) }
     {
         let history = self.history.prefix();
-        self.boards.publish(&self.store, &self.published, history.again());
+        self.boards
+            .publish(&self.store, &self.published, history.again());
         self.published = history;
     }
 

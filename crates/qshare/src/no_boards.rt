@@ -6,7 +6,7 @@ use qplain::NoMemory;
 use qstore_journaled::{JournaledStore, Next};
 
 /// Nobody can look at the boards of the store: nothing is published and nothing waits.
-#[derive(Clone, Copy, Debug)]
+#[derive(Debug, Drop)]
 pub struct NoBoards;
 
 impl<S: StoreId> Boards<S> for NoBoards {

@@ -134,12 +134,7 @@ fn blind_seats<S: StoreId>(
 }
 
 /// A new store of the setup, for so many seats.
-fn open_store(
-    alloc: Global,
-    setup: Setup,
-    seats: u64,
-    seed: u64,
-) -> Result<Opened, NoMemory>
+fn open_store(alloc: Global, setup: Setup, seats: u64, seed: u64) -> Result<Opened, NoMemory>
     requires few { (0 < seats) × (seats ≤ MAX_SEATS) }
     ensures setting { IfOk result (λ o. o.setting ≡ setup) }
     ensures seats { IfOk result (λ o. o.counters.parts ≡ seats) }

@@ -17,7 +17,7 @@ use qrules::{BoardRow, Kind};
 use std::marker::Model;
 
 /// What a seat of a store has whose boards nobody can look at.
-#[derive(Clone, Copy, Debug)]
+#[derive(Debug, Drop)]
 pub struct Blind;
 
 /// A worker's own access to a shared store, with a viewer of its boards where it can look at them. Contracts see the
@@ -44,12 +44,7 @@ impl<S: StoreId, V: Drop> Model for Seat<S, V> {
 
 impl<S: StoreId, V: Drop> Seat<S, V> {
     /// A seat that has counted nothing, with one part of the tally.
-    pub(crate) fn new(
-        worker: u64,
-        prefix: Prefix,
-        part: TallyPart<S>,
-        viewer: V,
-    ) -> Seat<S, V>
+    pub(crate) fn new(worker: u64, prefix: Prefix, part: TallyPart<S>, viewer: V) -> Seat<S, V>
         requires prefix { IsHistoryOf S.id prefix }
         requires part { part ≡ record { tally = no_tally; parts = 1 } }
         ensures { result ≡ record { worker = worker; seen = prefix.entries; tally = no_tally } }

@@ -25,12 +25,12 @@ use std::sync::{Mutex, Wait};
 /// machine, and each journaled reply is that machine's: this is the invariant of the `JournaledStore` that lies under
 /// it.
 #[derive(Drop)]
-pub struct Shared<S: StoreId, B: Boards<S> + Drop> {
+pub struct Shared<S: StoreId, B: Boards<S>> {
     pub(crate) lock: Mutex<LockedStore<S, B>>,
 }
 
 /// Makes a call on a store whose lock is held, publishes all that waits, and lets the seat see it.
-fn call_locked<S: StoreId, B: Boards<S> + Drop, V: Drop, W: Wait>(
+fn call_locked<S: StoreId, B: Boards<S>, V: Drop, W: Wait>(
     rt: &W,
     store: &mut LockedStore<S, B>,
     seat: &mut Seat<S, V>,
@@ -53,7 +53,7 @@ fn call_locked<S: StoreId, B: Boards<S> + Drop, V: Drop, W: Wait>(
     answer
 }
 
-impl<S: StoreId, B: Boards<S> + Drop> Shared<S, B> {
+impl<S: StoreId, B: Boards<S>> Shared<S, B> {
     /// This store behind a lock.
     pub(crate) fn over(store: LockedStore<S, B>) -> Shared<S, B> {
         Shared {

@@ -103,6 +103,7 @@ impl JournaledStore {
         ensures next { IfOk result (CanFollow self.new) }
         ensures entry { IfOk result (λ n. IsEntryFor worker (line_of cred.now moment call.now) n.entry) }
         ensures full { (result ≡ Err JournalFull) ↔ (length self.old.journal ≡ MAX_ENTRIES) }
+        ensures played { IsPlayed self.new }
     {
         if self.journal.len() >= MAX_ENTRIES {
             return Err(CallFault::JournalFull);
@@ -149,6 +150,7 @@ impl JournaledStore {
         requires { CanFollow self.old next }
         ensures setting { self.new.setting ≡ self.old.setting }
         ensures receipt { IsReceiptOf next.entry self.old.journal self.new.journal result }
+        ensures played { IsPlayed self.new }
     {
         let Next {
             ready,

@@ -9,7 +9,7 @@ use Rattle.qplain.specs.declared.transcript.Transcript.{Transcript}
 use Rattle.qplain.specs.Journal.{entries_of}
 use Rattle.qplain.specs.Transcripts.{Belongs, journaled_lines}
 use Rattle.qhistory.specs.Shares.{HandedIn}
-use Rattle.qgather.specs.Gathered.{IsGathered}
+use Rattle.qaudit_checks.specs.Gathered.{IsGathered}
 use Rattle.qworkers.specs.Told.{AreTold, AreToldFrom}
 use Rattle.qworkers.specs.Work.{IsSubsequence}
 use Rattle.qworkers.proofs.Owning.{numbered, own_grown}

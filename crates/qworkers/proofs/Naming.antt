@@ -35,7 +35,7 @@ names_on n (Ok x) fault is names = tt
 names_on n (Err e) fault is names = subst (IsFaultOf n) (sym is) names
 
 -- a fault that names no thread
-fault_of_any : (n : ℕ) (fault : RunFault) → IsFaultOf 0 fault → IsFaultOf n fault
+pub fault_of_any : (n : ℕ) (fault : RunFault) → IsFaultOf 0 fault → IsFaultOf n fault
 fault_of_any n Memory none = tt
 fault_of_any n (NotStarted worker) none = absurd (omega (arith, none.0, none.1))
 fault_of_any n (Mismatch place) none = absurd none

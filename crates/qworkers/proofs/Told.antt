@@ -18,13 +18,12 @@ use Rattle.qhistory.proofs.Prefixes.{prefix_length}
 use Rattle.qrun.specs.Runs.{AreTranscriptsOf, IsFullBehind, IsFullOf, IsOutcomeOf}
 use Rattle.qplain.specs.Setups.{Setting}
 use Rattle.qplain.specs.State.{start}
-use Rattle.qcheck.specs.LawfulBoards.{AreLawful, boards_in}
-use Rattle.qgather.specs.Gathered.{IsGathered}
+use Rattle.qaudit_checks.specs.LawfulBoards.{AreLawful, boards_in}
+use Rattle.qaudit_checks.specs.Gathered.{IsGathered}
 use Rattle.qrun.specs.declared.outcome.Outcome.{Outcome}
-use Rattle.qrun.specs.Journaled.{Journaled}
 use Rattle.qrun.specs.Left.{IsLeftOf, IsOneOf}
 use Rattle.qrun.proofs.Coming.{alone}
-use Rattle.qworkers.specs.Told.{AreTold, AreToldFrom, IsTold, lines_of}
+use Rattle.qworkers.specs.Told.{AreAllTold, AreTold, AreToldFrom, IsTold, lines_of}
 use Rattle.qworkers.specs.Work.{HasSeenFull}
 
 pub none_told : (worker : ℕ) → AreToldFrom worker [] [] []
@@ -198,11 +197,10 @@ one_of scripts shares ts journal told belong k d less =
     (omega (arith, within.0), omega (arith, within.1, many))
 
 -- what is left of a store whose journal was held against what was told, and against what looks were given
-pub gathered_told : (setting : Setting) (journal : List Entry) (ts : List Transcript) (shares : List HandedIn)
-    (looks : List (Result Board LookFault)) (j : Journaled) (workers : ℕ) (o : Outcome)
-    → AreTold (lines_of ts) shares ts → All (λ s. IsPrefix s.seen journal) shares → length journal ≤ MAX_ENTRIES → IsGathered journal ts
-    → AreLawful (start setting) journal (boards_in looks)
-    → workers ≡ length ts → j.setting ≡ setting → j.journal ≡ journal → IsLeftOf j workers ts looks o → IsOutcomeOf setting (lines_of ts) o
-gathered_told setting journal ts shares looks j workers o told seen few gathered lawful many from is left =
-    alone setting (lines_of ts) j workers ts looks o left (many ∙ (as_many 1 (lines_of ts) shares ts told).1) from
-    (rw is (transcripts_from 1 (lines_of ts) shares ts journal told seen few gathered.own)) (rw is gathered.belong) (rw is lawful)
+pub gathered_told : (setting : Setting) (journal : List Entry) (ts : List Transcript) (looks : List (Result Board LookFault))
+    (workers : ℕ) (o : Outcome) → AreAllTold journal ts → AreLawful (start setting) journal (boards_in looks)
+    → workers ≡ length ts → IsLeftOf setting journal workers ts looks o → IsOutcomeOf setting (lines_of ts) o
+gathered_told setting journal ts looks workers o all lawful many left =
+    let shares = all.told.shares in
+    alone setting (lines_of ts) journal workers ts looks o left (many ∙ (as_many 1 (lines_of ts) shares ts all.told.told).1)
+    (transcripts_from 1 (lines_of ts) shares ts journal all.told.told all.told.seen left.few all.gathered.own) all.gathered.belong lawful

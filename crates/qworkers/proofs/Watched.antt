@@ -15,9 +15,10 @@ use Rattle.qplain.specs.State.{State}
 use Rattle.qplain.specs.Journal.{board_of, play}
 use Rattle.qhistory.specs.Shares.{AreThere, HandedIn}
 use Rattle.qhistory.proofs.Prefixes.{prefix_length}
-use Rattle.qcheck.specs.LawfulBoards.{AreLawful, IsBoardOf, NeverFall, boards_in}
-use Rattle.qcheck.proofs.Seeing.{boards_in-append}
+use Rattle.qaudit_checks.specs.LawfulBoards.{AreLawful, IsBoardOf, NeverFall, boards_in}
+use Rattle.qaudit_checks.proofs.Boards.{boards_in-append}
 use Rattle.qrun.specs.declared.outcome.Outcome.{Outcome}
+use Rattle.qboards.specs.Looks.{IsBoardAnswer}
 use Rattle.qshare.specs.Seats.{Seated, new_seat}
 use Rattle.qworkers.specs.Watching.{IsWatchOf, Watched, looks_in, seats_for, shares_in, watcher_for}
 
@@ -69,12 +70,6 @@ looks_by S n boards None false is looked = absurd looked
 -- there are as many looks as are wanted
 pub as_many_looks : (S : State) (n boards : ℕ) (watch : Option Watched) → IsWatchOf S boards (watcher_for n boards) watch → length (looks_in watch) ≡ boards
 as_many_looks S n boards watch looked = looks_by S n boards watch (boards == 0) refl looked
-
--- and so there are in the outcome
-pub looks_counted : {E : Type 0} (boards : ℕ) (looks : List (Result Board LookFault)) (r : Result Outcome E) → length looks ≡ boards
-    → IfOk r (λ o. o.boards ≡ looks) → IfOk r (λ o. length o.boards ≡ boards)
-looks_counted boards looks (Ok o) many is = ap length is ∙ many
-looks_counted boards looks (Err fault) many is = tt
 
 -- who watches has counted no call
 idle_by : (S : State) (n boards : ℕ) (watch : Option Watched) (b : Bool) → IsWatchOf S boards (if b then None else Some (new_seat (n + 1))) watch
@@ -131,7 +126,7 @@ board_now S seen b is =
 
 -- one look more, at the board of all that was seen then
 pub look_more : (S : State) (old new : List Entry) (looks after : List (Result Board LookFault)) (look : Result Board LookFault)
-    → AreLawful S old (boards_in looks) → IsPrefix old new → IfOk look (λ b. b ≡ board_of (play S new) (length new)) → after ≡ looks ++ look ∷ []
+    → AreLawful S old (boards_in looks) → IsPrefix old new → IsBoardAnswer S new look → after ≡ looks ++ look ∷ []
     → AreLawful S new (boards_in after)
 look_more S old new looks after (Ok b) so_far more shown is =
     let before : AreLawful S new (boards_in looks) = lawful_more S old new (boards_in looks) more so_far in

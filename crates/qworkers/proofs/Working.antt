@@ -14,11 +14,12 @@ use Rattle.qplain.specs.Journal.{change_of, counted, entries_of, entry_of, no_ta
 use Rattle.qplain.specs.Transcripts.{journaled_line, journaled_lines}
 use Rattle.qplain.specs.declared.bounds.TheConstants.{MAX_ENTRIES}
 use Rattle.qhistory.proofs.Prefixes.{prefix_length}
-use Rattle.qshare.specs.Calls.{IsAt}
+use Rattle.qplain.specs.Setups.{Setting}
+use Rattle.qshare.specs.Calls.{IsAt, IsCalled, IsHeldCall, StaysHeld}
 use Rattle.qshare.specs.Holds.{Holding}
-use Rattle.qshare.specs.Seats.{Seated}
+use Rattle.qshare.specs.Seats.{HasSeenOn, Seated}
 use Rattle.qrun.specs.Runs.{FullIsToldFirst, IsFullBehind}
-use Rattle.qworkers.specs.Work.{AreAnswers, HasSeenFull, IsSubsequence}
+use Rattle.qworkers.specs.Work.{AreAnswers, HasAnswers, HasSeenFull, IsSubsequence}
 use Rattle.qworkers.proofs.Owning.{none_answered, one_more_answered, own_grown, own_told}
 use Rattle.qworkers.proofs.Subsequences.{none_among}
 
@@ -122,50 +123,58 @@ one_more worker lines old new calls later answers after line answer so_far there
       counted = counted_more worker lines answers line there answer calls later so_far.counted one none;
     })
 
--- one more call is counted
-pub counts_one : (answer : Result Receipt CallFault) (old new : Tallies) → IfOk answer (λ r. new ≡ counted old (change_of r.reply))
-    → IfOk answer (λ r. new.calls ≡ old.calls + 1)
-counts_one (Ok r) old new is = ap (λ t. t.calls) is
-counts_one (Err fault) old new is = tt
-
--- and none where the call failed
-pub counts_none : (answer : Result Receipt CallFault) (old new : Tallies) → OnErr answer (new ≡ old) → OnErr answer (new.calls ≡ old.calls)
-counts_none (Ok r) old new is = tt
-counts_none (Err fault) old new is = ap (λ t. t.calls) is
+-- one more answer to a call that waits for the lock
+pub one_more_called : (setting : Setting) (lines : List Line) (old new : Seated) (answers after : List (Result Receipt CallFault))
+    (line : Line) (answer : Result Receipt CallFault) → HasAnswers lines old answers → slice_get lines (length answers) ≡ Some line
+    → HasSeenOn setting old new → IfOk answer (IsCalled line old new) → OnErr answer (new.tally ≡ old.tally)
+    → IfErr answer (λ f. (f ≡ JournalFull) ↔ (length new.seen ≡ MAX_ENTRIES))
+    → (MAX_ENTRIES ≤ length old.seen → answer ≡ Err JournalFull) → after ≡ answers ++ answer ∷ [] → HasAnswers lines new after
+one_more_called setting lines old new answers after line (Ok r) so_far there seen called kept full stays is =
+    subst (λ w. AreAnswers w lines new.seen new.tally.calls after) (sym seen.worker)
+    (one_more old.worker lines old.seen new.seen old.tally.calls new.tally.calls answers after line (Ok r) so_far there seen.begins
+    called.stands called.later (ap (λ t. t.calls) called.tally) tt tt stays is)
+one_more_called setting lines old new answers after line (Err fault) so_far there seen called kept full stays is =
+    subst (λ w. AreAnswers w lines new.seen new.tally.calls after) (sym seen.worker)
+    (one_more old.worker lines old.seen new.seen old.tally.calls new.tally.calls answers after line (Err fault) so_far there seen.begins
+    tt tt tt (ap (λ t. t.calls) kept) full.0 stays is)
 
 -- one more answer under a lock that is held, where this much is journaled
-pub one_more_held : (lines : List Line) (old new : Holding) (before behind : Seated) (answers after : List (Result Receipt CallFault))
-    (line : Line) (answer : Result Receipt CallFault)
+pub one_more_held : (setting : Setting) (lines : List Line) (old new : Holding) (before behind : Seated)
+    (answers after : List (Result Receipt CallFault)) (line : Line) (answer : Result Receipt CallFault)
     → AreAnswers before.worker lines old.journal before.tally.calls answers → slice_get lines (length answers) ≡ Some line
-    → IfOk answer (λ r. new.journal ≡ old.journal ++ entry_of before.worker line r.reply ∷ [])
-    → IfOk answer (λ r. r.place ≡ length old.journal + 1)
-    → IfOk answer (λ r. behind ≡ record before { tally = counted before.tally (change_of r.reply) })
+    → IfOk answer (IsHeldCall line old new before behind) → StaysHeld setting old new
     → OnErr answer ((new ≡ old) × (behind ≡ before))
-    → ((answer ≡ Err JournalFull) ↔ (length old.journal ≡ MAX_ENTRIES))
-    → (MAX_ENTRIES ≤ length old.journal → answer ≡ Err JournalFull) → after ≡ answers ++ answer ∷ []
+    → ((answer ≡ Err JournalFull) ↔ (length old.journal ≡ MAX_ENTRIES)) → after ≡ answers ++ answer ∷ []
     → AreAnswers behind.worker lines new.journal behind.tally.calls after
-one_more_held lines old new before behind answers after line (Ok r) so_far there journal place counts same full stays is =
-    subst (λ s. AreAnswers s.worker lines new.journal s.tally.calls after) (sym counts)
-    (one_more before.worker lines old.journal new.journal before.tally.calls (before.tally.calls + 1) answers after line (Ok r) so_far there
-    (entry_of before.worker line r.reply ∷ [], sym journal) (old.journal, [], journal, place) (omega (arith, place)) refl tt tt stays is)
-one_more_held lines old new before behind answers after line (Err fault) so_far there journal place counts same full stays is =
+one_more_held setting lines old new before behind answers after line (Ok r) so_far there called held same full is =
+    let journal = called.journaled.journal in
+    let long : length new.journal ≡ length old.journal + 1 =
+    ap length journal ∙ length-append old.journal (entry_of before.worker line r.reply ∷ []) in
+    subst (λ w. AreAnswers w lines new.journal behind.tally.calls after) (sym (ap (λ s. s.worker) called.seat))
+    (one_more before.worker lines old.journal new.journal before.tally.calls behind.tally.calls answers after line (Ok r) so_far there
+    (entry_of before.worker line r.reply ∷ [], sym journal) (old.journal, [], journal, called.journaled.place)
+    (omega (arith, called.journaled.place)) (ap (λ t. t.calls) called.journaled.tally) tt tt
+    (λ full. absurd (omega (arith, full, long, held.few))) is)
+one_more_held setting lines old new before behind answers after line (Err fault) so_far there called held same full is =
     let as_was : new.journal ≡ old.journal = ap (λ h. h.journal) same.0 in
+    let few : length old.journal ≤ MAX_ENTRIES = subst (λ (j : List Entry). length j ≤ MAX_ENTRIES) as_was held.few in
     subst (λ s. AreAnswers s.worker lines new.journal s.tally.calls after) (sym same.1)
     (one_more before.worker lines old.journal new.journal before.tally.calls before.tally.calls answers after line (Err fault) so_far there
-    ([], append-nil old.journal ∙ sym as_was) tt tt tt refl (λ told. ap length as_was ∙ full.0 (ap Err told)) stays is)
+    ([], append-nil old.journal ∙ sym as_was) tt tt tt refl (λ told. ap length as_was ∙ full.0 (ap Err told))
+    (λ long. full.1 (omega (arith, long, few))) is)
 
 -- there is room for all further lines
-pub room_left : (Rest : Type 0) (old new : Holding) (answer : Result Receipt CallFault) (lines before : ℕ)
-    → IfOk answer (λ r. new.room + 1 ≡ old.room) → OnErr answer ((new ≡ old) × Rest)
-    → lines ≤ old.room + before → lines ≤ new.room + (before + 1)
-room_left Rest old new (Ok r) lines before taken same few = omega (arith, taken, few)
-room_left Rest old new (Err fault) lines before taken same few = omega (arith, ap (λ h. h.room) same.0, few)
+pub room_left : (old new : Holding) (before behind : Seated) (line : Line) (answer : Result Receipt CallFault) (lines made : ℕ)
+    → IfOk answer (IsHeldCall line old new before behind) → OnErr answer ((new ≡ old) × (behind ≡ before))
+    → lines ≤ old.room + made → lines ≤ new.room + (made + 1)
+room_left old new before behind line (Ok r) lines made called same few = omega (arith, called.room, few)
+room_left old new before behind line (Err fault) lines made called same few = omega (arith, ap (λ h. h.room) same.0, few)
 
 -- the seat is the same worker's
-pub same_worker : (Rest : Type 0) (old new : Seated) (answer : Result Receipt CallFault) (tally : Receipt → Tallies)
-    → IfOk answer (λ r. new ≡ record old { tally = tally r }) → OnErr answer (Rest × (new ≡ old)) → new.worker ≡ old.worker
-same_worker Rest old new (Ok r) tally counted same = ap (λ s. s.worker) counted
-same_worker Rest old new (Err fault) tally counted same = ap (λ s. s.worker) same.1
+pub same_worker : (old new : Holding) (before behind : Seated) (line : Line) (answer : Result Receipt CallFault)
+    → IfOk answer (IsHeldCall line old new before behind) → OnErr answer ((new ≡ old) × (behind ≡ before)) → behind.worker ≡ before.worker
+same_worker old new before behind line (Ok r) called same = ap (λ s. s.worker) called.seat
+same_worker old new before behind line (Err fault) called same = ap (λ s. s.worker) same.1
 
 -- who sees more has seen all that was told
 pub seen_more : (worker : ℕ) (lines : List Line) (calls : ℕ) (old new : List Entry) (answers : List (Result Receipt CallFault))

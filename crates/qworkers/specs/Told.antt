@@ -5,7 +5,7 @@ use Rattle.qplain.specs.declared.entry.Entry.{Entry}
 use Rattle.qplain.specs.declared.line.Line.{Line}
 use Rattle.qplain.specs.declared.transcript.Transcript.{Transcript}
 use Rattle.qhistory.specs.Shares.{HandedIn}
-use Rattle.qgather.specs.Gathered.{IsGathered}
+use Rattle.qaudit_checks.specs.Gathered.{IsGathered}
 use Rattle.qshare.specs.declared.opening.TheConstants.{MAX_SEATS}
 use Rattle.qworkers.specs.Work.{IsWork}
 

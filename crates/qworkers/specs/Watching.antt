@@ -3,7 +3,7 @@ use Rattle.std.specs.Prelude.{◌≡◌, ℕ, ◌+◌, ◌==◌, List, [], ◌�
 use Rattle.qplain.specs.declared.board.Board.{Board}
 use Rattle.qplain.specs.declared.look_fault.LookFault.{LookFault}
 use Rattle.qplain.specs.State.{State}
-use Rattle.qcheck.specs.LawfulBoards.{AreLawful, boards_in}
+use Rattle.qaudit_checks.specs.LawfulBoards.{AreLawful, boards_in}
 use Rattle.qhistory.specs.Shares.{HandedIn}
 use Rattle.qshare.specs.Seats.{Seated, new_seat}
 

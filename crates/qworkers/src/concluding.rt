@@ -1,14 +1,14 @@
 //! The outcome of a run whose threads have done their work.
 ghost use Rattle.std.specs.Prelude.{◌≡◌, IfErr, IfOk};
 ghost use Rattle.qplain.specs.State.{start};
-ghost use Rattle.qcheck.specs.LawfulBoards.{AreLawful, boards_in};
+ghost use Rattle.qaudit_checks.specs.LawfulBoards.{AreLawful, boards_in};
 ghost use Rattle.qrun.specs.Runs.{IsOutcomeOf};
 ghost use Rattle.qworkers.specs.RunFaults.{IsFaultOf};
 ghost use Rattle.qworkers.specs.Told.{AreAllTold, lines_of};
 
 use crate::run_fault::RunFault;
 use crate::watcher::Look;
-use qcheck::{BoardFault, check_looks};
+use qaudit_checks::{BoardFault, check_looks};
 use qplain::Transcript;
 use qrules::Items;
 use qrun::{Outcome, outcome_of};
@@ -52,6 +52,12 @@ pub(crate) fn conclude(
 {
     check_own(alloc, &store, &looks, seed)?;
     let workers = transcripts.len() as u64;
-    let outcome = outcome_of(alloc, store, workers, Items::new(transcripts), Items::new(looks))?;
+    let outcome = outcome_of(
+        alloc,
+        store,
+        workers,
+        Items::new(transcripts),
+        Items::new(looks),
+    )?;
     Ok(outcome)
 }

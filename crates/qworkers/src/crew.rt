@@ -57,7 +57,7 @@ pub(crate) fn play_all<S, B, V, G, R>(
 ) -> Result<Played<S>, RunFault>
 where
     S: StoreId + Send + Sync + 'static,
-    B: Boards<S> + Drop + Send,
+    B: Boards<S> + Send,
     V: Drop + Send,
     G: Gate + Sync,
     R: Threads + Wait + Sync,

@@ -48,7 +48,7 @@ fn play_and_end<S, B, V, G, R>(
 ) -> Result<Outcome, RunFault>
 where
     S: StoreId + Send + Sync + 'static,
-    B: Boards<S> + Drop + Send,
+    B: Boards<S> + Send,
     V: Drop + Send,
     G: Gate + Sync,
     R: Threads + Wait + Sync,
@@ -122,9 +122,7 @@ where
         Ok(made) => made,
         Err(fault) => return Err(fault_of(fault)),
     };
-    play_and_end(
-        rt, alloc, shared, seats, None, scripts, options, seed, gate,
-    )
+    play_and_end(rt, alloc, shared, seats, None, scripts, options, seed, gate)
 }
 
 /// The number of seats: one for each script, and one more where boards are looked at.

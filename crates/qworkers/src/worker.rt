@@ -47,7 +47,7 @@ impl<'a, S: StoreId> Promise<Work<S>> for Plays<'a> {
 /// All that a worker takes with it: its seat, its script, which is the caller's, for how many lines at a time it takes
 /// the lock, and room for the answers.
 #[derive(Drop)]
-pub(crate) struct Worker<'a, 'b, 'c, 'd, S: StoreId, B: Boards<S> + Drop, V: Drop, G: Gate, R: Wait> {
+pub(crate) struct Worker<'a, 'b, 'c, 'd, S: StoreId, B: Boards<S>, V: Drop, G: Gate, R: Wait> {
     pub(crate) rt: &'a R,
     pub(crate) shared: &'b Shared<S, B>,
     pub(crate) gate: &'c G,
@@ -58,7 +58,7 @@ pub(crate) struct Worker<'a, 'b, 'c, 'd, S: StoreId, B: Boards<S> + Drop, V: Dro
 }
 
 /// A worker with a new seat, and with room for an answer to each of its lines.
-pub(crate) fn worker_of<'a, 'b, 'c, 'd, S: StoreId, B: Boards<S> + Drop, V: Drop, G: Gate, R: Wait>(
+pub(crate) fn worker_of<'a, 'b, 'c, 'd, S: StoreId, B: Boards<S>, V: Drop, G: Gate, R: Wait>(
     alloc: Global,
     rt: &'a R,
     shared: &'b Shared<S, B>,
@@ -85,7 +85,7 @@ pub(crate) fn worker_of<'a, 'b, 'c, 'd, S: StoreId, B: Boards<S> + Drop, V: Drop
 }
 
 /// Makes the calls of a script one after the other, and goes on after any answer.
-fn play_each<S: StoreId, B: Boards<S> + Drop, V: Drop, G: Gate, R: Wait>(
+fn play_each<S: StoreId, B: Boards<S>, V: Drop, G: Gate, R: Wait>(
     rt: &R,
     shared: &Shared<S, B>,
     gate: &G,
@@ -112,7 +112,7 @@ fn play_each<S: StoreId, B: Boards<S> + Drop, V: Drop, G: Gate, R: Wait>(
 }
 
 /// Makes the next calls of a script, of which there are at most 64, under a lock that is held, and then gives it back.
-fn play_held<S: StoreId, B: Boards<S> + Drop, V: Drop, R: Wait>(
+fn play_held<S: StoreId, B: Boards<S>, V: Drop, R: Wait>(
     rt: &R,
     held: Held<'_, S, B>,
     lines: &[Line],
@@ -139,7 +139,7 @@ fn play_held<S: StoreId, B: Boards<S> + Drop, V: Drop, R: Wait>(
 
 /// Makes the next calls of a script under one taking of the lock, and waits at the gate before the first and after the
 /// last of them.
-fn play_batch<S: StoreId, B: Boards<S> + Drop, V: Drop, G: Gate, R: Wait>(
+fn play_batch<S: StoreId, B: Boards<S>, V: Drop, G: Gate, R: Wait>(
     rt: &R,
     shared: &Shared<S, B>,
     gate: &G,
@@ -165,7 +165,7 @@ fn play_batch<S: StoreId, B: Boards<S> + Drop, V: Drop, G: Gate, R: Wait>(
 }
 
 /// Makes the calls of a script, so many at a time under one taking of the lock.
-fn play_batches<S: StoreId, B: Boards<S> + Drop, V: Drop, G: Gate, R: Wait>(
+fn play_batches<S: StoreId, B: Boards<S>, V: Drop, G: Gate, R: Wait>(
     rt: &R,
     shared: &Shared<S, B>,
     gate: &G,
@@ -190,7 +190,7 @@ fn play_batches<S: StoreId, B: Boards<S> + Drop, V: Drop, G: Gate, R: Wait>(
 }
 
 /// Plays a worker's script.
-pub(crate) fn play<S: StoreId, B: Boards<S> + Drop, V: Drop, G: Gate, R: Wait>(
+pub(crate) fn play<S: StoreId, B: Boards<S>, V: Drop, G: Gate, R: Wait>(
     worker: Worker<'_, '_, '_, '_, S, B, V, G, R>,
 ) -> Work<S>
     requires batch { (0 < worker.batch) × (worker.batch ≤ MAX_BATCH) }

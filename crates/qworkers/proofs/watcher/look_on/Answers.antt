@@ -1,7 +1,7 @@
 use Rattle.std.proofs.Common.{arith, refl, subst, sym, ◌∙◌}
 use Rattle.std.proofs.lemmas.List.{nil_from_length}
 use Rattle.qplain.specs.State.{start}
-use Rattle.qcheck.specs.LawfulBoards.{AreLawful, boards_in}
+use Rattle.qaudit_checks.specs.LawfulBoards.{AreLawful, boards_in}
 use Rattle.qworkers.proofs.Watched.{look_more, no_boards}
 use Rattle.qworkers.proofs.watcher.look_on.Goals as goal
 
@@ -22,8 +22,8 @@ loop-preserved g c =
     let pushed = c.push_reserved.ensures in (
       omega (arith, pushed.len, so_far.0),
       omega (arith, pushed.capacity, so_far.1),
-      looked.same.0 ∙ so_far.2,
-      looked.same.1 ∙ so_far.3,
+      looked.look.seen.worker ∙ so_far.2,
+      looked.look.tally ∙ so_far.3,
       look_more (start g.S.StoreId.id.setting) c.loop.seat.seen c.board.new.self.seen c.loop.looks.items c.push_reserved.new.self.items c.board.result so_far.4
-          looked.seen looked.board pushed.items,
+          looked.look.seen.begins looked.board pushed.items,
     )

@@ -2,7 +2,7 @@ use Rattle.std.proofs.Common.{◌≡◌, ◌≤◌}
 use Rattle.std.specs.Vec.{vec_capacity, vec_len}
 use Rattle.qplain.specs.Journal.{no_tally}
 use Rattle.qplain.specs.State.{start}
-use Rattle.qcheck.specs.LawfulBoards.{AreLawful, boards_in}
+use Rattle.qaudit_checks.specs.LawfulBoards.{AreLawful, boards_in}
 use Rattle.qworkers.proofs.watcher.look_on.Given as goal
 
 abbrev pub invariant-loop : goal.invariant-loop

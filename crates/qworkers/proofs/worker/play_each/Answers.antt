@@ -1,6 +1,5 @@
-use Rattle.std.proofs.Common.{length, arith, sym, subst, ◌∙◌}
-use Rattle.qworkers.proofs.Working.{counts_none, counts_one, next_line, none_answered_yet, one_more}
-use Rattle.qworkers.specs.Work.{AreAnswers}
+use Rattle.std.proofs.Common.{length, arith, sym, ◌∙◌}
+use Rattle.qworkers.proofs.Working.{next_line, none_answered_yet, one_more_called}
 use Rattle.qworkers.proofs.worker.play_each.Goals as goal
 
 pub loop-before-init : goal.loop-before-init
@@ -18,17 +17,13 @@ loop-before-preserved g c =
     let pushed = c.push_reserved.ensures in
     let lines = c.args.lines.now in
     let line = c.index-lines-before.result in
-    let answer = c.call-answer.result in
-    let old = c.loop-before.seat in
-    let new = c.call-answer.new.seat in (
-      subst (λ w. AreAnswers w lines new.seen new.tally.calls c.push_reserved.new.self.items) (sym called.worker)
-          (one_more old.worker lines old.seen new.seen old.tally.calls new.tally.calls c.loop-before.answers.items c.push_reserved.new.self.items line
-          answer so_far.0
-          (next_line lines c.loop-before.before (length c.loop-before.answers.items) line line c.index-lines-before.is c.loop-before-test.true
-          (sym c.loop-before.answers.ok.0 ∙ so_far.1))
-          called.seen called.stands called.later (counts_one answer old.tally new.tally called.counted) (counts_none answer old.tally new.tally called.kept)
-          called.full called.stays_full pushed.items),
+    let answers = c.loop-before.answers in (
+      one_more_called g.S.StoreId.id.setting lines c.loop-before.seat c.call-answer.new.seat answers.items c.push_reserved.new.self.items line
+          c.call-answer.result so_far.0
+          (next_line lines c.loop-before.before (length answers.items) line line c.index-lines-before.is c.loop-before-test.true
+          (sym answers.ok.0 ∙ so_far.1))
+          called.seen called.called called.kept called.full called.stays_full pushed.items,
       omega (arith, pushed.len, so_far.1),
       omega (arith, pushed.capacity, so_far.2),
-      called.worker ∙ so_far.3,
+      called.seen.worker ∙ so_far.3,
     )

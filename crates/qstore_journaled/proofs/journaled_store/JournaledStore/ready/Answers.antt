@@ -17,5 +17,7 @@ with_call-tallies-requires c =
     let few : length c.self.inside.journal.items < MAX_ENTRIES = grind (arith, tests, c.if-len-ge-MAX_ENTRIES.false, len) in
     let change : c.change.result ≡ change_of c.in-Ok-copy.reply =
     c.change.ensures ∙ ap (λ e. change_of e.reply) c.in-Ok-entry_for.ensures in
-    record { room = rw (c.self.invariant.tallies, change) (can_count (journaled_of c.self.inside) c.in-Ok-copy.reply line
-        c.self.invariant.played few reply); }
+    record {
+      room = rw (c.self.invariant.tallies, change) (can_count (journaled_of c.self.inside) c.in-Ok-copy.reply line
+          c.self.invariant.played few reply);
+    }

@@ -2,9 +2,9 @@ use Rattle.std.proofs.Common.{◌≡◌, ◌+◌, ◌<◌, [], ◌∷◌, ◌++�
 use Rattle.std.proofs.lemmas.List.{get_or_append_left, get_or_push}
 use Rattle.std.specs.Vec.Iter.{into_iter_items}
 use Rattle.qplain.specs.State.{start}
-use Rattle.qworkers.specs.Watching.{IsWatchOf}
+use Rattle.qworkers.specs.Watching.{IsWatchOf, seats_for}
 use Rattle.qworkers.specs.Work.{IsWork}
-use Rattle.qworkers.proofs.Naming.{names_seat}
+use Rattle.qworkers.proofs.Naming.{names_seat, scripts_fit}
 use Rattle.qworkers.proofs.Seating.{seat_next, seats_ended}
 use Rattle.qworkers.proofs.crew.fn.play_all.scope.Goals as goal
 
@@ -61,11 +61,12 @@ pub returns-in-Ok-join_promised : goal.returns-in-Ok-join_promised
 returns-in-Ok-join_promised g c =
     let seated = c.loop-seat.invariant.0 in
     let scripts = c.captures.scripts.now in
+    let boards = c.captures.options-boards in
     let left : length (into_iter_items c.loop-seat.seat-iterator) ≡ 0 = sym c.loop-seat.seat-iterator.rest.ok.0 ∙ c.in-None.ensures.steps.0 in
     let all : length seated.0 ≡ length scripts = seats_ended (length scripts) seated.0 (into_iter_items c.loop-seat.seat-iterator) seated.1 left in
     let works = c.in-Ok-join_promised.works in
-    record {
-      works = record {
+    let looked = subst (λ w. IsWatchOf (start g.S.StoreId.id.setting) boards w c.in_ok-watch.watch) c.loop-seat.invariant.3 c.in_ok-watch.ensures.watch in (
+      record {
         many = omega (arith, works.ok.0, c.in-Ok-join_promised.ensures.len, seated.2, all);
         each = λ k d lines less.
             let low : k < c.loop-seat.running.len = omega (arith, less, all, seated.2) in
@@ -76,20 +77,15 @@ returns-in-Ok-join_promised g c =
             let script : h.promise.lines.now ≡ slice_index_or scripts k lines = ap (λ x. x.promise.lines.now) at.1.handle_is ∙ inv.1 in
             subst (λ ls. IsWork (k + 1) ls (slice_index_or works.items k d)) script
             (subst (λ m. IsWork m h.promise.lines.now (slice_index_or works.items k d)) worker at.1.kept);
-      };
-      watch = subst (λ w. IsWatchOf (start g.S.StoreId.id.setting) c.captures.options-boards w c.in_ok-watch.watch) c.loop-seat.invariant.3
-          c.in_ok-watch.ensures.watch;
-      fault = λ n few watcher. tt;
-    }
+      },
+      subst (λ w. IsWatchOf (start g.S.StoreId.id.setting) boards w c.in_ok-watch.watch) c.requires.crew.watcher_is looked,
+    )
 
 pub returns-in-Err : goal.returns-in-Err
 returns-in-Err g c =
     let seated = c.loop-seat.invariant.0 in
-    let next = seat_next (length c.captures.scripts.now) seated.0 (into_iter_items c.next.new.self) c.in-Some.seat
+    let n = length c.captures.scripts.now in
+    let next = seat_next n seated.0 (into_iter_items c.next.new.self) c.in-Some.seat
     (ap (λ xs. seated.0 ++ xs) (sym c.in-Some.ensures.steps.0) ∙ seated.1) in
     let own = c.worker.ensures ∙ c.in_ok-worker.ensures.seat.0 ∙ ap (λ s. s.worker) next.0 in
-    record {
-      works = tt;
-      watch = tt;
-      fault = λ n few watcher. names_seat n (length c.captures.scripts.now) (length seated.0) c.worker.result own next.1 few;
-    }
+    names_seat (seats_for n c.captures.options-boards) n (length seated.0) c.worker.result own next.1 (scripts_fit n c.captures.options-boards)

@@ -1,0 +1,27 @@
+-- What a run comes to, put together of its parts.
+use Rattle.std.proofs.Common.{◌≡◌, ℕ, List, length, Result, Ok, Err, IfErr, IfOk, ap, ◌∙◌, subst, sym}
+use Rattle.std.specs.Result.{IsErrAnd}
+use Rattle.qplain.specs.declared.board.Board.{Board}
+use Rattle.qplain.specs.declared.line.Line.{Line}
+use Rattle.qplain.specs.declared.look_fault.LookFault.{LookFault}
+use Rattle.qplain.specs.Setups.{Setting}
+use Rattle.qrun.specs.declared.outcome.Outcome.{Outcome}
+use Rattle.qrun.specs.Runs.{IsOutcomeOf}
+use Rattle.qworkers.specs.declared.run_fault.RunFault.{RunFault}
+use Rattle.qworkers.specs.Crews.{IsRun}
+use Rattle.qworkers.specs.RunFaults.{IsFaultOf}
+use Rattle.qworkers.specs.Watching.{seats_for}
+use Rattle.qworkers.proofs.Naming.{fault_of_any}
+
+-- an outcome with as many looks as were wanted, or a fault that names no thread
+pub is_run : (setting : Setting) (scripts : List (List Line)) (boards : ℕ) (looks : List (Result Board LookFault)) (r : Result Outcome RunFault)
+    → length looks ≡ boards → IfOk r (IsOutcomeOf setting scripts) → IfOk r (λ o. o.boards ≡ looks) → IfErr r (IsFaultOf 0)
+    → IsRun setting scripts boards r
+is_run setting scripts boards looks (Ok o) many outcome is none = (outcome, ap length is ∙ many)
+is_run setting scripts boards looks (Err fault) many outcome is none = fault_of_any (seats_for (length scripts) boards) fault none
+
+-- a fault that is handed on
+pub is_faulty : (setting : Setting) (scripts : List (List Line)) (boards : ℕ) (r : Result Outcome RunFault) (fault : RunFault)
+    → IsErrAnd r (λ e. e ≡ fault) → IsFaultOf (seats_for (length scripts) boards) fault → IsRun setting scripts boards r
+is_faulty setting scripts boards (Ok o) fault is names = absurd is
+is_faulty setting scripts boards (Err e) fault is names = subst (IsFaultOf (seats_for (length scripts) boards)) (sym is) names
