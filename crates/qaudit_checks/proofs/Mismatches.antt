@@ -8,9 +8,9 @@ use Rattle.qplain.specs.declared.entry.Entry.{Entry}
 use Rattle.qplain.specs.declared.transcript.Transcript.{Transcript}
 use Rattle.qplain.specs.Journal.{entries_of}
 use Rattle.qplain.specs.Transcripts.{Belongs}
-use Rattle.qaudit_checks.specs.Gathered.{EntryFailsAt, HasMore, IsGathered, IsLeftOver, IsMismatch, IsTold, told_of}
-use Rattle.qaudit_checks.specs.FirstMismatch.{AllBefore, IsBefore, IsFirstOther, IsFirstStrange, IsFirstMismatch, IsStrange, IsUntold, earlier_of}
-use Rattle.qaudit_checks.proofs.Receipts.{below, own-told, receipts, take-more}
+use Rattle.qaudit_checks.specs.Gathered.{EntryFailsAt, HasMore, IsGathered, IsLeftOver, IsMismatch, IsTold, receipts_of, told_of}
+use Rattle.qaudit_checks.specs.FirstMismatch.{AreToldBefore, IsBefore, IsFirstMismatch, IsFirstOther, IsFirstStrange, IsStrange, IsUntold, earlier_of}
+use Rattle.qaudit_checks.proofs.Receipts.{below, own-told, take-more}
 
 -- ---- the earlier of two places
 
@@ -49,7 +49,7 @@ at-each P (y ∷ xs) zero x all e = let same : y ≡ x = cc in subst P same all.
 at-each P (y ∷ xs) (suc j) x all e = at-each P xs j x all.1 e
 
 -- it is what the receipts of its transcript stand for
-told_of-apart : (ts : List Transcript) (j : ℕ) (t : Transcript) → Apart ts → slice_get ts j ≡ Some t → told_of ts t.worker ≡ receipts t
+told_of-apart : (ts : List Transcript) (j : ℕ) (t : Transcript) → Apart ts → slice_get ts j ≡ Some t → told_of ts t.worker ≡ receipts_of t
 unfolding IsDistinct
 told_of-apart [] j t apart e = absurd cc
 told_of-apart (x ∷ ts) zero t apart e =
@@ -71,14 +71,14 @@ transcript-of (t ∷ ts) worker (suc k, less, e) =
 
 -- where receipts are entries, the worker's own are told
 own-by : (journal : List Entry) (worker : ℕ) (ts : List Transcript) → Contains (map (λ t. t.worker) ts) worker
-    → AllByRecursion (λ t. receipts t ≡ entries_of journal t.worker) ts → told_of ts worker ≡ entries_of journal worker
+    → AllByRecursion (λ t. receipts_of t ≡ entries_of journal t.worker) ts → told_of ts worker ≡ entries_of journal worker
 own-by journal worker [] (k, less, e) own = absurd (omega (arith, less))
 own-by journal worker (t ∷ ts) has own =
     choose (t.worker == worker) refl (λ e. own.0 ∙ ap (entries_of journal) e) (λ other. own-by journal worker ts (rest other has) own.1)
   where
-    choose : (b : Bool) → (t.worker == worker) ≡ b → (t.worker ≡ worker → receipts t ≡ entries_of journal worker)
+    choose : (b : Bool) → (t.worker == worker) ≡ b → (t.worker ≡ worker → receipts_of t ≡ entries_of journal worker)
         → ((t.worker == worker) ≡ false → told_of ts worker ≡ entries_of journal worker)
-        → cond b (receipts t) (told_of ts worker) ≡ entries_of journal worker
+        → cond b (receipts_of t) (told_of ts worker) ≡ entries_of journal worker
     choose true e here later = here (grind (arith, tests, e))
     choose false e here later = later e
 
@@ -87,8 +87,8 @@ own-by journal worker (t ∷ ts) has own =
     rest e (suc k, less, is) = (k, omega (arith, less), is)
 
 told_of-own : (journal : List Entry) (ts : List Transcript) (worker : ℕ) → Contains (map (λ t. t.worker) ts) worker
-    → All (λ t. receipts t ≡ entries_of journal t.worker) ts → told_of ts worker ≡ entries_of journal worker
-told_of-own journal ts worker has own = own-by journal worker ts has (recursion_from_All (λ t. receipts t ≡ entries_of journal t.worker) ts own)
+    → All (λ t. receipts_of t ≡ entries_of journal t.worker) ts → told_of ts worker ≡ entries_of journal worker
+told_of-own journal ts worker has own = own-by journal worker ts has (recursion_from_All (λ t. receipts_of t ≡ entries_of journal t.worker) ts own)
 
 -- where no transcript is the worker's, nothing is told
 told_of-strange : (ts : List Transcript) (worker : ℕ) → (Contains (map (λ t. t.worker) ts) worker → ⊥) → told_of ts worker ≡ []
@@ -96,7 +96,7 @@ told_of-strange [] worker strange = refl
 told_of-strange (t ∷ ts) worker strange =
     by (t.worker == worker) refl (told_of-strange ts worker (λ has. strange (suc has.0, (let less = has.1 in omega (arith, less)), has.2)))
   where
-    by : (b : Bool) → (t.worker == worker) ≡ b → told_of ts worker ≡ [] → cond b (receipts t) (told_of ts worker) ≡ []
+    by : (b : Bool) → (t.worker == worker) ≡ b → told_of ts worker ≡ [] → cond b (receipts_of t) (told_of ts worker) ≡ []
     by true e later = absurd (strange (0, omega arith, grind (arith, tests, e)))
     by false e later = later
 
@@ -106,8 +106,8 @@ told_of-strange (t ∷ ts) worker strange =
 pub found-first : (journal : List Entry) (ts : List Transcript) (place : Option ℕ) → IsFirstStrange journal ts place → IsFirstMismatch journal ts 0 place
 found-first journal ts place first = record {
   known = first.before;
-  told = All-nil (λ t. AllBefore journal place (λ e. e.worker ≡ t.worker) (λ k e. IsTold (receipts t) (take k journal) e));
-  same = λ none. All-nil (λ t. receipts t ≡ entries_of journal t.worker);
+  told = All-nil (λ t. AreToldBefore journal t place);
+  same = λ none. All-nil (λ t. receipts_of t ≡ entries_of journal t.worker);
   here = λ p e. inl (fails p (first.here p e));
 }
   where
@@ -126,21 +126,22 @@ found-first journal ts place first = record {
 
 -- after one more transcript
 pub found-next : (journal : List Entry) (ts : List Transcript) (count : ℕ) (t : Transcript) (first other : Option ℕ) → Apart ts
-    → slice_get ts count ≡ Some t → IsFirstMismatch journal ts count first → IsFirstOther journal t other → IsFirstMismatch journal ts (count + 1) (earlier_of first other)
+    → slice_get ts count ≡ Some t → IsFirstMismatch journal ts count first → IsFirstOther journal t other
+    → IsFirstMismatch journal ts (count + 1) (earlier_of first other)
 found-next journal ts count t first other apart at found next = record {
   known = λ k e is before tt2. found.known k e is (before-both k first other before).0 tt;
   told = subst (All Told) (sym more) (All-push Told (take count ts) t
       (λ k d less j e is before own. found.told k d less j e is (before-both j first other before).0 own)
       (λ j e is before own. next.before j e is (before-both j first other before).1 own));
   same = λ none.
-      subst (All (λ t. receipts t ≡ entries_of journal t.worker)) (sym more)
-      (All-push (λ t. receipts t ≡ entries_of journal t.worker) (take count ts) t
+      subst (All (λ t. receipts_of t ≡ entries_of journal t.worker)) (sym more)
+      (All-push (λ t. receipts_of t ≡ entries_of journal t.worker) (take count ts) t
       (found.same (none-both first other none).0) (next.same (none-both first other none).1));
   here = λ p e. here p (some-either first other p e);
 }
   where
     Told : Transcript → Type 0
-    Told t = AllBefore journal (earlier_of first other) (λ e. e.worker ≡ t.worker) (λ k e. IsTold (receipts t) (take k journal) e)
+    Told t = AreToldBefore journal t (earlier_of first other)
 
     more : take (count + 1) ts ≡ take count ts ++ t ∷ []
     more = rw add-one (take-more ts count t at)
@@ -175,7 +176,7 @@ all-taken ts count end = ap (λ n. take n ts) end ∙ take-length ts
 pub gathered : (journal : List Entry) (ts : List Transcript) (count : ℕ) (place : Option ℕ) → IsFirstMismatch journal ts count place → count ≡ length ts
     → place ≡ None → IsGathered journal ts
 gathered journal ts count place found end none = record {
-  own = subst (All (λ t. receipts t ≡ entries_of journal t.worker)) (all-taken ts count end) (found.same none);
+  own = subst (All (λ t. receipts_of t ≡ entries_of journal t.worker)) (all-taken ts count end) (found.same none);
   belong = λ k d less. found.known k (slice_index_or journal k d) (slice_get-get_or journal k d less) (subst (IsBefore k) (sym none) tt) tt;
 }
 
@@ -193,8 +194,8 @@ module _ (journal : List Entry) (ts : List Transcript) (count place : ℕ) (foun
       by : EntryFailsAt journal ts place ⊎ IsLeftOver journal ts place → ⊥
       by (inl fails) = fails.fails (of fails.index fails.entry fails.there)
       by (inr (behind, (k, t, less, is, more))) =
-          let own : receipts t ≡ entries_of journal t.worker = subst (λ t. receipts t ≡ entries_of journal t.worker) is (all.own k t less) in
-          let same : length (receipts t) ≡ length (entries_of journal t.worker) = ap length own in
+          let own : receipts_of t ≡ entries_of journal t.worker = subst (λ t. receipts_of t ≡ entries_of journal t.worker) is (all.own k t less) in
+          let same : length (receipts_of t) ≡ length (entries_of journal t.worker) = ap length own in
           omega (arith, same, more)
 
   -- and the first
@@ -204,15 +205,14 @@ module _ (journal : List Entry) (ts : List Transcript) (count place : ℕ) (foun
     least = λ earlier less fails. fails.fails (of fails.index fails.entry fails.there (let is = fails.place_is in omega (arith, less, is)));
   }
     where
-      all : All (λ t. AllBefore journal (Some place) (λ e. e.worker ≡ t.worker) (λ k e. IsTold (receipts t) (take k journal) e)) ts
-      all = subst (All (λ t. AllBefore journal (Some place) (λ e. e.worker ≡ t.worker) (λ k e. IsTold (receipts t) (take k journal) e)))
-          (all-taken ts count end) found.told
+      all : All (λ t. AreToldBefore journal t (Some place)) ts
+      all = subst (All (λ t. AreToldBefore journal t (Some place))) (all-taken ts count end) found.told
 
       of : (index : ℕ) (e : Entry) → slice_get journal index ≡ Some e → index + 1 < place → IsTold (told_of ts e.worker) (take index journal) e
       of index e at before =
           let own = transcript-of ts e.worker (found.known index e at before tt) in
           let t : Transcript = own.1 in
-          let told : IsTold (receipts t) (take index journal) e =
-          subst (λ t. AllBefore journal (Some place) (λ e. e.worker ≡ t.worker) (λ k e. IsTold (receipts t) (take k journal) e))
+          let told : IsTold (receipts_of t) (take index journal) e =
+          subst (λ t. AreToldBefore journal t (Some place))
           (get_or_from_slice_get ts own.0 t t own.2) (all own.0 t (below ts own.0 t own.2)) index e at before (sym own.3) in
           subst (λ own. IsTold own (take index journal) e) (sym (told_of-apart ts own.0 t apart own.2) ∙ ap (told_of ts) own.3) told

@@ -11,8 +11,8 @@ use Rattle.qplain.specs.declared.transcript.Transcript.{Transcript}
 use Rattle.qplain.specs.Journal.{entries_of}
 use Rattle.qplain.specs.Transcripts.{journaled_line, journaled_lines}
 use Rattle.qlaws.proofs.Playing.{own-one_more}
-use Rattle.qaudit_checks.specs.Gathered.{HasMore, IsTold}
-use Rattle.qaudit_checks.specs.FirstMismatch.{AllBefore, AreSeenAnswers, IsFirstOther}
+use Rattle.qaudit_checks.specs.Gathered.{HasMore, IsTold, receipts_of}
+use Rattle.qaudit_checks.specs.FirstMismatch.{AreSeenAnswers, AreToldBefore, IsFirstOther, IsNextReceipt}
 
 -- ---- lists
 
@@ -72,25 +72,25 @@ from-failed worker at lines answers fault same failed =
     let line = there lines at (omega (arith, less, same)) in
     rw add-one (from-at worker at lines answers line.0 (Err fault) line.1 failed)
 
--- so it is where the answer that is looked at tells of a fault
+-- so it is where the answer that is looked at is a fault
 pub failed-at : (worker at : ℕ) (lines : List Line) (answers : List Answer) (d answer : Answer) → answer ≡ get_or answers at d → at < length answers
     → length answers ≡ length lines → is_err answer ≡ true → from worker at lines answers ≡ from worker (at + 1) lines answers
 failed-at worker at lines answers d (Ok receipt) is less same failed = absurd cc
 failed-at worker at lines answers d (Err fault) is less same failed =
     from-failed worker at lines answers fault same (slice_get-get_or answers at d less ∙ ap (λ answer. Some answer) (sym is))
 
--- and where it tells of none it is a receipt
+-- and where it is none it is a receipt
 pub granted-at : (at : ℕ) (answers : List Answer) (d answer : Answer) → answer ≡ get_or answers at d → at < length answers → is_err answer ≡ false
     → IfSome (slice_get answers at) IsOk
 granted-at at answers d (Err fault) is less granted = absurd cc
 granted-at at answers d (Ok receipt) is less granted =
     subst (λ o. IfSome o IsOk) (sym (slice_get-get_or answers at d less ∙ ap (λ answer. Some answer) (sym is))) refl
 
--- behind all answers none is looked at
+-- after all answers none is looked at
 pub past-all : (at : ℕ) (answers : List Answer) → length answers ≤ at → IfSome (slice_get answers at) IsOk
 past-all at answers past = subst (λ o. IfSome o IsOk) (sym (slice_get_past answers at past)) tt
 
--- behind all answers there is nothing
+-- after all answers there is nothing
 from-end : (worker : ℕ) (lines : List Line) (answers : List Answer) → journaled_lines worker lines (drop (length answers) answers) ≡ []
 unfolding journaled_lines
 from-end worker [] [] = refl
@@ -121,7 +121,7 @@ first-told worker at place lines answers line (Ok receipt) e there_too there_is 
     only : (x y : ℕ × Entry) → Some x ≡ Some y → x ∷ [] ≡ y ∷ []
     only x y e = let same : x ≡ y = cc in ap (λ z. z ∷ []) same
 
--- and behind all answers nothing is
+-- and after all answers nothing is
 pub never-told : (worker at : ℕ) (lines : List Line) (answers : List Answer) (place : ℕ) (e : Entry) → at ≤ length answers → length answers ≤ at
     → (nat_lt at (length answers) ≡ true → slice_get (from worker at lines answers) 0 ≡ Some (place, e))
     × (slice_get (from worker at lines answers) 0 ≡ Some (place, e) → nat_lt at (length answers) ≡ true)
@@ -138,7 +138,7 @@ never-told worker at lines answers place e within past =
 abbrev mine : ℕ → ℕ → List Entry → List (ℕ × Entry)
 mine n worker es = filter (λ x. x.1.worker == worker) (enumerate_from n es)
 
--- an entry of the worker stands among its own behind those before it
+-- an entry of the worker stands among its own after those before it
 own-numbered : (n worker : ℕ) (journal : List Entry) (index : ℕ) (e : Entry) → slice_get journal index ≡ Some e → (e.worker == worker) ≡ true
     → slice_get (mine n worker journal) (length (mine n worker (take index journal))) ≡ Some (n + index, e)
 own-numbered n worker [] index e at own = absurd cc
@@ -177,9 +177,6 @@ other-one_more journal e worker other = other-numbered 1 worker journal e other
 
 -- ---- what was seen
 
-abbrev pub receipts : Transcript → List (ℕ × Entry)
-receipts t = journaled_lines t.worker t.lines t.answers
-
 -- at first nothing was
 pub none-seen : (journal : List Entry) (t : Transcript) → AreSeenAnswers journal t 0 0
 none-seen journal t = record { within = omega arith; parts = refl; told = λ index entry at before own. absurd (omega (arith, before)) }
@@ -187,10 +184,10 @@ none-seen journal t = record { within = omega arith; parts = refl; told = λ ind
 -- what is told next of the worker is told at its next entry
 pub next-told : (journal : List Entry) (t : Transcript) (index seen : ℕ) (e : Entry) → AreSeenAnswers journal t index seen → slice_get journal index ≡ Some e
     → e.worker ≡ t.worker
-    → slice_get (receipts t) (length (entries_of (take index journal) e.worker)) ≡ slice_get (from e.worker seen t.lines t.answers) 0
+    → slice_get (receipts_of t) (length (entries_of (take index journal) e.worker)) ≡ slice_get (from e.worker seen t.lines t.answers) 0
 next-told journal t index seen e are at own =
-    let parts : receipts t ≡ entries_of (take index journal) e.worker ++ from e.worker seen t.lines t.answers =
-    subst (λ w. receipts t ≡ entries_of (take index journal) w ++ from w seen t.lines t.answers) (sym own) are.parts in
+    let parts : receipts_of t ≡ entries_of (take index journal) e.worker ++ from e.worker seen t.lines t.answers =
+    subst (λ w. receipts_of t ≡ entries_of (take index journal) w ++ from w seen t.lines t.answers) (sym own) are.parts in
     ap (λ told. slice_get told (length (entries_of (take index journal) e.worker))) parts
     ∙ behind (entries_of (take index journal) e.worker) (from e.worker seen t.lines t.answers)
 
@@ -210,19 +207,19 @@ passed journal t index seen further are within same = record {
 
 -- where all entries before are told, and this one, all up to it are
 one-more : (journal : List Entry) (t : Transcript) (index : ℕ) (e : Entry) → slice_get journal index ≡ Some e
-    → AllBefore journal (Some (index + 1)) (λ e. e.worker ≡ t.worker) (λ k e. IsTold (receipts t) (take k journal) e)
-    → (e.worker ≡ t.worker → IsTold (receipts t) (take index journal) e)
-    → AllBefore journal (Some (index + 1 + 1)) (λ e. e.worker ≡ t.worker) (λ k e. IsTold (receipts t) (take k journal) e)
+    → AreToldBefore journal t (Some (index + 1))
+    → (e.worker ≡ t.worker → IsTold (receipts_of t) (take index journal) e)
+    → AreToldBefore journal t (Some (index + 1 + 1))
 one-more journal t index e at before here k x is less own = by (nat_lt k index) refl
   where
-    by : (b : Bool) → nat_lt k index ≡ b → IsTold (receipts t) (take k journal) x
+    by : (b : Bool) → nat_lt k index ≡ b → IsTold (receipts_of t) (take k journal) x
     by true h = before k x is (grind (arith, tests, h)) own
     by false h =
         let last : k ≡ index = grind (arith, tests, h, less) in
         let same_at : slice_get journal index ≡ Some x = subst (λ n. slice_get journal n ≡ Some x) last is in
         let same : e ≡ x = cc in
-        subst (λ n. IsTold (receipts t) (take n journal) x) (sym last)
-        (subst (λ y. y.worker ≡ t.worker → IsTold (receipts t) (take index journal) y) same here own)
+        subst (λ n. IsTold (receipts_of t) (take n journal) x) (sym last)
+        (subst (λ y. y.worker ≡ t.worker → IsTold (receipts_of t) (take index journal) y) same here own)
 
 -- one more entry, of the worker
 pub own-seen : (journal : List Entry) (t : Transcript) (index seen : ℕ) (e : Entry) → AreSeenAnswers journal t index seen → length t.answers ≡ length t.lines
@@ -285,7 +282,7 @@ take-all journal index end = ap (λ n. take n journal) end ∙ take-length journ
 
 -- up to the end all entries are told
 all-told : (journal : List Entry) (t : Transcript) (index seen : ℕ) (place : Option ℕ) → AreSeenAnswers journal t index seen → index ≡ length journal
-    → AllBefore journal place (λ e. e.worker ≡ t.worker) (λ k e. IsTold (receipts t) (take k journal) e)
+    → AreToldBefore journal t place
 all-told journal t index seen place are end k e at before own =
     let less : k < length journal = below journal k e at in
     are.told k e at (omega (arith, less, end)) own
@@ -347,15 +344,9 @@ first-other journal t index seen place e are at own place_is other = record {
 
 -- ---- over the slices of a transcript
 
--- what `next_receipt` tells
-pub record IsNext (answers : List Answer) (seen next : ℕ) : Type 0 where
-  pub within : next ≤ length answers
-  pub skipped : (worker : ℕ) (lines : List Line) → length answers ≡ length lines → from worker seen lines answers ≡ from worker next lines answers
-  pub receipt : IfSome (slice_get answers next) IsOk
-
 -- the answers that failed may be passed over
 pub passed-over : (journal : List Entry) (t : Transcript) (index seen next : ℕ) → AreSeenAnswers journal t index seen → length t.answers ≡ length t.lines
-    → IsNext t.answers seen next → AreSeenAnswers journal t index next
+    → IsNextReceipt t.answers seen next → AreSeenAnswers journal t index next
 passed-over journal t index seen next are each is = passed journal t index seen next are is.within (is.skipped t.worker t.lines each)
 
 -- what is told by the slices is told by the transcript

@@ -1,10 +1,13 @@
--- What was found of a journal and a part of its transcripts. No public clause cites this module.
-use Rattle.std.specs.Prelude.{◌≡◌, ℕ, ◌+◌, ◌<◌, ◌≤◌, ◌⊎◌, ◌++◌, List, length, slice_get, take, drop, All, Option, Some, None, nat_lt, if◌then◌else◌}
+-- The first place at which a journal and a part of its transcripts differ. No public clause cites this module.
+use Rattle.std.specs.Prelude.{◌≡◌, ℕ, ◌+◌, ◌<◌, ◌≤◌, ◌⊎◌, ◌++◌, List, length, slice_get, take, drop, All, Option, Some, None, IfSome, Result, IsOk, nat_lt, if◌then◌else◌}
+use Rattle.qplain.specs.declared.call_fault.CallFault.{CallFault}
 use Rattle.qplain.specs.declared.entry.Entry.{Entry}
+use Rattle.qplain.specs.declared.line.Line.{Line}
+use Rattle.qplain.specs.declared.receipt.Receipt.{Receipt}
 use Rattle.qplain.specs.declared.transcript.Transcript.{Transcript}
 use Rattle.qplain.specs.Journal.{entries_of}
 use Rattle.qplain.specs.Transcripts.{Belongs, journaled_lines}
-use Rattle.qaudit_checks.specs.Gathered.{EntryFailsAt, HasMore, IsLeftOver, IsTold}
+use Rattle.qaudit_checks.specs.Gathered.{EntryFailsAt, HasMore, IsLeftOver, IsTold, receipts_of}
 
 -- the earlier of two places, of which there may be none
 abbrev pub earlier_of : Option ℕ → Option ℕ → Option ℕ
@@ -21,6 +24,11 @@ IsBefore index (Some place) = index + 1 < place
 abbrev pub AllBefore : List Entry → Option ℕ → (Entry → Type 0) → (ℕ → Entry → Type 0) → Type 0
 AllBefore journal place P Q =
     (index : ℕ) (entry : Entry) → slice_get journal index ≡ Some entry → IsBefore index place → P entry → Q index entry
+
+-- the receipts of the transcript tell of all entries of its worker before the place
+abbrev pub AreToldBefore : List Entry → Transcript → Option ℕ → Type 0
+AreToldBefore journal t place =
+    AllBefore journal place (λ e. e.worker ≡ t.worker) (λ k e. IsTold (receipts_of t) (take k journal) e)
 
 -- the entry of this place is of another worker than all transcripts
 pub record IsStrange (journal : List Entry) (transcripts : List Transcript) (place : ℕ) : Type 0 where
@@ -42,31 +50,36 @@ pub record IsUntold (journal : List Entry) (t : Transcript) (place : ℕ) : Type
   pub entry : Entry
   pub there : slice_get journal index ≡ Some entry
   pub own : entry.worker ≡ t.worker
-  pub untold : IsTold (journaled_lines t.worker t.lines t.answers) (take index journal) entry → ⊥
+  pub untold : IsTold (receipts_of t) (take index journal) entry → ⊥
 
 -- where the transcript and its worker's entries first differ, if they do
 pub record IsFirstOther (journal : List Entry) (t : Transcript) (place : Option ℕ) : Type 0 where
-  pub before : AllBefore journal place (λ e. e.worker ≡ t.worker)
-      (λ k e. IsTold (journaled_lines t.worker t.lines t.answers) (take k journal) e)
-  pub same : place ≡ None → journaled_lines t.worker t.lines t.answers ≡ entries_of journal t.worker
+  pub before : AreToldBefore journal t place
+  pub same : place ≡ None → receipts_of t ≡ entries_of journal t.worker
   pub here : (p : ℕ) → place ≡ Some p
       → IsUntold journal t p ⊎ ((p ≡ length journal + 1) × HasMore journal t)
 
--- what was found of so many transcripts
-pub record IsFirstMismatch (journal : List Entry) (transcripts : List Transcript) (count : ℕ) (place : Option ℕ) : Type 0 where
+-- the first place at which the journal and the first `count` transcripts differ, if they do
+pub record IsFirstMismatch (journal : List Entry) (transcripts : List Transcript) (count : ℕ) (place : Option ℕ)
+    : Type 0 where
   pub known : AllBefore journal place (λ e. Unit {0}) (λ k e. Belongs transcripts e)
-  pub told : All (λ t. AllBefore journal place (λ e. e.worker ≡ t.worker)
-      (λ k e. IsTold (journaled_lines t.worker t.lines t.answers) (take k journal) e)) (take count transcripts)
-  pub same : place ≡ None
-      → All (λ t. journaled_lines t.worker t.lines t.answers ≡ entries_of journal t.worker) (take count transcripts)
+  pub told : All (λ t. AreToldBefore journal t place) (take count transcripts)
+  pub same : place ≡ None → All (λ t. receipts_of t ≡ entries_of journal t.worker) (take count transcripts)
   pub here : (p : ℕ) → place ≡ Some p → EntryFailsAt journal transcripts p ⊎ IsLeftOver journal transcripts p
 
--- so many answers of a transcript were looked at beside so many entries: its receipts stand for the worker's entries up
--- to there, and for what its further answers stand for
+-- from this answer on, `next` is the index of the next receipt, or how many answers there are: what is passed over
+-- stands for nothing
+pub record IsNextReceipt (answers : List (Result Receipt CallFault)) (from next : ℕ) : Type 0 where
+  pub within : next ≤ length answers
+  pub skipped : (worker : ℕ) (lines : List Line) → length answers ≡ length lines
+      → journaled_lines worker (drop from lines) (drop from answers)
+      ≡ journaled_lines worker (drop next lines) (drop next answers)
+  pub receipt : IfSome (slice_get answers next) IsOk
+
+-- the first `seen` answers of a transcript were compared with the first `index` entries: its receipts stand for the
+-- worker's entries up to there, and for what its further answers stand for
 pub record AreSeenAnswers (journal : List Entry) (t : Transcript) (index seen : ℕ) : Type 0 where
   pub within : seen ≤ length t.answers
-  pub parts : journaled_lines t.worker t.lines t.answers
-      ≡ entries_of (take index journal) t.worker
+  pub parts : receipts_of t ≡ entries_of (take index journal) t.worker
       ++ journaled_lines t.worker (drop seen t.lines) (drop seen t.answers)
-  pub told : AllBefore journal (Some (index + 1)) (λ e. e.worker ≡ t.worker)
-      (λ k e. IsTold (journaled_lines t.worker t.lines t.answers) (take k journal) e)
+  pub told : AreToldBefore journal t (Some (index + 1))

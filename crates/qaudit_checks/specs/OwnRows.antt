@@ -22,7 +22,7 @@ name_rows S = map name_row_of S.names
 abbrev pub record_rows : State → List RecordRow
 record_rows S = map (record_row_of S) S.holders
 
--- the recount of its own rows, held against its own records
+-- the recount of its own rows, compared with its own records
 abbrev pub differences_in : State → List Difference
 differences_in S = differences_of (recount_of (inode_rows S) (name_rows S)) (record_rows S)
 

@@ -19,7 +19,7 @@ pub record AreSeenBoards (S : State) (journal : List Entry) (seen : List Board) 
   pub within : c.version ≤ length journal
   pub state : c.store.state ≡ play S (take c.version journal)
 
--- the board was seen behind these, or with it they are not lawful
+-- the board was seen after these, or with it they are not lawful
 abbrev pub IsJudged : State → List Entry → List Board → Board → Checker → Bool → Type 0
 IsJudged S journal seen b c true = AreSeenBoards S journal (seen ++ b ∷ []) c
 IsJudged S journal seen b c false = AreLawful S journal (seen ++ b ∷ []) → ⊥

@@ -1,9 +1,8 @@
 //! A transcript's receipts beside its worker's entries.
-ghost use Rattle.std.specs.Prelude.{◌≡◌, ◌≤◌, ℕ, List, length, drop, slice_get, IfSome, IsOk, Some};
+ghost use Rattle.std.specs.Prelude.{◌≡◌, ◌≤◌, length, drop, slice_get, IfSome, IsOk, Some};
 ghost use Rattle.std.specs.Bool.{Decides};
-ghost use Rattle.qplain.specs.declared.line.Line.{Line};
 ghost use Rattle.qplain.specs.Transcripts.{journaled_lines};
-ghost use Rattle.qaudit_checks.specs.FirstMismatch.{IsFirstOther};
+ghost use Rattle.qaudit_checks.specs.FirstMismatch.{IsFirstOther, IsNextReceipt};
 
 use crate::comparing::stands_for;
 use qplain::{CallFault, Entry, Line, Receipt, Transcript};
@@ -11,11 +10,7 @@ use qplain::{CallFault, Entry, Line, Receipt, Transcript};
 /// The index of the next receipt, from this one on, or how many answers there are.
 fn next_receipt(answers: &[Result<Receipt, CallFault>], from: usize) -> usize
     requires within { from ≤ length answers.now }
-    ensures within { result ≤ length answers.now }
-    ensures skipped { (worker : ℕ) (lines : List Line) → length answers.now ≡ length lines
-        → journaled_lines worker (drop from lines) (drop from answers.now)
-        ≡ journaled_lines worker (drop result lines) (drop result answers.now) }
-    ensures receipt { IfSome (slice_get answers.now result) IsOk }
+    ensures { IsNextReceipt answers.now from result }
 {
     let mut at = from;
     while at < answers.len() && answers[at].is_err() {
@@ -42,7 +37,7 @@ fn is_next(
     at < answers.len() && stands_for(&lines[at], &answers[at], place, entry)
 }
 
-/// Where a transcript and its worker's entries first differ: the place of an entry, or the one behind the journal.
+/// Where a transcript and its worker's entries first differ: the place of an entry, or the one after the journal.
 pub(crate) fn first_other(entries: &[Entry], transcript: &Transcript) -> Option<u64>
     requires each { length transcript.now.answers ≡ length transcript.now.lines }
     ensures { IsFirstOther entries.now transcript.now result }

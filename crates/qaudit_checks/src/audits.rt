@@ -1,5 +1,5 @@
 //! The audit of a store.
-ghost use Rattle.std.specs.Prelude.{◌≡◌, [], OnOk, IfOk};
+ghost use Rattle.std.specs.Prelude.{◌≡◌, [], IfOk};
 ghost use Rattle.qaudit_checks.specs.OwnRows.{differences_in, record_rows};
 
 use qaudit::{Difference, compare, recount};
@@ -8,9 +8,9 @@ use qrules::RecordRow;
 use qstore::Store;
 use std::alloc::Global;
 
-/// Counts the store's own rows afresh, and holds them against its records (quotacheck(8)): it finds nothing.
+/// Recounts the store's own rows, and compares them with its records (quotacheck(8)): it finds nothing.
 ///
-/// O((i + n) log (i + n)) for i inodes and n names. An Err is want of memory, and leaves nothing made.
+/// O((i + n) log (i + n)) for i inodes and n names. It may be out of memory, and leaves nothing made then.
 pub fn audit(
     alloc: Global,
     store: &Store,

@@ -8,7 +8,7 @@ use qplain::NoMemory;
 /// Why boards are not said to be a journal's.
 #[derive(Clone, Copy, Debug, PartialEq, Eq)]
 pub enum BoardFault {
-    /// Memory was wanted and not there. It says nothing of the boards.
+    /// Out of memory, which says nothing of the boards.
     Memory,
     /// The board of this index, from 1, is not the journal's under its version, or that is below the version of the
     /// board before it: the first such board.

@@ -1,19 +1,18 @@
-//! Lists of boards, held against a journal.
-ghost use Rattle.std.specs.Prelude.{◌≡◌, ℕ, Err, OnOk};
+//! Lists of boards, checked against a journal.
 ghost use Rattle.qplain.specs.State.{start};
-ghost use Rattle.qaudit_checks.specs.LawfulBoards.{AreLawful, BoardFailsAt, boards_in};
+ghost use Rattle.qaudit_checks.specs.LawfulBoards.{IsVerdictOn, boards_in};
 
 use crate::BoardFault;
 use crate::checker::Checker;
 use qplain::{Board, Entry, LookFault, Setup};
 use std::alloc::Global;
 
-/// Holds boards against a journal, whose entries it plays again on a store of the setup.
+/// Checks boards against a journal, whose entries it plays again on a store of the setup.
 ///
 /// The boards are lawful where each is that of the state which the first entries leave, as many as its version, and
-/// versions never fall. Else the index of the first board that fails is told, from 1. The journal's replies are not
-/// looked at. The hashes of names begin at `seed`, which may be any number; nothing that is told depends on it. What
-/// the calls of the entries take, up to the greatest version, and for each board O(n), as many principals as there are.
+/// versions never fall. Else the index of the first board that fails is reported, from 1. The journal's replies are
+/// not looked at. The hashes of names begin at `seed`, which may be any number; no answer depends on it. What the calls
+/// of the entries take, up to the greatest version, and for each board O(n) for n principals.
 pub fn check_boards(
     alloc: Global,
     setup: &Setup,
@@ -21,11 +20,7 @@ pub fn check_boards(
     boards: &[Board],
     seed: u64,
 ) -> Result<(), BoardFault>
-    ensures ok { OnOk result (AreLawful (start setup.now) entries.now boards.now) }
-    ensures board { (index : ℕ) → result ≡ Err (BoardFault.Board index)
-        → BoardFailsAt (start setup.now) entries.now boards.now index }
-    ensures lawful { AreLawful (start setup.now) entries.now boards.now
-        → (index : ℕ) → result ≡ Err (BoardFault.Board index) → ⊥ }
+    ensures { IsVerdictOn (start setup.now) entries.now boards.now result }
 {
     let mut checker = Checker::new(alloc, setup, seed)?;
     let mut index = 0u64;
@@ -38,7 +33,7 @@ pub fn check_boards(
     Ok(())
 }
 
-/// Holds the boards that looks have shown against a journal, as `check_boards` does.
+/// Checks the boards that looks have shown against a journal, as `check_boards` does.
 ///
 /// A look that has shown none is passed over, and the index of a board counts boards alone.
 pub fn check_looks(
@@ -48,11 +43,7 @@ pub fn check_looks(
     looks: &[Result<Board, LookFault>],
     seed: u64,
 ) -> Result<(), BoardFault>
-    ensures ok { OnOk result (AreLawful (start setup.now) entries.now (boards_in looks.now)) }
-    ensures board { (index : ℕ) → result ≡ Err (BoardFault.Board index)
-        → BoardFailsAt (start setup.now) entries.now (boards_in looks.now) index }
-    ensures lawful { AreLawful (start setup.now) entries.now (boards_in looks.now)
-        → (index : ℕ) → result ≡ Err (BoardFault.Board index) → ⊥ }
+    ensures { IsVerdictOn (start setup.now) entries.now (boards_in looks.now) result }
 {
     let mut checker = Checker::new(alloc, setup, seed)?;
     let mut index = 0u64;

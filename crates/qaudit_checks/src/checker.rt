@@ -1,11 +1,11 @@
-//! A store that goes along a journal, beside which boards are held.
-ghost use Rattle.std.specs.Prelude.{◌≡◌, ◌++◌, ◌∷◌, [], ◌≤◌, ℕ, List, take, drop, length, IfOk, OnOk};
+//! A store that goes along a journal, with whose boards others are compared.
+ghost use Rattle.std.specs.Prelude.{◌≡◌, [], ◌≤◌, List, take, length, IfOk, OnOk};
 ghost use Rattle.std.specs.Bool.{Decides};
 ghost use Rattle.qplain.specs.declared.board.Board.{Board};
 ghost use Rattle.qplain.specs.declared.entry.Entry.{Entry};
 ghost use Rattle.qplain.specs.State.{State, start};
 ghost use Rattle.qplain.specs.Journal.{board_of, play};
-ghost use Rattle.qaudit_checks.specs.SeenBoards.{IsJudged, AreSeenBoards};
+ghost use Rattle.qaudit_checks.specs.SeenBoards.{AreSeenBoards, IsJudged};
 
 use qplain::{Board, Entry, NoMemory, Setup};
 use qrules::BoardRow;
@@ -56,14 +56,14 @@ impl Checker {
         Ok(Checker { store, version: 0 })
     }
 
-    /// Whether it can go on to where so many entries lead.
+    /// Whether it can go on to where the first `version` entries lead.
     fn can_go_on(&self, entries: &[Entry], version: u64) -> bool
         ensures { Decides result ((self.now.version ≤ version) × (version ≤ length entries.now)) }
     {
         self.version <= version && version <= entries.len() as u64
     }
 
-    /// Goes on to where so many entries lead.
+    /// Goes on to where the first `version` entries lead.
     fn go_on(&mut self, entries: &[Entry], version: u64) -> Result<(), NoMemory>
         requires on { self.old.version ≤ version }
         requires within { version ≤ length entries.now }
@@ -79,7 +79,7 @@ impl Checker {
         Ok(())
     }
 
-    /// Whether the next board may stand behind those that were seen.
+    /// Whether the next board may follow those that were seen.
     pub(crate) fn may_stand(&mut self, entries: &[Entry], board: &Board) -> Result<bool, NoMemory>
         ensures { (S : State) (seen : List Board) → AreSeenBoards S entries.now seen self.old
             → IfOk result (IsJudged S entries.now seen board.now self.new) }

@@ -11,7 +11,7 @@ use qplain::{Entry, Transcript};
 /// Where a journal and its transcripts first differ.
 #[derive(Clone, Copy, Debug, PartialEq, Eq)]
 pub struct Mismatch {
-    /// The place of an entry, from 1, or the one behind the journal.
+    /// The place of an entry, from 1, or the one after the journal.
     pub place: u64,
 }
 
@@ -26,11 +26,11 @@ fn earlier_of(one: Option<u64>, other: Option<u64>) -> Option<u64>
     }
 }
 
-/// Holds a journal against the transcripts of its workers.
+/// Checks a journal against the transcripts of its workers.
 ///
 /// They tell the same where the receipts of each transcript are its worker's entries, in order and with their places,
-/// and no entry is of a worker without a transcript. Else the least place whose entry fails is told, or the one behind
-/// the journal where a receipt is left over. No memory is taken. O(entries) for each transcript, and the answers.
+/// and no entry is of a worker without a transcript. Else the least place whose entry fails is reported, or the one
+/// after the journal where a receipt is left over. No memory is taken. O(entries) for each transcript, and the answers.
 pub fn gather(entries: &[Entry], transcripts: &[Transcript]) -> Result<(), Mismatch>
     requires apart { IsDistinct (λ one other. one.worker == other.worker) transcripts.now }
     requires each { All (λ t. length t.answers ≡ length t.lines) transcripts.now }

@@ -12,7 +12,7 @@ use Rattle.qchange.proofs.ParentLinks.{lookup-recounted}
 
 -- ---- counts by number
 
--- the counts are so of each inode that is there, told whether it is a directory
+-- the counts are so of each inode that is there, by whether it is a directory
 abbrev pub AreCounts : State → (ℕ → Bool → ℕ) → List (ℕ × ℕ) → Type 0
 AreCounts S count links = (q : ℕ) → lookup (is_at (nat_cmp q)) links ≡ option_map (λ inode. count q inode.dir) (inode_at S q)
 

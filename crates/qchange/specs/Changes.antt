@@ -24,7 +24,7 @@ altered_at S number change (Some inode) = with_inode S number (change inode)
 abbrev pub altered : State → ℕ → (Inode → Inode) → State
 altered S number change = altered_at S number change (inode_at S number)
 
--- what a change makes of inodes and names, told the bytes that the call brings
+-- what a change makes of inodes and names, with the bytes that the call brings
 abbrev pub changed : State → TreeChange → List ℕ → State
 changed S (Create dir name uid gid) bytes = created S (new_file uid gid) dir (string_bytes name)
 changed S (Mkdir dir name uid gid) bytes = created S (new_directory uid gid) dir (string_bytes name)

@@ -4,7 +4,7 @@ use Rattle.std.specs.Ordering.{nat_cmp}
 use Rattle.std.specs.BTreeMap.{is_at}
 use Rattle.std.specs.Map.{set_value}
 
--- the counts after a directory moved, told whether it took the place of another, and how many links its parents had:
+-- the counts after a directory moved, by whether it took the place of another and how many links its parents had:
 -- the one that it leaves has one less, and the one that it comes to one more, but for the one that it replaces
 abbrev pub moved_links : List (ℕ × ℕ) → ℕ → ℕ → Bool → ℕ → ℕ → List (ℕ × ℕ)
 moved_links links dir to_dir onto from to =

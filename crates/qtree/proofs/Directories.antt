@@ -8,7 +8,7 @@ pub record IsThere (o : Option Inode) : Type 0 where
   pub there : o ≡ Some inode
   pub directory : inode.dir ≡ true
 
--- it is told from the inode
+-- it is known from the inode
 pub directory-there : (o : Option Inode) → is_dir o ≡ true → IsThere o
 directory-there None stands = cc
 directory-there (Some inode) stands = record { inode = inode; there = refl; directory = stands }

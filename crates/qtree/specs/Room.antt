@@ -6,7 +6,7 @@ use Rattle.std.specs.BTreeMap.{is_at}
 use Rattle.std.specs.Map.{lookup}
 use Rattle.qblocks.specs.WriteRoom.{RoomyFile}
 
--- what is made beforehand: room for so many more inodes, by number for so many more names, and each file's
+-- what is made beforehand: room for a number of further inodes, by directory for a number of names, and each file's
 pub record Room : Type 0 where
   pub inodes : ℕ
   pub names : List (ℕ × ℕ)

@@ -29,7 +29,7 @@ abbrev pub all_names : List (ℕ × Node) → List (NameKey × ℕ)
 all_names [] = []
 all_names (e ∷ es) = keyed e.0 (in_order (slice_cmp nat_cmp) (names_in e.1.content)) ++ all_names es
 
--- what is seen of nodes in a table that has room for so many more
+-- what is seen of nodes in a table that has room for `spare` more
 abbrev pub tree_of : List (ℕ × Node) → ℕ → RoomyTree
 tree_of nodes spare = record {
   inodes = read_by inode_of (in_order nat_cmp nodes);

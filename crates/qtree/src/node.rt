@@ -132,7 +132,7 @@ impl Node {
         }
     }
 
-    /// Makes the room of a write for which so many blocks are missing in this file.
+    /// Makes the room of a write for which `missing` blocks are not in this file yet.
     pub(crate) fn ready_write(
         &mut self,
         off: u64,

@@ -24,7 +24,7 @@ slice_split-no_position p xs none =
     let long : nat_lt (position_or_len p xs) (length xs) ≡ false = found_none (nat_lt (position_or_len p xs) (length xs)) (position_or_len p xs) none in
     slice_split_none p xs (λ k d below. fails_before_first p xs k d (grind (arith, tests, long, below)))
 
--- a list that is cut is what stands before, and the parts of what stands behind
+-- a list that is cut is what stands before, and the parts of what stands after
 pub slice_split-position : (p : ℕ → Bool) (xs : List ℕ) (at : ℕ) → position p xs ≡ Some at
     → slice_split p xs ≡ take at xs ∷ slice_split p (drop (at + 1) xs)
 slice_split-position p xs at found =

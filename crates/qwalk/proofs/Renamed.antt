@@ -78,7 +78,7 @@ module _ (S : State) (lawful : IsLawful S) (dir : ℕ) (name : List ℕ) (number
 
 -- ---- the tests
 
--- what a fault, or none, says of the attempt, told what it comes to without one
+-- what a fault, or none, says of the attempt, by what it comes to without one
 abbrev Told : State → ℕ → Option Refusal → Attempt → Type 0
 Told after number (Some refusal) attempt = attempt ≡ Refuse refusal
 Told after number None attempt = attempt ≡ Becomes after number

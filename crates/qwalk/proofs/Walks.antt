@@ -41,12 +41,12 @@ stops : (S : State) (reached : Result ℕ Refusal) (name : List ℕ) (refusal : 
 stops S reached name refusal [] some fault = absurd (omega (arith, some))
 stops S reached name refusal (next ∷ names) some fault = ap (λ r. parent_from S r next names) fault ∙ parent_from-fault S refusal next names
 
--- a fault at the name that waits is that of the whole walk, since parts are behind it
+-- a fault at the name that waits is that of the whole walk, since parts follow it
 pub parent_from-stops : (S : State) (reached : Result ℕ Refusal) (name : List ℕ) (refusal : Refusal) (p : ℕ → Bool) (rest : List ℕ)
     → follow S reached name ≡ Err refusal → parent_from S reached name (slice_split p rest) ≡ Err refusal
 parent_from-stops S reached name refusal p rest fault = stops S reached name refusal (slice_split p rest) (omega (arith, length-slice_split p rest)) fault
 
--- ---- the place of a path
+-- ---- the parent of a path's last component
 
 -- there is a last name where there is one
 some-last : (names : List (List ℕ)) → 0 < length names → is_some (last_name names) ≡ true
@@ -59,16 +59,16 @@ under-fault : (S : State) (of_root : Refusal) (try : ℕ → List ℕ → Attemp
 under-fault S of_root try names refusal None some fault = cc
 under-fault S of_root try names refusal (Some name) some fault = ap (λ r. in_reached try name (as_directory S r)) fault
 
--- a fault of the walk to the place is the call's
-pub place-fault : (S : State) (of_root : Refusal) (try : ℕ → List ℕ → Attempt) (p : ℕ → Bool) (bytes : List ℕ) (refusal : Refusal)
+-- a fault of the walk to the parent is the call's
+pub parent-fault : (S : State) (of_root : Refusal) (try : ℕ → List ℕ → Attempt) (p : ℕ → Bool) (bytes : List ℕ) (refusal : Refusal)
     → parent S (slice_split p bytes) ≡ Err refusal → under S of_root try (slice_split p bytes) (last_name (slice_split p bytes)) ≡ Refuse refusal
-place-fault S of_root try p bytes refusal fault =
+parent-fault S of_root try p bytes refusal fault =
     let some : 0 < length (slice_split p bytes) = omega (arith, length-slice_split p bytes) in
     under-fault S of_root try (slice_split p bytes) refusal (last_name (slice_split p bytes)) (some-last (slice_split p bytes) some) fault
 
--- ---- what the walk to the place of a path meets
+-- ---- what the walk to the parent of a path's last component meets
 
--- behind a fault it meets nothing
+-- after a fault it meets nothing
 meets_from-fault : (S : State) (number : ℕ) (refusal : Refusal) (names : List (List ℕ)) → meets_from S number (Err refusal) names ≡ false
 meets_from-fault S number refusal [] = refl
 meets_from-fault S number refusal (name ∷ rest) = meets_from-first S number (Err refusal) name rest ∙ meets_from-fault S number refusal rest
@@ -81,7 +81,7 @@ module _ (S : State) (number reached : ℕ) (names : List (List ℕ)) (name : Li
   pub meets_from-here : (reached == number) ≡ true → meets_from S number (Ok reached) names ≡ true
   meets_from-here here = first ∙ ap (λ b. b || meets_from S number (follow S (Ok reached) name) rest) here
 
-  -- else what is met behind it is
+  -- else what is met after it is
   pub meets_from-on : (next : ℕ) → (reached == number) ≡ false → follow S (Ok reached) name ≡ Ok next
       → meets_from S number (Ok reached) names ≡ meets_from S number (Ok next) rest
   meets_from-on next other step =

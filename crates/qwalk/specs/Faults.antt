@@ -1,4 +1,4 @@
--- Which of its own tests a call fails first, told what they ask. No public clause cites this module.
+-- Which of its own tests a call fails first, by what they ask. No public clause cites this module.
 use Rattle.std.specs.Prelude.{ℕ, ◌+◌, ◌==◌, ◌&&◌, Bool, true, not, nat_lt, if◌then◌else◌, is_some, List, Option, Some, None}
 use Rattle.qplain.specs.declared.bounds.TheConstants.{MAX_LINKS}
 use Rattle.qplain.specs.declared.refusal.Refusal.{Refusal}
@@ -9,7 +9,7 @@ use Rattle.qplain.specs.Rights.{may_remove}
 use Rattle.qplain.specs.State.{State, is_directory}
 use Rattle.qplain.specs.Use.{is_empty, links_of}
 
--- of a further name of an inode: told whether it is a directory, what has the name, and the inode's links
+-- of a further name of an inode, by whether it is a directory, what has the name, and the inode's links
 abbrev pub link_fault : Bool → Option ℕ → ℕ → Option Refusal
 link_fault dir leads_to links =
     if dir then Some EPERM
@@ -21,7 +21,7 @@ abbrev pub adds_too_many : State → ℕ → Bool → ℕ → Option ℕ → Boo
 adds_too_many S dir is_dir to_dir target =
     is_dir && (not (dir == to_dir) && (not (is_some target) && nat_lt MAX_LINKS (links_of S to_dir true + 1)))
 
--- of another name for an inode: told whether it is a directory, the components of the other path, and what that leads
+-- of another name for an inode, by whether it is a directory, the components of the other path, and what that leads
 -- to, which is not the inode itself
 abbrev pub rename_fault : State → Caller → List (List ℕ) → ℕ → ℕ → Bool → ℕ → Option ℕ → Option Refusal
 rename_fault S cred to dir number is_dir to_dir target =

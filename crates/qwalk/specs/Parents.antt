@@ -1,4 +1,4 @@
--- The place of a path. No public clause cites this module.
+-- The parent of a path's last component. No public clause cites this module.
 use Rattle.std.specs.Prelude.{ℕ, ◌-◌, List, length, take, Result}
 use Rattle.qplain.specs.declared.refusal.Refusal.{Refusal}
 use Rattle.qplain.specs.State.{State}

@@ -5,10 +5,10 @@ pub use call_paths::paths_fault;
 pub use directory::{has_all_links, is_empty};
 pub use links::{FurtherName, further_name};
 pub use path::last_of;
-pub use renames::{Renaming, is_its_own, places_of, rename_fault};
+pub use renames::{Renaming, find_renaming, is_its_own, rename_fault};
 pub use rights::{is_own, may_give, may_remove, may_write};
 pub use stats::stat_of;
-pub use walk::{Found, Place, find, inode, place_of};
+pub use walk::{Found, LastComponent, find, inode, last_component};
 
 mod call_paths;
 mod directory;

@@ -1,4 +1,4 @@
-//! A further name for a file: the file, the place of the name, and why it may not have it (link(2)).
+//! A further name for a file: the file, where the name is to stand, and why it may not have it (link(2)).
 ghost use Rattle.std.specs.Prelude.{◌≡◌, true, None, IfErr, IfOk};
 ghost use Rattle.qplain.specs.Attempt.{Becomes, Refuse, at_path};
 ghost use Rattle.qplain.specs.Names.{link_to, with_name};
@@ -8,11 +8,11 @@ ghost use Rattle.qtree.specs.Nodes.{is_dir_content};
 ghost use Rattle.qtree.specs.TreeOf.{IsFile, IsTreeOf};
 ghost use Rattle.qwalk.specs.Faults.{link_fault};
 
-use crate::walk::{Found, find, place_of};
+use crate::walk::{Found, find, last_component};
 use qplain::{MAX_LINKS, Refusal};
 use qtree::{Content, Node, Tree};
 
-/// A file, and the place of its further name.
+/// A file, and its further name, in the directory where that is to stand.
 #[derive(Clone, Copy)]
 pub struct FurtherName<'a> {
     pub number: u64,
@@ -35,7 +35,8 @@ fn link_fault(node: &Node, leads_to: Option<u64>) -> Option<Refusal>
     }
 }
 
-/// The file that the first path leads to, and the place of the second, where the file may have it as a further name.
+/// The file that the first path leads to, and the last component of the second, where the file may have it as a further
+/// name.
 pub fn further_name<'a>(tree: &Tree, from: &str, to: &'a str) -> Result<FurtherName<'a>, Refusal>
     ensures file { IfOk result (λ new. (S : State) → IsTreeOf S tree.now → IsFile S new.number) }
     ensures directory { IfOk result (λ new. (S : State) → IsTreeOf S tree.now → is_directory S new.dir ≡ true) }
@@ -46,13 +47,13 @@ pub fn further_name<'a>(tree: &Tree, from: &str, to: &'a str) -> Result<FurtherN
         → at_path S (link_to S to.now) from.now ≡ Refuse refusal) }
 {
     let Found { number, node } = find(tree, from)?;
-    let place = place_of(tree, to, Refusal::EEXIST)?;
-    match link_fault(node, place.leads_to) {
+    let last = last_component(tree, to, Refusal::EEXIST)?;
+    match link_fault(node, last.leads_to) {
         Some(refusal) => Err(refusal),
         None => Ok(FurtherName {
             number,
-            dir: place.dir,
-            name: place.name,
+            dir: last.dir,
+            name: last.name,
         }),
     }
 }

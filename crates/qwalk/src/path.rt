@@ -13,7 +13,7 @@ fn slash_in(text: &str) -> Option<usize>
     text.as_bytes().iter().position(|byte| *byte == b'/')
 }
 
-/// The text before the first slash, and that behind it, if there is one. O(bytes before it).
+/// The text before the first slash, and that after it, if there is one. O(bytes before it).
 pub(crate) fn cut(text: &str) -> (&str, Option<&str>)
     ensures parts { slice_split is_slash text.now ≡ result.0.now ∷ parts_in (option_map (λ rest. rest.now) result.1) }
     ensures less { IfSome result.1 (λ rest. length rest.now < length text.now) }

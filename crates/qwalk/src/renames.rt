@@ -1,4 +1,4 @@
-//! Another name for an inode: what has the first, the place of the second, and why it may not have it (rename(2)).
+//! Another name for an inode: what has the first, where the second is to stand, and why it may not have it (rename(2)).
 ghost use Rattle.std.specs.Prelude.{◌≡◌, ◌==◌, ◌&&◌, true, not, Some, IfErr, IfOk};
 ghost use Rattle.std.specs.Option.{IsSome};
 ghost use Rattle.qplain.specs.declared.refusal.Refusal.TheVariants.{EBUSY};
@@ -14,20 +14,20 @@ ghost use Rattle.qwalk.specs.Faults.{adds_too_many, rename_fault};
 
 use crate::directory::{has_all_links, leads_to_directory, leads_to_file, leads_to_names};
 use crate::rights::{is_kept, may_remove};
-use crate::walk::{Place, inode, meets, place_of};
+use crate::walk::{LastComponent, inode, last_component, meets};
 use qplain::{Cred, Refusal};
 use qtree::{Content, Node, Tree};
 
-/// An inode, the directory of its name, and the place of the name that it is to have.
+/// An inode, the directory of its name, and the last component of the path that it is to have.
 #[derive(Clone, Copy)]
 pub struct Renaming<'a> {
     pub dir: u64,
     pub number: u64,
-    pub to: Place<'a>,
+    pub to: LastComponent<'a>,
 }
 
-/// What has the last name of the first path, and the place of the second: ENOENT, and the faults of both walks.
-pub fn places_of<'a>(tree: &Tree, from: &str, to: &'a str) -> Result<Renaming<'a>, Refusal>
+/// What the last component of the first path leads to, and that of the second: ENOENT, and the faults of both walks.
+pub fn find_renaming<'a>(tree: &Tree, from: &str, to: &'a str) -> Result<Renaming<'a>, Refusal>
     ensures led { IfOk result (λ new. (S : State) → IsTreeOf S tree.now
         → named S new.dir (name_in from.now) ≡ Some new.number) }
     ensures directory { IfOk result (λ new. (S : State) → IsTreeOf S tree.now → is_directory S new.to.dir ≡ true) }
@@ -40,16 +40,16 @@ pub fn places_of<'a>(tree: &Tree, from: &str, to: &'a str) -> Result<Renaming<'a
     ensures fault { IfErr result (λ refusal. (S : State) → IsTreeOf S tree.now → (cred : Caller)
         → in_place S EBUSY (rename_from S cred to.now) from.now ≡ Refuse refusal) }
 {
-    let place = place_of(tree, from, Refusal::EBUSY)?;
-    let Some(number) = place.leads_to else {
+    let last = last_component(tree, from, Refusal::EBUSY)?;
+    let Some(number) = last.leads_to else {
         return Err(Refusal::ENOENT);
     };
     if inode(tree, number).is_none() {
         return Err(Refusal::ENOENT);
     }
-    let to = place_of(tree, to, Refusal::EBUSY)?;
+    let to = last_component(tree, to, Refusal::EBUSY)?;
     Ok(Renaming {
-        dir: place.dir,
+        dir: last.dir,
         number,
         to,
     })

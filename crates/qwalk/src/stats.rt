@@ -1,4 +1,4 @@
-//! What is told of an inode.
+//! The stat of an inode.
 ghost use Rattle.std.specs.Prelude.{◌≡◌, length};
 ghost use Rattle.qblocks.specs.File.{size_of};
 ghost use Rattle.qtree.specs.Nodes.{file_in, inode_of};

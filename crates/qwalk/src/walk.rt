@@ -23,9 +23,10 @@ struct Step<'a> {
     name: &'a str,
 }
 
-/// The place of a path: the directory that all names but the last lead to, the last name, and what it leads to.
+/// The last component of a path: its parent, which is the directory that the others lead to, its name, and what that
+/// leads to.
 #[derive(Clone, Copy)]
-pub struct Place<'a> {
+pub struct LastComponent<'a> {
     pub dir: u64,
     pub name: &'a str,
     pub leads_to: Option<u64>,
@@ -75,7 +76,7 @@ fn walk(tree: &Tree, path: &str) -> Result<u64, Refusal>
     Ok(reached)
 }
 
-/// Whether the walk to the place of a path comes past this inode, or ends there.
+/// Whether the walk to the parent of a path's last component comes past this inode, or ends there.
 pub(crate) fn meets(tree: &Tree, path: &str, number: u64) -> bool
     ensures { (S : State) → IsTreeOf S tree.now → result ≡ meets S (components path.now) number }
 {
@@ -140,15 +141,19 @@ pub fn find<'a>(tree: &'a Tree, path: &str) -> Result<Found<'a>, Refusal>
     }
 }
 
-/// The place of a path, which is another than `/`: of that, it is the refusal that is handed in.
-pub fn place_of<'a>(tree: &Tree, path: &'a str, of_root: Refusal) -> Result<Place<'a>, Refusal>
-    ensures directory { IfOk result (λ place. (S : State) → IsTreeOf S tree.now
-        → is_directory S place.dir ≡ true) }
-    ensures leads_to { IfOk result (λ place. (S : State) → IsTreeOf S tree.now
-        → place.leads_to ≡ named S place.dir place.name.now) }
-    ensures name { IfOk result (λ place. name_in path.now ≡ place.name.now) }
-    ensures place { IfOk result (λ place. (S : State) → IsTreeOf S tree.now → (try : ℕ → List ℕ → Attempt)
-        → in_place S of_root try path.now ≡ try place.dir place.name.now) }
+/// The last component of a path, which is another than `/`: of that, it is the refusal that is handed in.
+pub fn last_component<'a>(
+    tree: &Tree,
+    path: &'a str,
+    of_root: Refusal,
+) -> Result<LastComponent<'a>, Refusal>
+    ensures directory { IfOk result (λ last. (S : State) → IsTreeOf S tree.now
+        → is_directory S last.dir ≡ true) }
+    ensures leads_to { IfOk result (λ last. (S : State) → IsTreeOf S tree.now
+        → last.leads_to ≡ named S last.dir last.name.now) }
+    ensures name { IfOk result (λ last. name_in path.now ≡ last.name.now) }
+    ensures found { IfOk result (λ last. (S : State) → IsTreeOf S tree.now → (try : ℕ → List ℕ → Attempt)
+        → in_place S of_root try path.now ≡ try last.dir last.name.now) }
     ensures fault { IfErr result (λ refusal. (S : State) → IsTreeOf S tree.now → (try : ℕ → List ℕ → Attempt)
         → in_place S of_root try path.now ≡ Refuse refusal) }
 {
@@ -160,7 +165,7 @@ pub fn place_of<'a>(tree: &Tree, path: &'a str, of_root: Refusal) -> Result<Plac
         Err(refusal) => return Err(refusal),
     };
     let leads_to = look(tree, dir, name)?;
-    Ok(Place {
+    Ok(LastComponent {
         dir,
         name,
         leads_to,

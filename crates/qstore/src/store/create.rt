@@ -21,7 +21,7 @@ use qchange::TreeChange;
 use qledger::{Claim, Slots};
 use qplain::{Cred, NoMemory, Refusal};
 use qrules::MAX_MOMENT;
-use qwalk::place_of;
+use qwalk::last_component;
 
 /// The change by which a new inode comes to stand.
 fn creation(sort: FileType, dir: u64, name: String, uid: u32, gid: u32) -> TreeChange
@@ -63,13 +63,13 @@ impl Store {
         ensures refused_first { IsRefused (settle self.old.state cred.now moment
             (in_place self.old.state EEXIST (create_as self.old.state cred.now) path.now)).1 → IsOk result }
     {
-        let place = match place_of(self.tree(), path, Refusal::EEXIST) {
-            Ok(place) => place,
+        let last = match last_component(self.tree(), path, Refusal::EEXIST) {
+            Ok(last) => last,
             Err(refusal) => return Ok(Ready::refused(refusal)),
         };
-        match place.leads_to {
+        match last.leads_to {
             Some(_) => Ok(Ready::refused(Refusal::EEXIST)),
-            None => self.make_inode(cred, callers, moment, place.dir, place.name, FileType::File),
+            None => self.make_inode(cred, callers, moment, last.dir, last.name, FileType::File),
         }
     }
 

@@ -17,7 +17,7 @@ use crate::store::Store;
 use qledger::Slots;
 use qplain::{Cred, NoMemory, Refusal};
 use qrules::MAX_MOMENT;
-use qwalk::{has_all_links, place_of};
+use qwalk::{has_all_links, last_component};
 
 impl Store {
     /// Decides the making of a directory, and makes room for it.
@@ -37,13 +37,13 @@ impl Store {
         ensures refused_first { IsRefused (settle self.old.state cred.now moment
             (in_place self.old.state EEXIST (mkdir_as self.old.state cred.now) path.now)).1 → IsOk result }
     {
-        let place = match place_of(self.tree(), path, Refusal::EEXIST) {
-            Ok(place) => place,
+        let last = match last_component(self.tree(), path, Refusal::EEXIST) {
+            Ok(last) => last,
             Err(refusal) => return Ok(Ready::refused(refusal)),
         };
-        match place.leads_to {
+        match last.leads_to {
             Some(_) => Ok(Ready::refused(Refusal::EEXIST)),
-            None => self.make_directory(cred, callers, moment, place.dir, place.name),
+            None => self.make_directory(cred, callers, moment, last.dir, last.name),
         }
     }
 

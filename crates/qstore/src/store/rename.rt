@@ -24,7 +24,7 @@ use qledger::{Claim, Slots};
 use qplain::{Cred, NO_CHANGE, NoMemory, Path, Reply};
 use qrules::MAX_MOMENT;
 use qtree::Content;
-use qwalk::{Renaming, inode, is_its_own, places_of, rename_fault};
+use qwalk::{Renaming, find_renaming, inode, is_its_own, rename_fault};
 
 /// What the inode that is replaced takes of its owners' records, before and after, where there is one.
 struct Replaced {
@@ -51,7 +51,7 @@ impl Store {
         ensures refused_first { IsRefused (settle self.old.state cred.now moment
             (in_place self.old.state EBUSY (rename_from self.old.state cred.now to.now) from.now)).1 → IsOk result }
     {
-        let new = match places_of(self.tree(), from.text(), to) {
+        let new = match find_renaming(self.tree(), from.text(), to) {
             Ok(new) => new,
             Err(refusal) => return Ok(Ready::refused(refusal)),
         };

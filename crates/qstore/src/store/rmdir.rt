@@ -20,7 +20,7 @@ use qledger::Slots;
 use qplain::{Cred, NoMemory, Path, Refusal};
 use qrules::MAX_MOMENT;
 use qtree::Content;
-use qwalk::{inode, is_empty, may_remove, place_of};
+use qwalk::{inode, is_empty, last_component, may_remove};
 
 impl Store {
     /// Decides that a directory goes.
@@ -40,13 +40,13 @@ impl Store {
         ensures refused_first { IsRefused (settle self.old.state cred.now moment
             (in_place self.old.state EBUSY (rmdir_as self.old.state cred.now) path.now)).1 → IsOk result }
     {
-        let place = match place_of(self.tree(), path.text(), Refusal::EBUSY) {
-            Ok(place) => place,
+        let last = match last_component(self.tree(), path.text(), Refusal::EBUSY) {
+            Ok(last) => last,
             Err(refusal) => return Ok(Ready::refused(refusal)),
         };
-        match place.leads_to {
+        match last.leads_to {
             Some(number) => {
-                self.take_directory(cred, callers, moment, path, place.dir, place.name, number)
+                self.take_directory(cred, callers, moment, path, last.dir, last.name, number)
             }
             None => Ok(Ready::refused(Refusal::ENOENT)),
         }

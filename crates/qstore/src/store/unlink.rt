@@ -23,7 +23,7 @@ use qledger::{Claim, Slots};
 use qplain::{Cred, NoMemory, Path, Refusal};
 use qrules::MAX_MOMENT;
 use qtree::{Content, Node};
-use qwalk::{inode, may_remove, place_of};
+use qwalk::{inode, last_component, may_remove};
 
 /// What is left of what a file takes, once a name of it has gone.
 pub(super) fn left_of(node: &Node, claim: Claim) -> Option<Claim>
@@ -63,13 +63,13 @@ impl Store {
         ensures refused_first { IsRefused (settle self.old.state cred.now moment
             (in_place self.old.state EISDIR (unlink_as self.old.state cred.now) path.now)).1 → IsOk result }
     {
-        let place = match place_of(self.tree(), path.text(), Refusal::EISDIR) {
-            Ok(place) => place,
+        let last = match last_component(self.tree(), path.text(), Refusal::EISDIR) {
+            Ok(last) => last,
             Err(refusal) => return Ok(Ready::refused(refusal)),
         };
-        match place.leads_to {
+        match last.leads_to {
             Some(number) => {
-                self.take_name(cred, callers, moment, path, place.dir, place.name, number)
+                self.take_name(cred, callers, moment, path, last.dir, last.name, number)
             }
             None => Ok(Ready::refused(Refusal::ENOENT)),
         }

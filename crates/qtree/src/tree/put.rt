@@ -137,7 +137,7 @@ impl Tree {
         self.put_name(to_dir, to_name, number);
     }
 
-    /// Makes the room of a write for which so many blocks are missing in this file.
+    /// Makes the room of a write for which `missing` blocks are not in this file yet.
     pub fn ready_write(
         &mut self,
         number: u64,

@@ -1,6 +1,6 @@
 use Rattle.std.proofs.Common.{◌≤◌, ◌<◌, ◌+◌, ◌∙◌, Some, sym, ap, subst, arith, length}
-use Rattle.qaudit_checks.specs.FirstMismatch.{AreSeenAnswers}
-use Rattle.qaudit_checks.proofs.Receipts.{IsNext, first-left, first-none, looked-at, other-seen, own-seen, passed-over, told-over}
+use Rattle.qaudit_checks.specs.FirstMismatch.{AreSeenAnswers, IsNextReceipt}
+use Rattle.qaudit_checks.proofs.Receipts.{first-left, first-none, looked-at, other-seen, own-seen, passed-over, told-over}
 use Rattle.qaudit_checks.proofs.answers.first_other.Goals.{then-entry-transcript+else-not-is_next, else-entry-transcript}
 use Rattle.qaudit_checks.proofs.answers.first_other.Goals as goal
 
@@ -15,12 +15,7 @@ loop-entry-preserved c =
       elim c.if-entry-transcript.branch [
         | then-entry-transcript+else-not-is_next w ↦
             let next = w.next_receipt-seen.result in
-            let is : IsNext t.answers c.loop-entry.seen next =
-            subst (λ answers. IsNext answers c.loop-entry.seen next) c.as_slice-answers.ensures (record {
-              within = w.next_receipt-seen.ensures.within;
-              skipped = w.next_receipt-seen.ensures.skipped;
-              receipt = w.next_receipt-seen.ensures.receipt;
-            }) in
+            let is = subst (λ answers. IsNextReceipt answers c.loop-entry.seen next) c.as_slice-answers.ensures w.next_receipt-seen.ensures in
             let told = told-over t c.as_slice-lines.result.now c.as_slice-answers.result.now next e (index + 1)
             c.as_slice-lines.ensures c.as_slice-answers.ensures
             (w.is_next.ensures.0 w.if-not-is_next.false ∙ ap (λ place. Some (place, e)) c.loop-entry.invariant.0) in
@@ -39,12 +34,7 @@ returns-then-next_receipt-answers c =
     let t = c.args.transcript.now in
     let index = c.loop-entry.entry-index in
     let next = c.next_receipt.result in
-    let is : IsNext t.answers c.loop-entry.seen next =
-    subst (λ answers. IsNext answers c.loop-entry.seen next) c.as_slice-answers.ensures (record {
-      within = c.next_receipt.ensures.within;
-      skipped = c.next_receipt.ensures.skipped;
-      receipt = c.next_receipt.ensures.receipt;
-    }) in
+    let is = subst (λ answers. IsNextReceipt answers c.loop-entry.seen next) c.as_slice-answers.ensures c.next_receipt.ensures in
     first-left c.args.entries.now t index next c.loop-entry.place
     (passed-over c.args.entries.now t index c.loop-entry.seen next c.loop-entry.invariant.1 c.requires.each is)
     (omega (arith, c.loop-entry-test.false, c.loop-entry.auto.entry-index-end)) c.loop-entry.invariant.0 c.requires.each
@@ -55,12 +45,7 @@ returns c =
     let t = c.args.transcript.now in
     let index = c.loop-entry.entry-index in
     let next = c.next_receipt.result in
-    let is : IsNext t.answers c.loop-entry.seen next =
-    subst (λ answers. IsNext answers c.loop-entry.seen next) c.as_slice-answers.ensures (record {
-      within = c.next_receipt.ensures.within;
-      skipped = c.next_receipt.ensures.skipped;
-      receipt = c.next_receipt.ensures.receipt;
-    }) in
+    let is = subst (λ answers. IsNextReceipt answers c.loop-entry.seen next) c.as_slice-answers.ensures c.next_receipt.ensures in
     let past = subst (λ answers. length answers ≤ next) c.as_slice-answers.ensures c.if-next_receipt-answers.false in
     first-none c.args.entries.now t index next
     (passed-over c.args.entries.now t index c.loop-entry.seen next c.loop-entry.invariant.1 c.requires.each is)

@@ -10,10 +10,17 @@ loop-at-preserved c = (
       (sym c.is_err.ensures.value ∙ c.if-is_err.true),
 )
 
-pub returns-else-is_err-clause-receipt : goal.returns-else-is_err-clause-receipt
-returns-else-is_err-clause-receipt c =
-    granted-at c.loop-at.at c.args.answers.now _ c.index-answers-at.result c.index-answers-at.is c.loop-at-test.true
-    (sym c.is_err.ensures.value ∙ c.if-is_err.false)
+pub returns-else-is_err : goal.returns-else-is_err
+returns-else-is_err c = record {
+  within = c.loop-at.invariant.0;
+  skipped = c.loop-at.invariant.1;
+  receipt = granted-at c.loop-at.at c.args.answers.now _ c.index-answers-at.result c.index-answers-at.is c.loop-at-test.true
+      (sym c.is_err.ensures.value ∙ c.if-is_err.false);
+}
 
-pub returns-after-loop-at-clause-receipt : goal.returns-after-loop-at-clause-receipt
-returns-after-loop-at-clause-receipt c = past-all c.loop-at.at c.args.answers.now c.loop-at-test.false
+pub returns-after-loop-at : goal.returns-after-loop-at
+returns-after-loop-at c = record {
+  within = c.loop-at.invariant.0;
+  skipped = c.loop-at.invariant.1;
+  receipt = past-all c.loop-at.at c.args.answers.now c.loop-at-test.false;
+}

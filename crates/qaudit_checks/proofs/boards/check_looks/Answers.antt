@@ -2,28 +2,24 @@ use Rattle.std.proofs.Common.{◌≡◌, ◌+◌, ◌++◌, ◌∷◌, [], lengt
 use Rattle.std.proofs.lemmas.List.{length_push}
 use Rattle.qplain.specs.State.{start}
 use Rattle.qaudit_checks.specs.LawfulBoards.{boards_in}
-use Rattle.qaudit_checks.specs.SeenBoards.{IsJudged, AreSeenBoards}
-use Rattle.qaudit_checks.proofs.Boards.{fails-shown, none-more, not-lawful, shown-more}
+use Rattle.qaudit_checks.specs.SeenBoards.{AreSeenBoards, IsJudged}
+use Rattle.qaudit_checks.proofs.Boards.{fails-shown, none-more, shown-more, verdict-fails}
 use Rattle.qaudit_checks.proofs.boards.check_looks.Goals.{in-Ok+in_ok-may_stand+else-not-branch, in_default}
 use Rattle.qaudit_checks.proofs.boards.check_looks.Goals as goal
 
-pub returns-then-not-branch-clause-board : goal.returns-then-not-branch-clause-board
-returns-then-not-branch-clause-board c index told =
+pub returns-then-not-branch : goal.returns-then-not-branch
+returns-then-not-branch c =
     let S = start c.args.setup.now in
     let entries = c.args.entries.now in
     let looks = c.args.looks.now in
     let at = c.loop-look.look-index in
     let seen = boards_in (take at looks) in
-    let same : c.loop-look.index + 1 ≡ index = cc in
+    let index = c.loop-look.index + 1 in
     let judged = c.in_ok-may_stand.ensures S seen c.loop-look.invariant.seen in
-    fails-shown looks at _ c.look-item.result c.loop-look-test.true c.look-item.is S entries c.in-Ok.board index c.in-Ok.is
-    (sym same ∙ ap (λ n. n + 1) c.loop-look.invariant.index) c.loop-look.invariant.seen.lawful
-    (subst (IsJudged S entries seen c.in-Ok.board c.may_stand.new.self) c.if-not-branch.true judged)
-
-pub returns-then-not-branch-clause-lawful : goal.returns-then-not-branch-clause-lawful
-returns-then-not-branch-clause-lawful c lawful index told =
-    not-lawful (start c.args.setup.now) c.args.entries.now (boards_in c.args.looks.now) index
-    (returns-then-not-branch-clause-board c index told) lawful
+    verdict-fails S entries (boards_in looks) index
+    (fails-shown looks at _ c.look-item.result c.loop-look-test.true c.look-item.is S entries c.in-Ok.board index c.in-Ok.is
+    (ap (λ n. n + 1) c.loop-look.invariant.index) c.loop-look.invariant.seen.lawful
+    (subst (IsJudged S entries seen c.in-Ok.board c.may_stand.new.self) c.if-not-branch.true judged))
 
 pub loop-look-preserved : goal.loop-look-preserved
 loop-look-preserved c =

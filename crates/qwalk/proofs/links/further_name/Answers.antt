@@ -11,11 +11,11 @@ returns-in_err-number-clause-fault c =
     told-fault _ c.from_residual.result c.in_err-number.field-0.0 (search rules) (λ S is lawful.
     c.in_err-number.ensures.fault S is (link_to S c.args.to.now))
 
-pub returns-in_err-place-clause-fault : goal.returns-in_err-place-clause-fault
-returns-in_err-place-clause-fault c =
-    told-fault _ c.from_residual-in_err-place.result c.in_err-place.field-0.0 (search rules) (λ S is lawful.
+pub returns-in_err-last-clause-fault : goal.returns-in_err-last-clause-fault
+returns-in_err-last-clause-fault c =
+    told-fault _ c.from_residual-in_err-last.result c.in_err-last.field-0.0 (search rules) (λ S is lawful.
     c.in_ok-number.ensures.found S is (link_to S c.args.to.now)
-    ∙ c.in_err-place.ensures.fault S is (link_as S c.in_ok-number.field-0.number (inode_of c.in_ok-number.field-0.node.now)))
+    ∙ c.in_err-last.ensures.fault S is (link_as S c.in_ok-number.field-0.number (inode_of c.in_ok-number.field-0.node.now)))
 
 pub returns-in-Some-clause-fault : goal.returns-in-Some-clause-fault
 returns-in-Some-clause-fault c = λ S is lawful.
@@ -23,12 +23,12 @@ returns-in-Some-clause-fault c = λ S is lawful.
     let number = c.in_ok-number.field-0.number in
     let node = c.in_ok-number.field-0.node.now in
     let inode = inode_of node in
-    let place = c.in_ok-place.place in
+    let last = c.in_ok-last.last in
     c.in_ok-number.ensures.found S is (link_to S x.to.now)
-    ∙ c.in_ok-place.ensures.place S is (link_as S number inode)
-    ∙ link-refused S lawful number inode (c.in_ok-number.ensures.there S is) place.dir place.name.now (c.in_ok-place.ensures.directory S is)
+    ∙ c.in_ok-last.ensures.found S is (link_as S number inode)
+    ∙ link-refused S lawful number inode (c.in_ok-number.ensures.there S is) last.dir last.name.now (c.in_ok-last.ensures.directory S is)
     node.links (c.in_ok-number.ensures.links S is) c.in-Some.refusal
-    (ap (λ (o : Option ℕ). link_fault inode.dir o node.links) (sym (c.in_ok-place.ensures.leads_to S is)) ∙ sym c.link_fault.ensures ∙ c.in-Some.is)
+    (ap (λ (o : Option ℕ). link_fault inode.dir o node.links) (sym (c.in_ok-last.ensures.leads_to S is)) ∙ sym c.link_fault.ensures ∙ c.in-Some.is)
 
 pub returns-in-None-clause-file : goal.returns-in-None-clause-file
 returns-in-None-clause-file c = λ S is.
@@ -36,7 +36,7 @@ returns-in-None-clause-file c = λ S is.
     record {
       inode = inode_of node;
       there = c.in_ok-number.ensures.there S is;
-      is_file = link-file (inode_of node).dir c.in_ok-place.place.leads_to node.links (sym c.link_fault.ensures ∙ c.in-None.is);
+      is_file = link-file (inode_of node).dir c.in_ok-last.last.leads_to node.links (sym c.link_fault.ensures ∙ c.in-None.is);
     }
 
 pub returns-in-None-clause-becomes : goal.returns-in-None-clause-becomes
@@ -45,8 +45,8 @@ returns-in-None-clause-becomes c = λ S is lawful.
     let number = c.in_ok-number.field-0.number in
     let node = c.in_ok-number.field-0.node.now in
     let inode = inode_of node in
-    let place = c.in_ok-place.place in
-    let becomes = link-becomes S lawful number inode (c.in_ok-number.ensures.there S is) place.dir place.name.now (c.in_ok-place.ensures.directory S is)
+    let last = c.in_ok-last.last in
+    let becomes = link-becomes S lawful number inode (c.in_ok-number.ensures.there S is) last.dir last.name.now (c.in_ok-last.ensures.directory S is)
     node.links (c.in_ok-number.ensures.links S is)
-    (ap (λ (o : Option ℕ). link_fault inode.dir o node.links) (sym (c.in_ok-place.ensures.leads_to S is)) ∙ sym c.link_fault.ensures ∙ c.in-None.is) in
-    c.in_ok-number.ensures.found S is (link_to S x.to.now) ∙ c.in_ok-place.ensures.place S is (link_as S number inode) ∙ becomes.2
+    (ap (λ (o : Option ℕ). link_fault inode.dir o node.links) (sym (c.in_ok-last.ensures.leads_to S is)) ∙ sym c.link_fault.ensures ∙ c.in-None.is) in
+    c.in_ok-number.ensures.found S is (link_to S x.to.now) ∙ c.in_ok-last.ensures.found S is (link_as S number inode) ∙ becomes.2

@@ -2,15 +2,15 @@ use Rattle.std.proofs.Common.{rules, ◌≡◌, ap, ◌∙◌}
 use Rattle.std.specs.List.{slice_split}
 use Rattle.qplain.specs.Walk.{components, is_slash, last_name}
 use Rattle.qplain.specs.Attempt.{under}
-use Rattle.qwalk.proofs.Walks.{place-fault, told-fault}
-use Rattle.qwalk.proofs.walk.place_of.Goals as goal
+use Rattle.qwalk.proofs.Walks.{parent-fault, told-fault}
+use Rattle.qwalk.proofs.walk.last_component.Goals as goal
 
 pub returns-in-Err-clause-fault : goal.returns-in-Err-clause-fault
 returns-in-Err-clause-fault c = λ S is try.
     let x = c.args in
     let parts : components x.path.now ≡ slice_split is_slash c.in-Some.names.now = search rules in
     ap (λ names. under S x.of_root try names (last_name names)) parts
-    ∙ place-fault S x.of_root try is_slash c.in-Some.names.now c.in-Err.refusal (c.in-Err.ensures.fault S is)
+    ∙ parent-fault S x.of_root try is_slash c.in-Some.names.now c.in-Err.refusal (c.in-Err.ensures.fault S is)
 
 pub returns-in_err-leads_to-clause-fault : goal.returns-in_err-leads_to-clause-fault
 returns-in_err-leads_to-clause-fault c =
@@ -19,8 +19,8 @@ returns-in_err-leads_to-clause-fault c =
     let none = c.in_err-leads_to.ensures.fault S is in
     search (rules, parent, none))
 
-pub returns-clause-place : goal.returns-clause-place
-returns-clause-place c = λ S is try.
+pub returns-clause-found : goal.returns-clause-found
+returns-clause-found c = λ S is try.
     let parent = c.in-Ok.ensures.dir S is in
     let found = c.in_ok-leads_to.ensures.found S is in
     search (rules, parent, found)
