@@ -1,6 +1,10 @@
 //! The store: inodes, names and quota records in memory, proved to be the plain machine of `qplain`.
 #![tactic(auto)]
 
+pub use qplain::{
+    Call, Change, Cred, Data, Line, NoMemory, Path, Principal, Quota, Refusal, Reply, Setup,
+    SetupFault, Stat,
+};
 pub use ready::Ready;
 pub use store::Store;
 

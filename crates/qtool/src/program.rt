@@ -7,11 +7,10 @@ ghost use Rattle.qtool.specs.declared.ending.Ending.TheVariants.{Output, TooMany
 
 use crate::ending::Ending;
 use crate::{
-    Config, ConfigFault, FileFault, Files, FromText, Job, Journal, LineFault, Options, Outcome,
-    Refuser, ReplayFault, RunFault, Script, TextFault, TextKind, replay, run, write_run,
+    Config, ConfigFault, FileFault, Files, FromText, Job, Journal, LineFault, NoGate, Options, Outcome,
+    Refuser, ReplayFault, RunFault, Script, TextFault, TextKind, replay, run_with, write_run,
 };
-use qplain::{Line, MAX_WORKERS};
-use qrules::Items;
+use qplain::MAX_WORKERS;
 use std::alloc::Global;
 use std::io::Write;
 use std::mem;
@@ -100,12 +99,12 @@ fn ending_of_run(fault: RunFault) -> Ending {
     }
 }
 
-/// Reads the lines of the scripts, each script before the next file is opened.
+/// Reads the scripts, each before the next file is opened.
 fn read_scripts<F: Files>(
     alloc: Global,
     files: &mut F,
     names: &[String],
-) -> Result<Vec<Items<Line>>, Ending>
+) -> Result<Vec<Script>, Ending>
     ensures each { IfOk result (λ scripts. length scripts.items ≡ length names.now) }
 {
     let mut scripts = Vec::new(alloc);
@@ -113,7 +112,7 @@ fn read_scripts<F: Files>(
     for name in names {
         number += 1;
         let script = script(alloc, files, number, name.as_str())?;
-        if scripts.push(script.into_lines()).is_err() {
+        if scripts.push(script).is_err() {
             return Err(Ending::Memory);
         }
     }
@@ -151,7 +150,7 @@ fn run_of<F: Files, R: Threads + Wait + Sync>(
     let config = configuration(alloc, files, config)?;
     test_seats(names.len() as u64, options.boards)?;
     let scripts = read_scripts(alloc, files, names)?;
-    run(rt, alloc, config, scripts, options, seed).map_err(ending_of_run)
+    run_with(rt, alloc, config, scripts, options, seed, &NoGate).map_err(ending_of_run)
 }
 
 /// Reads the configuration and the journal, and plays it. The journal's memory is left to the system, too.

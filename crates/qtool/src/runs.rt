@@ -1,47 +1,62 @@
-//! Runs of the scripts of a command line, and replays of a journal.
-ghost use Rattle.std.specs.Prelude.{◌≡◌, ◌<◌, ◌≤◌, ℕ, List, Err, IfErr, IfOk, length};
+//! Runs of scripts, and replays of a journal, under a configuration.
+ghost use Rattle.std.specs.Prelude.{◌≡◌, ◌<◌, ◌≤◌, [], ℕ, List, Err, IfErr, IfOk, length};
 ghost use Rattle.qplain.specs.declared.line.Line.{Line};
 ghost use Rattle.qplain.specs.State.{start};
+ghost use Rattle.qshare.specs.declared.opening.TheConstants.{MAX_SEATS};
 ghost use Rattle.qrun.specs.declared.outcome.Outcome.{Outcome};
 ghost use Rattle.qrun.specs.declared.replay_fault.ReplayFault.TheVariants.{Mismatch};
 ghost use Rattle.qrun.specs.Replays.{GivesBack, IsMismatch, IsReplayOf};
 ghost use Rattle.qrun.specs.Runs.{IsOutcomeOf};
+ghost use Rattle.qworkers.specs.Crews.{CanRun};
 ghost use Rattle.qworkers.specs.RunFaults.{IsFaultOf};
 ghost use Rattle.qworkers.specs.Watching.{seats_for};
-ghost use Rattle.qtool.specs.Jobs.{HasSeats};
 
-use crate::{Config, Journal, Options, Outcome, ReplayFault, RunFault};
-use qplain::Line;
-use qrules::Items;
-use qworkers::{NoGate, run_with};
+use crate::{Config, Journal, Options, Outcome, ReplayFault, RunFault, Script};
+use qworkers::{Gate, NoGate, run_scripts};
 use std::alloc::Global;
 use std::sync::Wait;
 use std::thread::Threads;
 
-/// Runs the lines of scripts on a new store of the configuration: worker k makes the calls of script k one after the
-/// other, in a thread of its own, and goes on after any answer. Which of the legal journals comes is open.
+/// Runs scripts on a new store of the configuration: worker k makes the calls of script k one after the other, in a
+/// thread of its own, and goes on after any answer. Which of the legal journals comes is open.
 ///
-/// `options` says how many boards one more thread takes meanwhile, and how many lines a worker makes under one lock.
+/// `options` says how many boards one more thread takes meanwhile, and how many lines a worker makes under one lock;
+/// `gate` is called around each line, or before the first and after the last of those, and may wait.
 ///
 /// The caller owes 1 to 16 scripts, and with boards at most 15. The hashes of names begin at `seed`, which may be any
 /// number; nothing of the outcome depends on it. O(lines), and what each call takes. After an Err all workers that were
 /// started have been joined, and the store is given up; NotStarted names one of the threads that the run would have.
-pub fn run<R: Threads + Wait + Sync>(
+pub fn run_with<G: Gate + Sync, R: Threads + Wait + Sync>(
     rt: &R,
     alloc: Global,
     config: Config,
-    scripts: Vec<Items<Line>>,
+    scripts: Vec<Script>,
     options: Options,
     seed: u64,
+    gate: &G,
 ) -> Result<Outcome, RunFault>
-    requires some { 0 < length scripts.items }
-    requires seats { HasSeats (length scripts.items) options.boards }
-    requires batch { (1 ≤ options.batch) × (options.batch ≤ 64) }
+    requires { CanRun (length scripts.items) options }
     ensures outcome { IfOk result (IsOutcomeOf config.setup scripts.items) }
     ensures looks { IfOk result (λ o. length o.boards ≡ options.boards) }
     ensures fault { IfErr result (IsFaultOf (seats_for (length scripts.items) options.boards)) }
 {
-    run_with(rt, alloc, config.setup, scripts, options, seed, &NoGate)
+    run_scripts(rt, alloc, config.setup, scripts, options, seed, gate)
+}
+
+/// `run_with` without boards, line by line, and with a gate that lets every line pass. The caller owes 1 to 16 scripts.
+pub fn run<R: Threads + Wait + Sync>(
+    rt: &R,
+    alloc: Global,
+    config: Config,
+    scripts: Vec<Script>,
+    seed: u64,
+) -> Result<Outcome, RunFault>
+    requires { (0 < length scripts.items) × (length scripts.items ≤ MAX_SEATS) }
+    ensures outcome { IfOk result (IsOutcomeOf config.setup scripts.items) }
+    ensures looks { IfOk result (λ o. length o.boards ≡ 0) }
+    ensures fault { IfErr result (IsFaultOf (length scripts.items)) }
+{
+    run_with(rt, alloc, config, scripts, Options::plain(), seed, &NoGate)
 }
 
 /// Plays a journal again on a new store of the configuration, one entry after the other.

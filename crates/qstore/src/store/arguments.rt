@@ -9,9 +9,9 @@ ghost use Rattle.qstore.specs.Stored.{IsSound};
 
 use crate::store::Store;
 use qledger::Slots;
-use qwalk::paths_fault;
 use qplain::{Call, Cred, MAX_DATA, Refusal};
 use qrules::{Kind, MAX_MOMENT};
+use qwalk::paths_fault;
 
 impl Store {
     /// Whether this principal is declared.
