@@ -2,10 +2,10 @@
 
 use crate::given::{lines, setup};
 use qaudit_checks::{BoardFault, check_boards, check_looks};
-use qplain::{Board, Entry, Line, LookFault, Refusal, Reply};
+use qplain::{Board, Entry, Line, LookFault, MAX_LINES, Refusal, Reply, Script};
 use qrules::{BoardRow, Items, Kind, Limits};
 use qrun::Outcome;
-use qworkers::{NoGate, Options, run_with};
+use qworkers::{NoGate, Options, run_scripts};
 use std::alloc::Global;
 use std::sync::Wait;
 use std::test::Fail;
@@ -98,7 +98,7 @@ fn a_look_without_a_board_is_passed_over(rt: HostRuntime) -> Result<(), Fail> {
 }
 
 /// A script in which a file comes and goes so often.
-fn busy(alloc: Global, times: usize) -> Result<Items<Line>, Fail> {
+fn busy(alloc: Global, times: usize) -> Result<Script, Fail> {
     let given = lines(alloc, COMES_AND_GOES)?;
     let mut script: Vec<Line> = Vec::new(alloc);
     for _ in 0..times {
@@ -106,12 +106,15 @@ fn busy(alloc: Global, times: usize) -> Result<Items<Line>, Fail> {
             script.push(line.copy()?)?;
         }
     }
-    Ok(Items::new(script))
+    if script.len() > MAX_LINES {
+        return Err(Fail::from("lines that fit a script"));
+    }
+    Ok(Script::new(Items::new(script)))
 }
 
 /// A run of 15 workers and 1000 boards.
 fn crowd<R: Threads + Wait + Sync>(rt: &R, alloc: Global, batch: u64) -> Result<Outcome, Fail> {
-    let mut scripts: Vec<Items<Line>> = Vec::new(alloc);
+    let mut scripts: Vec<Script> = Vec::new(alloc);
     for _ in 0..15 {
         scripts.push(busy(alloc, 250)?)?;
     }
@@ -122,7 +125,7 @@ fn crowd<R: Threads + Wait + Sync>(rt: &R, alloc: Global, batch: u64) -> Result<
         boards: 1000,
         batch,
     };
-    match run_with(rt, alloc, setup(alloc)?, scripts, options, 0, &NoGate) {
+    match run_scripts(rt, alloc, setup(alloc)?, scripts, options, 0, &NoGate) {
         Ok(outcome) => Ok(outcome),
         Err(_) => Err(Fail::from("an outcome")),
     }

@@ -23,12 +23,17 @@ pub(crate) fn setup(alloc: Global) -> Result<Setup, Fail> {
     }
 }
 
-/// The lines of a script.
-pub(crate) fn lines(alloc: Global, text: &[u8]) -> Result<Items<Line>, Fail> {
+/// A script.
+pub(crate) fn script(alloc: Global, text: &[u8]) -> Result<Script, Fail> {
     match Script::read(alloc, text) {
-        Ok(script) => Ok(script.into_lines()),
+        Ok(script) => Ok(script),
         Err(_) => Err(Fail::from("the script")),
     }
+}
+
+/// The lines of a script.
+pub(crate) fn lines(alloc: Global, text: &[u8]) -> Result<Items<Line>, Fail> {
+    Ok(script(alloc, text)?.into_lines())
 }
 
 /// The line of a script of one line.

@@ -2,10 +2,10 @@
 ghost use Rattle.std.specs.Prelude.{◌≡◌};
 
 use crate::given::{line, setup};
-use qhistory::{House, Origin};
-use qplain::{CallFault, Line, LookFault, Receipt, Refusal, Reply, Setup};
+use qhistory::StoreId;
+use qplain::{CallFault, Line, LookFault, Receipt, Refusal, Reply};
 use qrules::Kind;
-use qshare::{Held, Opened, Seat, Shared};
+use qshare::{Boards, Held, Opened, Seat, Shared, Viewer};
 use std::alloc::Global;
 use std::marker::Brand;
 use std::process::Abort;
@@ -32,14 +32,14 @@ const WRITE: &[u8] = b"0 1001:0 write /a 0 78\n";
 const STAT: &[u8] = b"0 1001:0 stat /a\n";
 
 /// The version, the blocks and the inodes of the board that a seat is shown.
-fn board<K: Origin, N: House>(seat: &mut Seat<K, N>) -> Result<(u64, u64, u64), LookFault> {
+fn board<S: StoreId>(seat: &mut Seat<S, Viewer<S>>) -> Result<(u64, u64, u64), LookFault> {
     let board = seat.board()?;
     Ok((board.version, board.blocks, board.inodes))
 }
 
 /// The version, the blocks and the inodes of a record that a seat is shown.
-fn record<K: Origin, N: House>(
-    seat: &mut Seat<K, N>,
+fn record<S: StoreId>(
+    seat: &mut Seat<S, Viewer<S>>,
     kind: Kind,
     id: u32,
 ) -> Result<(u64, u64, u64), LookFault> {
@@ -58,10 +58,10 @@ fn told(answer: &Result<Receipt, CallFault>) -> Option<(u64, bool)> {
 }
 
 /// Makes a call of a seat.
-fn call<K: Origin, N: House, R: Wait + Drop, W: Wait>(
+fn call<S: StoreId, B: Boards<S>, W: Wait>(
     rt: &W,
-    shared: &Shared<K, N, R>,
-    seat: &mut Seat<K, N>,
+    shared: &Shared<S, B>,
+    seat: &mut Seat<S, Viewer<S>>,
     line: &Line,
 ) -> Option<(u64, bool)> {
     let answer = shared.call(rt, seat, &line.cred, line.moment, &line.call);
@@ -69,12 +69,15 @@ fn call<K: Origin, N: House, R: Wait + Drop, W: Wait>(
 }
 
 /// Makes a call of a seat under the lock that is held, where there is room for it.
-fn apply<K: Origin, N: House, R: Wait + Drop, W: Wait>(
+fn apply<S: StoreId, B: Boards<S>, W: Wait>(
     rt: &W,
-    held: &mut Held<'_, K, N, R>,
-    seat: &mut Seat<K, N>,
+    held: &mut Held<'_, S, B>,
+    seat: &mut Seat<S, Viewer<S>>,
     line: &Line,
-) -> Option<(u64, bool)> {
+) -> Option<(u64, bool)>
+    requires by { seat.old.worker ≡ held.old.by }
+    ensures by { (seat.new.worker ≡ seat.old.worker) × (held.new.by ≡ held.old.by) }
+{
     if held.room() == 0 {
         return None;
     }
@@ -83,12 +86,12 @@ fn apply<K: Origin, N: House, R: Wait + Drop, W: Wait>(
 }
 
 /// Each seat is shown what the other has done, also a call that was refused.
-fn tell_calls<K: Origin, N: House, R: Wait + Drop, W: Wait + Abort>(
+fn tell_calls<S: StoreId, B: Boards<S>, W: Wait + Abort>(
     rt: &W,
     alloc: Global,
-    shared: &Shared<K, N, R>,
-    first: &mut Seat<K, N>,
-    second: &mut Seat<K, N>,
+    shared: &Shared<S, B>,
+    first: &mut Seat<S, Viewer<S>>,
+    second: &mut Seat<S, Viewer<S>>,
 ) -> Result<(), Fail> {
     let create = line(alloc, CREATE)?;
     assert_eq!(rt; call(rt, shared, first, &create), Some((1, false)));
@@ -101,12 +104,12 @@ fn tell_calls<K: Origin, N: House, R: Wait + Drop, W: Wait + Abort>(
 }
 
 /// A look while the lock is held shows the board before, and the release publishes the call.
-fn tell_one_held<K: Origin, N: House, R: Wait + Drop, W: Wait + Abort>(
+fn tell_one_held<S: StoreId, B: Boards<S>, W: Wait + Abort>(
     rt: &W,
     alloc: Global,
-    shared: &Shared<K, N, R>,
-    first: &mut Seat<K, N>,
-    second: &mut Seat<K, N>,
+    shared: &Shared<S, B>,
+    first: &mut Seat<S, Viewer<S>>,
+    second: &mut Seat<S, Viewer<S>>,
 ) -> Result<(), Fail> {
     let create = line(alloc, CREATE)?;
     let write = line(alloc, WRITE)?;
@@ -122,12 +125,12 @@ fn tell_one_held<K: Origin, N: House, R: Wait + Drop, W: Wait + Abort>(
 }
 
 /// Three calls are published at once.
-fn tell_three_held<K: Origin, N: House, R: Wait + Drop, W: Wait + Abort>(
+fn tell_three_held<S: StoreId, B: Boards<S>, W: Wait + Abort>(
     rt: &W,
     alloc: Global,
-    shared: &Shared<K, N, R>,
-    first: &mut Seat<K, N>,
-    second: &mut Seat<K, N>,
+    shared: &Shared<S, B>,
+    first: &mut Seat<S, Viewer<S>>,
+    second: &mut Seat<S, Viewer<S>>,
 ) -> Result<(), Fail> {
     let create = line(alloc, CREATE)?;
     let write = line(alloc, WRITE)?;
@@ -144,12 +147,12 @@ fn tell_three_held<K: Origin, N: House, R: Wait + Drop, W: Wait + Abort>(
 }
 
 /// What a dropped hold has done is published by the next call.
-fn tell_dropped<K: Origin, N: House, R: Wait + Drop, W: Wait + Abort>(
+fn tell_dropped<S: StoreId, B: Boards<S>, W: Wait + Abort>(
     rt: &W,
     alloc: Global,
-    shared: &Shared<K, N, R>,
-    first: &mut Seat<K, N>,
-    second: &mut Seat<K, N>,
+    shared: &Shared<S, B>,
+    first: &mut Seat<S, Viewer<S>>,
+    second: &mut Seat<S, Viewer<S>>,
 ) -> Result<(), Fail> {
     let create = line(alloc, CREATE)?;
     let stat = line(alloc, STAT)?;
@@ -163,15 +166,15 @@ fn tell_dropped<K: Origin, N: House, R: Wait + Drop, W: Wait + Abort>(
 }
 
 /// The story of the two seats of a store.
-fn seated<K: Origin, N: House, R: Wait + Abort>(
+fn seated<S: StoreId, R: Wait + Abort>(
     rt: &R,
     alloc: Global,
-    opened: Opened<K>,
+    opened: Opened,
     story: Story,
 ) -> Result<(), Fail>
-    requires { opened ≡ N.names }
+    requires { opened ≡ S.id }
 {
-    let Ok((shared, mut seats)) = opened.named::<N, &R>(rt) else {
+    let Ok((shared, mut seats)) = opened.with_viewers::<S, &R>(rt) else {
         return Err(Fail::from("a store"));
     };
     let Some(mut second) = seats.pop() else {
@@ -188,25 +191,12 @@ fn seated<K: Origin, N: House, R: Wait + Abort>(
     }
 }
 
-/// Opens a store for two seats.
-fn open<K: Origin, R: Wait + Abort>(
-    rt: &R,
-    alloc: Global,
-    setup: Setup,
-    story: Story,
-) -> Result<(), Fail>
-    requires { setup ≡ K.setting }
-{
-    let Ok(opened) = Opened::<K>::new(alloc, setup, 2, 0) else {
-        return Err(Fail::from("a store"));
-    };
-    seated::<K, Brand, R>(rt, alloc, opened, story)
-}
-
 /// Tells a story of the two seats of a new store.
 fn tell<R: Wait + Abort>(rt: &R, alloc: Global, story: Story) -> Result<(), Fail> {
-    let setup = setup(alloc)?;
-    open::<Brand, R>(rt, alloc, setup, story)
+    let Ok(opened) = Opened::new(alloc, setup(alloc)?, 2, 0) else {
+        return Err(Fail::from("a store"));
+    };
+    seated::<Brand, R>(rt, alloc, opened, story)
 }
 
 #[test]

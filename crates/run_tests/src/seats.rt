@@ -2,9 +2,9 @@
 ghost use Rattle.std.specs.Prelude.{◌≡◌};
 
 use crate::given::{FIRST_FILES, lines, setup};
-use qhistory::{House, Origin, Share};
-use qplain::{Setup, Tallies};
-use qshare::{Missing, Opened, Seat, Shared};
+use qhistory::StoreId;
+use qplain::Tallies;
+use qshare::{Boards, EndFault, Opened, Seat, Share, Shared};
 use std::alloc::Global;
 use std::marker::Brand;
 use std::process::Abort;
@@ -12,11 +12,11 @@ use std::sync::Wait;
 use std::test::Fail;
 
 /// Makes the first files with these seats, one each.
-fn make_files<K: Origin, N: House, R: Wait + Drop, W: Wait>(
+fn make_files<S: StoreId, B: Boards<S>, V: Drop, W: Wait>(
     rt: &W,
     alloc: Global,
-    shared: &Shared<K, N, R>,
-    seats: &mut [Seat<K, N>],
+    shared: &Shared<S, B>,
+    seats: &mut [Seat<S, V>],
 ) -> Result<(), Fail> {
     let lines = lines(alloc, FIRST_FILES)?;
     let lines = lines.as_slice();
@@ -35,18 +35,14 @@ fn make_files<K: Origin, N: House, R: Wait + Drop, W: Wait>(
 }
 
 /// The end of a store whose second share is handed in too late.
-fn end_twice<K: Origin, N: House, R: Wait + Abort>(
-    rt: &R,
-    alloc: Global,
-    opened: Opened<K>,
-) -> Result<(), Fail>
-    requires { opened ≡ N.names }
+fn end_twice<S: StoreId, R: Wait + Abort>(rt: &R, alloc: Global, opened: Opened) -> Result<(), Fail>
+    requires { opened ≡ S.id }
 {
-    let Ok((shared, mut seats)) = opened.named::<N, &R>(rt) else {
+    let Ok((shared, mut seats)) = opened.without_viewers::<S>() else {
         return Err(Fail::from("a store"));
     };
     make_files(rt, alloc, &shared, &mut seats)?;
-    let mut shares: Vec<Share<N>> = Vec::new(alloc);
+    let mut shares: Vec<Share<S>> = Vec::new(alloc);
     for seat in seats {
         shares.push(seat.finish())?;
     }
@@ -54,21 +50,21 @@ fn end_twice<K: Origin, N: House, R: Wait + Abort>(
         return Err(Fail::from("three shares"));
     }
     let second = shares.remove(1);
-    let Err(
-        Missing {
-            worker,
-            shared,
-            mut shares,
-        },
-    ) = shared.end(rt, shares)
-    else {
+    let Err(fault) = shared.end(rt, shares) else {
         return Err(Fail::from("a missing share"));
     };
+    assert_eq!(rt; fault.number(), 25);
+    let EndFault::Missing {
+        worker,
+        shared,
+        mut shares,
+    } = fault;
     assert_eq!(rt; (worker, shares.len()), (2, 2));
     shares.push(second)?;
-    let Ok(ended) = shared.end(rt, shares) else {
+    let Ok(store) = shared.end(rt, shares) else {
         return Err(Fail::from("an end"));
     };
+    let ended = store.into_parts();
     let tallies = Tallies {
         blocks_charged: 0,
         blocks_released: 0,
@@ -81,18 +77,11 @@ fn end_twice<K: Origin, N: House, R: Wait + Abort>(
     Ok(())
 }
 
-/// Opens a store for three seats.
-fn open<K: Origin, R: Wait + Abort>(rt: &R, alloc: Global, setup: Setup) -> Result<(), Fail>
-    requires { setup ≡ K.setting }
-{
-    let Ok(opened) = Opened::<K>::new(alloc, setup, 3, 0) else {
-        return Err(Fail::from("a store"));
-    };
-    end_twice::<K, Brand, R>(rt, alloc, opened)
-}
-
 #[test]
 fn three_seats_end_together(rt: HostRuntime) -> Result<(), Fail> {
-    let setup = setup(rt.alloc())?;
-    open::<Brand, _>(&rt, rt.alloc(), setup)
+    let alloc = rt.alloc();
+    let Ok(opened) = Opened::new(alloc, setup(alloc)?, 3, 0) else {
+        return Err(Fail::from("a store"));
+    };
+    end_twice::<Brand, _>(&rt, alloc, opened)
 }

@@ -1,9 +1,9 @@
 //! Workers who are let through in turns: they are under way side by side, and take the lock line by line or in batches.
 
-use crate::given::{FIRST_FILES, OTHER_FILES, lines, setup};
+use crate::given::{FIRST_FILES, OTHER_FILES, script, setup};
 use qplain::{CallFault, Receipt, Refusal, Reply};
 use qrun::Outcome;
-use qworkers::{Gate, Options, run_with};
+use qworkers::{Gate, Options, run_scripts};
 use std::alloc::Global;
 use std::hint::spin_loop;
 use std::sync::Wait;
@@ -98,12 +98,12 @@ fn run_in_turns<R: Threads + Wait + Sync>(
         gone: AtomicU64::new(0),
         in_vain: AtomicU64::new(0),
     };
-    let scripts = vec![in alloc; lines(alloc, FIRST_FILES)?, lines(alloc, OTHER_FILES)?]?;
+    let scripts = vec![in alloc; script(alloc, FIRST_FILES)?, script(alloc, OTHER_FILES)?]?;
     let options = Options {
         boards: 0,
         batch: if together { 64 } else { 1 },
     };
-    let Ok(outcome) = run_with(rt, alloc, setup(alloc)?, scripts, options, 0, &gate) else {
+    let Ok(outcome) = run_scripts(rt, alloc, setup(alloc)?, scripts, options, 0, &gate) else {
         return Err(Fail::from("an outcome"));
     };
     if gate.in_vain.load(SeqCst) != 0 {

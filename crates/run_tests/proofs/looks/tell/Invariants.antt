@@ -1,4 +1,4 @@
 use Rattle.run_tests.proofs.looks.tell.Given as goal
 
-abbrev pub ghosts-open : goal.ghosts-open
-ghosts-open g a = record { setting = a.setup }
+abbrev pub ghosts-seated : goal.ghosts-seated
+ghosts-seated g a = record { id = a.opened }
