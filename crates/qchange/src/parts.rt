@@ -12,9 +12,9 @@ ghost use Rattle.qwalk.specs.Paths.{name_in};
 ghost use Rattle.qchange.specs.Changes.{CanCreate, CanLink, CanRename, CanRmdir, CanUnlink};
 
 use crate::replacement::{drop_replaced, led_to, move_node};
-use qwalk::last_of;
 use qplain::Path;
 use qtree::{Node, Tree};
+use qwalk::last_of;
 use std::alloc::Global;
 
 /// Takes one link from a file, and the file with its last one.

@@ -3,7 +3,8 @@
 
 pub use board::Board;
 pub use bounds::{
-    FILE_LIMIT, MAX_DATA, MAX_ENTRIES, MAX_LINES, MAX_LINKS, MAX_NAME, MAX_NUMBER, MAX_PATH, MAX_WORKERS, ROOT,
+    FILE_LIMIT, MAX_DATA, MAX_ENTRIES, MAX_LINES, MAX_LINKS, MAX_NAME, MAX_NUMBER, MAX_PATH,
+    MAX_WORKERS, ROOT,
 };
 pub use call::Call;
 pub use call_fault::CallFault;

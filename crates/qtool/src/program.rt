@@ -7,8 +7,9 @@ ghost use Rattle.qtool.specs.declared.ending.Ending.TheVariants.{Output, TooMany
 
 use crate::ending::Ending;
 use crate::{
-    Config, ConfigFault, FileFault, Files, FromText, Job, Journal, LineFault, NoGate, Options, Outcome,
-    Refuser, ReplayFault, RunFault, Script, TextFault, TextKind, replay, run_with, write_run,
+    Config, ConfigFault, FileFault, Files, FromText, Job, Journal, LineFault, NoGate, Options,
+    Outcome, Refuser, ReplayFault, RunFault, Script, TextFault, TextKind, replay, run_with,
+    write_run,
 };
 use qplain::MAX_WORKERS;
 use std::alloc::Global;
