@@ -16,7 +16,7 @@ use Rattle.qplain.specs.Journal.{board_of, play}
 use Rattle.qhistory.specs.Shares.{AreThere, HandedIn}
 use Rattle.qhistory.proofs.Prefixes.{prefix_length}
 use Rattle.qaudit_checks.specs.LawfulBoards.{AreLawful, IsBoardOf, NeverFall, boards_in}
-use Rattle.qaudit_checks.proofs.Boards.{boards_in-append}
+use Rattle.qaudit_checks.proofs.SeenBoards.{boards_in-append}
 use Rattle.qrun.specs.declared.outcome.Outcome.{Outcome}
 use Rattle.qboards.specs.Looks.{IsBoardAnswer}
 use Rattle.qshare.specs.Seats.{Seated, new_seat}
