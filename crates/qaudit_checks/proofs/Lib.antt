@@ -2,7 +2,7 @@
 -- rows of a table, numbers in order, names in any order, and the three parts of an audit of a state's own rows.
 pub mod Receipts
 pub mod Mismatches
-pub mod Boards
+pub mod SeenBoards
 pub mod Rows
 pub mod Ids
 pub mod AnyOrder

@@ -1,7 +1,7 @@
-use Rattle.std.proofs.Common.{◌≡◌, ◌+◌, take, sym, ap, subst, ◌∙◌}
+use Rattle.std.proofs.Common.{◌+◌, take, sym, ap, subst}
 use Rattle.qplain.specs.State.{start}
 use Rattle.qaudit_checks.specs.SeenBoards.{AreSeenBoards, IsJudged}
-use Rattle.qaudit_checks.proofs.Boards.{fails-here, more-boards, verdict-fails}
+use Rattle.qaudit_checks.proofs.SeenBoards.{fails-here, more-boards, verdict-fails}
 use Rattle.qaudit_checks.proofs.boards.check_boards.Goals as goal
 
 pub returns-then-not-branch : goal.returns-then-not-branch

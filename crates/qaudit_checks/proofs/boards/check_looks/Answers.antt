@@ -3,7 +3,7 @@ use Rattle.std.proofs.lemmas.List.{length_push}
 use Rattle.qplain.specs.State.{start}
 use Rattle.qaudit_checks.specs.LawfulBoards.{boards_in}
 use Rattle.qaudit_checks.specs.SeenBoards.{AreSeenBoards, IsJudged}
-use Rattle.qaudit_checks.proofs.Boards.{fails-shown, none-more, shown-more, verdict-fails}
+use Rattle.qaudit_checks.proofs.SeenBoards.{fails-shown, none-more, shown-more, verdict-fails}
 use Rattle.qaudit_checks.proofs.boards.check_looks.Goals.{in-Ok+in_ok-may_stand+else-not-branch, in_default}
 use Rattle.qaudit_checks.proofs.boards.check_looks.Goals as goal
 

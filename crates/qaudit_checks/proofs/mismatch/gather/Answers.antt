@@ -5,22 +5,15 @@ use Rattle.qaudit_checks.proofs.Receipts.{looked-at}
 use Rattle.qaudit_checks.proofs.mismatch.gather.Goals as goal
 
 pub loop-transcript-init : goal.loop-transcript-init
-loop-transcript-init c = found-first c.args.entries.now c.args.transcripts.now _ (record {
-  before = c.first_strange-first.ensures.before;
-  here = c.first_strange-first.ensures.here;
-})
+loop-transcript-init c = found-first c.args.entries.now c.args.transcripts.now _ c.first_strange-first.ensures
 
 pub loop-transcript-preserved : goal.loop-transcript-preserved
 loop-transcript-preserved c =
     let index = c.loop-transcript.transcript-index in
     let here = looked-at c.args.transcripts.now index c.transcript-item.result _ c.transcript-item.is c.loop-transcript-test.true in
     subst (IsFirstMismatch c.args.entries.now c.args.transcripts.now (index + 1)) (sym c.earlier_of-first.ensures)
-    (found-next c.args.entries.now c.args.transcripts.now index c.transcript-item.result _ _ c.requires.apart here (record {
-      known = c.loop-transcript.invariant.known;
-      told = c.loop-transcript.invariant.told;
-      same = c.loop-transcript.invariant.same;
-      here = c.loop-transcript.invariant.here;
-    }) (record { before = c.first_other.ensures.before; same = c.first_other.ensures.same; here = c.first_other.ensures.here }))
+    (found-next c.args.entries.now c.args.transcripts.now index c.transcript-item.result _ _ c.requires.apart here
+    c.loop-transcript.invariant c.first_other.ensures)
 
 pub returns-in-None-clause-ok : goal.returns-in-None-clause-ok
 returns-in-None-clause-ok c = (

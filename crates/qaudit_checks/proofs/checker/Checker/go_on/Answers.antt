@@ -1,6 +1,6 @@
 use Rattle.std.proofs.Common.{ap, slice_range, ◌∙◌}
 use Rattle.qplain.specs.Journal.{play}
-use Rattle.qaudit_checks.proofs.Boards.{played-on}
+use Rattle.qaudit_checks.proofs.SeenBoards.{played-on}
 use Rattle.qaudit_checks.proofs.checker.Checker.go_on.Goals as goal
 
 pub returns-clause-state : goal.returns-clause-state

@@ -1,4 +1,4 @@
-use Rattle.qaudit_checks.proofs.Boards.{judged-if, out-of-reach}
+use Rattle.qaudit_checks.proofs.SeenBoards.{judged-if, out-of-reach}
 use Rattle.qaudit_checks.proofs.checker.Checker.may_stand.Goals as goal
 
 pub returns-then-not-can_go_on : goal.returns-then-not-can_go_on

@@ -1,6 +1,6 @@
 use Rattle.std.proofs.Common.{ap, refl, ◌∙◌}
 use Rattle.qplain.specs.State.{start}
-use Rattle.qaudit_checks.proofs.Boards.{none-seen}
+use Rattle.qaudit_checks.proofs.SeenBoards.{none-seen}
 use Rattle.qaudit_checks.proofs.checker.Checker.new.Goals as goal
 
 pub returns : goal.returns

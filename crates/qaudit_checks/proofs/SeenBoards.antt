@@ -9,7 +9,7 @@ use Rattle.qplain.specs.declared.entry.Entry.{Entry}
 use Rattle.qplain.specs.declared.look_fault.LookFault.{LookFault}
 use Rattle.qplain.specs.Journal.{board_of, play, played}
 use Rattle.qplain.specs.State.{State}
-use Rattle.qaudit_checks.specs.declared.board_fault.BoardFault.TheVariants.{Memory, Board as AtBoard}
+use Rattle.qaudit_checks.specs.declared.board_fault.BoardFault.TheVariants.{Board as AtBoard}
 use Rattle.qaudit_checks.specs.declared.checker.Checker.{Checker}
 use Rattle.qaudit_checks.specs.LawfulBoards.{AreLawful, BoardFailsAt, IsBoardOf, IsVerdictOn, NeverFall, boards_in}
 use Rattle.qaudit_checks.specs.SeenBoards.{AreSeenBoards, IsJudged, last_version}
@@ -187,21 +187,11 @@ not-lawful S journal boards index at lawful =
       rising = rising-front 0 first at.after (subst (NeverFall 0) parts lawful.rising);
     })
 
--- ---- what is answered
-
-module _ (S : State) (journal : List Entry) (boards : List Board) where
-  -- of lawful boards
-  pub verdict-lawful : AreLawful S journal boards → IsVerdictOn S journal boards (Ok tt)
-  verdict-lawful lawful = record { ok = lawful; board = λ index told. absurd cc; lawful = λ again index told. absurd cc }
-
-  -- of boards of which one fails
-  pub verdict-fails : (index : ℕ) → BoardFailsAt S journal boards index → IsVerdictOn S journal boards (Err (AtBoard index))
-  verdict-fails index at = record {
-    ok = tt;
-    board = λ other told. let same : index ≡ other = cc in subst (BoardFailsAt S journal boards) same at;
-    lawful = λ lawful other told. not-lawful S journal boards index at lawful;
-  }
-
-  -- out of memory
-  pub verdict-memory : IsVerdictOn S journal boards (Err Memory)
-  verdict-memory = record { ok = tt; board = λ index told. absurd cc; lawful = λ lawful index told. absurd cc }
+-- so its index is the answer
+pub verdict-fails : (S : State) (journal : List Entry) (boards : List Board) (index : ℕ) → BoardFailsAt S journal boards index
+    → IsVerdictOn S journal boards (Err (AtBoard index))
+verdict-fails S journal boards index at = record {
+  ok = tt;
+  board = λ other told. let same : index ≡ other = cc in subst (BoardFailsAt S journal boards) same at;
+  lawful = λ lawful other told. not-lawful S journal boards index at lawful;
+}
