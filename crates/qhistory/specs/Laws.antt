@@ -1,10 +1,7 @@
--- The rule of the one history, and what its steps tell. No public clause cites this module.
+-- The rule of the one history, and what its step tells. No public clause cites this module.
 use Rattle.std.specs.Prelude.{ℕ, ◌≡◌, ◌==◌, true, List, [], ◌∷◌, ◌++◌, length, MatchBool}
 use Rattle.logbook.specs.Pages.{Cell, Step, View, Book, Named}
-use Rattle.qplain.specs.declared.call.Call.TheVariants.{SetGrace}
 use Rattle.qplain.specs.declared.entry.Entry.{Entry}
-use Rattle.qplain.specs.declared.refusal.Refusal.TheVariants.{EINVAL}
-use Rattle.qplain.specs.declared.reply.Reply.TheVariants.{Refused}
 
 -- the first word is the length of the history, the second stays 0
 abbrev pub IsKept : List Cell → List Entry → Type 0
@@ -14,20 +11,6 @@ IsKept cells log = cells ≡ (length log, true) ∷ (0, true) ∷ []
 abbrev pub head_of : Book → Named
 head_of b = record { tracked = true; key = 0; book = b }
 
--- the history so far was seen, and its length found
-abbrev pub Finds : Step Entry → View Entry ℕ → ℕ → View Entry ℕ → Type 0
-Finds s v found w = length w.0 ≡ found
-
 -- the entry was added to all that had been seen, if the length was the one that was expected
 abbrev pub Adds : Step Entry → View Entry ℕ → ℕ → View Entry ℕ → Type 0
 Adds s v found w = MatchBool (found == s.old) (w.0 ≡ v.0 ++ s.ask ∷ []) (Unit {0})
-
--- an entry that is never added
-abbrev pub no_entry : Entry
-no_entry = record {
-  worker = 0;
-  cred = record { uid = 0; gid = 0; more = [] };
-  moment = 0;
-  call = SetGrace (record { block = 0; inode = 0 });
-  reply = Refused EINVAL;
-}

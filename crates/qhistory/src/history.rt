@@ -1,7 +1,6 @@
 //! The one history of a store. It exists in the proofs alone: what is shared of it when a program runs is one word, its
 //! length.
 ghost use Rattle.std.specs.Prelude.{◌≡◌, ◌<◌, ◌^◌, length, []};
-ghost use mathlib.Core.List.{IsPrefix};
 ghost use Rattle.qhistory.specs.Histories.{with_entry};
 ghost use Rattle.qhistory.specs.Laws.{head_of};
 
@@ -70,18 +69,5 @@ impl History {
         ensures { self.new ≡ with_entry self.old entry.now }
     {
         add_to(rt, &mut self.prefix, &self.head, entry)
-    }
-
-    /// Waits until this begins with what was seen. It does at once; no clause of `logbook` says that nobody else adds.
-    pub fn await_seen<R: Wait>(&self, rt: &R, seen: &Prefix)
-        requires { seen.now.history ≡ self.now.history }
-        ensures { IsPrefix seen.now.entries self.now.entries }
-    {
-        for _ in rt.forever() {
-            if self.prefix.covers(&self.head, seen) {
-                return;
-            }
-        }
-        unreachable!()
     }
 }

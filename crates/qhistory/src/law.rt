@@ -1,4 +1,4 @@
-//! The rule of the one history, and its two steps. All of this exists in the proofs alone.
+//! The rule of the one history, and its step. All of this exists in the proofs alone.
 use logbook::{Gain, Plain, Play, Rule};
 use qplain::Entry;
 
@@ -32,15 +32,6 @@ impl Gain<Entry, u64> for Nothing {
     ghost after = { λ names about answer. ftrue };
 }
 
-/// A step that looks.
-pub(crate) struct Look;
-
-impl Play<Entry, u64> for Look {
-    ghost use Rattle.qhistory.specs.Laws.{Finds};
-
-    ghost then = { Finds };
-}
-
 /// A step that adds an entry.
 pub(crate) struct Add;
 
@@ -57,14 +48,4 @@ impl Plain<Entry, Entry, u64> for Add {
     ghost ask = { λ entry. entry };
 
     ghost state = { λ entry. None };
-}
-
-/// A look asks for nothing: this entry is never added.
-impl Plain<(), Entry, u64> for Look {
-    ghost use Rattle.std.specs.Prelude.{None};
-    ghost use Rattle.qhistory.specs.Laws.{no_entry};
-
-    ghost ask = { λ x. no_entry };
-
-    ghost state = { λ x. None };
 }

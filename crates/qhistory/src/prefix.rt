@@ -1,11 +1,11 @@
 //! A prefix of the one history of a store, which was seen. It exists in the proofs alone, but for its length.
-ghost use Rattle.std.specs.Prelude.{◌≡◌, ◌<◌, ◌^◌, length, MatchBool, IsTrue};
+ghost use Rattle.std.specs.Prelude.{◌≡◌, ◌<◌, ◌^◌, length, MatchBool};
 ghost use Rattle.std.specs.Bool.{Decides};
 ghost use mathlib.Core.List.{IsPrefix};
 ghost use Rattle.qhistory.specs.Laws.{head_of};
 ghost use Rattle.qhistory.specs.Histories.{with_entry};
 
-use crate::law::{Add, Law, Look, Nothing};
+use crate::law::{Add, Law, Nothing};
 use logbook::{Offer, Seen, Word};
 use qplain::Entry;
 use std::marker::Model;
@@ -75,18 +75,5 @@ impl Prefix {
         self.len = len + 1;
         self.seen = seen;
         true
-    }
-
-    /// Whether nobody has added an entry, so that it begins with what another has seen.
-    pub(crate) fn covers(&self, head: &Word<Entry, u64, Law>, other: &Prefix) -> bool
-        requires head { head.now ≡ head_of self.now.history }
-        requires other { other.now.history ≡ self.now.history }
-        ensures { IsTrue result → IsPrefix other.now.entries self.now.entries }
-    {
-        let mut seen = self.seen.again();
-        seen.learn(&other.seen);
-        let mut offer: Offer<Entry, u64, Law, Nothing> = seen.plain::<Nothing, (), Look>(&());
-        let found = head.load::<Look, Nothing>(&mut seen, &mut offer);
-        found == self.len
     }
 }

@@ -13,7 +13,8 @@ abbrev pub rows_of : State → List BoardRow
 rows_of S = (board_of S 0).rows
 
 -- from whatever rows the first list leads to those of the state before, the other leads to those of the state after
-pub record LeadsOn (waiting : List PlacedRow) (before : State) (with_call : List PlacedRow) (after : State) : Type 0 where
+pub record LeadsOn (waiting : List PlacedRow) (before : State) (with_call : List PlacedRow) (after : State)
+    : Type 0 where
   pub leads : (rows : List BoardRow) → with_rows rows waiting ≡ rows_of before
       → with_rows rows with_call ≡ rows_of after
 

@@ -1,13 +1,12 @@
 //! A store that many seats share.
-ghost use Rattle.std.specs.Prelude.{◌≡◌, ◌≤◌, ◌↔◌, length, Err, IfErr, IfOk, OnErr};
+ghost use Rattle.std.specs.Prelude.{◌≡◌, ◌≤◌, ◌↔◌, ℕ, length, Err, IfErr, IfOk, OnErr};
 ghost use Rattle.std.specs.Result.{IsOk};
 ghost use Rattle.qplain.specs.declared.bounds.TheConstants.{MAX_ENTRIES};
 ghost use Rattle.qplain.specs.declared.call_fault.CallFault.TheVariants.{JournalFull};
-ghost use Rattle.qhistory.specs.Shares.{AreThere};
+ghost use Rattle.qhistory.specs.Shares.{AreThere, IsLeastMissing};
 ghost use Rattle.qstore_journaled.specs.Lines.{line_of};
 ghost use Rattle.qshare.specs.Calls.{IsCalled};
 ghost use Rattle.qshare.specs.Ends.{IsEndOf};
-ghost use Rattle.qshare.specs.Missing.{IsMissing};
 ghost use Rattle.qshare.specs.Seats.{HasSeenOn};
 
 use crate::boards::Boards;
@@ -96,7 +95,8 @@ impl<S: StoreId, B: Boards<S>> Shared<S, B> {
     ) -> Result<JournaledStore, EndFault<S, B>>
         ensures setting { IfOk result (λ j. j.setting ≡ S.id.setting) }
         ensures end { IfOk result (IsEndOf shares.items) }
-        ensures missing { IfErr result (IsMissing shares.items S.id.counters.parts) }
+        ensures missing { (worker : ℕ) (shared : _) (given : _) → result ≡ Err (EndFault.Missing worker shared given)
+            → (given.items ≡ shares.items) × IsLeastMissing shares.items S.id.counters.parts worker }
         ensures all { AreThere shares.items S.id.counters.parts → IsOk result }
     {
         let Shared { lock } = self;
