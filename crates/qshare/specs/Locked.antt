@@ -7,7 +7,7 @@ use Rattle.qplain.specs.Journal.{no_tally, tally_of}
 use Rattle.qhistory.specs.Counted.{Counted}
 use Rattle.qhistory.specs.Histories.{Recorded, recorded}
 use Rattle.qhistory.specs.StoreIds.{Identity}
-use Rattle.qstore_journaled.specs.Journaled.{Journaled}
+use Rattle.qstore_journaled.specs.Journaled.{IsStoreOf, Journaled}
 
 -- the journal, and how much of it is published
 pub record Locked : Type 0 where
@@ -18,7 +18,7 @@ pub record Locked : Type 0 where
 -- counted but by its seats
 pub record IsLockedOf (id : Identity) (j : Journaled) (history published : Recorded) (tally : Tallies) (rest : Counted)
     (seats : ℕ) : Type 0 where
-  pub setting : j.setting ≡ id.setting
+  pub of : IsStoreOf id.setting j
   pub history_is : history ≡ recorded id.history j.journal
   pub published_of : published.history ≡ id.history
   pub begins : IsPrefix published.entries j.journal

@@ -3,6 +3,7 @@ ghost use Rattle.std.specs.Prelude.{◌≡◌, ◌++◌, ◌∷◌, [], List, If
 ghost use mathlib.Core.List.{IsPrefix};
 ghost use Rattle.qplain.specs.declared.entry.Entry.{Entry};
 ghost use Rattle.qhistory.specs.Histories.{recorded};
+ghost use Rattle.qstore_journaled.specs.Journaled.{IsStoreOf};
 ghost use Rattle.qstore_journaled.specs.Next.{CanFollow};
 
 use qhistory::{Prefix, StoreId};
@@ -16,7 +17,8 @@ pub trait Boards<S: StoreId>: Drop {
 
     /// Lets what a call that is ready will change on the board wait to be published. An Err is want of memory.
     fn note(&mut self, store: &JournaledStore, next: &Next) -> Result<(), NoMemory>
-        requires { CanFollow store.now next.now }
+        requires store { IsStoreOf S.id.setting store.now }
+        requires next { CanFollow store.now next.now }
         ensures ok { (published : List Entry) → waits self.old published store.now.journal
             → IfOk result (λ _. waits self.new published (store.now.journal ++ next.now.entry ∷ [])) }
         ensures err { (published : List Entry) → waits self.old published store.now.journal
@@ -24,7 +26,7 @@ pub trait Boards<S: StoreId>: Drop {
 
     /// Publishes the board of the store's whole journal, which is all of its history.
     fn publish(&mut self, store: &JournaledStore, published: &Prefix, history: Prefix)
-        requires setting { store.now.setting ≡ S.id.setting }
+        requires store { IsStoreOf S.id.setting store.now }
         requires waits { waits self.old published.now.entries store.now.journal }
         requires begins { IsPrefix published.now.entries store.now.journal }
         requires history { history ≡ recorded S.id.history store.now.journal }

@@ -107,7 +107,7 @@ impl<'a, S: StoreId, B: Boards<S>> Held<'a, S, B> {
     /// The seat has then seen the whole journal: a legal history, which begins with all that it had seen and has each
     /// call that was made through this hold.
     pub fn release<V: Drop, W: Wait>(self, rt: &W, seat: &mut Seat<S, V>)
-        requires by { seat.old.worker ≡ self.entry.by }
+        requires by { seat.old.worker ≡ self.by }
         ensures seat { seat.new ≡ record seat.old { seen = self.entry.journal } }
         ensures seen { HasSeenOn S.id.setting seat.old seat.new }
     {

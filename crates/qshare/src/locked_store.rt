@@ -6,6 +6,7 @@ ghost use Rattle.qplain.specs.declared.call_fault.CallFault.TheVariants.{Journal
 ghost use Rattle.qplain.specs.Journal.{IsLegal, no_tally};
 ghost use Rattle.qplain.specs.State.{start};
 ghost use Rattle.qhistory.specs.Histories.{recorded};
+ghost use Rattle.qstore_journaled.specs.Journaled.{IsStoreOf};
 ghost use Rattle.qstore_journaled.specs.Lines.{line_of};
 ghost use Rattle.qshare.specs.Calls.{IsJournaled};
 ghost use Rattle.qshare.specs.Ends.{IsEndOf};
@@ -53,7 +54,7 @@ impl<S: StoreId, B: Boards<S>> LockedStore<S, B> {
         rest: TallyPart<S>,
         boards: B,
     ) -> LockedStore<S, B>
-        requires store { (store.setting ≡ S.id.setting) × (store.journal ≡ []) }
+        requires store { IsStoreOf S.id.setting store × (store.journal ≡ []) }
         requires history { history ≡ recorded S.id.history [] }
         requires seats { seats ≡ S.id.counters.parts }
         requires tally { (tally ≡ no_tally) × (rest ≡ record { tally = no_tally; parts = 0 }) }

@@ -4,6 +4,7 @@ ghost use Rattle.qplain.specs.Journal.{board_of, no_tally};
 ghost use Rattle.qplain.specs.Setups.{IsLawfulSetup};
 ghost use Rattle.qplain.specs.State.{start};
 ghost use Rattle.qhistory.specs.Histories.{recorded};
+ghost use Rattle.qstore_journaled.specs.Journaled.{IsStoreOf};
 ghost use Rattle.qshare.specs.Seats.{seats_of};
 ghost use Rattle.qshare.specs.declared.share_fault.ShareFault.TheVariants.{Seats};
 
@@ -49,7 +50,9 @@ impl Model for Opened {
       counters = o.counters;
     } };
 
-    ghost invariant = { λ o. (o.store.journal ≡ []) × (o.history.entries ≡ []) × (0 < o.seats) × (o.seats ≤ 16)
+    ghost use Rattle.qstore_journaled.specs.Journaled.{IsPlayed};
+
+    ghost invariant = { λ o. IsPlayed o.store × (o.store.journal ≡ []) × (o.history.entries ≡ []) × (0 < o.seats) × (o.seats ≤ 16)
         × (o.counters.parts ≡ o.seats) };
 }
 
@@ -73,7 +76,7 @@ fn first_publisher<S: StoreId, R: Wait + Drop>(
     prefix: &Prefix,
     seats: u64,
 ) -> Result<Publisher<S, R>, NoMemory>
-    requires store { (store.now.setting ≡ S.id.setting) × (store.now.journal ≡ []) }
+    requires store { IsStoreOf S.id.setting store.now × (store.now.journal ≡ []) }
     requires prefix { prefix.now ≡ recorded S.id.history [] }
     requires seats { (0 < seats) × (seats ≤ MAX_SEATS) }
     ensures published { IfOk result (λ p. p ≡ []) }

@@ -30,3 +30,8 @@ pub record IsSameJournaled (old new : Journaled) : Type 0 where
   pub setting : new.setting ≡ old.setting
   pub state : new.stored.state ≡ old.stored.state
   pub journal : new.journal ≡ old.journal
+
+-- a journaled store that began with this setup
+pub record IsStoreOf (setting : Setting) (j : Journaled) : Type 0 where
+  pub setting_is : j.setting ≡ setting
+  pub played : IsPlayed j

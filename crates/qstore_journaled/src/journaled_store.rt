@@ -50,6 +50,7 @@ impl JournaledStore {
     pub fn new(alloc: Global, setup: Setup, seed: u64) -> Result<JournaledStore, NoMemory>
         ensures setting { IfOk result (λ j. j.setting ≡ setup) }
         ensures journal { IfOk result (λ j. j.journal ≡ []) }
+        ensures played { IfOk result IsPlayed }
     {
         let store = Store::new(alloc, setup.copy(alloc)?, seed)?;
         // A setup that is asked for its users is lawful.

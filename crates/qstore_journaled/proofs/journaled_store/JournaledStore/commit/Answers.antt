@@ -15,3 +15,9 @@ invariant_of-self c =
           (ap (λ p. p.0) (c.commit-reply.ensures ∙ can.step)) can.reply;
       tallies = can.tallies ∙ sym (tally-one_more c.self.inside.journal.items c.args.next.entry) ∙ ap tally_of (sym entries);
     }
+
+pub returns-clause-played : goal.returns-clause-played
+returns-clause-played c =
+    let can = subst (λ j. CanFollow j c.args.next) (sym c.self.view_is) c.requires in
+    played_on (journaled_of c.self.inside) _ c.args.next.entry c.self.invariant.played can.few refl c.push_reserved.ensures.items
+    (ap (λ p. p.0) (c.commit-reply.ensures ∙ can.step)) can.reply

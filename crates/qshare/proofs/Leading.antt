@@ -1,0 +1,74 @@
+-- How the rows that wait lead from one board to the next.
+use Rattle.std.proofs.Common.{◌≡◌, List, [], ◌∷◌, ◌++◌, length, Result, Ok, Err, IfOk, refl, sym, ap, ◌∙◌, subst}
+use mathlib.Core.List.{IsPrefix}
+use Rattle.qrules.specs.Sort.{Inodes, Blocks}
+use Rattle.qplain.specs.declared.effect.PlacedRow.{PlacedRow}
+use Rattle.qplain.specs.declared.entry.Entry.{Entry}
+use Rattle.qplain.specs.Setups.{Setting}
+use Rattle.qplain.specs.State.{State, start}
+use Rattle.qplain.specs.Use.{total_of}
+use Rattle.qplain.specs.Journal.{IsLegal, play, played}
+use Rattle.qlaws.proofs.Playing.{play-one_more}
+use Rattle.qstore.specs.Ready.{committed}
+use Rattle.qhistory.specs.Histories.{Recorded, recorded}
+use Rattle.qhistory.specs.StoreIds.{Identity}
+use Rattle.qboards.specs.declared.board_change.BoardChange.{BoardChange}
+use Rattle.qboards.specs.Boards.{BringsOn, changed_by, shown_of, with_rows}
+use Rattle.qstore_journaled.specs.declared.next.Next.{Next}
+use Rattle.qstore_journaled.specs.Journaled.{IsStoreOf, Journaled}
+use Rattle.qstore_journaled.specs.Next.{CanFollow}
+use Rattle.qshare.specs.Waiting.{LeadsOn, Waits, rows_of}
+
+-- a store's state is what its journal leaves from the setup
+state_is : (setting : Setting) (j : Journaled) → IsStoreOf setting j → j.stored.state ≡ play (start setting) j.journal
+state_is setting j of = of.played.state ∙ ap (λ s. play (start s) j.journal) of.setting_is
+
+-- with the rows of one call more what waits leads to the journal's next board
+pub waits_on : (setting : Setting) (j : Journaled) (n : Next) (shown published : List Entry) (waiting longer : List PlacedRow)
+    → IsStoreOf setting j → CanFollow j n → Waits setting shown waiting published j.journal
+    → LeadsOn waiting j.stored.state longer (committed j.stored n.ready).0
+    → Waits setting shown longer published (j.journal ++ n.entry ∷ [])
+waits_on setting j n shown published waiting longer of can w led =
+    let S : State = start setting in
+    let state : j.stored.state ≡ play S j.journal = state_is setting j of in
+    let before : with_rows (shown_of S published).rows waiting ≡ rows_of j.stored.state = w.leads ∙ ap rows_of (sym state) in
+    let after : (committed j.stored n.ready).0 ≡ play S (j.journal ++ n.entry ∷ []) =
+    ap (λ p. p.0) can.step ∙ ap (λ T. (played T n.entry).0) state ∙ sym (play-one_more S j.journal n.entry) in
+    record { shown_is = w.shown_is; leads = led.leads (shown_of S published).rows before ∙ ap rows_of after }
+
+-- where there was room for them
+pub noted : {T E : Type 0} (setting : Setting) (j : Journaled) (n : Next) (shown published : List Entry) (waiting longer : List PlacedRow)
+    (r : Result T E) → IsStoreOf setting j → CanFollow j n → Waits setting shown waiting published j.journal
+    → IfOk r (λ x. LeadsOn waiting j.stored.state longer (committed j.stored n.ready).0)
+    → IfOk r (λ x. Waits setting shown longer published (j.journal ++ n.entry ∷ []))
+noted setting j n shown published waiting longer (Ok x) of can w led = waits_on setting j n shown published waiting longer of can w led
+noted setting j n shown published waiting longer (Err e) of can w led = tt
+
+-- a change with the rows that wait, the store's totals and the journal's length may be published
+pub brings_on : (id : Identity) (j : Journaled) (shown published : List Entry) (waiting : List PlacedRow) (change : BoardChange)
+    (history : Recorded) → IsStoreOf id.setting j → Waits id.setting shown waiting published j.journal → IsPrefix published j.journal
+    → history ≡ recorded id.history j.journal → change.version ≡ length j.journal → change.rows.items ≡ waiting
+    → change.blocks ≡ total_of j.stored.state Blocks → change.inodes ≡ total_of j.stored.state Inodes → BringsOn id shown change history
+brings_on id j shown published waiting change history of w begins is version rows blocks inodes =
+    let S : State = start id.setting in
+    let state : j.stored.state ≡ play S j.journal = state_is id.setting j of in
+    let legal : IsLegal S j.journal = subst (λ s. IsLegal (start s) j.journal) of.setting_is of.played.legal in
+    let all : with_rows (shown_of S published).rows change.rows.items ≡ (shown_of S j.journal).rows =
+    ap (with_rows (shown_of S published).rows) rows ∙ w.leads in
+    let board : changed_by (shown_of S published) change ≡ shown_of S j.journal = λ i. record {
+      version = version i;
+      rows = all i;
+      blocks = (blocks ∙ ap (λ (T : State). total_of T Blocks) state) i;
+      inodes = (inodes ∙ ap (λ (T : State). total_of T Inodes) state) i;
+    } in
+    let of_journal : BringsOn id published change (recorded id.history j.journal) = record {
+      on = record { of = record { history = refl; legal = legal }; begins = begins };
+      leads = board;
+    } in
+    subst (λ xs. BringsOn id xs change history) (sym w.shown_is) (subst (BringsOn id published change) (sym is) of_journal)
+
+-- where all of the journal is published no row waits
+pub none_waits : (setting : Setting) (shown : List Entry) (waiting : List PlacedRow) (journal : List Entry) → shown ≡ journal → waiting ≡ []
+    → Waits setting shown waiting journal journal
+none_waits setting shown waiting journal all none =
+    record { shown_is = all; leads = ap (with_rows (shown_of (start setting) journal).rows) none }
