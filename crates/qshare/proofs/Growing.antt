@@ -1,13 +1,21 @@
 -- What a call leaves of a journal.
-use Rattle.std.proofs.Common.{◌≡◌, [], ◌∷◌, ◌++◌, Result, Ok, Err, IfOk, OnErr, ap, sym, ◌∙◌, append-nil}
+use Rattle.std.proofs.Common.{◌≡◌, List, [], ◌∷◌, ◌++◌, Result, Ok, Err, IfOk, OnErr, ap, sym, subst, ◌∙◌, append-nil}
 use mathlib.Core.List.{IsPrefix}
+use Rattle.qplain.specs.declared.entry.Entry.{Entry}
 use Rattle.qplain.specs.declared.call_fault.CallFault.{CallFault}
 use Rattle.qplain.specs.declared.line.Line.{Line}
 use Rattle.qplain.specs.declared.receipt.Receipt.{Receipt}
 use Rattle.qplain.specs.declared.tallies.Tallies.{Tallies}
 use Rattle.qplain.specs.Journal.{entry_of}
+use Rattle.qhistory.specs.Histories.{Recorded, recorded}
+use Rattle.qhistory.proofs.Prefixes.{prefix_trans}
 use Rattle.qshare.specs.Calls.{IsJournaled}
 use Rattle.qshare.specs.Locked.{Locked}
+
+-- a journal that begins with what is published begins with what was seen of that
+pub seen_of : {seen published journal : List Entry} {history : _} {p : Recorded} → p ≡ recorded history seen → IsPrefix p.entries published
+    → IsPrefix published journal → IsPrefix seen journal
+seen_of {seen} {published} {journal} is begins on = prefix_trans _ _ _ (subst (λ p. IsPrefix p.entries published) is begins) on
 
 -- it goes on with the journal, by an entry or by none
 pub goes_on : (Kept : Type 0) (worker : _) (line : Line) (answer : Result Receipt CallFault) (old new : Locked) (before after : Tallies)

@@ -75,7 +75,8 @@ impl<S: StoreId, V: Drop> Seat<S, V> {
     /// Sees the whole journal, all of which is published.
     pub(crate) fn catch_up<B: Boards<S>>(&mut self, store: &LockedStore<S, B>)
         requires { store.now.published ≡ store.now.journal }
-        ensures { self.new ≡ record self.old { seen = store.now.journal } }
+        ensures seat { self.new ≡ record self.old { seen = store.now.journal } }
+        ensures legal { IsLegal (start S.id.setting) store.now.journal }
     {
         self.prefix = store.published().again();
     }
