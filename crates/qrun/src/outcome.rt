@@ -37,8 +37,9 @@ pub fn outcome_of(
     requires each { All (IsOneOf workers) store.journal }
     ensures { IfOk result (IsLeftOf store.setting store.journal workers transcripts boards) }
 {
-    let records = store.store().record_rows()?;
-    let differences = audit(alloc, store.store(), &records)?;
+    let kept = store.store();
+    let records = kept.record_rows()?;
+    let differences = audit(alloc, kept, &records)?;
     let Ended {
         setup,
         store,
