@@ -8,7 +8,7 @@ use Rattle.qplain.specs.Setups.{Setting}
 use Rattle.qrun.specs.declared.outcome.Outcome.{Outcome}
 use Rattle.qrun.specs.Runs.{IsOutcomeOf}
 use Rattle.qworkers.specs.declared.run_fault.RunFault.{RunFault}
-use Rattle.qworkers.specs.Crews.{IsRun}
+use Rattle.qworkers.specs.Crews.{ArePlayed, IsRun, Performed}
 use Rattle.qworkers.specs.RunFaults.{IsFaultOf}
 use Rattle.qworkers.specs.Watching.{seats_for}
 use Rattle.qworkers.proofs.Naming.{fault_of_any}
@@ -19,6 +19,12 @@ pub is_run : (setting : Setting) (scripts : List (List Line)) (boards : ℕ) (lo
     → IsRun setting scripts boards r
 is_run setting scripts boards looks (Ok o) many outcome is none = (outcome, ap length is ∙ many)
 is_run setting scripts boards looks (Err fault) many outcome is none = fault_of_any (seats_for (length scripts) boards) fault none
+
+-- what was performed, once it is taken apart
+pub played_of : (setting : Setting) (given scripts : List (List Line)) (boards : ℕ) (p done : Performed) → given ≡ scripts → done ≡ p
+    → ArePlayed setting given boards (Ok p) → ArePlayed setting scripts boards (Ok done)
+played_of setting given scripts boards p done same is played =
+    subst (λ ls. ArePlayed setting ls boards (Ok done)) same (subst (λ (q : Performed). ArePlayed setting given boards (Ok q)) (sym is) played)
 
 -- a fault that is handed on
 pub is_faulty : (setting : Setting) (scripts : List (List Line)) (boards : ℕ) (r : Result Outcome RunFault) (fault : RunFault)

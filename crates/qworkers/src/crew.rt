@@ -69,7 +69,8 @@ where
         rt,
         |scope| -> Result<Played<S>, RunFault>
             requires marks { IsSync R.row × IsSync G.row × IsSend S.row × IsSync S.row × IsSend B.row × IsSend V.row }
-            requires crew { IsCrew (length scripts.entry.now) options seats.items watcher }
+            requires crew { IsCrew (length scripts.now) (record { batch = options.batch; boards = options.boards })
+                seats.items watcher }
             ensures { ArePlayed S.id.setting scripts.entry.now options.boards result }
         {
             let mut running = Vec::with_capacity(alloc, seats.len())?;
