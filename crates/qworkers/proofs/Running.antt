@@ -27,7 +27,7 @@ played_of setting given scripts boards p done same is played =
     subst (λ ls. ArePlayed setting ls boards (Ok done)) same (subst (λ (q : Performed). ArePlayed setting given boards (Ok q)) (sym is) played)
 
 -- a fault that is handed on
-pub is_faulty : (setting : Setting) (scripts : List (List Line)) (boards : ℕ) (r : Result Outcome RunFault) (fault : RunFault)
-    → IsErrAnd r (λ e. e ≡ fault) → IsFaultOf (seats_for (length scripts) boards) fault → IsRun setting scripts boards r
-is_faulty setting scripts boards (Ok o) fault is names = absurd is
-is_faulty setting scripts boards (Err e) fault is names = subst (IsFaultOf (seats_for (length scripts) boards)) (sym is) names
+pub not_played : (setting : Setting) (scripts : List (List Line)) (boards : ℕ) (r : Result Performed RunFault) (fault : RunFault)
+    → IsErrAnd r (λ e. e ≡ fault) → IsFaultOf (seats_for (length scripts) boards) fault → ArePlayed setting scripts boards r
+not_played setting scripts boards (Ok p) fault is names = absurd is
+not_played setting scripts boards (Err e) fault is names = subst (IsFaultOf (seats_for (length scripts) boards)) (sym is) names

@@ -1,10 +1,11 @@
-use Rattle.std.proofs.Common.{◌≡◌, ◌+◌, ◌<◌, [], ◌∷◌, ◌++◌, length, slice_index_or, below_more, refl, sym, ap, subst, ◌∙◌, append_assoc, length-append, arith}
+use Rattle.std.proofs.Common.{◌≡◌, ◌+◌, ◌<◌, ◌≤◌, IfSome, [], ◌∷◌, ◌++◌, length, slice_index_or, below_more, refl, sym, ap, subst, ◌∙◌, append_assoc, length-append, arith}
 use Rattle.std.proofs.lemmas.List.{get_or_append_left, get_or_push}
 use Rattle.std.specs.Vec.Iter.{into_iter_items}
 use Rattle.qplain.specs.State.{start}
 use Rattle.qworkers.specs.Watching.{IsWatchOf, seats_for}
 use Rattle.qworkers.specs.Work.{IsWork}
-use Rattle.qworkers.proofs.Naming.{names_seat, scripts_fit}
+use Rattle.qworkers.proofs.Naming.{names_seat, scripts_fit, watcher_fits}
+use Rattle.qworkers.proofs.Running.{not_played}
 use Rattle.qworkers.proofs.Seating.{seat_next, seats_ended}
 use Rattle.qworkers.proofs.crew.fn.play_all.scope.Goals as goal
 
@@ -89,3 +90,13 @@ returns-in-Err g c =
     (ap (λ xs. seated.0 ++ xs) (sym c.in-Some.ensures.steps.0) ∙ seated.1) in
     let own = c.worker.ensures ∙ c.in_ok-worker.ensures.seat.0 ∙ ap (λ s. s.worker) next.0 in
     names_seat (seats_for n c.captures.options-boards) n (length seated.0) c.worker.result own next.1 (scripts_fit n c.captures.options-boards)
+
+pub returns-in_err-watch : goal.returns-in_err-watch
+returns-in_err-watch g c =
+    let scripts = c.captures.scripts.now in
+    let boards = c.captures.options-boards in
+    let seats = seats_for (length scripts) boards in
+    let there = subst (λ w. IfSome w (λ s. (0 < s.worker) × (s.worker ≤ seats))) (sym (c.loop-seat.invariant.3 ∙ c.requires.crew.watcher_is))
+    (watcher_fits (length scripts) boards) in
+    not_played g.S.StoreId.id.setting scripts boards c.from_residual-in_err-watch.result c.in_err-watch.field-0.0
+    c.from_residual-in_err-watch.ensures.1 (c.in_err-watch.ensures.fault seats there)
