@@ -229,8 +229,7 @@ impl Store {
         ensures refused_first { IsRefused (step self.old.state cred.now moment call.now).1 → IsOk result }
         ensures answered { wants_no_memory call.now ≡ true → IsOk result }
 
-        // In the words of the limits: nobody but the superuser raises a use past a hard limit, or past a soft one
-        // whose grace has ended.
+        // In words: nobody but the superuser raises a use past a hard limit, or past a soft one whose grace has ended.
         ensures limits { OnOk result (is_superuser cred.now ≡ false
             → All (PassesNoLimit self.old.state self.new.state moment) self.old.state.holders) }
     {
