@@ -20,8 +20,8 @@ pub fn audit(
     ensures differences { IfOk result (λ found. found.items ≡ differences_in store.now.state) }
     ensures none { IfOk result (λ found. found.items ≡ []) }
 {
-    // The store's blocks fit 64 bits, so those of its rows do.
-    let _blocks = store.blocks();
+    // The blocks of a lawful state fit 64 bits, so those of its rows do.
+    store.always_lawful();
     let inodes = store.inode_rows()?;
     let names = store.name_rows()?;
     let counts = recount(alloc, &inodes, &names)?;

@@ -8,7 +8,7 @@ use Rattle.qblocks.specs.declared.block.TheConstants.{BLOCK_SIZE}
 use Rattle.qblocks.specs.declared.row.TheConstants.{ROW_BLOCKS, ROW_SIZE}
 use Rattle.qblocks.specs.File.{after_truncate, begins_below}
 use Rattle.qblocks.specs.Row.{Slot, slot_at, row_filled, gaps, span_end}
-use Rattle.qblocks.specs.Rows.{Table, slots_of, row_of, has_row, filled, is_used, in_room, HasFrom, IsWhole, bytes_of, allocated_of, file_of}
+use Rattle.qblocks.specs.Rows.{Table, slots_of, row_of, has_row, filled, is_used, in_room, HasFrom, FieldsFit, bytes_of, allocated_of, file_of}
 use Rattle.qblocks.specs.WriteRoom.{WriteRoom}
 use Rattle.qblocks.proofs.Indexes.{same_indexes, has-filter, Rises-filter, Rises-range, length-filter_range}
 use Rattle.qblocks.proofs.Spans.{gaps-same, gaps-split, gaps-all, gaps_le, or_rest, span_end_none, span_end_some}
@@ -82,7 +82,7 @@ module _ {Z : Type 0} (m : Table Z) where
       ⊎_elim (λ yes. absurd (omega (arith, below k yes))) (λ no. no) (cases_Bool (filled m k)))
 
   -- a row's number is small, whether a block or the room needs it
-  pub row_small : (size count : ℕ) (room : WriteRoom) → IsWhole m size count room → (r : ℕ) → has_row m r ≡ true → r < 2 ^ 28
+  pub row_small : (size count : ℕ) (room : WriteRoom) → FieldsFit m size count room → (r : ℕ) → has_row m r ≡ true → r < 2 ^ 28
   row_small size count room whole r there =
       ⊎_elim
       (λ used. omega (arith, used_below (filled m) size r whole.below used, whole.bounded))

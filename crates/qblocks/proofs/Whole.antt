@@ -8,7 +8,7 @@ use Rattle.std.specs.Ordering.{nat_cmp}
 use Rattle.qblocks.specs.File.{after_write, with_touched}
 use Rattle.qblocks.specs.WriteRoom.{WriteRoom, RoomyFile, IsReadyToPut, no_room}
 use Rattle.qblocks.specs.Row.{Puts, in_span, in_pieces, span_end, gaps_in, byte_of, slot_at}
-use Rattle.qblocks.specs.Rows.{Table, slot_in, filled, byte_at, has_row, slots_of, is_used, in_room, SameBlocks, Frees, file_of, IsWhole}
+use Rattle.qblocks.specs.Rows.{Table, slot_in, filled, byte_at, has_row, slots_of, is_used, in_room, SameBlocks, Frees, file_of, FieldsFit}
 use Rattle.qblocks.proofs.Spans.{or_no, or_yes, or_rest, span_end_some}
 use Rattle.qblocks.proofs.Freed.{is_used-same, absent_is_unused}
 use Rattle.qblocks.proofs.Touched.{length-after_write}
@@ -19,7 +19,7 @@ module _ {Z : Type 0} where
   -- the fields stay whole where the blocks do, with other rows and another room
   pub IsWhole-same : (m n : Table Z) (size count : ℕ) (old new : WriteRoom) → SameBlocks m n
       → ((r : ℕ) → has_row n r ≡ (is_used (filled n) r || in_room new r))
-      → new.off + new.len ≤ 2 ^ 40 → IsWhole m size count old → IsWhole n size count new
+      → new.off + new.len ≤ 2 ^ 40 → FieldsFit m size count old → FieldsFit n size count new
   IsWhole-same m n size count old new same rows bound whole = record {
     counted = whole.counted ∙ sym (ap (λ file. length file.allocated) (file_of-same m n size same));
     bounded = whole.bounded;
@@ -31,7 +31,7 @@ module _ {Z : Type 0} where
 
   -- the fields of a file that is made longer
   pub IsWhole-grown : (m : Table Z) (size count to : ℕ) (room : WriteRoom) → size ≤ to → to ≤ 2 ^ 40
-      → IsWhole m size count room → IsWhole m to count room
+      → FieldsFit m size count room → FieldsFit m to count room
   IsWhole-grown m size count to room more bound whole = record {
     counted = whole.counted ∙ sym (ap length (allocated_of-grown m size to more whole.below));
     bounded = bound;
@@ -43,16 +43,16 @@ module _ {Z : Type 0} where
 
   -- a row begins below the size
   pub row_below : (m : Table Z) (size count : ℕ) (room : WriteRoom) → room ≡ no_room
-      → IsWhole m size count room → (r : ℕ) → has_row m r ≡ true → r * ROW_SIZE < size
+      → FieldsFit m size count room → (r : ℕ) → has_row m r ≡ true → r * ROW_SIZE < size
   row_below m size count room none whole r there =
       used_below (filled m) size r whole.below (or_no (is_used (filled m) r) _ (ap (λ x. in_room x r) none ∙ in_no_room r) ∙ sym (whole.rows r) ∙ there)
 
   -- the fields of a file that is cut off
   pub IsWhole-cut : (m n : Table Z) (size count to freed : ℕ) (room : WriteRoom) → room ≡ no_room
-      → IsWhole m size count room → to < size → ((o : ℕ) → to ≤ o → byte_at n o ≡ 0)
+      → FieldsFit m size count room → to < size → ((o : ℕ) → to ≤ o → byte_at n o ≡ 0)
       → ((k : ℕ) → filled n k ≡ (filled m k && nat_lt (k * BLOCK_SIZE) to))
       → ((r : ℕ) → has_row n r ≡ is_used (filled n) r) → Frees m n freed
-      → (freed ≤ count) × IsWhole n to (count - freed) room
+      → (freed ≤ count) × FieldsFit n to (count - freed) room
   IsWhole-cut m n size count to freed room none whole less tail kept used frees =
       let below' : Below (filled n) to = λ k yes. ltb-true (k * BLOCK_SIZE) to (and_parts (filled m k) _ (sym (kept k) ∙ yes)).1 in
       let bound = size * ROW_BLOCKS in
@@ -72,10 +72,10 @@ module _ {Z : Type 0} where
 
   -- the fields after a write, and the file that they stand for
   pub IsWhole-written : (m n : Table Z) (size count a b off : ℕ) (input : List ℕ) (to : ℕ)
-      → IsWhole m size count (record { off = off; len = length input })
+      → FieldsFit m size count (record { off = off; len = length input })
       → Puts (byte_at m) (byte_at n) (filled m) (filled n) a b off input → 0 < length input
       → to ≡ max size (off + length input) → ((r : ℕ) → has_row n r ≡ has_row m r)
-      → IsWhole n to (count + gaps_in (filled m) off (length input)) no_room × (file_of n to ≡ after_write (file_of m size) off input)
+      → FieldsFit n to (count + gaps_in (filled m) off (length input)) no_room × (file_of n to ≡ after_write (file_of m size) off input)
   IsWhole-written m n size count a b off input to whole puts some ends rows =
       let in_reach : (k : ℕ) → in_pieces BLOCK_SIZE off (length input) k ≡ true → k * BLOCK_SIZE < to = λ k in'.
       let end = span_end_some BLOCK_SIZE off (length input) some in
@@ -105,7 +105,7 @@ module _ {Z : Type 0} where
   no_row m r e = rw e refl
 
   -- the fields of an empty file
-  pub IsWhole-empty : (m : Table Z) → m.entries ≡ [] → IsWhole m 0 0 no_room
+  pub IsWhole-empty : (m : Table Z) → m.entries ≡ [] → FieldsFit m 0 0 no_room
   IsWhole-empty m e =
       let slot_none : (k : ℕ) → slot_in m k ≡ None = λ k. ap (λ row. slot_at (slots_of row) (k % ROW_BLOCKS)) (no_row m (k / ROW_BLOCKS) e) in
       record {
@@ -121,7 +121,7 @@ module _ {Z : Type 0} where
 
   -- where there is no room, the rows are those with a block
   pub rows_used : (m : Table Z) (size count : ℕ) (room : WriteRoom) → room ≡ no_room
-      → IsWhole m size count room → (r : ℕ) → has_row m r ≡ is_used (filled m) r
+      → FieldsFit m size count room → (r : ℕ) → has_row m r ≡ is_used (filled m) r
   rows_used m size count room none whole r =
       whole.rows r ∙ sym (or_no (is_used (filled m) r) _ (ap (λ x. in_room x r) none ∙ in_no_room r))
 
@@ -157,26 +157,26 @@ module _ {Z : Type 0} where
   -- the fields of a file that is ready for a write, and how many blocks are at hand
   pub ready_whole : (m : Table Z) (size count : ℕ) (room : WriteRoom) (f : RoomyFile) (off n spare : ℕ)
       → record { file = file_of m size; room = room } ≡ f → IsReadyToPut f off n spare
-      → IsWhole m size count room
-      → IsWhole m size count (record { off = off; len = n }) × (spare ≡ gaps_in (filled m) off n)
+      → FieldsFit m size count room
+      → FieldsFit m size count (record { off = off; len = n }) × (spare ≡ gaps_in (filled m) off n)
   ready_whole m size count room f off n spare view ready whole =
       let before = ap (λ x. length x.file.allocated) view in
       let after = ap (λ x. length (with_touched x.file.allocated off n)) view in (
-        subst (IsWhole m size count) (ap (λ x. x.room) view ∙ ready.room) whole,
+        subst (FieldsFit m size count) (ap (λ x. x.room) view ∙ ready.room) whole,
         omega (arith, before, after, ready.blocks, missing_blocks m size off n whole.below),
       )
 
   -- the fields after a write that the file was ready for, and the file that they stand for
   pub put_whole : (m n : Table Z) (size count : ℕ) (room : WriteRoom) (f : RoomyFile) (off : ℕ) (input : List ℕ) (spare a b to : ℕ)
       → record { file = file_of m size; room = room } ≡ f → IsReadyToPut f off (length input) spare
-      → IsWhole m size count room → Puts (byte_at m) (byte_at n) (filled m) (filled n) a b off input
+      → FieldsFit m size count room → Puts (byte_at m) (byte_at n) (filled m) (filled n) a b off input
       → 0 < length input → to ≡ max size (off + length input)
       → ((r : ℕ) → has_row n r ≡ has_row m r)
-      → (count + spare ≤ to) × IsWhole n to (count + spare) no_room × (file_of n to ≡ after_write f.file off input)
+      → (count + spare ≤ to) × FieldsFit n to (count + spare) no_room × (file_of n to ≡ after_write f.file off input)
   put_whole m n size count room f off input spare a b to view ready whole puts some ends rows =
       let is = ready_whole m size count room f off (length input) spare view ready whole in
       let after = IsWhole-written m n size count a b off input to is.0 puts some ends rows in
       let sum : count + gaps_in (filled m) off (length input) ≡ count + spare = omega (arith, is.1) in
-      let Whole : ℕ → Type 0 = λ x. IsWhole n to x no_room in
+      let Whole : ℕ → Type 0 = λ x. FieldsFit n to x no_room in
       let whole' = subst Whole sum after.0 in
       (omega (arith, whole'.counted, allocated_le n to whole'.below), whole', after.1 ∙ ap (λ x. after_write x.file off input) view)

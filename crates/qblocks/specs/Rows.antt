@@ -95,7 +95,7 @@ module _ {Z : Type 0} where
   file_of m size = record { bytes = bytes_of m size; allocated = allocated_of m size }
 
   -- what is always true of a file's fields
-  pub record IsWhole (m : Table Z) (size count : ℕ) (room : WriteRoom) : Type 0 where
+  pub record FieldsFit (m : Table Z) (size count : ℕ) (room : WriteRoom) : Type 0 where
     -- the count is that of the blocks, and the size and the room keep their bounds
     pub counted : count ≡ length (allocated_of m size)
     pub bounded : size ≤ 2 ^ 40

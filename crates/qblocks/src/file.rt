@@ -40,11 +40,11 @@ impl Model for BlockFile {
 
     ghost Value = { RoomyFile };
 
-    ghost use Rattle.qblocks.specs.Rows.{IsWhole, file_of};
+    ghost use Rattle.qblocks.specs.Rows.{FieldsFit, file_of};
 
     ghost view = { λ f. record { file = file_of f.rows f.size; room = record { off = f.room_off; len = f.room_len } } };
 
-    ghost invariant = { λ f. IsWhole f.rows f.size f.count (record { off = f.room_off; len = f.room_len }) };
+    ghost invariant = { λ f. FieldsFit f.rows f.size f.count (record { off = f.room_off; len = f.room_len }) };
 }
 
 impl BlockFile {

@@ -11,9 +11,9 @@ use Rattle.qplain.specs.declared.reply.Reply.TheVariants.{Done, Bytes, Stat as S
 use Rattle.qplain.specs.Caller.{Caller, is_superuser}
 use Rattle.qplain.specs.State.{Holder, Inode, State, inode_at, is_directory, named, new_directory}
 use Rattle.qplain.specs.Use.{has_too_many_links, is_empty}
-use Rattle.qplain.specs.Walk.{components, last_name, led_to, place, walk}
+use Rattle.qplain.specs.Walk.{components, last_name, led_to, parent, walk}
 use Rattle.qplain.specs.Arguments.{is_declared, is_holder, refusal_of_arguments}
-use Rattle.qplain.specs.Attempt.{Attempt, Refuse, Answer, Becomes, at_inode, at_name, at_path, at_reached, in_place, in_reached, no_change, under}
+use Rattle.qplain.specs.Attempt.{Attempt, Refuse, Answer, Becomes, at_inode, at_name, at_path, at_reached, in_parent, in_reached, no_change, under}
 use Rattle.qplain.specs.Rights.{is_own, may_give, may_remove, may_write}
 use Rattle.qplain.specs.Names.{create_as, created, link_as, link_to, mkdir_as, rmdir_as, rmdir_at, unless_too_many_links, unlink_as, unlink_at, with_name}
 use Rattle.qplain.specs.Renames.{meets, passes, rename_as, rename_from, rename_over, rename_to, renamed}
@@ -73,7 +73,7 @@ in_reached-none try name (Ok dir) each = each dir
 under-none : (S : State) (of_root : Refusal) (try : ℕ → List ℕ → Attempt) (names : List (List ℕ)) (o : Option (List ℕ))
     → ((dir : ℕ) (name : List ℕ) → TellsNone (try dir name)) → TellsNone (under S of_root try names o)
 under-none S of_root try names None each = refuses _
-under-none S of_root try names (Some name) each = in_reached-none try name (place S names) (λ dir. each dir name)
+under-none S of_root try names (Some name) each = in_reached-none try name (parent S names) (λ dir. each dir name)
 
 at_path-none : (S : State) (try : ℕ → Inode → Attempt) (path : List ℕ) → ((number : ℕ) (inode : Inode) → TellsNone (try number inode))
     → TellsNone (at_path S try path)
@@ -83,9 +83,9 @@ at_name-none : (S : State) (try : ℕ → Inode → Attempt) (dir : ℕ) (name :
     → TellsNone (at_name S try dir name)
 at_name-none S try dir name each = at_reached-none S try (led_to (named S dir name)) each
 
-in_place-none : (S : State) (of_root : Refusal) (try : ℕ → List ℕ → Attempt) (path : List ℕ)
-    → ((dir : ℕ) (name : List ℕ) → TellsNone (try dir name)) → TellsNone (in_place S of_root try path)
-in_place-none S of_root try path each = under-none S of_root try (components path) (last_name (components path)) each
+in_parent-none : (S : State) (of_root : Refusal) (try : ℕ → List ℕ → Attempt) (path : List ℕ)
+    → ((dir : ℕ) (name : List ℕ) → TellsNone (try dir name)) → TellsNone (in_parent S of_root try path)
+in_parent-none S of_root try path each = under-none S of_root try (components path) (last_name (components path)) each
 
 few_links-none : (S : State) (number : ℕ) → TellsNone (unless_too_many_links S number)
 few_links-none S number = or (has_too_many_links S) _ _ (becomes S number)
@@ -108,9 +108,9 @@ rename_over-none S cred to dir name number inode to_dir to_name target =
 
 attempt_of-none : (S : State) (cred : Caller) (call : Call) → TellsNone (attempt_of S cred call)
 attempt_of-none S cred (Create path) =
-    in_place-none S _ (create_as S cred) path (λ dir name. or (is_some (named S dir name)) _ _ (becomes _ _))
+    in_parent-none S _ (create_as S cred) path (λ dir name. or (is_some (named S dir name)) _ _ (becomes _ _))
 attempt_of-none S cred (Mkdir path) =
-    in_place-none S _ (mkdir_as S cred) path (λ dir name.
+    in_parent-none S _ (mkdir_as S cred) path (λ dir name.
     or (is_some (named S dir name)) _ _ (few_links-none (created S (new_directory cred.uid cred.gid) dir name) S.next))
 attempt_of-none S cred (Write path off bytes) =
     at_path-none S (write_into S cred off bytes) path (λ number inode.
@@ -124,20 +124,20 @@ attempt_of-none S cred (Read path off len) =
 attempt_of-none S cred (AskStat path) = at_path-none S (stat_at S) path (λ number inode. answers (StatReply (stat_of S number inode)) refl)
 attempt_of-none S cred (Link from to) =
     at_path-none S (link_to S to) from (λ number inode.
-    in_place-none S _ (link_as S number inode) to (λ dir name.
+    in_parent-none S _ (link_as S number inode) to (λ dir name.
     or inode.dir _ _ (or (is_some (named S dir name)) _ _ (few_links-none (with_name S dir name number) number))))
 attempt_of-none S cred (Unlink path) =
-    in_place-none S _ (unlink_as S cred) path (λ dir name.
+    in_parent-none S _ (unlink_as S cred) path (λ dir name.
     at_name-none S (unlink_at S cred dir name) dir name (λ number inode.
     or inode.dir _ _ (or (not (may_remove S cred dir number)) _ _ (becomes _ _))))
 attempt_of-none S cred (Rmdir path) =
-    in_place-none S _ (rmdir_as S cred) path (λ dir name.
+    in_parent-none S _ (rmdir_as S cred) path (λ dir name.
     at_name-none S (rmdir_at S cred dir name) dir name (λ number inode.
     or (not inode.dir) _ _ (or (not (may_remove S cred dir number)) _ _ (or (not (is_empty S number)) _ _ (becomes _ _)))))
 attempt_of-none S cred (Rename from to) =
-    in_place-none S _ (rename_from S cred to) from (λ dir name.
+    in_parent-none S _ (rename_from S cred to) from (λ dir name.
     at_name-none S (rename_to S cred to dir name) dir name (λ number inode.
-    in_place-none S _ (rename_as S cred to dir name number inode) to (λ to_dir to_name.
+    in_parent-none S _ (rename_as S cred to dir name number inode) to (λ to_dir to_name.
     rename_over-none S cred (components to) dir name number inode to_dir to_name (named S to_dir to_name))))
 attempt_of-none S cred (Chown path uid gid) =
     at_path-none S (chown_at S cred uid gid) path (λ number inode.

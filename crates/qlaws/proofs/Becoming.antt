@@ -17,7 +17,7 @@ use Rattle.qplain.specs.declared.reply.Reply.TheVariants.{Bytes, Done}
 use Rattle.qplain.specs.Caller.{Caller, is_superuser}
 use Rattle.qplain.specs.State.{Holder, Inode, State, inode_at, is_directory, named, new_directory, new_file}
 use Rattle.qplain.specs.Use.{has_too_many_links, is_empty}
-use Rattle.qplain.specs.Walk.{components, is_well_formed, is_too_long, place}
+use Rattle.qplain.specs.Walk.{components, is_well_formed, is_too_long, parent}
 use Rattle.qplain.specs.Decision.{ends_after, refusal_between}
 use Rattle.qplain.specs.Arguments.{has_bad_number, is_declared, is_holder, is_known, is_undeclared, paths_of, refusal_of_arguments}
 use Rattle.qplain.specs.Attempt.{Attempt, Refuse, Answer, Becomes, no_change}
@@ -30,7 +30,7 @@ use Rattle.qplain.specs.Quotas.{ask_quota, quota_from, set_quota, set_grace, wit
 use Rattle.qplain.specs.Calls.{attempt, attempt_of}
 use Rattle.qlaws.specs.Laws.{IsSound, has_known_owners}
 use Rattle.qplain.specs.Step.{settle, settled, step}
-use Rattle.qlaws.proofs.Trying.{OnBecomes, at_name-becomes, at_path-becomes, choice, in_place-becomes, none-from_not_some, true-from_not, unless-becomes}
+use Rattle.qlaws.proofs.Trying.{OnBecomes, at_name-becomes, at_path-becomes, choice, in_parent-becomes, none-from_not_some, true-from_not, unless-becomes}
 use Rattle.qlaws.proofs.Sound.{MayFollow, empty-sound, known-caller, owned-follows, truncated-follows, written-follows}
 
 -- the inode is the caller's, and its group the caller's first
@@ -50,7 +50,7 @@ pub record HoldsOfResults (P : State → Type 0) (S : State) (cred : Caller) : T
   pub linked : (number : ℕ) (inode : Inode) (dir : ℕ) (name : List ℕ) → inode_at S number ≡ Some inode → inode.dir ≡ false
       → is_directory S dir ≡ true → named S dir name ≡ None → has_too_many_links (with_name S dir name number) ≡ false → P (with_name S dir name number)
   pub renamed : (to : List (List ℕ)) (dir : ℕ) (name : List ℕ) (number : ℕ) (inode : Inode) (to_dir : ℕ) (to_name : List ℕ)
-      → place S to ≡ Ok to_dir → (inode.dir && meets S to number) ≡ false → named S dir name ≡ Some number → inode_at S number ≡ Some inode
+      → parent S to ≡ Ok to_dir → (inode.dir && meets S to number) ≡ false → named S dir name ≡ Some number → inode_at S number ≡ Some inode
       → is_directory S to_dir ≡ true → passes (λ n. n == number) (named S to_dir to_name) ≡ false
       → passes (λ n. not (is_empty S n)) (named S to_dir to_name) ≡ false → may_remove S cred dir number ≡ true
       → passes (λ n. not (may_remove S cred to_dir n)) (named S to_dir to_name) ≡ false
@@ -166,7 +166,7 @@ module _ (P : State → Type 0) (S : State) (cred : Caller) (holds : HoldsOfResu
       (λ few. holds.linked number inode dir name there file stands (none-from_not_some (named S dir name) absent) few)))
 
   rename_over-becomes : (to : List (List ℕ)) (dir : ℕ) (name : List ℕ) (number : ℕ) (inode : Inode) (to_dir : ℕ) (to_name : List ℕ)
-      → place S to ≡ Ok to_dir → named S dir name ≡ Some number → inode_at S number ≡ Some inode → is_directory S to_dir ≡ true
+      → parent S to ≡ Ok to_dir → named S dir name ≡ Some number → inode_at S number ≡ Some inode → is_directory S to_dir ≡ true
       → OnBecomes P (rename_over S cred to dir name number inode to_dir to_name (named S to_dir to_name))
   rename_over-becomes to dir name number inode to_dir to_name placed led there stands =
       let target : Option ℕ = named S to_dir to_name in
@@ -219,9 +219,9 @@ module _ (P : State → Type 0) (S : State) (cred : Caller) (holds : HoldsOfResu
 
   attempt_of-becomes : (call : Call) → is_known S cred ≡ true → has_bad_number S call ≡ false → OnBecomes P (attempt_of S cred call)
   attempt_of-becomes (Create path) known good =
-      in_place-becomes P S EEXIST (create_as S cred) path (λ dir name placed stands. create_as-becomes dir name known stands)
+      in_parent-becomes P S EEXIST (create_as S cred) path (λ dir name placed stands. create_as-becomes dir name known stands)
   attempt_of-becomes (Mkdir path) known good =
-      in_place-becomes P S EEXIST (mkdir_as S cred) path (λ dir name placed stands. mkdir_as-becomes dir name known stands)
+      in_parent-becomes P S EEXIST (mkdir_as S cred) path (λ dir name placed stands. mkdir_as-becomes dir name known stands)
   attempt_of-becomes (Write path off bytes) known good =
       at_path-becomes P S (write_into S cred off bytes) path (λ number inode there. write_into-becomes off bytes number inode there)
   attempt_of-becomes (Truncate path size) known good =
@@ -231,17 +231,17 @@ module _ (P : State → Type 0) (S : State) (cred : Caller) (holds : HoldsOfResu
   attempt_of-becomes (AskStat path) known good = at_path-becomes P S (stat_at S) path (λ number inode there. tt)
   attempt_of-becomes (Link from to) known good =
       at_path-becomes P S (link_to S to) from (λ number inode there.
-      in_place-becomes P S EEXIST (link_as S number inode) to (λ dir name placed stands. link_as-becomes number inode dir name there stands))
+      in_parent-becomes P S EEXIST (link_as S number inode) to (λ dir name placed stands. link_as-becomes number inode dir name there stands))
   attempt_of-becomes (Unlink path) known good =
-      in_place-becomes P S EISDIR (unlink_as S cred) path (λ dir name placed stands.
+      in_parent-becomes P S EISDIR (unlink_as S cred) path (λ dir name placed stands.
       at_name-becomes P S (unlink_at S cred dir name) dir name (λ number inode led there. unlink_at-becomes dir name number inode led there))
   attempt_of-becomes (Rmdir path) known good =
-      in_place-becomes P S EBUSY (rmdir_as S cred) path (λ dir name placed stands.
+      in_parent-becomes P S EBUSY (rmdir_as S cred) path (λ dir name placed stands.
       at_name-becomes P S (rmdir_at S cred dir name) dir name (λ number inode led there. rmdir_at-becomes dir name number inode led there))
   attempt_of-becomes (Rename from to) known good =
-      in_place-becomes P S EBUSY (rename_from S cred to) from (λ dir name from_placed from_stands.
+      in_parent-becomes P S EBUSY (rename_from S cred to) from (λ dir name from_placed from_stands.
       at_name-becomes P S (rename_to S cred to dir name) dir name (λ number inode led there.
-      in_place-becomes P S EBUSY (rename_as S cred to dir name number inode) to (λ to_dir to_name placed stands.
+      in_parent-becomes P S EBUSY (rename_as S cred to dir name number inode) to (λ to_dir to_name placed stands.
       rename_over-becomes (components to) dir name number inode to_dir to_name placed led there stands)))
   attempt_of-becomes (Chown path uid gid) known good =
       at_path-becomes P S (chown_at S cred uid gid) path (λ number inode there. chown_at-becomes uid gid number inode good there)

@@ -6,7 +6,7 @@ use Rattle.qplain.specs.declared.call.Call.TheVariants.{Truncate, Link, Unlink, 
 use Rattle.qplain.specs.declared.refusal.Refusal.{Refusal}
 use Rattle.qplain.specs.declared.refusal.Refusal.TheVariants.{EBUSY, EEXIST, EINVAL, EISDIR, EMLINK, ENOTDIR, ENOTEMPTY, EPERM}
 use Rattle.qplain.specs.declared.reply.Reply.TheVariants.{Done}
-use Rattle.qplain.specs.Attempt.{Attempt, Answer, Becomes, Refuse, at_path, in_place, no_change}
+use Rattle.qplain.specs.Attempt.{Attempt, Answer, Becomes, Refuse, at_path, in_parent, no_change}
 use Rattle.qplain.specs.Caller.{Caller}
 use Rattle.qplain.specs.Decision.{refusal_between}
 use Rattle.qplain.specs.Names.{link_as, link_to, rmdir_as, unless_too_many_links, unlink_as, with_name}
@@ -94,32 +94,32 @@ module _ (S : State) (cred : Caller) (moment : ℕ) (lawful : IsLawful S) where
         few-no_limit (renamed S dir name to_dir to_name number) number (granted-rename other empty))))))))
 
   -- what is tried of a path's place is refused for no limit, where what is tried in a directory is not
-  in_place-no_limit : (of_root : Refusal) (try : ℕ → List ℕ → Attempt) (path : List ℕ) → is_for_limits of_root ≡ false
+  in_parent-no_limit : (of_root : Refusal) (try : ℕ → List ℕ → Attempt) (path : List ℕ) → is_for_limits of_root ≡ false
       → ((dir : ℕ) (name : List ℕ) → is_directory S dir ≡ true → NoLimit S cred moment lawful (try dir name))
-      → NoLimit S cred moment lawful (in_place S of_root try path)
-  in_place-no_limit of_root try path plain each =
+      → NoLimit S cred moment lawful (in_parent S of_root try path)
+  in_parent-no_limit of_root try path plain each =
       under-no_limit S cred moment lawful of_root try plain each (components path) (last_name (components path))
 
   link-no_limit : (from to : List ℕ) → NoLimit S cred moment lawful (at_path S (link_to S to) from)
   link-no_limit from to =
       at_reached-no_limit S cred moment lawful (link_to S to) (walk S (components from)) (walk-plain S cred moment lawful (Ok ROOT) (components from) tt)
       (λ number inode reached there.
-      in_place-no_limit EEXIST (link_as S number inode) to refl (λ dir name stands. link_as-no_limit number inode dir name))
+      in_parent-no_limit EEXIST (link_as S number inode) to refl (λ dir name stands. link_as-no_limit number inode dir name))
 
-  rename-no_limit : (from to : List ℕ) → NoLimit S cred moment lawful (in_place S EBUSY (rename_from S cred to) from)
+  rename-no_limit : (from to : List ℕ) → NoLimit S cred moment lawful (in_parent S EBUSY (rename_from S cred to) from)
   rename-no_limit from to =
-      in_place-no_limit EBUSY (rename_from S cred to) from refl (λ dir name from_stands.
+      in_parent-no_limit EBUSY (rename_from S cred to) from refl (λ dir name from_stands.
       at_name-no_limit S cred moment lawful (rename_to S cred to dir name) dir name (λ number inode led there.
-      in_place-no_limit EBUSY (rename_as S cred to dir name number inode) to refl (λ to_dir to_name stands.
+      in_parent-no_limit EBUSY (rename_as S cred to dir name number inode) to refl (λ to_dir to_name stands.
       rename_over-no_limit dir name number inode to_dir to_name led there stands (components to))))
 
 pub giving_back_is_granted : GivingBackIsGranted
 giving_back_is_granted S cred moment path lawful = (
   (λ size. no_limit S cred moment lawful (Truncate path size) (truncate-no_limit S cred moment lawful path size)),
   no_limit S cred moment lawful (Unlink path)
-      (in_place-no_limit S cred moment lawful EISDIR (unlink_as S cred) path refl (λ dir name stands. unlink-no_limit S cred moment lawful dir name)),
+      (in_parent-no_limit S cred moment lawful EISDIR (unlink_as S cred) path refl (λ dir name stands. unlink-no_limit S cred moment lawful dir name)),
   no_limit S cred moment lawful (Rmdir path)
-      (in_place-no_limit S cred moment lawful EBUSY (rmdir_as S cred) path refl (λ dir name stands. rmdir-no_limit S cred moment lawful dir name)),
+      (in_parent-no_limit S cred moment lawful EBUSY (rmdir_as S cred) path refl (λ dir name stands. rmdir-no_limit S cred moment lawful dir name)),
   (λ to. no_limit S cred moment lawful (Link path to) (link-no_limit S cred moment lawful path to)),
   (λ to. no_limit S cred moment lawful (Rename path to) (rename-no_limit S cred moment lawful path to)),
 )

@@ -15,7 +15,7 @@ use Rattle.qplain.specs.declared.reply.Reply.TheVariants.{Refused}
 use Rattle.qplain.specs.Caller.{Caller, is_superuser}
 use Rattle.qplain.specs.State.{Holder, Inode, State, inode_at, is_directory, named}
 use Rattle.qplain.specs.Use.{account_of, is_empty, names_to, use_of, weight}
-use Rattle.qplain.specs.Walk.{as_directory, components, follow, is_too_long, led_to, place, walk}
+use Rattle.qplain.specs.Walk.{as_directory, components, follow, is_too_long, led_to, parent, walk}
 use Rattle.qplain.specs.Decision.{fault_of_holder, first_refusal, is_too_full, refusal_between}
 use Rattle.qplain.specs.Arguments.{is_invalid, paths_of}
 use Rattle.qplain.specs.Attempt.{Attempt, Refuse, Answer, Becomes, at_inode, at_name, at_path, at_reached, in_reached, under}
@@ -222,7 +222,7 @@ module _ (S : State) (cred : Caller) (moment : ℕ) (lawful : IsLawful S) where
       → (names : List (List ℕ)) (o : Option (List ℕ)) → NoLimit (under S of_root try names o)
   under-no_limit of_root try plain each names None = plain
   under-no_limit of_root try plain each names (Some name) =
-      in_reached-no_limit try name (place S names)
+      in_reached-no_limit try name (parent S names)
       (as_directory-plain (walk S (take (length names - 1) names)) (walk-plain (Ok ROOT) (take (length names - 1) names) tt))
       (λ dir placed. each dir name (as_directory-ok S (walk S (take (length names - 1) names)) dir placed))
 

@@ -11,7 +11,7 @@ use Rattle.qplain.specs.declared.refusal.Refusal.{Refusal}
 use Rattle.qplain.specs.declared.refusal.Refusal.TheVariants.{ENOTDIR}
 use Rattle.qplain.specs.State.{Inode, State, inode_at, is_dir, is_directory, name_key_cmp, named}
 use Rattle.qplain.specs.Use.{has_name, is_empty}
-use Rattle.qplain.specs.Walk.{as_directory, follow, place}
+use Rattle.qplain.specs.Walk.{as_directory, follow, parent}
 use Rattle.qplain.specs.Names.{swept, with_name, without_name}
 use Rattle.qplain.specs.Renames.{is_reached, meets, passes, renamed}
 use Rattle.qlaws.specs.Laws.{AllReached, FitsTogether, IsReached}
@@ -19,7 +19,7 @@ use Rattle.qlaws.proofs.Tables.{lookup-insert_new, name_key_total}
 use Rattle.qlaws.proofs.Fitting.{not_both, some-is_dir}
 use Rattle.qlaws.proofs.Finding.{holds-of-dir, less-kept, more-kept, name-laws}
 use Rattle.qlaws.proofs.Sweeping.{has_name-there, stays-swept}
-use Rattle.qlaws.proofs.Walking.{place-from_root, place_from, place_from-fault, walk-fault}
+use Rattle.qlaws.proofs.Walking.{parent-from_root, parent_from, parent_from-fault, walk-fault}
 use Rattle.qlaws.proofs.Renaming.{All-renamed, has_name-renamed, lead-W, named-U, named-V, outside, sorted-U, sorted-W, unfilled-target}
 use Rattle.qlaws.proofs.Meeting.{meets_from, meets_from-first}
 use Rattle.qlaws.proofs.Reaching.{ends-there, follow-from, follow-parts, named-reached, reached-at, reached-further}
@@ -77,7 +77,7 @@ as-ok S d x h = by (is_directory S d) refl h
     by false e g = cc
 
 module _ (S : State) (to : List (List ℕ)) (dir : ℕ) (name : List ℕ) (number : ℕ) (inode : Inode) (to_dir : ℕ) (to_name : List ℕ) (fits : FitsTogether S)
-    (placed : place S to ≡ Ok to_dir) (not_inside : (inode.dir && meets S to number) ≡ false)
+    (placed : parent S to ≡ Ok to_dir) (not_inside : (inode.dir && meets S to number) ≡ false)
     (led : named S dir name ≡ Some number) (there : inode_at S number ≡ Some inode) (stands : is_directory S to_dir ≡ true)
     (other : passes (λ n. n == number) (named S to_dir to_name) ≡ false) (empty : passes (λ n. not (is_empty S n)) (named S to_dir to_name) ≡ false)
     (all : AllReached S) where
@@ -137,13 +137,13 @@ module _ (S : State) (to : List (List ℕ)) (dir : ℕ) (name : List ℕ) (numbe
       let apart : is_target m ≡ false = not-in-target m nm x (follow-parts S m nm x h).1 in
       absurd (cc)
 
-  -- what leads on to the place is a directory, and no target
-  leads-on : (m : ℕ) (next : List ℕ) (rest : List (List ℕ)) → place_from S (Ok m) (next ∷ rest) ≡ Ok to_dir → (is_directory S m ≡ true) × (is_target m ≡ false)
+  -- what leads on to the parent is a directory, and no target
+  leads-on : (m : ℕ) (next : List ℕ) (rest : List (List ℕ)) → parent_from S (Ok m) (next ∷ rest) ≡ Ok to_dir → (is_directory S m ≡ true) × (is_target m ≡ false)
   leads-on m next [] h = let parts = as-ok S m to_dir h in (parts.0, ap is_target parts.1 ∙ to_dir-apart)
   leads-on m next (after ∷ rest) h = by (follow S (Ok m) next) refl h
     where
-      by : (r : Result ℕ Refusal) → follow S (Ok m) next ≡ r → place_from S r (after ∷ rest) ≡ Ok to_dir → (is_directory S m ≡ true) × (is_target m ≡ false)
-      by (Err e) s g = let fault = place_from-fault S e (after ∷ rest) in cc
+      by : (r : Result ℕ Refusal) → follow S (Ok m) next ≡ r → parent_from S r (after ∷ rest) ≡ Ok to_dir → (is_directory S m ≡ true) × (is_target m ≡ false)
+      by (Err e) s g = let fault = parent_from-fault S e (after ∷ rest) in cc
       by (Ok x) s g = let parts = follow-parts S m next x s in (parts.0, not-in-target m next x parts.1)
 
   not-number : (m : ℕ) → ((m == number) && is_directory S number) ≡ false → is_directory S m ≡ true → (number == m) ≡ false
@@ -154,19 +154,19 @@ module _ (S : State) (to : List (List ℕ)) (dir : ℕ) (name : List ℕ) (numbe
       let both : ((m == number) && is_directory S number) ≡ true = (λ i. is i && stands_too i) in
       cc)
 
-  -- a walk to the place that comes past no directory of this number is kept
-  place-kept : (r : Result ℕ Refusal) (names : List (List ℕ)) → Avoids S number r names → place_from S r names ≡ Ok to_dir
+  -- a walk to the parent that comes past no directory of this number is kept
+  parent-kept : (r : Result ℕ Refusal) (names : List (List ℕ)) → Avoids S number r names → parent_from S r names ≡ Ok to_dir
       → (p : List (List ℕ)) × (fold (follow M1) r p ≡ Ok to_dir)
-  place-kept (Err e) names avoids h = let fault = place_from-fault S e names in cc
-  place-kept (Ok d) [] avoids h = ([], ap (λ (n : ℕ). Ok n) (as-ok S d to_dir h).1)
-  place-kept (Ok d) (nm ∷ []) avoids h = ([], ap (λ (n : ℕ). Ok n) (as-ok S d to_dir h).1)
-  place-kept (Ok d) (nm ∷ next ∷ rest) avoids h =
-      by (place-kept (follow S (Ok d) nm) (next ∷ rest) avoids.1 h) (follow S (Ok d) nm) refl h avoids.1.0
+  parent-kept (Err e) names avoids h = let fault = parent_from-fault S e names in cc
+  parent-kept (Ok d) [] avoids h = ([], ap (λ (n : ℕ). Ok n) (as-ok S d to_dir h).1)
+  parent-kept (Ok d) (nm ∷ []) avoids h = ([], ap (λ (n : ℕ). Ok n) (as-ok S d to_dir h).1)
+  parent-kept (Ok d) (nm ∷ next ∷ rest) avoids h =
+      by (parent-kept (follow S (Ok d) nm) (next ∷ rest) avoids.1 h) (follow S (Ok d) nm) refl h avoids.1.0
     where
       by : (p : List (List ℕ)) × (fold (follow M1) (follow S (Ok d) nm) p ≡ Ok to_dir) → (r : Result ℕ Refusal) → follow S (Ok d) nm ≡ r
-          → place_from S r (next ∷ rest) ≡ Ok to_dir → (is_reached number r && is_directory S number) ≡ false
+          → parent_from S r (next ∷ rest) ≡ Ok to_dir → (is_reached number r && is_directory S number) ≡ false
           → (p : List (List ℕ)) × (fold (follow M1) (Ok d) p ≡ Ok to_dir)
-      by later (Err e) s g past = let fault = place_from-fault S e (next ∷ rest) in cc
+      by later (Err e) s g past = let fault = parent_from-fault S e (next ∷ rest) in cc
       by later (Ok m) s g past =
           let on = leads-on m next rest g in
           let kept : follow M1 (Ok d) nm ≡ follow S (Ok d) nm = keeps-moved d nm m s on.1 (not-number m past on.0) ∙ sym s in
@@ -180,7 +180,7 @@ module _ (S : State) (to : List (List ℕ)) (dir : ℕ) (name : List ℕ) (numbe
       by false is h = avoids-file S number (ap is_dir there ∙ is) (Ok ROOT) to
 
   to_dir-reached : IsReached M1 to_dir
-  to_dir-reached = place-kept (Ok ROOT) to avoids-all (sym (place-from_root S to) ∙ placed)
+  to_dir-reached = parent-kept (Ok ROOT) to avoids-all (sym (parent-from_root S to) ∙ placed)
 
   number-reached : IsReached M1 number
   number-reached =

@@ -3,8 +3,8 @@ use Rattle.std.proofs.Common.{◌≡◌, ℕ, Bool, true, false, not, cond, ◌-
 use Rattle.qplain.specs.declared.refusal.Refusal.{Refusal}
 use Rattle.qplain.specs.declared.refusal.Refusal.TheVariants.{ENOTDIR}
 use Rattle.qplain.specs.State.{Inode, State, inode_at, is_directory, named}
-use Rattle.qplain.specs.Walk.{as_directory, components, last_name, led_to, place, walk}
-use Rattle.qplain.specs.Attempt.{Attempt, Refuse, Answer, Becomes, at_inode, at_name, at_path, at_reached, in_place, in_reached, under}
+use Rattle.qplain.specs.Walk.{as_directory, components, last_name, led_to, parent, walk}
+use Rattle.qplain.specs.Attempt.{Attempt, Refuse, Answer, Becomes, at_inode, at_name, at_path, at_reached, in_parent, in_reached, under}
 use Rattle.qplain.specs.Calls.{unless}
 
 -- the fact holds of the plain result, if there is one
@@ -79,14 +79,14 @@ module _ (P : State → Type 0) (S : State) where
   in_reached-becomes try name (Ok dir) each = each dir refl
 
   under-becomes : (of_root : Refusal) (try : ℕ → List ℕ → Attempt) (names : List (List ℕ)) (o : Option (List ℕ))
-      → ((dir : ℕ) (name : List ℕ) → place S names ≡ Ok dir → is_directory S dir ≡ true → OnBecomes P (try dir name))
+      → ((dir : ℕ) (name : List ℕ) → parent S names ≡ Ok dir → is_directory S dir ≡ true → OnBecomes P (try dir name))
       → OnBecomes P (under S of_root try names o)
   under-becomes of_root try names None each = tt
   under-becomes of_root try names (Some name) each =
-      in_reached-becomes try name (place S names) (λ dir h. each dir name h (as_directory-ok S (walk S (take (length names - 1) names)) dir h))
+      in_reached-becomes try name (parent S names) (λ dir h. each dir name h (as_directory-ok S (walk S (take (length names - 1) names)) dir h))
 
-  -- what holds of the attempt at each name in a directory holds of that in a path's place
-  pub in_place-becomes : (of_root : Refusal) (try : ℕ → List ℕ → Attempt) (path : List ℕ)
-      → ((dir : ℕ) (name : List ℕ) → place S (components path) ≡ Ok dir → is_directory S dir ≡ true → OnBecomes P (try dir name))
-      → OnBecomes P (in_place S of_root try path)
-  in_place-becomes of_root try path each = under-becomes of_root try (components path) (last_name (components path)) each
+  -- what holds of the attempt at each name in a directory holds of that in a path's parent
+  pub in_parent-becomes : (of_root : Refusal) (try : ℕ → List ℕ → Attempt) (path : List ℕ)
+      → ((dir : ℕ) (name : List ℕ) → parent S (components path) ≡ Ok dir → is_directory S dir ≡ true → OnBecomes P (try dir name))
+      → OnBecomes P (in_parent S of_root try path)
+  in_parent-becomes of_root try path each = under-becomes of_root try (components path) (last_name (components path)) each

@@ -17,7 +17,7 @@ use Rattle.qledger.specs.declared.bill.Bill.{Bill}
 use Rattle.qledger.specs.declared.bill.Posting.{Posting}
 use Rattle.qledger.specs.declared.bill.Postings.{Postings}
 use Rattle.qledger.specs.declared.claim.Claim.{Claim}
-use Rattle.qledger.specs.declared.claim.Share.{Share}
+use Rattle.qledger.specs.declared.claim.OwnerClaim.{OwnerClaim}
 use Rattle.qledger.specs.declared.kept_holder.KeptHolder.{KeptHolder}
 use Rattle.qledger.specs.Bills.{ArePlaced, IsBillFor, IsPlaced, posted, settled}
 use Rattle.qledger.specs.Books.{AreBooksOf, AreInRange, Books, ledger_in}
@@ -142,7 +142,7 @@ placed-final : (os : List KeptHolder) (kind : Kind) (S1 : State) (moment : ℕ) 
 placed-final os kind S1 moment None final = tt
 placed-final os kind S1 moment (Some q) final = final.slot
 
-placed-both : (os : List KeptHolder) (kind : Kind) (S1 : State) (moment : ℕ) (from to : Option Share) (p : Postings)
+placed-both : (os : List KeptHolder) (kind : Kind) (S1 : State) (moment : ℕ) (from to : Option OwnerClaim) (p : Postings)
     → ArePosted os kind S1 moment from to p → ArePlaced os p
 placed-both os kind S1 moment from to p done =
     record { from = placed-final os kind S1 moment p.from done.from_final; to = placed-final os kind S1 moment p.to done.to_final }

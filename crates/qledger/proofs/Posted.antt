@@ -15,7 +15,7 @@ use Rattle.qlaws.specs.Replaces.{is_owned}
 use Rattle.qlaws.proofs.Replacing.{account-other}
 use Rattle.qledger.specs.declared.bill.Posting.{Posting}
 use Rattle.qledger.specs.declared.bill.Postings.{Postings}
-use Rattle.qledger.specs.declared.claim.Share.{Share}
+use Rattle.qledger.specs.declared.claim.OwnerClaim.{OwnerClaim}
 use Rattle.qledger.specs.declared.kept_holder.KeptHolder.{KeptHolder}
 use Rattle.qledger.specs.Bills.{post, posted}
 use Rattle.qledger.specs.Claims.{IsShareOf}
@@ -98,7 +98,7 @@ module _ (S1 : State) (moment : ℕ) (kind : Kind) where
             ∙ post-first p.to to ∙ cond-false (matches p.to o) (holder_after o) o f ∙ stays e f
 
 -- an inode is not the principal's where the posting for its share has not the principal's id
-not-owner : (os : List KeptHolder) (kind : Kind) (S1 : State) (moment : ℕ) (share : Option Share) (inode : Option Inode) (q : Option Posting) (o : KeptHolder)
+not-owner : (os : List KeptHolder) (kind : Kind) (S1 : State) (moment : ℕ) (share : Option OwnerClaim) (inode : Option Inode) (q : Option Posting) (o : KeptHolder)
     → IsShareOf os kind share inode → option_map (λ p. p.slot) q ≡ option_map (λ s. s.slot) share → IfSome q (IsFinal os kind S1 moment)
     → matches q o ≡ false → is_owned kind o.id inode ≡ false
 not-owner os kind S1 moment None None q o is slots final other = refl
@@ -112,7 +112,7 @@ not-owner os kind S1 moment (Some share) (Some inode) (Some q) o is slots final 
     ap (λ n. n == o.id) (sym id) ∙ other
 
 -- nor is the inode that is given up, where neither posting has it
-not-loser : (os : List KeptHolder) (kind : Kind) (S1 : State) (moment : ℕ) (from to : Option Share) (f : Option Inode) (p q : Option Posting)
+not-loser : (os : List KeptHolder) (kind : Kind) (S1 : State) (moment : ℕ) (from to : Option OwnerClaim) (f : Option Inode) (p q : Option Posting)
     (o : KeptHolder) → IsShareOf os kind from f → option_map (λ p. p.slot) p ≡ option_map (λ s. s.slot) (apart from to)
     → option_map (λ p. p.slot) q ≡ option_map (λ s. s.slot) to → IfSome p (IsFinal os kind S1 moment) → IfSome q (IsFinal os kind S1 moment)
     → matches p o ≡ false → matches q o ≡ false → is_owned kind o.id f ≡ false
@@ -133,7 +133,7 @@ with_ends-same : (S1 : State) (moment : ℕ) (account : Account) → HasEnds acc
 with_ends-same S1 moment account ends =
     λ i. record account { block_end = block_end-same account S1.graces moment ends i; inode_end = inode_end-same account S1.graces moment ends i }
 
-module _ (os : List KeptHolder) (kind : Kind) (from to : Option Share) (S S1 : State) (f t : Option Inode) (by_id : AreById os)
+module _ (os : List KeptHolder) (kind : Kind) (from to : Option OwnerClaim) (S S1 : State) (f t : Option Inode) (by_id : AreById os)
     (r : IsLedgerReplacement os kind from to S S1 f t) (moment : ℕ) (p : Postings) (done : ArePosted os kind S1 moment from to p) where
   -- the kept holder that owns neither inode has its record already
   same-record : (k : ℕ) (o : KeptHolder) → slice_get os k ≡ Some o → matches p.from o ≡ false → matches p.to o ≡ false → o ≡ holder_after S1 moment kind o

@@ -16,7 +16,7 @@ use Rattle.qlaws.proofs.Replacing.{first_refusal-after, first_refusal-none, refu
 use Rattle.qledger.specs.declared.bill.Bill.{Bill}
 use Rattle.qledger.specs.declared.bill.Posting.{Posting}
 use Rattle.qledger.specs.declared.claim.Claim.{Claim}
-use Rattle.qledger.specs.declared.claim.Share.{Share}
+use Rattle.qledger.specs.declared.claim.OwnerClaim.{OwnerClaim}
 use Rattle.qledger.specs.declared.kept_holder.KeptHolder.{KeptHolder}
 use Rattle.qledger.specs.Books.{AreBooksOf, AreInRange, Books, ledger_in}
 use Rattle.qledger.specs.Claims.{IsShareOf, share_in}
@@ -31,7 +31,7 @@ use Rattle.qledger.proofs.Shares.{counted-there, id-there}
 
 module _ (S S1 : State) (b : Books) (books : AreBooksOf S b) (moment : ℕ) (kind : Kind) (by_id : AreById (ledger_in kind b)) where
   -- the refusal of a final posting is that of its owner's holder
-  posting-refused : (share : Share) (inode : Inode) (q : Posting) → IsSlotOf (ledger_in kind b) share.slot (owner kind inode)
+  posting-refused : (share : OwnerClaim) (inode : Inode) (q : Posting) → IsSlotOf (ledger_in kind b) share.slot (owner kind inode)
       → q.slot ≡ share.slot → IsFinal (ledger_in kind b) kind S1 moment q
       → refusal_of (ledger_in kind b) kind moment (Some q)
       ≡ refusal_at (fault_of_holder S S1 moment) (find (is_holder kind (owner kind inode)) S.holders)

@@ -9,7 +9,7 @@ use Rattle.qplain.specs.State.{Inode, State}
 use Rattle.qplain.specs.Use.{owner, use_of, weight}
 use Rattle.qlaws.specs.Replaces.{charge_of, weight_of}
 use Rattle.qlaws.proofs.Replacing.{use-le-total}
-use Rattle.qledger.specs.declared.claim.Share.{Share}
+use Rattle.qledger.specs.declared.claim.OwnerClaim.{OwnerClaim}
 use Rattle.qledger.specs.declared.claim.Weight.{Weight}
 use Rattle.qledger.specs.declared.kept_holder.KeptHolder.{KeptHolder}
 use Rattle.qledger.specs.Claims.{IsShareOf, nothing, weight_at}
@@ -45,7 +45,7 @@ part Inodes w = w.inodes
 part Blocks w = w.blocks
 
 -- what the share takes of the record at a slot is what the inode takes of that principal's quota
-pub taken-at : (os : List KeptHolder) (kind : Kind) (share : Option Share) (inode : Option Inode) (slot : ℕ) (o : KeptHolder) (sort : Sort)
+pub taken-at : (os : List KeptHolder) (kind : Kind) (share : Option OwnerClaim) (inode : Option Inode) (slot : ℕ) (o : KeptHolder) (sort : Sort)
     → AreById os → IsShareOf os kind share inode → slice_get os slot ≡ Some o → part sort (weight_at share slot) ≡ charge_of kind o.id sort inode
 taken-at os kind None None slot o Inodes by_id is there = refl
 taken-at os kind None None slot o Blocks by_id is there = refl
@@ -86,7 +86,7 @@ charge-le kind id sort (Some inode) = by (owner kind inode == id)
     by true = omega arith
     by false = omega arith
 
-module _ (os : List KeptHolder) (kind : Kind) (from to : Option Share) (S S1 : State) (f t : Option Inode) (by_id : AreById os)
+module _ (os : List KeptHolder) (kind : Kind) (from to : Option OwnerClaim) (S S1 : State) (f t : Option Inode) (by_id : AreById os)
     (r : IsLedgerReplacement os kind from to S S1 f t) (slot : ℕ) (o : KeptHolder) (there : slice_get os slot ≡ Some o) where
   -- what the record counts of a sort
   abbrev pub counts : Sort → ℕ
@@ -127,14 +127,14 @@ module _ (os : List KeptHolder) (kind : Kind) (from to : Option Share) (S S1 : S
       omega (arith, sum, old, gained, few, lost, most)
 
 -- a share's slot is among the records
-pub share-below : (os : List KeptHolder) (kind : Kind) (share : Option Share) (inode : Option Inode) → IsShareOf os kind share inode
+pub share-below : (os : List KeptHolder) (kind : Kind) (share : Option OwnerClaim) (inode : Option Inode) → IsShareOf os kind share inode
     → IfSome share (λ s. s.slot < length os)
 share-below os kind None inode is = tt
 share-below os kind (Some share) None is = cc
 share-below os kind (Some share) (Some inode) is = slot-below os share.slot (owner kind inode) is.slot
 
 -- and so is the slot of the one that is given up, where it has another record
-pub apart-below : (os : List KeptHolder) (from to : Option Share) → IfSome from (λ s. s.slot < length os)
+pub apart-below : (os : List KeptHolder) (from to : Option OwnerClaim) → IfSome from (λ s. s.slot < length os)
     → IfSome (apart from to) (λ s. s.slot < length os)
 apart-below os None to below = tt
 apart-below os (Some lost) None below = below

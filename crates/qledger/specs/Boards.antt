@@ -24,12 +24,12 @@ board_row kind id a = record {
 }
 
 -- the row of a kept holder's record
-abbrev pub row_in : Kind → KeptHolder → BoardRow
-row_in kind o = board_row kind o.id o.account
+abbrev pub holder_row : Kind → KeptHolder → BoardRow
+holder_row kind o = board_row kind o.id o.account
 
 -- the rows of all records: users come before groups
 abbrev pub rows_in : List KeptHolder → List KeptHolder → List BoardRow
-rows_in users groups = map (row_in User) users ++ map (row_in Group) groups
+rows_in users groups = map (holder_row User) users ++ map (holder_row Group) groups
 
 -- the row of a posting's record, which stands behind so many rows of others
 abbrev pub placed_row : Kind → ℕ → Posting → PlacedRow

@@ -6,7 +6,7 @@ use Rattle.qrules.specs.Sort.{Inodes, Blocks}
 use Rattle.qplain.specs.State.{Inode}
 use Rattle.qplain.specs.Use.{owner, weight}
 use Rattle.qledger.specs.declared.claim.Claim.{Claim}
-use Rattle.qledger.specs.declared.claim.Share.{Share}
+use Rattle.qledger.specs.declared.claim.OwnerClaim.{OwnerClaim}
 use Rattle.qledger.specs.declared.claim.Slots.{Slots}
 use Rattle.qledger.specs.declared.claim.Weight.{Weight}
 use Rattle.qledger.specs.declared.kept_holder.KeptHolder.{KeptHolder}
@@ -22,7 +22,7 @@ weight_in None = nothing
 weight_in (Some claim) = claim.weight
 
 -- what is taken of the record at this slot
-abbrev pub weight_at : Option Share → ℕ → Weight
+abbrev pub weight_at : Option OwnerClaim → ℕ → Weight
 weight_at None slot = nothing
 weight_at (Some share) slot = if share.slot == slot then share.weight else nothing
 
@@ -41,12 +41,12 @@ pub record IsWeight (w : Weight) (inode : Inode) : Type 0 where
   pub inodes : w.inodes ≡ weight Inodes inode
 
 -- the share is what the inode takes of its owner of this kind
-pub record IsShare (holders : List KeptHolder) (kind : Kind) (share : Share) (inode : Inode) : Type 0 where
+pub record IsShare (holders : List KeptHolder) (kind : Kind) (share : OwnerClaim) (inode : Inode) : Type 0 where
   pub slot : IsSlotOf holders share.slot (owner kind inode)
   pub weight : IsWeight share.weight inode
 
 -- the same where an inode stands or none
-abbrev pub IsShareOf : List KeptHolder → Kind → Option Share → Option Inode → Type 0
+abbrev pub IsShareOf : List KeptHolder → Kind → Option OwnerClaim → Option Inode → Type 0
 IsShareOf holders kind None None = Unit {0}
 IsShareOf holders kind None (Some inode) = false ≡ true
 IsShareOf holders kind (Some share) None = false ≡ true

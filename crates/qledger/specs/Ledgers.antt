@@ -18,7 +18,7 @@ use Rattle.qplain.specs.Use.{account_of, total_of}
 use Rattle.qlaws.specs.Replaces.{Replaces, weight_of}
 use Rattle.qledger.specs.declared.bill.Posting.{Posting}
 use Rattle.qledger.specs.declared.bill.Postings.{Postings}
-use Rattle.qledger.specs.declared.claim.Share.{Share}
+use Rattle.qledger.specs.declared.claim.OwnerClaim.{OwnerClaim}
 use Rattle.qledger.specs.declared.kept_holder.KeptHolder.{KeptHolder}
 use Rattle.qledger.specs.Claims.{IsShareOf}
 use Rattle.qledger.specs.KeptHolders.{IsCountedIn, IsSlotOf, holder_in}
@@ -39,7 +39,7 @@ pub record IsHolderAt (holders : List KeptHolder) (slot id : ℕ) (o : KeptHolde
   pub same : o.id ≡ id
 
 -- for the records of one kind: they are counted in the old state, and the shares are what the two inodes take of them
-pub record IsLedgerReplacement (holders : List KeptHolder) (kind : Kind) (from to : Option Share)
+pub record IsLedgerReplacement (holders : List KeptHolder) (kind : Kind) (from to : Option OwnerClaim)
     (S S1 : State) (f t : Option Inode) : Type 0 where
   pub counted : All (IsCountedIn S kind) holders
   pub ends : All (λ o. HasEnds o.account) holders
@@ -58,14 +58,14 @@ pub record IsFinal (holders : List KeptHolder) (kind : Kind) (S1 : State) (momen
   pub account : (o : KeptHolder) → slice_get holders p.slot ≡ Some o → p.account ≡ record_after S1 moment kind o
 
 -- the share that is given up, unless the other is taken of the same record
-abbrev pub apart : Option Share → Option Share → Option Share
+abbrev pub apart : Option OwnerClaim → Option OwnerClaim → Option Share
 apart None to = None
 apart (Some lost) None = Some lost
 apart (Some lost) (Some gained) = if lost.slot == gained.slot then None else Some lost
 
 -- the postings of one kind are final, one for each record that a share is of
 pub record ArePosted (holders : List KeptHolder) (kind : Kind) (S1 : State) (moment : ℕ)
-    (from to : Option Share) (p : Postings) : Type 0 where
+    (from to : Option OwnerClaim) (p : Postings) : Type 0 where
   pub from_there : option_map (λ q. q.slot) p.from ≡ option_map (λ share. share.slot) (apart from to)
   pub to_there : option_map (λ q. q.slot) p.to ≡ option_map (λ share. share.slot) to
   pub from_final : IfSome p.from (IsFinal holders kind S1 moment)

@@ -36,7 +36,7 @@ pub struct Claim {
 
 /// What an inode takes of one record, which stands at this slot of its ledger.
 #[derive(Clone, Copy)]
-pub(crate) struct Share {
+pub(crate) struct OwnerClaim {
     pub(crate) slot: usize,
     pub(crate) weight: Weight,
 }
@@ -64,16 +64,16 @@ pub(crate) fn weight_of(claim: Option<Claim>) -> Weight
 }
 
 /// What a claim takes of the record of a kind.
-pub(crate) fn share_of(kind: Kind, claim: Option<Claim>) -> Option<Share>
+pub(crate) fn share_of(kind: Kind, claim: Option<Claim>) -> Option<OwnerClaim>
     ensures { result ≡ option_map (share_in kind) claim }
 {
     match (kind, claim) {
         (_, None) => None,
-        (Kind::User, Some(claim)) => Some(Share {
+        (Kind::User, Some(claim)) => Some(OwnerClaim {
             slot: claim.slots.user,
             weight: claim.weight,
         }),
-        (Kind::Group, Some(claim)) => Some(Share {
+        (Kind::Group, Some(claim)) => Some(OwnerClaim {
             slot: claim.slots.group,
             weight: claim.weight,
         }),
@@ -81,7 +81,7 @@ pub(crate) fn share_of(kind: Kind, claim: Option<Claim>) -> Option<Share>
 }
 
 /// What is taken of the record at this slot.
-pub(crate) fn weight_at(share: Option<Share>, slot: usize) -> Weight
+pub(crate) fn weight_at(share: Option<OwnerClaim>, slot: usize) -> Weight
     ensures { result ≡ weight_at share slot }
 {
     match share {
@@ -91,7 +91,7 @@ pub(crate) fn weight_at(share: Option<Share>, slot: usize) -> Weight
 }
 
 /// The share that is given up, unless the other is taken of the same record.
-pub(crate) fn apart(from: Option<Share>, to: Option<Share>) -> Option<Share>
+pub(crate) fn apart(from: Option<OwnerClaim>, to: Option<OwnerClaim>) -> Option<OwnerClaim>
     ensures { result ≡ apart from to }
 {
     match (from, to) {

@@ -8,11 +8,11 @@ ghost use Rattle.qrules.specs.declared.kind.Kind.{Kind};
 ghost use Rattle.qplain.specs.State.{Inode, State};
 ghost use Rattle.qledger.specs.KeptHolders.{AreById, IsSlotOf};
 ghost use Rattle.qledger.specs.Bills.{ArePlaced, post, posted};
-ghost use Rattle.qledger.specs.Boards.{row_in};
+ghost use Rattle.qledger.specs.Boards.{holder_row};
 ghost use Rattle.qledger.specs.Ledgers.{ArePosted, holder_row, IsFinal, IsHolderAt, IsLedgerReplacement, new_holder, refusal_of};
 
 use crate::bill::{Posting, Postings};
-use crate::claim::{Share, apart, weight_at};
+use crate::claim::{OwnerClaim, apart, weight_at};
 use crate::kept_holder::{KeptHolder, board_row, new_holder};
 use qplain::{NoMemory, Principal, Refusal};
 use qrules::{BoardRow, Graces, Kind, Limits, MAX_GRACE, MAX_MOMENT, RecordRow};
@@ -91,8 +91,8 @@ impl Ledger {
     fn posting(
         &self,
         slot: usize,
-        from: Option<Share>,
-        to: Option<Share>,
+        from: Option<OwnerClaim>,
+        to: Option<OwnerClaim>,
         graces: Graces,
         moment: u64,
     ) -> Posting
@@ -122,9 +122,9 @@ impl Ledger {
     /// Writes the same for the slot of a share, if there is one.
     fn write_posting(
         &self,
-        share: Option<Share>,
-        from: Option<Share>,
-        to: Option<Share>,
+        share: Option<OwnerClaim>,
+        from: Option<OwnerClaim>,
+        to: Option<OwnerClaim>,
         graces: Graces,
         moment: u64,
         posting: &mut Option<Posting>,
@@ -150,8 +150,8 @@ impl Ledger {
     /// record where both have the same, and none where names alone change.
     pub(crate) fn write_postings(
         &self,
-        from: Option<Share>,
-        to: Option<Share>,
+        from: Option<OwnerClaim>,
+        to: Option<OwnerClaim>,
         graces: Graces,
         moment: u64,
         postings: &mut Postings,
@@ -260,7 +260,7 @@ impl Ledger {
         kind: Kind,
         rows: &mut Vec<BoardRow>,
     ) -> Result<(), NoMemory>
-        ensures { OnOk result (rows.new.items ≡ rows.old.items ++ map (row_in kind) self.now) }
+        ensures { OnOk result (rows.new.items ≡ rows.old.items ++ map (holder_row kind) self.now) }
     {
         for holder in &self.holders {
             rows.push(board_row(kind, holder.id, &holder.account))?;

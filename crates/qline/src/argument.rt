@@ -6,7 +6,7 @@ ghost use Rattle.qtext.specs.Gives.{Gives};
 ghost use Rattle.qtext.specs.Data.{data_of};
 ghost use Rattle.qline.specs.Arguments.{path_of, kind_of, owner_of};
 
-use qplain::{Data, Path, Shared};
+use qplain::{Data, Path, SharedItems};
 use qrules::Kind;
 use qtext::{ReadFault, TextKind, data_of as bytes_of, id_of};
 use std::alloc::Global;
@@ -26,7 +26,7 @@ pub(crate) fn data_of(alloc: Global, word: &[u8]) -> Result<Data, ReadFault>
     ensures { Gives result (data_of word.now) }
 {
     let bytes = bytes_of(alloc, word)?;
-    Ok(Data::new(Shared::new(bytes.into_vec())?))
+    Ok(Data::new(SharedItems::new(bytes.into_vec())?))
 }
 
 /// `user` or `group`.

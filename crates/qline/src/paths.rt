@@ -4,7 +4,7 @@ ghost use Rattle.qtext.specs.Gives.{Gives};
 ghost use Rattle.qline.specs.Arguments.{path_of};
 
 use crate::argument::path_of;
-use qplain::{NoMemory, Path, Shared};
+use qplain::{NoMemory, Path, SharedItems};
 use qtext::ReadFault;
 use std::alloc::Global;
 use std::marker::Model;
@@ -15,7 +15,7 @@ const PAGE_BYTES: usize = 4096;
 /// A part of a text, whose bytes the paths that stand in it share.
 #[derive(Drop)]
 struct Page {
-    bytes: Shared<u8>,
+    bytes: SharedItems<u8>,
     /// How many bytes of the text are left where it begins.
     left: usize,
 }
@@ -117,7 +117,7 @@ impl<'a> Paths<'a> {
     fn turn_page(&mut self, alloc: Global, left: usize, least: usize) -> Result<(), NoMemory> {
         let text = &self.text[self.text.len().saturating_sub(left)..];
         let many = text.len().min(least.max(PAGE_BYTES));
-        let bytes = Shared::new(Vec::from_slice(alloc, &text[..many])?)?;
+        let bytes = SharedItems::new(Vec::from_slice(alloc, &text[..many])?)?;
         self.page = Some(Page { bytes, left });
         Ok(())
     }

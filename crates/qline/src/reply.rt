@@ -6,7 +6,7 @@ ghost use Rattle.qline.specs.RepliesRead.{as_bad_reply, bytes_of, done_of, edquo
 use crate::argument::{has_upper_case, kind_of};
 use crate::call::limits_of;
 use crate::reply_word::{ReplyWord, over_of, refusal_of, reply_word_of};
-use qplain::{Change, Quota, Refusal, Reply, Shared, Stat};
+use qplain::{Change, Quota, Refusal, Reply, SharedItems, Stat};
 use qtext::{ReadFault, TextKind, data_of, id_of, number};
 use std::alloc::Global;
 
@@ -85,7 +85,7 @@ fn bytes_of(alloc: Global, digits: &[u8]) -> Result<Reply, ReadFault>
         return Err(ReadFault::Fault(TextKind::BadReply));
     }
     let bytes = data_of(alloc, digits)?;
-    Ok(Reply::Bytes(Shared::new(bytes.into_vec())?))
+    Ok(Reply::Bytes(SharedItems::new(bytes.into_vec())?))
 }
 
 /// `dir` or `file`.

@@ -1,12 +1,12 @@
 -- What the tests of a call come to, and of what they are made: of the inode that a path leads to, or of the last name
--- of a path in its place (path_resolution(7), narrowed).
+-- of a path in its parent (path_resolution(7), narrowed).
 use Rattle.std.specs.Prelude.{ℕ, List, Option, Some, None, Result, Ok, Err}
 use Rattle.qplain.specs.declared.change.Change.{Change}
 use Rattle.qplain.specs.declared.refusal.Refusal.{Refusal}
 use Rattle.qplain.specs.declared.refusal.Refusal.TheVariants.{ENOENT}
 use Rattle.qplain.specs.declared.reply.Reply.{Reply}
 use Rattle.qplain.specs.State.{Inode, State, inode_at, named}
-use Rattle.qplain.specs.Walk.{components, last_name, led_to, place, walk}
+use Rattle.qplain.specs.Walk.{components, last_name, led_to, parent, walk}
 
 -- what the tests leave: a refusal, a reply that changes nothing, or the plain result and the number that Done names
 pub data Attempt : Type 0 where
@@ -38,18 +38,18 @@ at_path S try path = at_reached S try (walk S (components path))
 abbrev pub at_name : State → (ℕ → Inode → Attempt) → ℕ → List ℕ → Attempt
 at_name S try dir name = at_reached S try (led_to (named S dir name))
 
--- ---- of a name in the place of a path
+-- ---- of a name in the parent of a path
 
 -- what is tried of a name in the directory that was reached
 abbrev pub in_reached : (ℕ → List ℕ → Attempt) → List ℕ → Result ℕ Refusal → Attempt
 in_reached try name (Err r) = Refuse r
 in_reached try name (Ok dir) = try dir name
 
--- what is tried of the last of the names in the place that the others lead to; without a name, this refusal
+-- what is tried of the last of the names in the parent that the others lead to; without a name, this refusal
 abbrev pub under : State → Refusal → (ℕ → List ℕ → Attempt) → List (List ℕ) → Option (List ℕ) → Attempt
 under S of_root try names None = Refuse of_root
-under S of_root try names (Some name) = in_reached try name (place S names)
+under S of_root try names (Some name) = in_reached try name (parent S names)
 
--- what is tried of the path's last name in its place; of the path `/`, this refusal
-abbrev pub in_place : State → Refusal → (ℕ → List ℕ → Attempt) → List ℕ → Attempt
-in_place S of_root try path = under S of_root try (components path) (last_name (components path))
+-- what is tried of the path's last name in its parent; of the path `/`, this refusal
+abbrev pub in_parent : State → Refusal → (ℕ → List ℕ → Attempt) → List ℕ → Attempt
+in_parent S of_root try path = under S of_root try (components path) (last_name (components path))

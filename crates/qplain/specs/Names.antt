@@ -8,7 +8,7 @@ use Rattle.qplain.specs.declared.refusal.Refusal.TheVariants.{EEXIST, EISDIR, EM
 use Rattle.qplain.specs.Caller.{Caller}
 use Rattle.qplain.specs.State.{Inode, State, named, new_directory, new_file, name_key_cmp}
 use Rattle.qplain.specs.Use.{has_name, has_too_many_links, is_empty}
-use Rattle.qplain.specs.Attempt.{Attempt, Refuse, Becomes, at_name, in_place}
+use Rattle.qplain.specs.Attempt.{Attempt, Refuse, Becomes, at_name, in_parent}
 use Rattle.qplain.specs.Rights.{may_remove}
 
 -- the state with this inode under the next number and this name
@@ -46,9 +46,9 @@ link_as S number inode dir name =
     else if is_some (named S dir name) then Refuse EEXIST
     else unless_too_many_links (with_name S dir name number) number
 
--- link an inode under the last name of the path in its place
+-- link an inode under the last name of the path in its parent
 abbrev pub link_to : State → List ℕ → ℕ → Inode → Attempt
-link_to S to number inode = in_place S EEXIST (link_as S number inode) to
+link_to S to number inode = in_parent S EEXIST (link_as S number inode) to
 
 -- the state without this name
 abbrev pub without_name : State → ℕ → List ℕ → State

@@ -8,7 +8,7 @@ use Rattle.qplain.specs.Caller.{Caller}
 use Rattle.qplain.specs.State.{Inode, State, is_directory, named}
 use Rattle.qplain.specs.Use.{is_empty}
 use Rattle.qplain.specs.Walk.{components, walk}
-use Rattle.qplain.specs.Attempt.{Attempt, Refuse, Answer, at_name, in_place, no_change}
+use Rattle.qplain.specs.Attempt.{Attempt, Refuse, Answer, at_name, in_parent, no_change}
 use Rattle.qplain.specs.Rights.{may_remove}
 use Rattle.qplain.specs.Names.{swept, unless_too_many_links, with_name, without_name}
 
@@ -22,7 +22,7 @@ abbrev pub is_reached : ℕ → Result ℕ Refusal → Bool
 is_reached number (Err r) = false
 is_reached number (Ok n) = n == number
 
--- the walk to the place of these names comes past the inode of this number, or ends there: some walk along the first of
+-- the walk to the parent of these names comes past the inode of this number, or ends there: some walk along the first of
 -- them, all but the last at most, ends there
 abbrev pub meets : State → List (List ℕ) → ℕ → Bool
 meets S names number = list_any (λ n. is_reached number (walk S (take n names))) (range_with_len 0 (length names))
@@ -50,9 +50,9 @@ abbrev pub rename_as : State → Caller → List ℕ → ℕ → List ℕ → �
 rename_as S cred to dir name number inode to_dir to_name =
     rename_over S cred (components to) dir name number inode to_dir to_name (named S to_dir to_name)
 
--- rename it to the last name of the path in its place
+-- rename it to the last name of the path in its parent
 abbrev pub rename_to : State → Caller → List ℕ → ℕ → List ℕ → ℕ → Inode → Attempt
-rename_to S cred to dir name number inode = in_place S EBUSY (rename_as S cred to dir name number inode) to
+rename_to S cred to dir name number inode = in_parent S EBUSY (rename_as S cred to dir name number inode) to
 
 -- rename what has this name to the path
 abbrev pub rename_from : State → Caller → List ℕ → ℕ → List ℕ → Attempt

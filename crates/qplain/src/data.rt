@@ -5,14 +5,14 @@ ghost use Rattle.std.specs.Cmp.Lexicographic.{pointwise};
 ghost use Rattle.std.specs.Cmp.Rules.{comparing};
 ghost use Rattle.qblocks.specs.Input.{input_bytes};
 
-use crate::{NoMemory, Shared};
+use crate::{NoMemory, SharedItems};
 use qblocks::Input;
 use std::marker::Model;
 
 /// How the bytes are kept.
 #[derive(Debug, Drop)]
 enum Kept {
-    Bytes(Shared<u8>),
+    Bytes(SharedItems<u8>),
     Fill { count: u64, byte: u8 },
 }
 
@@ -33,7 +33,7 @@ impl Model for Data {
 
 impl Data {
     /// These bytes. They are not copied.
-    pub fn new(bytes: Shared<u8>) -> Self
+    pub fn new(bytes: SharedItems<u8>) -> Self
         ensures { result ≡ bytes }
     {
         Data {

@@ -17,7 +17,7 @@ use Rattle.qrun.specs.declared.replay_fault.ReplayFault.{ReplayFault}
 use Rattle.qrun.specs.declared.replay_fault.ReplayFault.TheVariants.{Memory, Mismatch}
 use Rattle.qplain.specs.Transcripts.{journaled_lines}
 use Rattle.qrun.specs.Runs.{AreTranscriptsOf, IsOutcomeOf, IsTranscriptOf}
-use Rattle.qrun.specs.Replays.{GivesBack, IsAsBefore, IsMismatch, IsReplayOf, answer_of, granted_lines, line_of, transcript_in, without_failed}
+use Rattle.qrun.specs.Replays.{GivesBack, IsAsBefore, IsFirstMismatch, IsReplayOf, answer_of, granted_lines, line_of_entry, transcript_in, without_failed}
 
 -- in a legal journal each reply is the plain machine's
 legal-at : (S : State) (before : List Entry) (e : Entry) (after : List Entry) → IsLegal S (before ++ e ∷ after)
@@ -26,13 +26,13 @@ legal-at S [] e after legal = legal.0
 legal-at S (x ∷ before) e after legal = legal-at (played S x).0 before e after legal.1
 
 -- so none of its entries is a mismatch
-no_mismatch : (S : State) (journal : List Entry) (place : ℕ) → IsLegal S journal → IsMismatch S journal place → ⊥
+no_mismatch : (S : State) (journal : List Entry) (place : ℕ) → IsLegal S journal → IsFirstMismatch S journal place → ⊥
 no_mismatch S journal place legal is =
     is.here.other (legal-at S is.before is.entry is.after (rw is.parts at legal))
 
 -- the lines of the entries that a worker's receipts stand for
 lines_again : (worker : ℕ) (lines : List Line) (answers : List (Result Receipt CallFault))
-    → map (λ x. line_of x.1) (journaled_lines worker lines answers) ≡ granted_lines lines answers
+    → map (λ x. line_of_entry x.1) (journaled_lines worker lines answers) ≡ granted_lines lines answers
 unfolding journaled_lines granted_lines
 lines_again worker (line ∷ lines) (Ok receipt ∷ answers) = ap (λ rest. line ∷ rest) (lines_again worker lines answers)
 lines_again worker (line ∷ lines) (Err fault ∷ answers) = lines_again worker lines answers
@@ -89,7 +89,7 @@ as_before setting scripts old new run replay =
 -- and it meets no mismatch
 pub gives_back : (setting : Setting) (scripts : List (List Line)) (old : Outcome) (r : Result Outcome ReplayFault)
     → IsOutcomeOf setting scripts old → IfOk r (IsReplayOf setting old.journal)
-    → ((place : ℕ) → r ≡ Err (Mismatch place) → IsMismatch (start setting) old.journal.entries place) → GivesBack old r
+    → ((place : ℕ) → r ≡ Err (Mismatch place) → IsFirstMismatch (start setting) old.journal.entries place) → GivesBack old r
 gives_back setting scripts old (Ok new) run replay mismatch = as_before setting scripts old new run replay
 gives_back setting scripts old (Err Memory) run replay mismatch = tt
 gives_back setting scripts old (Err (Mismatch place)) run replay mismatch =

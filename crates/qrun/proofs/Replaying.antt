@@ -8,11 +8,11 @@ use Rattle.qplain.specs.declared.entry.Entry.{Entry}
 use Rattle.qplain.specs.Journal.{entries_of}
 use Rattle.qplain.specs.State.{State}
 use Rattle.qlaws.proofs.Playing.{own-one_more}
-use Rattle.qrun.specs.Replays.{IsMismatch, IsMismatchAfter}
+use Rattle.qrun.specs.Replays.{IsFirstMismatch, IsMismatchAfter}
 
 -- the first entry with another reply is one of the journal's
 pub mismatch_at : (S : State) (entries : List Entry) (i : ℕ) (d : Entry) (place : ℕ) → i < length entries
-    → IsMismatchAfter S (take i entries) (get_or entries i d) place → IsMismatch S entries place
+    → IsMismatchAfter S (take i entries) (get_or entries i d) place → IsFirstMismatch S entries place
 mismatch_at S entries i d place few here =
     let next : drop i entries ≡ get_or entries i d ∷ drop (i + 1) entries = rw (add-one, drop-cons entries i d) refl in
     record {

@@ -10,8 +10,8 @@ use Rattle.qplain.specs.declared.refusal.Refusal.TheVariants.{EBUSY, EEXIST, EIS
 use Rattle.qplain.specs.declared.reply.Reply.{Reply}
 use Rattle.qplain.specs.State.{Holder, Inode, State, inode_at, named}
 use Rattle.qplain.specs.Caller.{Caller, is_superuser}
-use Rattle.qplain.specs.Walk.{components, last_name, led_to, place, walk}
-use Rattle.qplain.specs.Attempt.{Attempt, Refuse, Answer, Becomes, at_inode, at_name, at_path, at_reached, in_place, in_reached, under}
+use Rattle.qplain.specs.Walk.{components, last_name, led_to, parent, walk}
+use Rattle.qplain.specs.Attempt.{Attempt, Refuse, Answer, Becomes, at_inode, at_name, at_path, at_reached, in_parent, in_reached, under}
 use Rattle.qplain.specs.Calls.{attempt, attempt_of, unless}
 use Rattle.qplain.specs.Arguments.{is_holder, refusal_of_arguments}
 use Rattle.qplain.specs.Decision.{refusal_between}
@@ -85,12 +85,12 @@ module _ (S : State) where
   fair-under : (of_root : Refusal) (try : ℕ → List ℕ → Attempt) (names : List (List ℕ)) (o : Option (List ℕ))
       → ((dir : ℕ) (name : List ℕ) → IsFair (try dir name)) → IsFair (under S of_root try names o)
   fair-under of_root try names None each = refused of_root
-  fair-under of_root try names (Some name) each = fair-in_reached try name (place S names) (λ dir. each dir name)
+  fair-under of_root try names (Some name) each = fair-in_reached try name (parent S names) (λ dir. each dir name)
 
-  -- what is fair at each name in a directory is fair in a path's place
-  fair-in_place : (of_root : Refusal) (try : ℕ → List ℕ → Attempt) (path : List ℕ)
-      → ((dir : ℕ) (name : List ℕ) → IsFair (try dir name)) → IsFair (in_place S of_root try path)
-  fair-in_place of_root try path each = fair-under of_root try (components path) (last_name (components path)) each
+  -- what is fair at each name in a directory is fair in a path's parent
+  fair-in_parent : (of_root : Refusal) (try : ℕ → List ℕ → Attempt) (path : List ℕ)
+      → ((dir : ℕ) (name : List ℕ) → IsFair (try dir name)) → IsFair (in_parent S of_root try path)
+  fair-in_parent of_root try path each = fair-under of_root try (components path) (last_name (components path)) each
 
 module _ (S : State) (cred : Caller) where
   fair-create : (dir : ℕ) (name : List ℕ) → IsFair (create_as S cred dir name)
@@ -135,8 +135,8 @@ module _ (S : State) (cred : Caller) where
   fair-quota_from (Some h) = answered _ tt
 
   fair-attempt_of : (call : Call) → IsLawful S → IsFair (attempt_of S cred call)
-  fair-attempt_of (Create path) lawful = fair-in_place S EEXIST (create_as S cred) path fair-create
-  fair-attempt_of (Mkdir path) lawful = fair-in_place S EEXIST (mkdir_as S cred) path fair-mkdir
+  fair-attempt_of (Create path) lawful = fair-in_parent S EEXIST (create_as S cred) path fair-create
+  fair-attempt_of (Mkdir path) lawful = fair-in_parent S EEXIST (mkdir_as S cred) path fair-mkdir
   fair-attempt_of (Write path off bytes) lawful =
       fair-at_path S (write_into S cred off bytes) path (λ number inode there. fair-write off bytes number inode)
   fair-attempt_of (Truncate path size) lawful =
@@ -144,17 +144,17 @@ module _ (S : State) (cred : Caller) where
   fair-attempt_of (Read path off len) lawful = fair-at_path S (read_from off len) path (λ number inode there. fair-read off len number inode)
   fair-attempt_of (Stat path) lawful = fair-at_path S (stat_at S) path (λ number inode there. fair-stat number inode lawful there)
   fair-attempt_of (Link from to) lawful =
-      fair-at_path S (link_to S to) from (λ number inode there. fair-in_place S EEXIST (link_as S number inode) to (fair-link number inode))
+      fair-at_path S (link_to S to) from (λ number inode there. fair-in_parent S EEXIST (link_as S number inode) to (fair-link number inode))
   fair-attempt_of (Unlink path) lawful =
-      fair-in_place S EISDIR (unlink_as S cred) path (λ dir name.
+      fair-in_parent S EISDIR (unlink_as S cred) path (λ dir name.
       fair-at_name S (unlink_at S cred dir name) dir name (λ number inode there. fair-unlink dir name number inode))
   fair-attempt_of (Rmdir path) lawful =
-      fair-in_place S EBUSY (rmdir_as S cred) path (λ dir name.
+      fair-in_parent S EBUSY (rmdir_as S cred) path (λ dir name.
       fair-at_name S (rmdir_at S cred dir name) dir name (λ number inode there. fair-rmdir dir name number inode))
   fair-attempt_of (Rename from to) lawful =
-      fair-in_place S EBUSY (rename_from S cred to) from (λ dir name.
+      fair-in_parent S EBUSY (rename_from S cred to) from (λ dir name.
       fair-at_name S (rename_to S cred to dir name) dir name (λ number inode there.
-      fair-in_place S EBUSY (rename_as S cred to dir name number inode) to (λ to_dir to_name.
+      fair-in_parent S EBUSY (rename_as S cred to dir name number inode) to (λ to_dir to_name.
       fair-rename (components to) dir name number inode to_dir to_name (named S to_dir to_name))))
   fair-attempt_of (Chown path uid gid) lawful =
       fair-at_path S (chown_at S cred uid gid) path (λ number inode there. fair-chown uid gid number inode)

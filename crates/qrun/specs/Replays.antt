@@ -18,8 +18,8 @@ use Rattle.qrun.specs.declared.replay_fault.ReplayFault.{ReplayFault}
 use Rattle.qrun.specs.declared.replay_fault.ReplayFault.TheVariants.{Memory, Mismatch}
 
 -- the line of an entry
-abbrev pub line_of : Entry → Line
-line_of e = record { cred = e.cred; moment = e.moment; call = e.call }
+abbrev pub line_of_entry : Entry → Line
+line_of_entry e = record { cred = e.cred; moment = e.moment; call = e.call }
 
 -- the answer to an entry with its place
 abbrev pub answer_of : ℕ × Entry → Result Receipt CallFault
@@ -29,7 +29,7 @@ answer_of (place, e) = Ok (record { place = place; reply = e.reply })
 abbrev pub transcript_in : List Entry → ℕ → Transcript
 transcript_in journal worker = record {
   worker = worker;
-  lines = map (λ x. line_of x.1) (entries_of journal worker);
+  lines = map (λ x. line_of_entry x.1) (entries_of journal worker);
   answers = map answer_of (entries_of journal worker);
 }
 
@@ -44,7 +44,7 @@ pub record IsMismatchAfter (S : State) (before : List Entry) (e : Entry) (place 
   pub place_is : place ≡ length before + 1
 
 -- the first entry with another reply than the plain machine has this place
-pub record IsMismatch (S : State) (journal : List Entry) (place : ℕ) : Type 0 where
+pub record IsFirstMismatch (S : State) (journal : List Entry) (place : ℕ) : Type 0 where
   pub before : List Entry
   pub entry : Entry
   pub after : List Entry

@@ -7,7 +7,7 @@ ghost use Rattle.qplain.specs.State.{start};
 ghost use Rattle.qrun.specs.declared.outcome.Outcome.{Outcome};
 ghost use Rattle.qrun.specs.declared.replay_fault.ReplayFault.TheVariants.{Mismatch};
 ghost use Rattle.qrun.specs.Runs.{IsOutcomeOf};
-ghost use Rattle.qrun.specs.Replays.{GivesBack, IsMismatch, IsMismatchAfter, IsReplayOf, line_of, transcript_in, transcripts_in};
+ghost use Rattle.qrun.specs.Replays.{GivesBack, IsFirstMismatch, IsMismatchAfter, IsReplayOf, line_of_entry, transcript_in, transcripts_in};
 
 use crate::outcome::outcome_of;
 use crate::{Outcome, ReplayFault};
@@ -51,7 +51,7 @@ fn replay_all(store: &mut JournaledStore, entries: &[Entry]) -> Result<(), Repla
     ensures setting { store.new.setting ≡ store.old.setting }
     ensures ok { OnOk result (store.new.journal ≡ entries.now) }
     ensures mismatch { (place : ℕ) → result ≡ Err (Mismatch place)
-        → IsMismatch (start store.old.setting) entries.now place }
+        → IsFirstMismatch (start store.old.setting) entries.now place }
 {
     for entry in entries {
         replay_entry(store, entry)?;
@@ -60,8 +60,8 @@ fn replay_all(store: &mut JournaledStore, entries: &[Entry]) -> Result<(), Repla
 }
 
 /// The line of an entry, which shares what its call has.
-fn line_of(entry: &Entry) -> Result<Line, NoMemory>
-    ensures { IfOk result (λ line. line ≡ line_of entry.now) }
+fn line_of_entry(entry: &Entry) -> Result<Line, NoMemory>
+    ensures { IfOk result (λ line. line ≡ line_of_entry entry.now) }
 {
     Ok(Line {
         cred: entry.cred.copy()?,
@@ -82,7 +82,7 @@ fn transcript_of(alloc: Global, worker: u64, entries: &[Entry]) -> Result<Transc
         place += 1;
         if entry.worker == worker {
             let reply = entry.reply.copy()?;
-            lines.push(line_of(entry)?)?;
+            lines.push(line_of_entry(entry)?)?;
             answers.push(Ok(Receipt { place, reply }))?;
         }
     }
@@ -115,7 +115,7 @@ fn play_again(
 ) -> Result<Outcome, ReplayFault>
     ensures replay { IfOk result (IsReplayOf setup journal.now) }
     ensures mismatch { (place : ℕ) → result ≡ Err (Mismatch place)
-        → IsMismatch (start setup) journal.now.entries place }
+        → IsFirstMismatch (start setup) journal.now.entries place }
 {
     let mut store = JournaledStore::new(alloc, setup, seed)?;
     replay_all(&mut store, journal.entries())?;
@@ -138,7 +138,7 @@ pub fn replay(
 ) -> Result<Outcome, ReplayFault>
     ensures replay { IfOk result (IsReplayOf setup journal.now) }
     ensures mismatch { (place : ℕ) → result ≡ Err (Mismatch place)
-        → IsMismatch (start setup) journal.now.entries place }
+        → IsFirstMismatch (start setup) journal.now.entries place }
 
     // The journal of a run under this setup gives back what the run has left, but for the lines that failed.
     ensures of_a_run { (scripts : List (List Line)) (run : Outcome) → IsOutcomeOf setup scripts run

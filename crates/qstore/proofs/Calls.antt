@@ -31,7 +31,7 @@ use Rattle.qstore.specs.declared.store.write.Target.{Target}
 use Rattle.qstore.specs.Kept.{state_of, stored_of}
 use Rattle.qstore.specs.FileTypes.{inode_new}
 use Rattle.qstore.specs.Targets.{IsTarget}
-use Rattle.qstore.specs.Decided.{IsAsked, IsClaimed, IsWhole}
+use Rattle.qstore.specs.Decided.{IsAsked, IsClaimed, IsConsistent}
 use Rattle.qchange.specs.Changes.{altered, altered_at}
 use Rattle.qstore.specs.Stored.{IsSameStore, Stored}
 use Rattle.qstore.proofs.Deciding.{asked-for, claimed, claimed-again, unclaimed}
@@ -114,7 +114,7 @@ more-of-adds file off (byte ∷ rest) blocks adds = adds
 -- ---- what stands where
 
 -- a changed inode stands where it stood
-pub changed-asked : (s : Stored) → IsWhole s → (number : ℕ) (inode after : Inode) → inode_at s.state number ≡ Some inode
+pub changed-asked : (s : Stored) → IsConsistent s → (number : ℕ) (inode after : Inode) → inode_at s.state number ≡ Some inode
     → (from to : Claim) → IsClaimed s.books (Some from) (Some inode) → IsClaimed s.books (Some to) (Some after) → weight Blocks after ≤ 2 ^ 32
     → IsAsked s (Some from) (Some to) 0 (with_inode s.state number after)
 changed-asked s whole number inode after there from to lost gained few =
@@ -122,7 +122,7 @@ changed-asked s whole number inode after there from to lost gained few =
     (Replaces-changed s.state number inode after there) (omega arith) lost gained few
 
 -- a file that loses a name stands there still, or not
-pub unlinked-asked : (s : Stored) → IsWhole s → (dir : ℕ) (name : List ℕ) (number : ℕ) (inode : Inode) → named s.state dir name ≡ Some number
+pub unlinked-asked : (s : Stored) → IsConsistent s → (dir : ℕ) (name : List ℕ) (number : ℕ) (inode : Inode) → named s.state dir name ≡ Some number
     → inode_at s.state number ≡ Some inode → inode.dir ≡ false
     → (claim : Claim) (to : Option Claim) (links : ℕ) → IsClaimed s.books (Some claim) (Some inode) → weight Blocks inode ≤ 2 ^ 32
     → links ≡ links_of s.state number inode.dir → (1 < links → to ≡ Some claim) → (links ≤ 1 → to ≡ None)
@@ -152,7 +152,7 @@ unlinked-asked s whole dir name number inode led there file claim to links claim
     some = links_of-unlinked s.state dir name number inode fits led there file
 
 -- a file that changes stands where it stood, with a claim on the same records
-pub resized-asked : (s : Stored) → IsWhole s → (number : ℕ) (inode : Inode) (file : File) → inode_at s.state number ≡ Some inode
+pub resized-asked : (s : Stored) → IsConsistent s → (number : ℕ) (inode : Inode) (file : File) → inode_at s.state number ≡ Some inode
     → (from to : Claim) (blocks : ℕ) → IsClaimed s.books (Some from) (Some inode)
     → to ≡ record { slots = from.slots; weight = record { blocks = blocks; inodes = 1 } }
     → blocks_of file ≡ blocks → blocks ≤ 2 ^ 32
@@ -164,7 +164,7 @@ resized-asked s whole number inode file there from to blocks claimed is same few
     (omega (arith, same, few))
 
 -- the write of a target
-pub target-asked : (s : Stored) → IsWhole s → (cred : Caller) (path : List ℕ) (off : ℕ) (bytes : List ℕ) (target : Target)
+pub target-asked : (s : Stored) → IsConsistent s → (cred : Caller) (path : List ℕ) (off : ℕ) (bytes : List ℕ) (target : Target)
     (t : IsTarget s cred path off bytes target) (to : Claim)
     → to ≡ record { slots = target.claim.slots; weight = record { blocks = target.claim.weight.blocks + target.missing; inodes = 1 } }
     → IsAsked s (Some target.claim) (Some to) 0 (with_file s.state target.number t.inode (after_write t.inode.file off bytes))
@@ -177,7 +177,7 @@ target-asked s whole cred path off bytes target t to is =
     (target.claim.weight.blocks + target.missing) t.claimed is (omega (arith, more, old)) (omega (arith, few, few_missing))
 
 -- a new inode of the caller's
-pub created-asked : (s : Stored) → IsWhole s → (dir : ℕ) (name : List ℕ) (slots : Slots) (uid gid : ℕ) (sort : FileType)
+pub created-asked : (s : Stored) → IsConsistent s → (dir : ℕ) (name : List ℕ) (slots : Slots) (uid gid : ℕ) (sort : FileType)
     → HasSlots s.books slots uid gid → (to : Claim) → to ≡ record { slots = slots; weight = record { blocks = 0; inodes = 1 } }
     → IsAsked s None (Some to) 1 (created s.state (inode_new sort uid gid) dir name)
 created-asked s whole dir name slots uid gid sort has to is =

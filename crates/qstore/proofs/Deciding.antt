@@ -34,7 +34,7 @@ use Rattle.qstore.specs.declared.ready.Plan.{Plan}
 use Rattle.qstore.specs.declared.ready.Plan.TheVariants.{Nothing, Change, Limits as SetLimits}
 use Rattle.qstore.specs.declared.ready.Ready.{Ready}
 use Rattle.qchange.specs.declared.tree_change.TreeChange.{TreeChange}
-use Rattle.qstore.specs.Decided.{IsAsked, IsBilled, IsClaimed, IsDecided, IsUnbilled, IsWhole}
+use Rattle.qstore.specs.Decided.{IsAsked, IsBilled, IsClaimed, IsDecided, IsUnbilled, IsConsistent}
 use Rattle.qstore.specs.Ready.{CanCarryOut, IsRefused, billed, effect}
 use Rattle.qchange.specs.Changes.{CanChange, changed}
 use Rattle.qstore.specs.Stored.{IsSameStore, Stored}
@@ -65,7 +65,7 @@ pub unclaimed : (b : Books) → IsClaimed b None None
 unclaimed b = record { users = tt; groups = tt }
 
 -- a plain result in which one inode stands where another stood is one that a bill may be asked for
-pub asked-for : (s : Stored) → IsWhole s → (from to : Option Claim) (given : ℕ) (S1 : State) (f t : Option Inode) → Replaces s.state S1 f t
+pub asked-for : (s : Stored) → IsConsistent s → (from to : Option Claim) (given : ℕ) (S1 : State) (f t : Option Inode) → Replaces s.state S1 f t
     → S1.next ≡ s.state.next + given → IsClaimed s.books from f → IsClaimed s.books to t → weight_of Blocks t ≤ 2 ^ 32
     → IsAsked s from to given S1
 asked-for s whole from to given S1 f t replaces next lost gained few = record {

@@ -14,7 +14,7 @@ use Rattle.qlaws.proofs.Bounding.{too_many-directory}
 use Rattle.qlaws.proofs.Removing.{Replaces-last, one_name}
 use Rattle.qtree.proofs.Directories.{directory-there}
 use Rattle.qledger.specs.declared.claim.Claim.{Claim}
-use Rattle.qstore.specs.Decided.{IsAsked, IsClaimed, IsWhole}
+use Rattle.qstore.specs.Decided.{IsAsked, IsClaimed, IsConsistent}
 use Rattle.qstore.specs.Stored.{Stored}
 use Rattle.qstore.proofs.Deciding.{asked-for, unclaimed}
 
@@ -39,7 +39,7 @@ rmdir-becomes S cred dir name number inode led there directory may empty =
     (Becomes (swept (without_name S dir name)) number))))
 
 -- where a directory goes, nothing stands
-pub removed-asked : (s : Stored) → IsWhole s → (dir : ℕ) (name : List ℕ) (number : ℕ) (inode : Inode) → named s.state dir name ≡ Some number
+pub removed-asked : (s : Stored) → IsConsistent s → (dir : ℕ) (name : List ℕ) (number : ℕ) (inode : Inode) → named s.state dir name ≡ Some number
     → inode_at s.state number ≡ Some inode → inode.dir ≡ true → (claim : Claim) → IsClaimed s.books (Some claim) (Some inode)
     → IsAsked s (Some claim) None 0 (swept (without_name s.state dir name))
 removed-asked s whole dir name number inode led there directory claim claimed =

@@ -7,11 +7,11 @@ use Rattle.qplain.specs.State.{Inode, inode_at, is_directory, named}
 use Rattle.qplain.specs.Use.{is_empty, links_of, names_to, weight}
 use Rattle.qlaws.proofs.Renaming.{Replaces-held_on, Replaces-moved, Replaces-replaced, names_to-target, one_name-replaced}
 use Rattle.qledger.specs.declared.claim.Claim.{Claim}
-use Rattle.qstore.specs.Decided.{IsAsked, IsClaimed, IsWhole}
+use Rattle.qstore.specs.Decided.{IsAsked, IsClaimed, IsConsistent}
 use Rattle.qstore.specs.Stored.{Stored}
 use Rattle.qstore.proofs.Deciding.{asked-for, unclaimed}
 
-module _ (s : Stored) (whole : IsWhole s) (dir : ℕ) (name : List ℕ) (number : ℕ) (inode : Inode) (to_dir : ℕ) (to_name : List ℕ)
+module _ (s : Stored) (whole : IsConsistent s) (dir : ℕ) (name : List ℕ) (number : ℕ) (inode : Inode) (to_dir : ℕ) (to_name : List ℕ)
     (led : named s.state dir name ≡ Some number) (there : inode_at s.state number ≡ Some inode) (stands : is_directory s.state to_dir ≡ true)
     (other : passes (λ n. n == number) (named s.state to_dir to_name) ≡ false)
     (empty : passes (λ n. not (is_empty s.state n)) (named s.state to_dir to_name) ≡ false) where

@@ -14,7 +14,7 @@ use Rattle.qledger.proofs.Booked.{in_range-settled}
 use Rattle.qstore.specs.declared.store.Store.TheInside.{Inside}
 use Rattle.qstore.specs.Kept.{IsCounted, state_of, stored_of}
 use Rattle.qstore.specs.Ready.{CanSettle, billed}
-use Rattle.qstore.specs.Stored.{IsSound, Stored}
+use Rattle.qstore.specs.Stored.{IsStorable, Stored}
 
 -- what no change of inodes and names touches
 pub record KeepsBounds (old new : State) : Type 0 where
@@ -101,7 +101,7 @@ module _ (s : Stored) (a new : Inside) (T : State) (is : s ≡ stored_of a) (kee
       }
 
   -- what it keeps then is what that counts to
-  pub counted-billed : CanSettle s T → IsSound (billed s T) → IsCounted (state_of new) new.accounts new.tree.links
+  pub counted-billed : CanSettle s T → IsStorable (billed s T) → IsCounted (state_of new) new.accounts new.tree.links
   counted-billed can sound =
       subst (λ (S : State). IsCounted S new.accounts new.tree.links) (sym state-billed) (record {
         sound = sound;

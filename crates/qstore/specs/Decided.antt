@@ -16,11 +16,11 @@ use Rattle.qledger.specs.Claims.{IsShareOf, share_in}
 use Rattle.qledger.specs.Replacements.{IsReplacement}
 use Rattle.qstore.specs.declared.ready.Ready.{Ready}
 use Rattle.qstore.specs.Ready.{CanCarryOut, committed}
-use Rattle.qstore.specs.Stored.{IsSound, Stored}
+use Rattle.qstore.specs.Stored.{IsStorable, Stored}
 
 -- the state is sound, and the books are its own
-pub record IsWhole (s : Stored) : Type 0 where
-  pub sound : IsSound s.state
+pub record IsConsistent (s : Stored) : Type 0 where
+  pub sound : IsStorable s.state
   pub books : AreBooksOf s.state s.books
 
 -- the decision is what the plain machine makes of the attempt, and the store, with the room that was made and the bill

@@ -9,7 +9,7 @@ use Rattle.qtree.specs.TreeOf.{AreLinks}
 use Rattle.qledger.specs.Books.{AreBooksOf, AreInRange, Books}
 use Rattle.qledger.specs.KeptHolders.{holders_in}
 use Rattle.qstore.specs.declared.store.Store.TheInside.{Inside}
-use Rattle.qstore.specs.Stored.{IsSound, Stored}
+use Rattle.qstore.specs.Stored.{IsStorable, Stored}
 
 -- the plain machine's state that a store stands for
 abbrev pub state_of : Inside → State
@@ -30,7 +30,7 @@ stored_of a = record { state = state_of a; room = a.tree.room; books = a.account
 
 -- the state is sound, and what is kept beside it is what it counts to: the books, and each inode's links in order
 pub record IsCounted (S : State) (b : Books) (kept : List (ℕ × ℕ)) : Type 0 where
-  pub sound : IsSound S
+  pub sound : IsStorable S
   pub books : AreBooksOf S b
   pub in_range : AreInRange b
   pub links : AreLinks S kept

@@ -14,7 +14,7 @@ use Rattle.qledger.specs.KeptHolders.{holders_in}
 use Rattle.qstore.specs.declared.ready.Plan.{Plan}
 use Rattle.qstore.specs.declared.ready.Plan.TheVariants.{Nothing, Change, Limits, SetGraces}
 use Rattle.qstore.specs.declared.ready.Ready.{Ready}
-use Rattle.qstore.specs.Stored.{IsSound, Stored}
+use Rattle.qstore.specs.Stored.{IsStorable, Stored}
 
 -- the reply is a refusal
 abbrev pub IsRefused : Reply → Type 0
@@ -68,4 +68,4 @@ CanCarryOut s (SetGraces graces) = are_graces_in_range graces ≡ true
 -- the store is as `ready` left it, as far as the call needs
 pub record IsReady (s : Stored) (r : Ready) : Type 0 where
   pub can : CanCarryOut s r.plan
-  pub sound : IsSound (effect s r.plan)
+  pub sound : IsStorable (effect s r.plan)

@@ -9,7 +9,7 @@ use Rattle.qledger.specs.declared.bill.Bill.{Bill}
 use Rattle.qledger.specs.Books.{Books}
 
 -- a state that a store can be in: a lawful one, whose file limit is within what a file can hold
-pub record IsSound (S : State) : Type 0 where
+pub record IsStorable (S : State) : Type 0 where
   pub lawful : IsLawful S
   pub file_bound : S.file_limit ≤ MAX_SIZE
 

@@ -11,8 +11,8 @@ ghost use Rattle.qplain.specs.Step.{settle, step};
 ghost use Rattle.qlaws.specs.Laws.{IsLawful, PassesNoLimit};
 ghost use Rattle.qtree.specs.TreeOf.{IsTreeOf};
 ghost use Rattle.qledger.specs.Books.{HasSlots};
-ghost use Rattle.qstore.specs.Stored.{IsSameStore, IsSound, Stored};
-ghost use Rattle.qstore.specs.Decided.{IsDecided, IsWhole};
+ghost use Rattle.qstore.specs.Stored.{IsSameStore, IsStorable, Stored};
+ghost use Rattle.qstore.specs.Decided.{IsDecided, IsConsistent};
 ghost use Rattle.qstore.specs.Ready.{CanCarryOut, IsReady, IsRefused, committed, wants_no_memory};
 
 use crate::ready::{Plan, Ready};
@@ -71,9 +71,8 @@ impl Store {
     /// A new store of a setup. It holds the root directory, inode 1 of user 0 and group 0; the next number is 2, and a
     /// file has at most 2^30 bytes (tmpfs(5), profile).
     ///
-    /// The allocator is kept for later growth. The hashes of names begin at `seed`, which may be any number: where
-    /// nobody knows it beforehand, nobody can search beforehand for names that collide. No answer and no row depends on
-    /// it. After an Err nothing was made. O(n), as many principals as there are.
+    /// The hashes of names begin at `seed`, any number: who does not know it cannot search for names that collide, and no
+    /// answer depends on it. After an Err nothing was made. O(n) for n principals.
     pub fn new(alloc: Global, setup: Setup, seed: u64) -> Result<Store, NoMemory>
         ensures { IfOk result (λ s. s.state ≡ start setup) }
     {
@@ -87,18 +86,21 @@ impl Store {
         })
     }
 
+    /// A law: the state of every store is lawful. Nothing runs.
+    pub fn always_lawful(&self)
+        ensures { IsLawful self.now.state }
+    {}
+
     /// The allocated blocks of 4096 bytes. O(1).
     pub fn blocks(&self) -> u64
-        ensures blocks { result ≡ total_of self.now.state Blocks }
-        ensures lawful { IsLawful self.now.state }
+        ensures { result ≡ total_of self.now.state Blocks }
     {
         self.accounts.blocks()
     }
 
     /// The inodes, the root among them. O(1).
     pub fn inodes(&self) -> u64
-        ensures inodes { result ≡ total_of self.now.state Inodes }
-        ensures lawful { IsLawful self.now.state }
+        ensures { result ≡ total_of self.now.state Inodes }
     {
         self.accounts.inodes()
     }
@@ -115,7 +117,7 @@ impl Store {
         ensures same { IsSameStore self.old self.new }
         ensures step { IfOk result (λ r. committed self.new r ≡ step self.old.state cred.now moment call.now) }
         ensures can { IfOk result (λ r. CanCarryOut self.new r.plan) }
-        ensures sound { IsSound self.old.state }
+        ensures sound { IsStorable self.old.state }
         ensures refused_first { IsRefused (step self.old.state cred.now moment call.now).1 → IsOk result }
         ensures answered { wants_no_memory call.now ≡ true → IsOk result }
     {
@@ -136,7 +138,7 @@ impl Store {
         call: &Call,
     ) -> Result<Ready, NoMemory>
         requires callers { HasSlots self.old.books callers cred.now.uid cred.now.gid }
-        requires whole { IsWhole self.old }
+        requires whole { IsConsistent self.old }
         requires moment { moment ≤ MAX_MOMENT }
         requires numbers { has_bad_number self.old.state call.now ≡ false }
         ensures same { IsSameStore self.old self.new }
@@ -192,7 +194,6 @@ impl Store {
         ensures step { IfOk result (λ r. committed self.new r ≡ step self.old.state cred.now moment call.now) }
         ensures ready { IfOk result (IsReady self.new) }
 
-        // Want of memory comes after all refusals, and some calls never want any.
         ensures refused_first { IsRefused (step self.old.state cred.now moment call.now).1 → IsOk result }
         ensures answered { wants_no_memory call.now ≡ true → IsOk result }
     {
@@ -225,7 +226,6 @@ impl Store {
         ensures ok { IfOk result (λ reply. (self.new.state, reply) ≡ step self.old.state cred.now moment call.now) }
         ensures err { OnErr result (self.new.state ≡ self.old.state) }
 
-        // Want of memory comes after all refusals, and some calls never want any.
         ensures refused_first { IsRefused (step self.old.state cred.now moment call.now).1 → IsOk result }
         ensures answered { wants_no_memory call.now ≡ true → IsOk result }
 

@@ -53,8 +53,7 @@ impl JournaledStore {
         ensures played { IfOk result IsPlayed }
     {
         let store = Store::new(alloc, setup.copy(alloc)?, seed)?;
-        // A setup that is asked for its users is lawful.
-        let _users = setup.users();
+        setup.always_lawful();
         Ok(JournaledStore {
             setup,
             store,

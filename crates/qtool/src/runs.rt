@@ -5,7 +5,7 @@ ghost use Rattle.qplain.specs.State.{start};
 ghost use Rattle.qshare.specs.declared.opening.TheConstants.{MAX_SEATS};
 ghost use Rattle.qrun.specs.declared.outcome.Outcome.{Outcome};
 ghost use Rattle.qrun.specs.declared.replay_fault.ReplayFault.TheVariants.{Mismatch};
-ghost use Rattle.qrun.specs.Replays.{GivesBack, IsMismatch, IsReplayOf};
+ghost use Rattle.qrun.specs.Replays.{GivesBack, IsFirstMismatch, IsReplayOf};
 ghost use Rattle.qrun.specs.Runs.{IsOutcomeOf};
 ghost use Rattle.qworkers.specs.Crews.{CanRun};
 ghost use Rattle.qworkers.specs.RunFaults.{IsFaultOf};
@@ -72,7 +72,7 @@ pub fn replay(
 ) -> Result<Outcome, ReplayFault>
     ensures outcome { IfOk result (IsReplayOf config.setup journal.now) }
     ensures mismatch { (place : ℕ) → result ≡ Err (Mismatch place)
-        → IsMismatch (start config.setup) journal.now.entries place }
+        → IsFirstMismatch (start config.setup) journal.now.entries place }
 
     // The journal of a run under this configuration gives back what the run has left, but for the lines that failed.
     ensures of_a_run { (scripts : List (List Line)) (run : Outcome) → IsOutcomeOf config.setup scripts run

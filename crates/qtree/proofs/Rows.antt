@@ -18,7 +18,7 @@ use Rattle.qrules.specs.declared.name_row.NameRow.{NameRow}
 use Rattle.qplain.specs.State.{Inode}
 use Rattle.qtree.specs.declared.node.Node.{Node}
 use Rattle.qtree.specs.InOrder.{in_order, keyed_by, read_by}
-use Rattle.qtree.specs.Names.{names_of, row_in}
+use Rattle.qtree.specs.Names.{names_of, name_row}
 use Rattle.qtree.specs.Nodes.{inode_of, names_in, node_row}
 use Rattle.qtree.specs.Tree.{name_row_of}
 use Rattle.qtree.specs.Tree.{all_names, kept_row, keyed}
@@ -102,25 +102,25 @@ numbers_kept links (e ∷ es) = ap (λ l. e.0 ∷ l) (numbers_kept links es)
 abbrev pub row_to : ℕ → ℕ → NameRow
 row_to dir number = record { dir = dir; ino = number }
 
-rows_keyed : (dir : ℕ) (names : List (List ℕ × ℕ)) → map name_row_of (keyed dir names) ≡ map (row_in dir) names
+rows_keyed : (dir : ℕ) (names : List (List ℕ × ℕ)) → map name_row_of (keyed dir names) ≡ map (name_row dir) names
 rows_keyed dir [] = refl
-rows_keyed dir (n ∷ names) = ap (λ rows. row_in dir n ∷ rows) (rows_keyed dir names)
+rows_keyed dir (n ∷ names) = ap (λ rows. name_row dir n ∷ rows) (rows_keyed dir names)
 
-rows_to : {K : Type 0} (f : K → List ℕ) (dir : ℕ) (es : List (K × ℕ)) → map (row_in dir) (keyed_by f es) ≡ map (row_to dir) (values_of es)
+rows_to : {K : Type 0} (f : K → List ℕ) (dir : ℕ) (es : List (K × ℕ)) → map (name_row dir) (keyed_by f es) ≡ map (row_to dir) (values_of es)
 rows_to f dir [] = refl
 rows_to f dir (e ∷ es) = ap (λ rows. row_to dir e.1 ∷ rows) (rows_to f dir es)
 
 -- the rows of a table's names are those of its numbers, in another order
 pub table_rows : {A : Type 0} (dir : ℕ) (es : List (String A × ℕ)) → IsDistinct (text_eq {A = A}) (keys_of es)
-    → IsPermutation (map (row_in dir) (names_of es)) (map (row_to dir) (values_of es))
+    → IsPermutation (map (name_row dir) (names_of es)) (map (row_to dir) (values_of es))
 table_rows dir es d =
-    subst (IsPermutation (map (row_in dir) (names_of es))) (rows_to string_bytes dir es)
-    (IsPermutation-sym _ _ (map-shuffled nat_list_cmp_total exact_bytes (row_in dir) bytes_ties (keyed_by string_bytes es)
+    subst (IsPermutation (map (name_row dir) (names_of es))) (rows_to string_bytes dir es)
+    (IsPermutation-sym _ _ (map-shuffled nat_list_cmp_total exact_bytes (name_row dir) bytes_ties (keyed_by string_bytes es)
     (distinct-keyed_by string_bytes (pointwise nat_eq) es d)))
 
 -- the rows of the names in a node
 abbrev pub rows_in : ℕ × Node → List NameRow
-rows_in e = map (row_in e.0) (in_order (slice_cmp nat_cmp) (names_in e.1.content))
+rows_in e = map (name_row e.0) (in_order (slice_cmp nat_cmp) (names_in e.1.content))
 
 rows_in-each : (es : List (ℕ × Node)) → map name_row_of (all_names es) ≡ flat_map rows_in es
 rows_in-each [] = refl

@@ -23,5 +23,5 @@ LosesName name old new =
     ≡ (if is_at (slice_cmp nat_cmp name) n then None else lookup (is_at (slice_cmp nat_cmp n)) old)
 
 -- the row of a name in this directory
-abbrev pub row_in : ℕ → List ℕ × ℕ → NameRow
-row_in dir e = record { dir = dir; ino = e.1 }
+abbrev pub name_row : ℕ → List ℕ × ℕ → NameRow
+name_row dir e = record { dir = dir; ino = e.1 }

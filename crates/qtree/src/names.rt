@@ -5,7 +5,7 @@ ghost use Rattle.std.specs.Cmp.Lexicographic.{slice_cmp};
 ghost use Rattle.std.specs.BTreeMap.{insert_entry, is_at};
 ghost use Rattle.std.specs.List.Sorted.{IsStrictlySortedBy};
 ghost use Rattle.std.specs.Map.{keys_of, lookup};
-ghost use Rattle.qtree.specs.Names.{LosesName, row_in};
+ghost use Rattle.qtree.specs.Names.{LosesName, name_row};
 
 use crate::name_hasher::NameHasher;
 use qplain::NoMemory;
@@ -88,7 +88,7 @@ impl Names {
     /// Appends a row for each of these names, which are in this directory, in any order. O(n), and for audits alone.
     pub(crate) fn push_rows(&self, dir: u64, rows: &mut Vec<NameRow>) -> Result<(), NoMemory>
         ensures rows { OnOk result
-            (IsPermutation (rows.old.items ++ map (row_in dir) self.now.entries) rows.new.items) }
+            (IsPermutation (rows.old.items ++ map (name_row dir) self.now.entries) rows.new.items) }
         ensures in_order { OnOk result
             (IsStrictlySortedBy (slice_cmp nat_cmp) (keys_of self.now.entries)) }
     {

@@ -8,7 +8,7 @@ ghost use Rattle.qblocks.specs.File.{Adds, MoreBlocks, after_truncate, after_wri
 ghost use Rattle.qblocks.specs.WriteRoom.{IsReadyToPut};
 ghost use Rattle.qplain.specs.State.{new_directory, new_file};
 ghost use Rattle.qtree.specs.InOrder.{in_order};
-ghost use Rattle.qtree.specs.Names.{LosesName, row_in};
+ghost use Rattle.qtree.specs.Names.{LosesName, name_row};
 ghost use Rattle.qtree.specs.Nodes.{IsSameNode, inode_of, is_dir_content, name_room_in, names_in, node_row, roomy_file_in};
 
 use crate::names::Names;
@@ -216,7 +216,7 @@ impl Node {
     /// Appends a row for each name in this inode, whose number this is, in any order.
     pub(crate) fn push_names(&self, number: u64, rows: &mut Vec<NameRow>) -> Result<(), NoMemory>
         ensures { OnOk result (IsPermutation
-            (rows.old.items ++ map (row_in number) (in_order (slice_cmp nat_cmp) (names_in self.now.content)))
+            (rows.old.items ++ map (name_row number) (in_order (slice_cmp nat_cmp) (names_in self.now.content)))
             rows.new.items) }
     {
         match &self.content {

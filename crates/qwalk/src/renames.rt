@@ -2,7 +2,7 @@
 ghost use Rattle.std.specs.Prelude.{◌≡◌, ◌==◌, ◌&&◌, true, not, Some, IfErr, IfOk};
 ghost use Rattle.std.specs.Option.{IsSome};
 ghost use Rattle.qplain.specs.declared.refusal.Refusal.TheVariants.{EBUSY};
-ghost use Rattle.qplain.specs.Attempt.{Refuse, in_place};
+ghost use Rattle.qplain.specs.Attempt.{Refuse, in_parent};
 ghost use Rattle.qplain.specs.Caller.{Caller};
 ghost use Rattle.qplain.specs.Renames.{meets, passes, rename_as, rename_from};
 ghost use Rattle.qplain.specs.State.{Inode, State, inode_at, is_directory, named};
@@ -34,11 +34,11 @@ pub fn find_renaming<'a>(tree: &Tree, from: &str, to: &'a str) -> Result<Renamin
     ensures leads_to { IfOk result (λ new. (S : State) → IsTreeOf S tree.now
         → new.to.leads_to ≡ named S new.to.dir new.to.name.now) }
     ensures found { IfOk result (λ new. (S : State) → IsTreeOf S tree.now → (cred : Caller) (inode : Inode)
-        → inode_at S new.number ≡ Some inode → in_place S EBUSY (rename_from S cred to.now) from.now
+        → inode_at S new.number ≡ Some inode → in_parent S EBUSY (rename_from S cred to.now) from.now
         ≡ rename_as S cred to.now new.dir (name_in from.now) new.number inode new.to.dir new.to.name.now) }
     ensures there { IfOk result (λ new. (S : State) → IsTreeOf S tree.now → IsSome (inode_at S new.number)) }
     ensures fault { IfErr result (λ refusal. (S : State) → IsTreeOf S tree.now → (cred : Caller)
-        → in_place S EBUSY (rename_from S cred to.now) from.now ≡ Refuse refusal) }
+        → in_parent S EBUSY (rename_from S cred to.now) from.now ≡ Refuse refusal) }
 {
     let last = last_component(tree, from, Refusal::EBUSY)?;
     let Some(number) = last.leads_to else {

@@ -6,7 +6,7 @@ ghost use Rattle.qplain.specs.Walk.{components, follow, is_slash, last_name, wal
 ghost use Rattle.qplain.specs.Renames.{meets};
 ghost use Rattle.qplain.specs.State.{Inode, State, inode_at, is_directory, named};
 ghost use Rattle.qplain.specs.Use.{links_of};
-ghost use Rattle.qplain.specs.Attempt.{Attempt, Refuse, at_path, in_place};
+ghost use Rattle.qplain.specs.Attempt.{Attempt, Refuse, at_path, in_parent};
 ghost use Rattle.qtree.specs.Nodes.{inode_of};
 ghost use Rattle.qtree.specs.TreeOf.{IsTreeOf};
 ghost use Rattle.qwalk.specs.Paths.{name_in};
@@ -153,9 +153,9 @@ pub fn last_component<'a>(
         → last.leads_to ≡ named S last.dir last.name.now) }
     ensures name { IfOk result (λ last. name_in path.now ≡ last.name.now) }
     ensures found { IfOk result (λ last. (S : State) → IsTreeOf S tree.now → (try : ℕ → List ℕ → Attempt)
-        → in_place S of_root try path.now ≡ try last.dir last.name.now) }
+        → in_parent S of_root try path.now ≡ try last.dir last.name.now) }
     ensures fault { IfErr result (λ refusal. (S : State) → IsTreeOf S tree.now → (try : ℕ → List ℕ → Attempt)
-        → in_place S of_root try path.now ≡ Refuse refusal) }
+        → in_parent S of_root try path.now ≡ Refuse refusal) }
 {
     let Some(names) = names_of(path) else {
         return Err(of_root);

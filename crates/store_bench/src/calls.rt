@@ -1,7 +1,7 @@
 //! Calls made beforehand, so that to make them is not counted.
 ghost use Rattle.std.specs.Prelude.{◌≤◌};
 
-use qplain::{Call, Data, NoMemory, Path, Shared};
+use qplain::{Call, Data, NoMemory, Path, SharedItems};
 use std::alloc::Global;
 use std::io;
 
@@ -57,7 +57,7 @@ fn write(alloc: Global, file: u64, off: u64, bytes: &[u8]) -> io::Result<Call> {
     Ok(Call::Write {
         path: path_of(alloc, FILES, file)?,
         off,
-        bytes: Data::new(Shared::new(Vec::from_slice(alloc, bytes)?)?),
+        bytes: Data::new(SharedItems::new(Vec::from_slice(alloc, bytes)?)?),
     })
 }
 

@@ -6,7 +6,7 @@ use Ask::{
 };
 use Told::{Bytes, Done, File, Freed, Linked, Record, Refused};
 use qplain::{
-    Call, Change, Cred, Data, NoMemory, Path, Principal, Quota, Refusal, Reply, Setup, Shared,
+    Call, Change, Cred, Data, NoMemory, Path, Principal, Quota, Refusal, Reply, Setup, SharedItems,
 };
 use qrules::{Graces, Kind, Limits, PrincipalName};
 use qstore::Store;
@@ -69,8 +69,8 @@ fn path(rt: &impl Abort, alloc: Global, text: &str) -> Result<Path, NoMemory> {
     Ok(Path::new(alloc, text.as_bytes())?.expect(rt, "a path"))
 }
 
-fn shared(alloc: Global, bytes: &[u8]) -> Result<Shared<u8>, NoMemory> {
-    Shared::new(Vec::from_slice(alloc, bytes)?)
+fn shared(alloc: Global, bytes: &[u8]) -> Result<SharedItems<u8>, NoMemory> {
+    SharedItems::new(Vec::from_slice(alloc, bytes)?)
 }
 
 fn limits(block_soft: u64) -> Limits {

@@ -1,6 +1,6 @@
 //! Callers, paths and bytes that no line of a script can name, and what a caller keeps.
 
-use qplain::{Cred, Data, NoMemory, Path, Shared};
+use qplain::{Cred, Data, NoMemory, Path, SharedItems};
 use std::alloc::Global;
 
 #[test]
@@ -33,7 +33,7 @@ fn a_path_is_one_byte_or_more_that_print_and_are_no_space(rt: HostRuntime) -> Re
 }
 
 fn written(alloc: Global, bytes: &[u8]) -> Result<Data, NoMemory> {
-    Ok(Data::new(Shared::new(Vec::from_slice(alloc, bytes)?)?))
+    Ok(Data::new(SharedItems::new(Vec::from_slice(alloc, bytes)?)?))
 }
 
 #[test]

@@ -4,8 +4,8 @@ ghost use Rattle.std.specs.List.{list_all};
 ghost use Rattle.qrules.specs.declared.kind.Kind.TheVariants.{User, Group};
 ghost use Rattle.qplain.specs.Arguments.{has_bad_number, is_declared, is_undeclared, refusal_of_arguments};
 ghost use Rattle.qledger.specs.Books.{HasSlots};
-ghost use Rattle.qstore.specs.Decided.{IsWhole};
-ghost use Rattle.qstore.specs.Stored.{IsSound};
+ghost use Rattle.qstore.specs.Decided.{IsConsistent};
+ghost use Rattle.qstore.specs.Stored.{IsStorable};
 
 use crate::store::Store;
 use qledger::Slots;
@@ -75,9 +75,9 @@ impl Store {
         ensures granted { IfOk result (λ slots. refusal_of_arguments self.now.state cred.now moment call.now ≡ None) }
         ensures moment { IfOk result (λ slots. moment ≤ MAX_MOMENT) }
         ensures slots { IfOk result (λ slots. HasSlots self.now.books slots cred.now.uid cred.now.gid) }
-        ensures whole { IsWhole self.now }
+        ensures whole { IsConsistent self.now }
         ensures numbers { IfOk result (λ slots. has_bad_number self.now.state call.now ≡ false) }
-        ensures sound { IsSound self.now.state }
+        ensures sound { IsStorable self.now.state }
         ensures refused { IfErr result (λ refusal. refusal_of_arguments self.now.state cred.now moment call.now
             ≡ Some refusal) }
     {

@@ -5,7 +5,7 @@ ghost use Rattle.qplain.specs.Arguments.{is_undeclared};
 ghost use Rattle.qplain.specs.Attempt.{at_path};
 ghost use Rattle.qplain.specs.Owners.{chown_at};
 ghost use Rattle.qledger.specs.Books.{HasSlots};
-ghost use Rattle.qstore.specs.Decided.{IsDecided, IsWhole};
+ghost use Rattle.qstore.specs.Decided.{IsDecided, IsConsistent};
 ghost use Rattle.qstore.specs.Stored.{IsSameStore};
 
 use crate::ready::Ready;
@@ -28,7 +28,7 @@ impl Store {
         gid: Option<u32>,
     ) -> Ready
         requires callers { HasSlots self.old.books callers cred.now.uid cred.now.gid }
-        requires whole { IsWhole self.old }
+        requires whole { IsConsistent self.old }
         requires moment { moment ≤ MAX_MOMENT }
         requires declared { (is_undeclared self.old.state User uid || is_undeclared self.old.state Group gid) ≡ false }
         ensures same { IsSameStore self.old self.new }

@@ -9,7 +9,7 @@ ghost use Rattle.qplain.specs.Arguments.{is_declared};
 ghost use Rattle.qplain.specs.Attempt.{Becomes};
 ghost use Rattle.qtree.specs.Nodes.{inode_of};
 ghost use Rattle.qledger.specs.Books.{HasSlots};
-ghost use Rattle.qstore.specs.Decided.{IsAsked, IsBilled, IsClaimed, IsDecided, IsUnbilled, IsWhole};
+ghost use Rattle.qstore.specs.Decided.{IsAsked, IsBilled, IsClaimed, IsDecided, IsUnbilled, IsConsistent};
 ghost use Rattle.qchange.specs.Changes.{CanChange, changed};
 ghost use Rattle.qstore.specs.Stored.{IsSameStore};
 
@@ -37,7 +37,7 @@ impl Store {
         ensures declared { is_some result
             ≡ (is_declared self.now.state User uid && is_declared self.now.state Group gid) }
         ensures slots { IfSome result (λ slots. HasSlots self.now.books slots uid gid) }
-        ensures whole { IsWhole self.now }
+        ensures whole { IsConsistent self.now }
     {
         match (
             self.accounts.slot(Kind::User, uid),

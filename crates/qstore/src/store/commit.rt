@@ -3,7 +3,7 @@ ghost use Rattle.std.specs.Prelude.{◌≡◌, ◌≤◌, ◌+◌, vec_len, vec_
 ghost use Rattle.qstore.specs.Ready.{CanCarryOut, CanSettle, IsReady, billed, committed, effect};
 ghost use Rattle.qchange.specs.Changes.{CanChange, changed};
 ghost use Rattle.qledger.specs.Pushed.{IsPushed};
-ghost use Rattle.qstore.specs.Stored.{IsSound};
+ghost use Rattle.qstore.specs.Stored.{IsStorable};
 
 use crate::ready::{Plan, Ready};
 use crate::store::Store;
@@ -15,7 +15,7 @@ impl Store {
     #[inline(never)]
     pub(super) fn carry_out(&mut self, plan: Plan)
         requires can { CanCarryOut self.old plan }
-        requires sound { IsSound (effect self.old plan) }
+        requires sound { IsStorable (effect self.old plan) }
         ensures { self.new.state ≡ effect self.old plan }
     {
         match plan {
@@ -30,7 +30,7 @@ impl Store {
     fn commit_change(&mut self, change: TreeChange, bytes: &Data)
         requires can { CanChange self.old.state self.old.room change bytes.now }
         requires settles { CanSettle self.old (changed self.old.state change bytes.now) }
-        requires sound { IsSound (billed self.old (changed self.old.state change bytes.now)) }
+        requires sound { IsStorable (billed self.old (changed self.old.state change bytes.now)) }
         ensures { self.new.state ≡ billed self.old (changed self.old.state change bytes.now) }
     {
         self.next = make(&mut self.tree, self.next, self.alloc, change, bytes);

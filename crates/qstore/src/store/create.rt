@@ -2,13 +2,13 @@
 ghost use Rattle.std.specs.Prelude.{◌≡◌, ◌≤◌, true, [], None, string_bytes, IfOk};
 ghost use Rattle.std.specs.Result.{IsOk};
 ghost use Rattle.qplain.specs.declared.refusal.Refusal.TheVariants.{EEXIST};
-ghost use Rattle.qplain.specs.Attempt.{Becomes, in_place};
+ghost use Rattle.qplain.specs.Attempt.{Becomes, in_parent};
 ghost use Rattle.qplain.specs.Names.{create_as, created};
 ghost use Rattle.qplain.specs.State.{State, is_directory, named};
 ghost use Rattle.qplain.specs.Step.{settle};
 ghost use Rattle.qtree.specs.Room.{Room};
 ghost use Rattle.qledger.specs.Books.{HasSlots};
-ghost use Rattle.qstore.specs.Decided.{IsDecided, IsWhole};
+ghost use Rattle.qstore.specs.Decided.{IsDecided, IsConsistent};
 ghost use Rattle.qstore.specs.FileTypes.{inode_new};
 ghost use Rattle.qchange.specs.Changes.{CanChange, CanCreate, changed};
 ghost use Rattle.qstore.specs.Ready.{IsRefused};
@@ -55,13 +55,13 @@ impl Store {
         path: &str,
     ) -> Result<Ready, NoMemory>
         requires callers { HasSlots self.old.books callers cred.now.uid cred.now.gid }
-        requires whole { IsWhole self.old }
+        requires whole { IsConsistent self.old }
         requires moment { moment ≤ MAX_MOMENT }
         ensures same { IsSameStore self.old self.new }
         ensures decided { IfOk result (IsDecided self.old self.new cred.now moment
-            (in_place self.old.state EEXIST (create_as self.old.state cred.now) path.now)) }
+            (in_parent self.old.state EEXIST (create_as self.old.state cred.now) path.now)) }
         ensures refused_first { IsRefused (settle self.old.state cred.now moment
-            (in_place self.old.state EEXIST (create_as self.old.state cred.now) path.now)).1 → IsOk result }
+            (in_parent self.old.state EEXIST (create_as self.old.state cred.now) path.now)).1 → IsOk result }
     {
         let last = match last_component(self.tree(), path, Refusal::EEXIST) {
             Ok(last) => last,
@@ -84,7 +84,7 @@ impl Store {
         sort: FileType,
     ) -> Result<Ready, NoMemory>
         requires callers { HasSlots self.old.books callers cred.now.uid cred.now.gid }
-        requires whole { IsWhole self.old }
+        requires whole { IsConsistent self.old }
         requires moment { moment ≤ MAX_MOMENT }
         requires directory { is_directory self.old.state dir ≡ true }
         requires absent { named self.old.state dir name.now ≡ None }

@@ -6,7 +6,7 @@ ghost use Rattle.qplain.specs.Names.{link_to, with_name};
 ghost use Rattle.qplain.specs.State.{is_directory, named};
 ghost use Rattle.qplain.specs.Step.{settle};
 ghost use Rattle.qtree.specs.TreeOf.{IsFile};
-ghost use Rattle.qstore.specs.Decided.{IsDecided, IsWhole};
+ghost use Rattle.qstore.specs.Decided.{IsDecided, IsConsistent};
 ghost use Rattle.qstore.specs.Ready.{IsRefused};
 ghost use Rattle.qstore.specs.Stored.{IsSameStore};
 
@@ -26,7 +26,7 @@ impl Store {
         from: &str,
         to: &str,
     ) -> Result<Ready, NoMemory>
-        requires whole { IsWhole self.old }
+        requires whole { IsConsistent self.old }
         requires moment { moment ≤ MAX_MOMENT }
         ensures same { IsSameStore self.old self.new }
         ensures decided { IfOk result (IsDecided self.old self.new cred.now moment
@@ -49,7 +49,7 @@ impl Store {
         dir: u64,
         name: &str,
     ) -> Result<Ready, NoMemory>
-        requires whole { IsWhole self.old }
+        requires whole { IsConsistent self.old }
         requires moment { moment ≤ MAX_MOMENT }
         requires file { IsFile self.old.state number }
         requires directory { is_directory self.old.state dir ≡ true }

@@ -2,12 +2,12 @@
 ghost use Rattle.std.specs.Prelude.{◌≡◌, ◌≤◌, true, [], None, IfOk};
 ghost use Rattle.std.specs.Result.{IsOk};
 ghost use Rattle.qplain.specs.declared.refusal.Refusal.TheVariants.{EEXIST};
-ghost use Rattle.qplain.specs.Attempt.{in_place};
+ghost use Rattle.qplain.specs.Attempt.{in_parent};
 ghost use Rattle.qplain.specs.Names.{created, mkdir_as, unless_too_many_links};
 ghost use Rattle.qplain.specs.State.{is_directory, named, new_directory};
 ghost use Rattle.qplain.specs.Step.{settle};
 ghost use Rattle.qledger.specs.Books.{HasSlots};
-ghost use Rattle.qstore.specs.Decided.{IsDecided, IsWhole};
+ghost use Rattle.qstore.specs.Decided.{IsDecided, IsConsistent};
 ghost use Rattle.qstore.specs.Ready.{IsRefused};
 ghost use Rattle.qstore.specs.Stored.{IsSameStore};
 
@@ -29,13 +29,13 @@ impl Store {
         path: &str,
     ) -> Result<Ready, NoMemory>
         requires callers { HasSlots self.old.books callers cred.now.uid cred.now.gid }
-        requires whole { IsWhole self.old }
+        requires whole { IsConsistent self.old }
         requires moment { moment ≤ MAX_MOMENT }
         ensures same { IsSameStore self.old self.new }
         ensures decided { IfOk result (IsDecided self.old self.new cred.now moment
-            (in_place self.old.state EEXIST (mkdir_as self.old.state cred.now) path.now)) }
+            (in_parent self.old.state EEXIST (mkdir_as self.old.state cred.now) path.now)) }
         ensures refused_first { IsRefused (settle self.old.state cred.now moment
-            (in_place self.old.state EEXIST (mkdir_as self.old.state cred.now) path.now)).1 → IsOk result }
+            (in_parent self.old.state EEXIST (mkdir_as self.old.state cred.now) path.now)).1 → IsOk result }
     {
         let last = match last_component(self.tree(), path, Refusal::EEXIST) {
             Ok(last) => last,
@@ -57,7 +57,7 @@ impl Store {
         name: &str,
     ) -> Result<Ready, NoMemory>
         requires callers { HasSlots self.old.books callers cred.now.uid cred.now.gid }
-        requires whole { IsWhole self.old }
+        requires whole { IsConsistent self.old }
         requires moment { moment ≤ MAX_MOMENT }
         requires directory { is_directory self.old.state dir ≡ true }
         requires absent { named self.old.state dir name.now ≡ None }

@@ -8,7 +8,7 @@ ghost use Rattle.qplain.specs.Step.{settle};
 ghost use Rattle.qstore.specs.Ready.{IsRefused};
 
 use crate::store::Store;
-use qplain::{NoMemory, Refusal, Reply, Shared};
+use qplain::{NoMemory, Refusal, Reply, SharedItems};
 use qtree::Content;
 use qwalk::find;
 
@@ -26,7 +26,7 @@ impl Store {
         };
         match &node.content {
             Content::Directory(_) => Ok(Reply::Refused(Refusal::EISDIR)),
-            Content::File(file) => Ok(Reply::Bytes(Shared::new(file.read(off, len)?)?)),
+            Content::File(file) => Ok(Reply::Bytes(SharedItems::new(file.read(off, len)?)?)),
         }
     }
 }

@@ -3,7 +3,7 @@ ghost use Rattle.std.specs.Prelude.{◌≡◌, ℕ, ◌<◌, ◌≤◌, ◌==◌
 ghost use Rattle.std.specs.Option.{IsSome};
 ghost use Rattle.std.specs.Result.{IsOk};
 ghost use Rattle.qplain.specs.declared.refusal.Refusal.TheVariants.{EBUSY};
-ghost use Rattle.qplain.specs.Attempt.{Becomes, in_place};
+ghost use Rattle.qplain.specs.Attempt.{Becomes, in_parent};
 ghost use Rattle.qplain.specs.Renames.{passes, rename_as, rename_from, renamed};
 ghost use Rattle.qplain.specs.State.{Inode, inode_at, is_directory, named};
 ghost use Rattle.qplain.specs.Step.{settle};
@@ -12,7 +12,7 @@ ghost use Rattle.qtree.specs.Room.{Room, name_room};
 ghost use Rattle.qwalk.specs.Paths.{name_in};
 ghost use Rattle.qchange.specs.Changes.{CanRename};
 ghost use Rattle.qledger.specs.Books.{HasSlots};
-ghost use Rattle.qstore.specs.Decided.{IsAsked, IsDecided, IsWhole};
+ghost use Rattle.qstore.specs.Decided.{IsAsked, IsDecided, IsConsistent};
 ghost use Rattle.qstore.specs.Ready.{IsRefused};
 ghost use Rattle.qstore.specs.Stored.{IsSameStore};
 
@@ -43,13 +43,13 @@ impl Store {
         to: &str,
     ) -> Result<Ready, NoMemory>
         requires callers { HasSlots self.old.books callers cred.now.uid cred.now.gid }
-        requires whole { IsWhole self.old }
+        requires whole { IsConsistent self.old }
         requires moment { moment ≤ MAX_MOMENT }
         ensures same { IsSameStore self.old self.new }
         ensures decided { IfOk result (IsDecided self.old self.new cred.now moment
-            (in_place self.old.state EBUSY (rename_from self.old.state cred.now to.now) from.now)) }
+            (in_parent self.old.state EBUSY (rename_from self.old.state cred.now to.now) from.now)) }
         ensures refused_first { IsRefused (settle self.old.state cred.now moment
-            (in_place self.old.state EBUSY (rename_from self.old.state cred.now to.now) from.now)).1 → IsOk result }
+            (in_parent self.old.state EBUSY (rename_from self.old.state cred.now to.now) from.now)).1 → IsOk result }
     {
         let new = match find_renaming(self.tree(), from.text(), to) {
             Ok(new) => new,
@@ -72,7 +72,7 @@ impl Store {
         new: &Renaming,
     ) -> Result<Ready, NoMemory>
         requires callers { HasSlots self.old.books callers cred.now.uid cred.now.gid }
-        requires whole { IsWhole self.old }
+        requires whole { IsConsistent self.old }
         requires moment { moment ≤ MAX_MOMENT }
         requires led { named self.old.state new.now.dir (name_in from.now) ≡ Some new.now.number }
         requires there { IsSome (inode_at self.old.state new.now.number) }
@@ -102,7 +102,7 @@ impl Store {
     /// What goes of the inode that the new name leads to: it, with its last name, or nothing.
     fn replaced(&self, cred: &Cred, callers: Slots, new: &Renaming) -> Replaced
         requires callers { HasSlots self.now.books callers cred.now.uid cred.now.gid }
-        requires whole { IsWhole self.now }
+        requires whole { IsConsistent self.now }
         requires directory { is_directory self.now.state new.now.to.dir ≡ true }
         requires leads_to { new.now.to.leads_to ≡ named self.now.state new.now.to.dir new.now.to.name.now }
         requires other { passes (λ number. number == new.now.number) new.now.to.leads_to ≡ false }

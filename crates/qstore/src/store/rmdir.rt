@@ -2,14 +2,14 @@
 ghost use Rattle.std.specs.Prelude.{◌≡◌, ◌≤◌, true, [], Some, IfOk};
 ghost use Rattle.std.specs.Result.{IsOk};
 ghost use Rattle.qplain.specs.declared.refusal.Refusal.TheVariants.{EBUSY};
-ghost use Rattle.qplain.specs.Attempt.{in_place};
+ghost use Rattle.qplain.specs.Attempt.{in_parent};
 ghost use Rattle.qplain.specs.Names.{rmdir_as};
 ghost use Rattle.qplain.specs.State.{is_directory, named};
 ghost use Rattle.qplain.specs.Step.{settle};
 ghost use Rattle.qplain.specs.Use.{is_empty};
 ghost use Rattle.qwalk.specs.Paths.{name_in};
 ghost use Rattle.qledger.specs.Books.{HasSlots};
-ghost use Rattle.qstore.specs.Decided.{IsDecided, IsWhole};
+ghost use Rattle.qstore.specs.Decided.{IsDecided, IsConsistent};
 ghost use Rattle.qstore.specs.Ready.{IsRefused};
 ghost use Rattle.qstore.specs.Stored.{IsSameStore};
 
@@ -32,13 +32,13 @@ impl Store {
         path: &Path,
     ) -> Result<Ready, NoMemory>
         requires callers { HasSlots self.old.books callers cred.now.uid cred.now.gid }
-        requires whole { IsWhole self.old }
+        requires whole { IsConsistent self.old }
         requires moment { moment ≤ MAX_MOMENT }
         ensures same { IsSameStore self.old self.new }
         ensures decided { IfOk result (IsDecided self.old self.new cred.now moment
-            (in_place self.old.state EBUSY (rmdir_as self.old.state cred.now) path.now)) }
+            (in_parent self.old.state EBUSY (rmdir_as self.old.state cred.now) path.now)) }
         ensures refused_first { IsRefused (settle self.old.state cred.now moment
-            (in_place self.old.state EBUSY (rmdir_as self.old.state cred.now) path.now)).1 → IsOk result }
+            (in_parent self.old.state EBUSY (rmdir_as self.old.state cred.now) path.now)).1 → IsOk result }
     {
         let last = match last_component(self.tree(), path.text(), Refusal::EBUSY) {
             Ok(last) => last,
@@ -64,7 +64,7 @@ impl Store {
         number: u64,
     ) -> Result<Ready, NoMemory>
         requires callers { HasSlots self.old.books callers cred.now.uid cred.now.gid }
-        requires whole { IsWhole self.old }
+        requires whole { IsConsistent self.old }
         requires moment { moment ≤ MAX_MOMENT }
         requires last { name_in path.now ≡ name.now }
         requires directory { is_directory self.old.state dir ≡ true }

@@ -3,7 +3,7 @@ ghost use Rattle.std.specs.Prelude.{◌≡◌, ℕ, [], true};
 ghost use Rattle.qrules.specs.Range.{are_graces_in_range};
 ghost use Rattle.qplain.specs.Quotas.{set_grace};
 ghost use Rattle.qstore.specs.Decided.{IsDecided};
-ghost use Rattle.qstore.specs.Stored.{IsSound};
+ghost use Rattle.qstore.specs.Stored.{IsStorable};
 
 use crate::ready::{Plan, Ready};
 use crate::store::Store;
@@ -14,7 +14,7 @@ impl Store {
     /// Decides the setting of the graces. No end that stands moves.
     pub(super) fn decide_set_grace(&self, cred: &Cred, graces: Graces) -> Ready
         requires range { are_graces_in_range graces ≡ true }
-        requires sound { IsSound self.now.state }
+        requires sound { IsStorable self.now.state }
         ensures { (moment : ℕ) → IsDecided self.now self.now cred.now moment
             (set_grace self.now.state cred.now graces) result }
     {

@@ -1,7 +1,7 @@
 //! To set limits (quotactl(2), Q_SETQUOTA; setquota(8)).
 ghost use Rattle.std.specs.Prelude.{◌≤◌, []};
 ghost use Rattle.qplain.specs.Quotas.{set_quota};
-ghost use Rattle.qstore.specs.Decided.{IsDecided, IsWhole};
+ghost use Rattle.qstore.specs.Decided.{IsDecided, IsConsistent};
 ghost use Rattle.qstore.specs.Stored.{IsSameStore};
 
 use crate::ready::{Plan, Ready};
@@ -20,7 +20,7 @@ impl Store {
         limits: Limits,
     ) -> Ready
         requires moment { moment ≤ MAX_MOMENT }
-        requires whole { IsWhole self.old }
+        requires whole { IsConsistent self.old }
         ensures same { IsSameStore self.old self.new }
         ensures decided { IsDecided self.old self.new cred.now moment
             (set_quota self.old.state cred.now kind id limits) result }

@@ -3,7 +3,7 @@ ghost use Rattle.std.specs.Prelude.{◌≤◌, []};
 ghost use Rattle.qplain.specs.Attempt.{at_path};
 ghost use Rattle.qplain.specs.Files.{truncate_at};
 ghost use Rattle.qledger.specs.Books.{HasSlots};
-ghost use Rattle.qstore.specs.Decided.{IsDecided, IsWhole};
+ghost use Rattle.qstore.specs.Decided.{IsDecided, IsConsistent};
 ghost use Rattle.qstore.specs.Stored.{IsSameStore};
 
 use crate::ready::Ready;
@@ -26,7 +26,7 @@ impl Store {
         size: u64,
     ) -> Ready
         requires callers { HasSlots self.old.books callers cred.now.uid cred.now.gid }
-        requires whole { IsWhole self.old }
+        requires whole { IsConsistent self.old }
         requires moment { moment ≤ MAX_MOMENT }
         ensures same { IsSameStore self.old self.new }
         ensures decided { IsDecided self.old self.new cred.now moment

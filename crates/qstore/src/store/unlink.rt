@@ -2,7 +2,7 @@
 ghost use Rattle.std.specs.Prelude.{◌≡◌, ◌≤◌, ◌<◌, [], IfOk, Some, None};
 ghost use Rattle.std.specs.Result.{IsOk};
 ghost use Rattle.qplain.specs.declared.refusal.Refusal.TheVariants.{EISDIR};
-ghost use Rattle.qplain.specs.Attempt.{Becomes, in_place};
+ghost use Rattle.qplain.specs.Attempt.{Becomes, in_parent};
 ghost use Rattle.qplain.specs.Names.{swept, unlink_as, without_name};
 ghost use Rattle.qplain.specs.State.{State, named};
 ghost use Rattle.qplain.specs.Step.{settle};
@@ -10,7 +10,7 @@ ghost use Rattle.qtree.specs.Room.{Room};
 ghost use Rattle.qwalk.specs.Paths.{name_in};
 ghost use Rattle.qchange.specs.Changes.{CanChange, changed};
 ghost use Rattle.qledger.specs.Books.{HasSlots};
-ghost use Rattle.qstore.specs.Decided.{IsAsked, IsDecided, IsWhole};
+ghost use Rattle.qstore.specs.Decided.{IsAsked, IsDecided, IsConsistent};
 ghost use Rattle.qstore.specs.FileTypes.{CanRemove};
 ghost use Rattle.qstore.specs.Ready.{IsRefused};
 ghost use Rattle.qstore.specs.Stored.{IsSameStore};
@@ -55,13 +55,13 @@ impl Store {
         path: &Path,
     ) -> Result<Ready, NoMemory>
         requires callers { HasSlots self.old.books callers cred.now.uid cred.now.gid }
-        requires whole { IsWhole self.old }
+        requires whole { IsConsistent self.old }
         requires moment { moment ≤ MAX_MOMENT }
         ensures same { IsSameStore self.old self.new }
         ensures decided { IfOk result (IsDecided self.old self.new cred.now moment
-            (in_place self.old.state EISDIR (unlink_as self.old.state cred.now) path.now)) }
+            (in_parent self.old.state EISDIR (unlink_as self.old.state cred.now) path.now)) }
         ensures refused_first { IsRefused (settle self.old.state cred.now moment
-            (in_place self.old.state EISDIR (unlink_as self.old.state cred.now) path.now)).1 → IsOk result }
+            (in_parent self.old.state EISDIR (unlink_as self.old.state cred.now) path.now)).1 → IsOk result }
     {
         let last = match last_component(self.tree(), path.text(), Refusal::EISDIR) {
             Ok(last) => last,
@@ -87,7 +87,7 @@ impl Store {
         number: u64,
     ) -> Result<Ready, NoMemory>
         requires callers { HasSlots self.old.books callers cred.now.uid cred.now.gid }
-        requires whole { IsWhole self.old }
+        requires whole { IsConsistent self.old }
         requires moment { moment ≤ MAX_MOMENT }
         requires last { name_in path.now ≡ name.now }
         requires led { named self.old.state dir name.now ≡ Some number }

@@ -5,7 +5,7 @@ ghost use Rattle.qplain.specs.Attempt.{at_path};
 ghost use Rattle.qplain.specs.Files.{write_into};
 ghost use Rattle.qplain.specs.Step.{settle};
 ghost use Rattle.qledger.specs.Books.{HasSlots};
-ghost use Rattle.qstore.specs.Decided.{IsDecided, IsWhole};
+ghost use Rattle.qstore.specs.Decided.{IsDecided, IsConsistent};
 ghost use Rattle.qstore.specs.Ready.{IsRefused};
 ghost use Rattle.qstore.specs.Stored.{IsSameStore};
 ghost use Rattle.qstore.specs.Targets.{IsTarget};
@@ -39,7 +39,7 @@ impl Store {
         bytes: &Data,
     ) -> Result<Ready, NoMemory>
         requires callers { HasSlots self.old.books callers cred.now.uid cred.now.gid }
-        requires whole { IsWhole self.old }
+        requires whole { IsConsistent self.old }
         requires moment { moment ≤ MAX_MOMENT }
         requires few { length bytes.now ≤ MAX_DATA }
         ensures same { IsSameStore self.old self.new }
@@ -72,7 +72,7 @@ impl Store {
         bytes: &Data,
     ) -> Result<Target, Reply>
         requires callers { HasSlots self.now.books callers cred.now.uid cred.now.gid }
-        requires whole { IsWhole self.now }
+        requires whole { IsConsistent self.now }
         requires few { length bytes.now ≤ MAX_DATA }
         ensures granted { IfOk result (IsTarget self.now cred.now path.now off bytes.now) }
         ensures refused { IfErr result (λ reply. (moment : ℕ) → settle self.now.state cred.now moment
@@ -113,7 +113,7 @@ impl Store {
         bytes: &Data,
         target: Target,
     ) -> Result<Ready, NoMemory>
-        requires whole { IsWhole self.old }
+        requires whole { IsConsistent self.old }
         requires moment { moment ≤ MAX_MOMENT }
         requires target { IsTarget self.old cred.now path.now off bytes.now target }
         ensures same { IsSameStore self.old self.new }

@@ -58,7 +58,7 @@ impl Tree {
 
     /// Puts a new inode, with no name in it, under a number for which there is room. It takes no memory
     /// and always succeeds.
-    pub fn put_node(&mut self, number: u64, node: Node)
+    fn put_node(&mut self, number: u64, node: Node)
         requires room { 0 < self.old.room.inodes }
         requires absent { lookup (is_at (nat_cmp number)) self.old.inodes ≡ None }
         requires empty { names_in node.content ≡ [] }

@@ -1,5 +1,5 @@
 use Rattle.std.proofs.Common.{◌+◌, ap, refl, ◌∙◌}
-use Rattle.qrun.specs.Replays.{answer_of, line_of}
+use Rattle.qrun.specs.Replays.{answer_of, line_of_entry}
 use Rattle.qrun.proofs.Replaying.{one_more-told, other-taken, own-taken}
 use Rattle.qrun.proofs.replays.transcript_of.Goals as goal
 use Rattle.qrun.proofs.replays.transcript_of.Goals.{then-entry-worker+in_ok-reply+in_ok-line_of+in_ok-push+in_ok-push-2, else-entry-worker}
@@ -11,7 +11,7 @@ loop-entry-preserved c = elim c.if-entry-worker.branch [
       c.loop-entry-test.true c.entry-item.is w.if-entry-worker.true in
       record {
         place = ap (λ n. n + 1) c.loop-entry.invariant.place;
-        lines = one_more-told (λ x. line_of x.1) c.loop-entry.lines.items _ _ _ _ _
+        lines = one_more-told (λ x. line_of_entry x.1) c.loop-entry.lines.items _ _ _ _ _
             (ap (λ v. v.items) w.lines-is ∙ w.in_ok-push.ensures.items) c.loop-entry.invariant.lines w.in_ok-line_of.ensures own;
         answers = one_more-told answer_of c.loop-entry.answers.items _ _ _ _ _
             (ap (λ v. v.items) w.answers-is ∙ w.in_ok-push-2.ensures.items) c.loop-entry.invariant.answers

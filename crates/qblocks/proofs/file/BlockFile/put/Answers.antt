@@ -3,7 +3,7 @@ use Rattle.std.proofs.lemmas.Bool.{eqb-true, eqb-false}
 use Rattle.qblocks.specs.Input.{input_bytes}
 use Rattle.qblocks.specs.File.{after_write, is_allocated}
 use Rattle.qblocks.specs.WriteRoom.{no_room}
-use Rattle.qblocks.specs.Rows.{IsWhole, file_of}
+use Rattle.qblocks.specs.Rows.{FieldsFit, file_of}
 use Rattle.qblocks.proofs.Touched.{after_write_none, is_allocated-after_write}
 use Rattle.qblocks.proofs.Whole.{put_whole, ready_whole}
 use Rattle.qblocks.proofs.file.BlockFile.put.Goals as goal
@@ -31,7 +31,7 @@ overflow_add-self c =
 
 -- the fields after the write, and the file that they stand for
 put_is : (c : goal.After-drop-spare-inside-3)
-    → IsWhole c.put.new.rows c.max-self-inside.result (c.self.inside.count + c.args.spare) no_room
+    → FieldsFit c.put.new.rows c.max-self-inside.result (c.self.inside.count + c.args.spare) no_room
     × (file_of c.put.new.rows c.max-self-inside.result
     ≡ after_write c.args.self.now.file c.args.off (input_bytes c.args.input))
 put_is c =
@@ -45,7 +45,7 @@ put_is c =
 
 pub invariant_of-self-2 : goal.invariant_of-self-2
 invariant_of-self-2 c =
-    let Whole : ℕ → Type 0 = λ x. IsWhole c.put.new.rows c.max-self-inside.result (c.self.inside.count + x) no_room in
+    let Whole : ℕ → Type 0 = λ x. FieldsFit c.put.new.rows c.max-self-inside.result (c.self.inside.count + x) no_room in
     subst Whole (sym c.len-fresh.ensures) (put_is c).0
 
 pub returns-clause-file : goal.returns-clause-file

@@ -4,7 +4,7 @@ use Rattle.qrules.specs.declared.kind.Kind.TheVariants.{User, Group}
 use Rattle.qrules.specs.Sort.{Inodes, Blocks}
 use Rattle.qplain.specs.State.{State}
 use Rattle.qledger.specs.declared.bill.Postings.{Postings}
-use Rattle.qledger.specs.declared.claim.Share.{Share}
+use Rattle.qledger.specs.declared.claim.OwnerClaim.{OwnerClaim}
 use Rattle.qledger.specs.declared.kept_holder.KeptHolder.{KeptHolder}
 use Rattle.qledger.specs.Books.{Books}
 use Rattle.qledger.specs.Kept.{books_of}
@@ -45,7 +45,7 @@ pub returns-clause-in_range : goal.returns-clause-in_range
 returns-clause-in_range c = rw (← c.self.view_is) c.self.invariant
 
 -- postings for the shares are postings for what equals them
-posted-shares : (os : List KeptHolder) (kind : Kind) (S1 : State) (moment : ℕ) (p : Postings) {f f1 t t1 : Option Share}
+posted-shares : (os : List KeptHolder) (kind : Kind) (S1 : State) (moment : ℕ) (p : Postings) {f f1 t t1 : Option OwnerClaim}
     → f ≡ f1 → t ≡ t1 → ArePosted os kind S1 moment f t p → ArePosted os kind S1 moment f1 t1 p
 posted-shares os kind S1 moment p {f} {f1} {t} {t1} from to done = subst (λ s. ArePosted os kind S1 moment s t1 p) from
     (subst (λ s. ArePosted os kind S1 moment f s p) to done)

@@ -1,5 +1,5 @@
 use Rattle.std.proofs.Common.{◌<◌, length, Option, IfSome, option_map, sym, ap, subst, ◌∙◌}
-use Rattle.qledger.specs.declared.claim.Share.{Share}
+use Rattle.qledger.specs.declared.claim.OwnerClaim.{OwnerClaim}
 use Rattle.qledger.proofs.Shares.{apart-below, share-below}
 use Rattle.qledger.proofs.ledger.Ledger.write_postings.Goals as goal
 
@@ -7,7 +7,7 @@ pub write_posting-requires-clause-slot : goal.write_posting-requires-clause-slot
 write_posting-requires-clause-slot c =
     let x = c.args in
     let r = c.requires.replacement in
-    subst (λ (o : Option Share). IfSome o (λ s. s.slot < length x.self.now)) (sym c.apart-lost.ensures)
+    subst (λ (o : Option OwnerClaim). IfSome o (λ s. s.slot < length x.self.now)) (sym c.apart-lost.ensures)
     (apart-below x.self.now x.from x.to (share-below x.self.now r.0 x.from r.3 r.5.lost))
 
 pub write_posting-requires-2-clause-slot : goal.write_posting-requires-2-clause-slot

@@ -2,7 +2,7 @@ use Rattle.std.proofs.Common.{◌==◌, List, ℕ, refl, sym, ap, subst, ◌∙�
 use Rattle.std.specs.Result.{IfOk}
 use Rattle.qplain.specs.declared.refusal.Refusal.TheVariants.{EBUSY}
 use Rattle.qplain.specs.declared.reply.Reply.TheVariants.{Done}
-use Rattle.qplain.specs.Attempt.{Attempt, in_place, no_change}
+use Rattle.qplain.specs.Attempt.{Attempt, in_parent, no_change}
 use Rattle.qplain.specs.Renames.{passes, rename_as, rename_from}
 use Rattle.qplain.specs.State.{inode_at, named}
 use Rattle.qplain.specs.Step.{settle}
@@ -23,7 +23,7 @@ returns-then-is_its_own-clause-decided c =
     let is_tree = c.tree.ensures in
     let inode = some-inode (inode_at S new.number) (e.there S is_tree) in
     let own = ap (passes (λ n. n == new.number)) (sym (e.leads_to S is_tree)) ∙ sym c.is_its_own.ensures ∙ c.if-is_its_own.true in
-    let is = ap (in_place S EBUSY (rename_from S x.cred.now x.to.now)) (sym c.text.ensures)
+    let is = ap (in_parent S EBUSY (rename_from S x.cred.now x.to.now)) (sym c.text.ensures)
     ∙ e.found S is_tree x.cred.now inode.0 inode.1
     ∙ rename-own S x.cred.now (components x.to.now) new.dir (name_in c.text.result.now) new.number inode.0 new.to.dir new.to.name.now own in
     decided-answered x.self.now x.self.now x.cred.now x.moment _ c.answer.result (Done new.number no_change) refl
@@ -37,7 +37,7 @@ returns-clause-decided c =
     let e = c.in-Ok.ensures in
     let is_tree = c.tree.ensures in
     let inode = some-inode (inode_at S new.number) (e.there S is_tree) in
-    let is = ap (in_place S EBUSY (rename_from S x.cred.now x.to.now)) (sym c.text.ensures)
+    let is = ap (in_parent S EBUSY (rename_from S x.cred.now x.to.now)) (sym c.text.ensures)
     ∙ e.found S is_tree x.cred.now inode.0 inode.1
     ∙ ap (λ (n : List ℕ). rename_as S x.cred.now x.to.now new.dir n new.number inode.0 new.to.dir new.to.name.now) (ap name_in c.text.ensures) in
     subst (λ (a : Attempt). IfOk c.rename_over.result (IsDecided x.self.now c.rename_over.new.self x.cred.now x.moment a)) (sym is)
@@ -51,7 +51,7 @@ returns-clause-refused_first c refused =
     let e = c.in-Ok.ensures in
     let is_tree = c.tree.ensures in
     let inode = some-inode (inode_at S new.number) (e.there S is_tree) in
-    let is = ap (in_place S EBUSY (rename_from S x.cred.now x.to.now)) (sym c.text.ensures)
+    let is = ap (in_parent S EBUSY (rename_from S x.cred.now x.to.now)) (sym c.text.ensures)
     ∙ e.found S is_tree x.cred.now inode.0 inode.1
     ∙ ap (λ (n : List ℕ). rename_as S x.cred.now x.to.now new.dir n new.number inode.0 new.to.dir new.to.name.now) (ap name_in c.text.ensures) in
     c.rename_over.ensures.refused_first inode.0 inode.1 (subst (λ (a : Attempt). IsRefused (settle S x.cred.now x.moment a).1) is refused)

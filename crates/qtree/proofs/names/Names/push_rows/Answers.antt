@@ -4,7 +4,7 @@ use Rattle.std.specs.Cmp.Lexicographic.{slice_cmp}
 use Rattle.std.specs.List.Sorted.{IsStrictlySortedBy}
 use Rattle.std.specs.Map.{keys_of}
 use Rattle.std.proofs.lemmas.List.Sorted.{IsPermutation-append_right}
-use Rattle.qtree.specs.Names.{RoomyNames, names_of, row_in}
+use Rattle.qtree.specs.Names.{RoomyNames, names_of, name_row}
 use Rattle.qtree.proofs.Bytes.{names_of-order}
 use Rattle.qtree.proofs.Pushed.{shuffled_end, shuffled_step}
 use Rattle.qtree.proofs.Rows.{row_to, table_rows}
@@ -13,9 +13,9 @@ use Rattle.qtree.proofs.names.Names.push_rows.Goals as goal
 pub loop-ino-init : goal.loop-ino-init
 loop-ino-init c =
     let es = c.self.inside.table.entries in
-    IsPermutation-append_right c.args.rows.now.items (map (row_in c.args.dir) c.args.self.now.entries) _
-    (subst (λ (n : RoomyNames). IsPermutation (map (row_in c.args.dir) n.entries) (map (row_to c.args.dir) c.into_iter-ino-iterator.result)) c.self.view_is
-    (subst (λ l. IsPermutation (map (row_in c.args.dir) (names_of es)) (map (row_to c.args.dir) l))
+    IsPermutation-append_right c.args.rows.now.items (map (name_row c.args.dir) c.args.self.now.entries) _
+    (subst (λ (n : RoomyNames). IsPermutation (map (name_row c.args.dir) n.entries) (map (row_to c.args.dir) c.into_iter-ino-iterator.result)) c.self.view_is
+    (subst (λ l. IsPermutation (map (name_row c.args.dir) (names_of es)) (map (row_to c.args.dir) l))
     (sym (c.into_iter-ino-iterator.ensures.into_iter_gives ∙ c.values-ino-items.ensures.rest))
     (table_rows c.args.dir es c.values-ino-items.ensures.unique)))
 

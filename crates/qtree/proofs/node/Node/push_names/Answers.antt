@@ -7,7 +7,7 @@ use Rattle.std.specs.List.Sorted.{IsStrictlySortedBy}
 use Rattle.std.specs.Map.{keys_of}
 use Rattle.std.specs.Result.{OnOk}
 use Rattle.qtree.specs.InOrder.{in_order}
-use Rattle.qtree.specs.Names.{row_in}
+use Rattle.qtree.specs.Names.{name_row}
 use Rattle.qtree.specs.Nodes.{names_in}
 use Rattle.qtree.proofs.InOrder.{in_order-sorted, sorted_from}
 use Rattle.qtree.proofs.node.Node.push_names.Goals as goal
@@ -15,9 +15,9 @@ use Rattle.qtree.proofs.node.Node.push_names.Goals as goal
 pub returns-in-File : goal.returns-in-File
 returns-in-File c =
     let rows = c.args.rows.now.items in
-    let none : rows ++ map (row_in c.args.number) (in_order (slice_cmp nat_cmp) (names_in c.args.self.now.content)) ≡ rows =
-    ap (λ x. rows ++ map (row_in c.args.number) (in_order (slice_cmp nat_cmp) (names_in x))) c.in-File.is
-    ∙ ap (λ names. rows ++ map (row_in c.args.number) names) (in_order-sorted nat_list_cmp_total exact_bytes [] tt) ∙ append-nil rows in
+    let none : rows ++ map (name_row c.args.number) (in_order (slice_cmp nat_cmp) (names_in c.args.self.now.content)) ≡ rows =
+    ap (λ x. rows ++ map (name_row c.args.number) (in_order (slice_cmp nat_cmp) (names_in x))) c.in-File.is
+    ∙ ap (λ names. rows ++ map (name_row c.args.number) names) (in_order-sorted nat_list_cmp_total exact_bytes [] tt) ∙ append-nil rows in
     subst (λ l. IsPermutation l rows) (sym none) (IsPermutation-refl rows)
 
 -- two facts of a call that succeeds
@@ -33,6 +33,6 @@ returns-in-Directory c =
     let same : InOrder → names ≡ in_order (slice_cmp nat_cmp) (names_in c.args.self.now.content) =
     λ order. sym (in_order-sorted nat_list_cmp_total exact_bytes names (sorted_from (slice_cmp nat_cmp) names order))
     ∙ ap (λ x. in_order (slice_cmp nat_cmp) (names_in x)) (sym c.in-Directory.is) in
-    both c.push_rows.result (λ (pushed : IsPermutation (rows ++ map (row_in c.args.number) names) c.push_rows.new.rows.items) (order : InOrder).
-    subst (λ es. IsPermutation (rows ++ map (row_in c.args.number) es) c.push_rows.new.rows.items) (same order) pushed)
+    both c.push_rows.result (λ (pushed : IsPermutation (rows ++ map (name_row c.args.number) names) c.push_rows.new.rows.items) (order : InOrder).
+    subst (λ es. IsPermutation (rows ++ map (name_row c.args.number) es) c.push_rows.new.rows.items) (same order) pushed)
     c.push_rows.ensures.rows c.push_rows.ensures.in_order

@@ -9,11 +9,11 @@ use std::sync::ArcSlice;
 
 /// Values in a row that may have several owners, which contracts see as a list. Nobody sees how many owners there are.
 #[derive(Debug, Drop)]
-pub struct Shared<T> {
+pub struct SharedItems<T> {
     items: ArcSlice<T>,
 }
 
-impl<T> Model for Shared<T> {
+impl<T> Model for SharedItems<T> {
     ghost use Rattle.std.specs.Prelude.{List};
     ghost use Rattle.std.specs.Arc.{arc_slice_items};
 
@@ -22,13 +22,13 @@ impl<T> Model for Shared<T> {
     ghost view = { λ s. arc_slice_items s.items };
 }
 
-impl<T: Drop> Shared<T> {
+impl<T: Drop> SharedItems<T> {
     /// The values of a `Vec`, in their order. They are not copied; the memory is that of the count of owners alone.
     pub fn new(items: Vec<T>) -> Result<Self, NoMemory>
         ensures { IfOk result (λ shared. shared ≡ items.items) }
     {
         let items = ArcSlice::from_vec(items)?;
-        Ok(Shared { items })
+        Ok(SharedItems { items })
     }
 
     /// The same values for one more owner. No value is copied, and no memory is taken: an Err says that there are 2^63
@@ -37,11 +37,11 @@ impl<T: Drop> Shared<T> {
         ensures { IfOk result (λ copy. copy ≡ self.now) }
     {
         let items = self.items.clone()?;
-        Ok(Shared { items })
+        Ok(SharedItems { items })
     }
 }
 
-impl<T> Shared<T> {
+impl<T> SharedItems<T> {
     /// The values, in their order.
     pub fn as_slice(&self) -> &[T]
         ensures { result.now ≡ self.now }
@@ -50,16 +50,16 @@ impl<T> Shared<T> {
     }
 }
 
-impl<T: PartialEq> PartialEq for Shared<T> {
+impl<T: PartialEq> PartialEq for SharedItems<T> {
     ghost eq = { pointwise T.eq };
 
     ghost laws = { Prim.search (comparing, rules) };
 
-    fn eq(&self, other: &Shared<T>) -> bool {
+    fn eq(&self, other: &SharedItems<T>) -> bool {
         self.items.as_slice() == other.items.as_slice()
     }
 }
 
-impl<T: Eq> Eq for Shared<T> {
+impl<T: Eq> Eq for SharedItems<T> {
     ghost laws = { Prim.search (comparing, rules) };
 }
