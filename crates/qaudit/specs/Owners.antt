@@ -11,7 +11,7 @@ use Rattle.qaudit.specs.Differences.{no_use}
 abbrev pub counted_at : BTreeMap ℕ CountRow → ℕ → CountRow
 counted_at counts id = unwrap_or (get nat_cmp counts id) (no_use id)
 
--- a count, with one row of so many blocks more
+-- a count, with one row of N blocks more
 abbrev pub with_row : CountRow → ℕ → CountRow
 with_row count blocks = record { id = count.id; blocks = count.blocks + blocks; inodes = count.inodes + 1 }
 

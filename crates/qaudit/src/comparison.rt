@@ -1,4 +1,4 @@
-//! A recount held against quota records.
+//! A recount checked against quota records.
 ghost use Rattle.std.specs.Prelude.{◌≡◌, ◌++◌, ◌∷◌, [], ◌==◌, ℕ, not, if◌then◌else◌, IfOk, OnOk, Some, None};
 ghost use Rattle.std.specs.BTreeMap.{get};
 ghost use Rattle.std.specs.BTreeSet.{contains};
@@ -13,7 +13,7 @@ use qrules::{Kind, PrincipalName, RecordRow};
 use std::alloc::Global;
 use std::collections::{BTreeMap, BTreeSet};
 
-/// An equal row, or want of memory.
+/// An equal row, or out of memory.
 fn copy_of(alloc: Global, row: &RecordRow) -> Result<RecordRow, NoMemory>
     ensures { IfOk result (λ copy. copy ≡ row.now) }
 {
@@ -166,7 +166,7 @@ fn push_links(links: &[LinkRow], differences: &mut Vec<Difference>) -> Result<()
 /// link counts differ.
 ///
 /// Of an id that stands in several counts the first one counts. O((i + r) log (i + r)) for counts of i rows and r
-/// records; an Err is want of memory, and leaves nothing made.
+/// records; an Err is out of memory, and leaves nothing made.
 pub fn compare(
     alloc: Global,
     counts: &Counts,

@@ -24,7 +24,7 @@ fn blocks_of(inodes: &[InodeRow]) -> u64
 /// inodes, and the links of each inode (quotacheck(8)).
 ///
 /// Numbers and ids may stand in several rows. Blocks are of 4096 bytes; all of them must fit 64 bits, as those of 2^32
-/// rows do. O((i + n) log (i + n)) for i rows of inodes and n of names; an Err is want of memory, and leaves nothing
+/// rows do. O((i + n) log (i + n)) for i rows of inodes and n of names; an Err is out of memory, and leaves nothing
 /// made.
 pub fn recount(alloc: Global, inodes: &[InodeRow], names: &[NameRow]) -> Result<Counts, NoMemory>
     requires fits { (length inodes.now ≤ 2 ^ 32) ⊎ (sum_by (λ row. row.blocks) inodes.now < 2 ^ 64) }

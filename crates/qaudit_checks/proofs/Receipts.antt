@@ -106,7 +106,7 @@ pub from-granted : (worker at : ℕ) (lines : List Line) (answers : List Answer)
     → from worker at lines answers ≡ journaled_line worker line (Ok receipt) ++ from worker (at + 1) lines answers
 from-granted worker at lines answers line receipt e f = rw add-one (from-at worker at lines answers line (Ok receipt) e f)
 
--- the receipt there is told first
+-- the receipt there is reported first
 pub first-told : (worker at place : ℕ) (lines : List Line) (answers : List Answer) (line : Line) (answer : Answer) (e : Entry)
     → slice_get lines at ≡ Some line → slice_get answers at ≡ Some answer → IsOk answer
     → ((journaled_line worker line answer ≡ (place, e) ∷ []) → slice_get (from worker at lines answers) 0 ≡ Some (place, e))
@@ -155,7 +155,7 @@ own-numbered n worker (x ∷ rest) (suc index) e at own =
       | false ↦ later ∙ ap (λ k. Some (k, e)) place
     ]
 
--- so what is told is told where the receipts are the worker's own entries
+-- so what is told is reported where the receipts are the worker's own entries
 pub own-told : (journal : List Entry) (index : ℕ) (e : Entry) → slice_get journal index ≡ Some e
     → IsTold (entries_of journal e.worker) (take index journal) e
 own-told journal index e at =

@@ -12,7 +12,7 @@ two_bytes : (after_write empty_file 4095 (0x78 ∷ 0x78 ∷ [])).allocated ≡ 0
 unfolding after_write with_touched with_index
 two_bytes = refl
 
--- a block behind a hole
+-- a block after a hole
 hole : after_write empty_file 4096 (0xff ∷ []) ≡ record { bytes = written [] 4096 (0xff ∷ []); allocated = 1 ∷ [] }
 unfolding after_write with_touched with_index
 hole = refl

@@ -98,7 +98,7 @@ module _ {Z : Type 0} where
     other_filled : (k : ℕ) → (k / ROW_BLOCKS ≡ r → ⊥) → filled n k ≡ filled m k
     other_filled k ne = ap (λ row. is_some (slot_at row (k % ROW_BLOCKS))) (others (k / ROW_BLOCKS) ne)
 
-    -- the rows below, the row itself, and the rows behind
+    -- the rows below, the row itself, and the rows after
     three : (t : Table Z) (rest : ℕ)
         → gaps (filled t) 0 (r * ROW_BLOCKS + (ROW_BLOCKS + rest))
         ≡ gaps (filled t) 0 (r * ROW_BLOCKS) + gaps (row_filled (row_of t r)) 0 ROW_BLOCKS + gaps

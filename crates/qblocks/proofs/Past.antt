@@ -76,7 +76,7 @@ module _ {Z : Type 0} (m : Table Z) where
       row_counted first at r (max at (r * ROW_BLOCKS) - r * ROW_BLOCKS) freed missing order (omega arith) (omega arith)
       (λ k l h. absent (k / ROW_BLOCKS) (omega arith) (omega arith)) is so_far
 
-  -- no block begins at the size or behind
+  -- no block begins at the size or after
   unfilled : (size first n : ℕ) → Below (filled m) size → size ≤ first * BLOCK_SIZE → gaps (filled m) first n ≡ n
   unfilled size first n below past = gaps-all (filled m) first n (λ k l h.
       ⊎_elim (λ yes. absurd (omega (arith, below k yes))) (λ no. no) (cases_Bool (filled m k)))
@@ -95,7 +95,7 @@ module _ {Z : Type 0} (m : Table Z) where
       (cases_lt room.len 1))
       (cases_Bool (is_used (filled m) r))
 
-  -- so many blocks at most
+  -- N blocks at most
   pub freed_small : (size to freed : ℕ) → size ≤ 2 ^ 40 → to ≤ 2 ^ 40 → Below (filled m) size
       → HasFrom m ((to + BLOCK_SIZE - 1) / BLOCK_SIZE) freed → freed ≤ 2 ^ 28
   freed_small size to freed bound small below counts =

@@ -65,7 +65,7 @@ reads-past xs at n from to start ends =
     (cases_lt i (to - from))
     ∙ sym (get_or-map-range_with_len f at n i (at + i) 0 low refl))
 
--- the same, behind what was read before
+-- the same, after what was read before
 pub reads-padded : (xs old mid new : List ℕ) (at n from to end was : ℕ) → from ≡ min at (length xs)
     → to ≡ min (at + n) (length xs) → mid ≡ old ++ take (to - from) (drop from xs)
     → new ≡ take end mid ++ replicate (end - was) 0 → was ≡ length mid → end ≡ length old + n

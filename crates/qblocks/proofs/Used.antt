@@ -71,7 +71,7 @@ used-written p q off n r fills =
     (cases_lt r (span_end ROW_SIZE off n)))
     (cases_lt r (off / ROW_SIZE))
   where
-    -- a block behind the write
+    -- a block after the write
     behind : (k : ℕ) → r * ROW_BLOCKS ≤ k → span_end ROW_SIZE off n ≤ r → in_pieces BLOCK_SIZE off n k ≡ false
     behind k low past =
         ⊎_elim

@@ -154,7 +154,7 @@ module _ {Z : Type 0} where
       ∙ get_or-map-range_with_len (byte_at m) 0 size (off + i) (off + i) 0 (omega (arith, read))
       (omega arith)))
 
-  -- at the size and behind it nothing is read
+  -- at the size and after it nothing is read
   pub read_none : (m : Table Z) (size off len : ℕ) → min size (off + len) ≤ off
       → take len (drop off (bytes_of m size)) ≡ []
   unfolding bytes_of

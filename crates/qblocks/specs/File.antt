@@ -26,7 +26,7 @@ size_of file = length file.bytes
 abbrev pub blocks_of : File → ℕ
 blocks_of file = length file.allocated
 
--- the second file has so many blocks more than the first
+-- the second file has N blocks more than the first
 abbrev pub MoreBlocks : File → File → ℕ → Type 0
 MoreBlocks few many blocks = blocks + blocks_of few ≡ blocks_of many
 
@@ -34,7 +34,7 @@ MoreBlocks few many blocks = blocks + blocks_of few ≡ blocks_of many
 unfoldable pub resized : List ℕ → ℕ → List ℕ
 resized bytes size = take size bytes ++ replicate (size - length bytes) 0
 
--- the bytes up to the offset, then the input, then the bytes behind the input's end
+-- the bytes up to the offset, then the input, then the bytes after the input's end
 unfoldable pub written : List ℕ → ℕ → List ℕ → List ℕ
 written bytes off input = resized bytes off ++ input ++ drop (off + length input) bytes
 
@@ -49,7 +49,7 @@ unfoldable pub with_touched : List ℕ → ℕ → ℕ → List ℕ
 with_touched allocated off zero = allocated
 with_touched allocated off (suc n) = with_index (with_touched allocated off n) ((off + n) / BLOCK_SIZE)
 
--- a write of n bytes at the offset allocates so many blocks
+-- a write of n bytes at the offset allocates N blocks
 abbrev pub Adds : File → ℕ → ℕ → ℕ → Type 0
 Adds file off n blocks =
     blocks + blocks_of file ≡ length (with_touched file.allocated off n)

@@ -66,7 +66,7 @@ row_byte row o = byte_of (slot_at row (o / BLOCK_SIZE)) (o % BLOCK_SIZE)
 abbrev pub PutsInRow : List Slot → List Slot → ℕ → ℕ → ℕ → List ℕ → Type 0
 PutsInRow row new = Puts (row_byte row) (row_byte new) (row_filled row) (row_filled new)
 
--- the row has so many blocks fewer
+-- the row has N blocks fewer
 abbrev pub LosesBlocks : List Slot → List Slot → ℕ → Type 0
 LosesBlocks row new freed =
     gaps (row_filled new) 0 ROW_BLOCKS ≡ gaps (row_filled row) 0 ROW_BLOCKS + freed

@@ -64,14 +64,14 @@ module _ {Z : Type 0} where
   pub record SameBlocks (old new : Table Z) : Type 0 where
     pub slots : (k : ℕ) → slot_in new k ≡ slot_in old k
 
-  -- the new table has no row that the old one had not, and so many blocks fewer: so many more gaps
+  -- the new table has no row that the old one had not, and N blocks fewer: so many more gaps
   -- below any bound of the rows
   pub record Frees (old new : Table Z) (freed : ℕ) : Type 0 where
     pub fewer : (r : ℕ) → has_row new r ≡ true → has_row old r ≡ true
     pub count : (n : ℕ) → ((r : ℕ) → has_row old r ≡ true → r < n)
         → gaps (filled new) 0 (n * ROW_BLOCKS) ≡ gaps (filled old) 0 (n * ROW_BLOCKS) + freed
 
-  -- so many blocks have an index from first on: so many gaps fewer than indexes, up to any end past all rows
+  -- N blocks have an index from first on: so many gaps fewer than indexes, up to any end past all rows
   abbrev pub HasFrom : Table Z → ℕ → ℕ → Type 0
   HasFrom m first blocks =
       (end : ℕ) → 2 ^ 32 ≤ end → blocks + gaps (filled m) first (end - first) ≡ end - first

@@ -1,7 +1,7 @@
 -- What a caller sees of the room in a file: the one write that has its rows made beforehand.
 --     WriteRoom, no_room          the write's offset and length;  where there is no room
 --     RoomyFile                a file and its room, which "as before" does not speak of
---     IsReadyToPut f off n blocks   that write needs no memory where so many blocks are at hand
+--     IsReadyToPut f off n blocks   that write needs no memory where N blocks are at hand
 use Rattle.std.specs.Prelude.{◌≡◌, ℕ}
 use Rattle.qblocks.specs.File.{File, Adds}
 

@@ -13,7 +13,7 @@ use std::marker::Model;
 pub const BLOCK_SIZE: u64 = 4096;
 
 /// A block, whose memory is taken whole when it is made, and written no further than its last byte
-/// that was written. Contracts see the bytes up to there: those behind them read as 0.
+/// that was written. Contracts see the bytes up to there: those after them read as 0.
 #[derive(Drop)]
 pub(crate) struct Block {
     bytes: Vec<u8>,

@@ -70,7 +70,7 @@ fn cut_row(rows: &mut Rows, r: u64, at: u64) -> u64
     }
 }
 
-/// Forgets the bytes from `size` on, takes out the blocks that begin there or behind, and gives their
+/// Forgets the bytes from `size` on, takes out the blocks that begin there or after, and gives their
 /// number.
 pub(crate) fn cut(rows: &mut Rows, size: u64) -> u64
     requires size { size ≤ 2 ^ 40 }
@@ -118,7 +118,7 @@ fn next_row(rows: &Rows, from: u64) -> Option<(u64, &Box<Row>)>
     }
 }
 
-/// How many blocks begin at `size` or behind.
+/// How many blocks begin at `size` or after.
 pub(crate) fn freed_by(rows: &Rows, size: u64) -> u64
     requires size { size ≤ 2 ^ 40 }
     requires bound { (r : ℕ) → has_row rows.now r ≡ true → r < 2 ^ 28 }

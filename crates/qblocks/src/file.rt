@@ -227,7 +227,7 @@ impl BlockFile {
 
     /// Sets the size, and gives the number of blocks freed. It takes no memory and always succeeds.
     ///
-    /// To a smaller size: the blocks that begin there or behind are freed, and the bytes from there
+    /// To a smaller size: the blocks that begin there or after are freed, and the bytes from there
     /// on read as 0 when the size grows again. To a greater one: no block is allocated (truncate(2)).
     /// O(blocks freed, times log n).
     pub fn truncate(&mut self, size: u64) -> u64

@@ -1,4 +1,4 @@
-//! What a write brings: bytes, or so many equal ones.
+//! What a write brings: bytes, or N equal ones.
 ghost use Rattle.std.specs.Prelude.{◌≡◌, ◌+◌, ◌≤◌, ◌==◌, IsTrue, length, take, drop};
 ghost use Rattle.qblocks.specs.Input.{input_bytes};
 
@@ -7,7 +7,7 @@ ghost use Rattle.qblocks.specs.Input.{input_bytes};
 pub enum Input<'a> {
     /// These bytes.
     Bytes(&'a [u8]),
-    /// So many equal bytes, which take no memory until a block holds them.
+    /// N equal bytes, which take no memory until a block holds them.
     Fill { count: u64, byte: u8 },
 }
 

@@ -125,7 +125,7 @@ fn zero_tail(row: &mut Row, j: u64, at: u64)
     }
 }
 
-/// Forgets the bytes from `at` on, takes out the blocks that begin there or behind, and gives their
+/// Forgets the bytes from `at` on, takes out the blocks that begin there or after, and gives their
 /// number.
 pub(crate) fn cut(row: &mut Row, at: u64) -> u64
     requires { at < ROW_SIZE }

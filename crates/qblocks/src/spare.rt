@@ -66,7 +66,7 @@ impl Spare {
     }
 }
 
-/// So many blocks in which no byte is written yet.
+/// N blocks in which no byte is written yet.
 fn empty_blocks(alloc: Global, count: u64) -> Result<Vec<Block>, NoMemory>
     requires { count ≤ 2 ^ 28 }
     ensures empty { IfOk result (λ blocks. All (λ block. block ≡ []) blocks.items) }

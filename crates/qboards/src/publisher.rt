@@ -135,7 +135,7 @@ fn no_change(alloc: Global, board: &Board) -> BoardChange
     }
 }
 
-/// A writer with so many places for readers, by which this board is published.
+/// A writer with N places for readers, by which this board is published.
 fn first_writer<S: StoreId, R: Wait>(
     alloc: Global,
     rt: &R,
@@ -161,7 +161,7 @@ fn first_writer<S: StoreId, R: Wait>(
 }
 
 impl<S: StoreId, R: Wait + Drop> Publisher<S, R> {
-    /// Publishes the board of a new store, with so many places for readers. An Err, which is want of memory, leaves
+    /// Publishes the board of a new store, with N places for readers. An Err, which is out of memory, leaves
     /// nothing made.
     pub fn new(
         alloc: Global,

@@ -26,7 +26,7 @@ pub least-append : (test : List ℕ → Bool) (least : Option (List ℕ)) (xs ys
     → fold lesser_of least (filter test (xs ++ ys)) ≡ fold lesser_of (fold lesser_of least (filter test xs)) (filter test ys)
 least-append test least xs ys = rw (filter-append test xs ys, fold-append lesser_of least (filter test xs) (filter test ys))
 
--- the least of the keys of tables goes on behind the first of them
+-- the least of the keys of tables goes on after the first of them
 pub least-tables : (test : List ℕ → Bool) (least total : Option (List ℕ)) (table : Members) (others rest : List Members)
     → rest ≡ table ∷ others → fold lesser_of least (filter test (flat_map keys_of rest)) ≡ total
     → fold lesser_of (fold lesser_of least (filter test (keys_of table))) (filter test (flat_map keys_of others)) ≡ total

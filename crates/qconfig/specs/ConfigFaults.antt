@@ -5,7 +5,7 @@ use Rattle.qplain.specs.declared.setup.SetupFault.TheVariants as refused
 use Rattle.qconfig.specs.declared.config_fault.ConfigFault.{ConfigFault}
 use Rattle.qconfig.specs.declared.config_fault.ConfigFault.TheVariants as fault
 
--- why a text is no configuration, want of memory aside; a field is named by its key
+-- why a text is no configuration, out of memory aside; a field is named by its key
 pub data Cause : Type 0 where
   Text : Cause
   Field : List ℕ → Cause
@@ -13,7 +13,7 @@ pub data Cause : Type 0 where
   Duplicate : Cause
   NoZero : Cause
 
--- the cause that a fault tells; want of memory tells none
+-- the cause that a fault tells; out of memory tells none
 abbrev pub cause_of : ConfigFault → Option Cause
 cause_of fault.Text = Some Text
 cause_of (fault.Field key) = Some (Field (string_bytes key))
@@ -45,7 +45,7 @@ Tells fault this = (cause : Cause) → cause_of fault ≡ Some cause → cause �
 abbrev pub EndsFor : {A : Type 0} → ConfigFault → Result A Cause → Type 0
 EndsFor fault reading = (cause : Cause) → cause_of fault ≡ Some cause → reading ≡ Err cause
 
--- the result, seen by the view, is what the reading gives; its fault is the reading's, or want of memory
+-- the result, seen by the view, is what the reading gives; its fault is the reading's, or out of memory
 abbrev pub GivesBy : {A B : Type 0} → (A → B) → Result A ConfigFault → Result B Cause → Type 0
 GivesBy view (Ok value) reading = reading ≡ Ok (view value)
 GivesBy view (Err fault) reading = EndsFor fault reading

@@ -98,7 +98,7 @@ setting_in text = do
   _ ← known_keys document
   setting_of written
 
--- what is read has the setup of the setting that is written; a fault is the cause for which none is, or want of memory
+-- what is read has the setup of the setting that is written; a fault is the cause for which none is, or out of memory
 abbrev pub ReadsSetup : {A : Type 0} → (A → Setting) → Result A ConfigFault → Result Setting Cause → Type 0
 ReadsSetup setup_of (Ok read) (Ok given) = IsSetupOf given (setup_of read)
 ReadsSetup setup_of (Ok read) (Err cause) = ⊥

@@ -7,7 +7,7 @@ use qplain::SetupFault;
 use std::alloc::{AllocError, AllocFailed};
 use thiserror::Error;
 
-/// Why a text is no configuration, in the order in which it is tested. Want of memory may come at any point.
+/// Why a text is no configuration, in the order in which it is tested. Out of memory may come at any point.
 #[derive(Debug, PartialEq, Eq, Drop, Error)]
 pub enum ConfigFault {
     /// The text is no TOML: also where an integer is past 64 bits or a key is given twice.

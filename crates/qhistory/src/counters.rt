@@ -93,7 +93,7 @@ impl Model for BlankCounters {
 }
 
 impl BlankCounters {
-    /// Five counters of so many parts. They take no memory.
+    /// Five counters of N parts. They take no memory.
     pub fn new(parts: u64) -> BlankCounters
         ensures { result.parts ≡ parts }
     {

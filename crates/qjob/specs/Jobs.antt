@@ -59,12 +59,12 @@ is_shown DisplayHelp = true
 is_shown DisplayVersion = true
 is_shown kind = false
 
--- want of memory, or what `clap` tells under one of these kinds
+-- out of memory, or what `clap` tells under one of these kinds
 abbrev pub IsToldBy : Kinds → LineFault → Type 0
 IsToldBy kinds Memory = ⊤
 IsToldBy kinds (Line help text) = (kind : ErrorKind) × IsAmong kind kinds × (help ≡ is_shown kind)
 
--- want of memory, or a mistake, where this does not hold
+-- out of memory, or a mistake, where this does not hold
 abbrev pub FailsUnless : Type 0 → LineFault → Type 0
 FailsUnless P Memory = ⊤
 FailsUnless P (Line help text) = (help ≡ false) × (P → ⊥)

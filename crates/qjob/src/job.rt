@@ -23,7 +23,7 @@ const MAX_BATCH: u64 = 64;
 /// What the program is asked to do. Files are named as they stand on the command line.
 #[derive(Debug, Drop)]
 pub enum Job {
-    /// To run the scripts on a store of the configuration, each up to so many lines at a time, while so many boards are
+    /// To run the scripts on a store of the configuration, each up to N lines at a time, while N boards are
     /// taken, to report at the moment, in seconds, and to write the journal of the run where a file is named for it.
     Run {
         config: String,
@@ -40,7 +40,7 @@ pub enum Job {
     },
 }
 
-/// What an error of `clap` is told as.
+/// What an error of `clap` is reported as.
 fn fault(alloc: Global, error: &Error) -> LineFault
     ensures memory { kind_of error.now ≡ OutOfMemory → result ≡ Memory }
     ensures told { IsToldBy (kind_of error.now ∷ []) result }
@@ -178,7 +178,7 @@ impl Job {
     /// at `--boards`, from 0 to 1000, and 0 where there is none, and the lines at `--batch`, from 1 to 64, and 1 where
     /// there is none.
     ///
-    /// A request for help or for the version is a fault, too, whose text is for the output. Want of memory may come in place of any answer.
+    /// A request for help or for the version is a fault, too, whose text is for the output. Out of memory may come in place of any answer.
     pub fn read(alloc: Global, words: &[String]) -> Result<Job, LineFault>
         ensures job { IfOk result (IsAskedBy (map (λ w. string_bytes w) words.now)) }
         ensures refused { IfErr result (IsRefusalOf (map (λ w. string_bytes w) words.now)) }

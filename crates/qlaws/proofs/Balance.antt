@@ -108,7 +108,7 @@ shares-none kind sort inode (h ∷ hs) none =
     ∙ one_share-none (is_same_kind kind h.kind) (owner kind inode == h.id) (weight sort inode) (shares kind sort inode hs)
     none.0 (shares-none kind sort inode hs none.1)
 
--- the holders behind one that is the owner are none
+-- the holders after one that is the owner are none
 owner-elsewhere : (kind : Kind) (id : ℕ) (h : Holder) (hs : List Holder) → is_holder kind id h ≡ true
     → AllByRecursion (λ g. are_same h g ≡ false) hs → AllByRecursion (λ g. is_holder kind id g ≡ false) hs
 owner-elsewhere kind id h hs owns others =

@@ -15,7 +15,7 @@ range-shift : (f : ℕ → Bool) (a n : ℕ) → list_any f (range_with_len (a +
 range-shift f a zero = refl
 range-shift f a (suc n) = ap (λ b. f (a + 1) || b) (range-shift f (a + 1) n)
 
--- where it begins, or behind its first name
+-- where it begins, or after its first name
 pub meets_from-first : (S : State) (number : ℕ) (r : Result ℕ Refusal) (name : List ℕ) (rest : List (List ℕ))
     → meets_from S number r (name ∷ rest) ≡ (is_reached number r || meets_from S number (follow S r name) rest)
 meets_from-first S number r name rest =

@@ -17,7 +17,7 @@ use Rattle.qlaws.proofs.Tables.{All-insert_new, All-keys-set_value, absent-fresh
 abbrev stood : State → ℕ → Bool
 stood S n = is_some (inode_at S n) || n == S.next
 
--- what stands behind one entry is found, or that entry is
+-- what stands after one entry is found, or that entry is
 found-behind : (b : Bool) (inode : Inode) (rest : Option Inode) → is_some rest ≡ true → is_some (cond b (Some inode) rest) ≡ true
 found-behind true inode rest found = refl
 found-behind false inode rest found = found

@@ -23,7 +23,7 @@ abbrev pub ChangesAreTold : Type 0
 ChangesAreTold = (S : State) (cred : Caller) (moment : ℕ) (call : Call)
     → change_of (step S cred moment call).1 ≡ change_between S (step S cred moment call).0
 
--- the change is of so many blocks and inodes at most
+-- the change is of N blocks and inodes at most
 pub record IsWithin (blocks inodes : ℕ) (c : Change) : Type 0 where
   pub blocks_charged : c.blocks_charged ≤ blocks
   pub blocks_released : c.blocks_released ≤ blocks
@@ -45,7 +45,7 @@ abbrev pub ChangesAreSmall : Type 0
 ChangesAreSmall = (s : Setting) (journal : List Entry) → IsLawfulSetup s → IsLegal (start s) journal
     → HasSmallChanges s journal
 
--- the tally of so many calls is of so many blocks and inodes for each at most
+-- the tally of N calls is of N blocks and inodes for each at most
 pub record IsTallyOf (blocks inodes count : ℕ) (t : Tallies) : Type 0 where
   pub blocks_charged : t.blocks_charged ≤ blocks * count
   pub blocks_released : t.blocks_released ≤ blocks * count

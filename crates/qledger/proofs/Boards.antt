@@ -70,7 +70,7 @@ put-user us rest (Some p) by_id placed =
     ∙ set-append_left (map (holder_row User) us) rest p.slot row (omega (arith, within, long))
     ∙ ap (λ rows. rows ++ rest) (set-row User us p.slot p.id p.account by_id placed)
 
--- and so is a group's, behind all users
+-- and so is a group's, after all users
 put-group : (before : List BoardRow) (users : ℕ) (gs : List KeptHolder) (posting : Option Posting) → length before ≡ users → AreById gs
     → IsPlaced gs posting
     → put (before ++ map (holder_row Group) gs) (option_map (placed_row Group users) posting) ≡ before ++ map (holder_row Group) (map (post posting) gs)

@@ -29,7 +29,7 @@ pub above-first : (o : KeptHolder) (os : List KeptHolder) → AreById (o ∷ os)
 above-first o os by_id =
     above-from o.id os (λ k d within. AllPairs-from_increasing (map (λ p. p.id) (o ∷ os)) by_id zero (suc k) d (omega arith) (omega arith))
 
--- the kept holders behind the first are in order too
+-- the kept holders after the first are in order too
 pub by_id-rest : (o : KeptHolder) (os : List KeptHolder) → AreById (o ∷ os) → AreById os
 by_id-rest o os by_id k within =
     let next : suc k + 1 ≡ suc (k + 1) = omega arith in
@@ -46,7 +46,7 @@ pub above-others : (id : ℕ) (os : List KeptHolder) → AreAbove id os → AllB
 above-others id [] above = tt
 above-others id (o ∷ os) above = (grind (arith, tests, above.0), above-others id os above.1)
 
--- the kept holders behind the one of an id are not the one of this id
+-- the kept holders after the one of an id are not the one of this id
 pub above-others-of : (id : ℕ) (o : KeptHolder) (os : List KeptHolder) → AreById (o ∷ os) → o.id ≡ id → AllByRecursion (λ p. (id == p.id) ≡ false) os
 above-others-of id o os by_id same = above-others id os (subst (λ n. AreAbove n os) same (above-first o os by_id))
 

@@ -15,7 +15,7 @@ use Rattle.qledger.specs.Ledgers.{IsHolderAt}
 use Rattle.qledger.proofs.ById.{by_id-rest, slot-first, slot-later, slot-of}
 use Rattle.qledger.proofs.Declared.{or-first, or-second}
 
--- ---- lists one behind the other
+-- ---- lists one after the other
 
 -- a test of two lists
 list_any-append : {X : Type 0} (test : X → Bool) (xs ys : List X) → list_any test (xs ++ ys) ≡ (list_any test xs || list_any test ys)
@@ -55,7 +55,7 @@ module _ (kind other : Kind) (id : ℕ) where
       (other-kind (is_same_kind kind other) (id == o.id) apart)
       ∙ find-other apart os rest
 
-  -- nor behind the kept holders of whom none has the id
+  -- nor after the kept holders of whom none has the id
   find-absent : is_same_kind kind kind ≡ true → (os : List KeptHolder) (rest : List Holder) → list_any (λ o. id == o.id) os ≡ false
       → find (is_holder kind id) (map (holder_in kind) os ++ rest) ≡ find (is_holder kind id) rest
   find-absent same [] rest absent = refl

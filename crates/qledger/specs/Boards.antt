@@ -31,7 +31,7 @@ holder_row kind o = board_row kind o.id o.account
 abbrev pub rows_in : List KeptHolder → List KeptHolder → List BoardRow
 rows_in users groups = map (holder_row User) users ++ map (holder_row Group) groups
 
--- the row of a posting's record, which stands behind so many rows of others
+-- the row of a posting's record, which stands after N rows of others
 abbrev pub placed_row : Kind → ℕ → Posting → PlacedRow
 placed_row kind before p = record { place = before + p.slot; row = board_row kind p.id p.account }
 

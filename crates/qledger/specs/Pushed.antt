@@ -14,7 +14,7 @@ placed_in (Some p) = p ∷ []
 abbrev pub placed_rows : Effect → List PlacedRow
 placed_rows e = placed_in e.user_from ++ placed_in e.user_to ++ placed_in e.group_from ++ placed_in e.group_to
 
--- what stands behind the first rows are those that a step from one state to the other changes on a board
+-- what stands after the first rows are those that a step from one state to the other changes on a board
 pub record IsPushed (old : State) (rows longer : List PlacedRow) (new : State) : Type 0 where
   pub effect : Effect
   pub is : IsEffectOf old effect new

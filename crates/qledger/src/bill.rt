@@ -71,7 +71,7 @@ impl Postings {
     }
 }
 
-/// Puts the row of a posting's record in its place, behind so many rows of others, behind these rows, if there is a
+/// Puts the row of a posting's record in its place, after N rows of others, after these rows, if there is a
 /// posting.
 pub(crate) fn push_placed(
     rows: &mut Vec<PlacedRow>,

@@ -42,7 +42,7 @@ pub(crate) struct OwnerClaim {
 }
 
 impl Claim {
-    /// An inode with so many blocks, of these owners.
+    /// An inode with N blocks, of these owners.
     pub fn new(slots: Slots, blocks: u64) -> Claim
         ensures { result ≡ record { slots = slots; weight = record { blocks = blocks; inodes = 1 } } }
     {

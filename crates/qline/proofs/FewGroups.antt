@@ -36,7 +36,7 @@ at_most_bad most (Some n) = by_test (leb n most)
     by_test true = tt
     by_test false = refl
 
--- a step and the steps behind it
+-- a step and the steps after it
 both_bad : {A B : Type 0} (first : Result A TextKind) (others : Result (List B) TextKind) (join : A → List B → List B)
     → BadAlone first → BadAlone others → BadAlone (first >>= λ x. others >>= λ xs. Ok (join x xs))
 both_bad (Ok x) (Ok xs) join a b = tt
@@ -50,7 +50,7 @@ bad_alone (word ∷ words) =
     both_bad (id_of BadCred word) (groups_of words) (λ x xs. x ∷ xs)
     (at_most_bad (2 ^ 32 - 1) (numeral word)) (bad_alone words)
 
--- one group more than there is room for, and whatever stands behind it
+-- one group more than there is room for, and whatever stands after it
 many : (all : List (List ℕ)) (groups : List ℕ) (group : ℕ) (others : Result (List ℕ) TextKind) → length groups ≡ 16
     → BadAlone others → with_front groups (others >>= λ xs. Ok (group ∷ xs)) ≡ groups_of all
     → few_groups_of all ≡ Err BadCred

@@ -1,4 +1,4 @@
--- Calls that are spelled out are read again where more words stand behind them.
+-- Calls that are spelled out are read again where more words stand after them.
 use Rattle.std.proofs.Common.{◌≡◌, ℕ, suc, false, nat_lt, List, ◌++◌, length, Ok, refl, arith}
 use Rattle.std.proofs.lemmas.Bool.{le-ltb}
 use Rattle.qplain.specs.declared.call.Call.{Call}

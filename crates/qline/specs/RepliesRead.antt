@@ -29,7 +29,7 @@ reply_word_of word =
     else if bytes_eq word (codes "refused") then Ok Refused
     else Err BadReply
 
--- the refusal of a name, but for EDQUOT, behind which more words stand
+-- the refusal of a name, but for EDQUOT, after which more words stand
 unfoldable pub refusal_of : List ℕ → Result Refusal TextKind
 refusal_of word =
     if bytes_eq word (codes "EINVAL") then Ok EINVAL
@@ -61,7 +61,7 @@ over_of word =
 unfoldable pub keyword : List ℕ → List ℕ → Result Unit TextKind
 keyword wanted word = if bytes_eq word wanted then Ok tt else Err BadReply
 
--- a number behind its sign
+-- a number after its sign
 unfoldable pub signed : ℕ → List ℕ → Result ℕ TextKind
 signed sign [] = Err BadReply
 signed sign (first ∷ digits) = if first == sign then number digits else Err BadReply

@@ -21,7 +21,7 @@ struct Page {
 }
 
 impl Page {
-    /// The path that this word spells, if the word stands on the page where so many bytes of the text are left.
+    /// The path that this word spells, if the word stands on the page where N bytes of the text are left.
     fn path_at(&self, left: usize, word: &[u8]) -> Result<Option<Path>, NoMemory>
         ensures { IfOk result (λ path. IfSome path (λ p. path_of word.now ≡ Ok p)) }
     {
@@ -65,7 +65,7 @@ fn bytes_of(words: &[&[u8]]) -> usize {
 
 /// Reads the paths of a text one after the other. Each shares the bytes of a page of the text with the others that
 /// stand there, so that most take no memory; one that is spelled as the one before is that one. Contracts see how many
-/// bytes of the text are left behind the words of the next call.
+/// bytes of the text are left after the words of the next call.
 ///
 /// Where a word stands is told from the end of its line. It is looked up, so that a path is the one that its word
 /// spells whatever was told: of a word that stands elsewhere the bytes are copied.
@@ -74,7 +74,7 @@ pub struct Paths<'a> {
     text: &'a [u8],
     page: Option<Page>,
     last: Option<KeptPath<'a>>,
-    /// How many bytes of the text are left behind the words of the next call.
+    /// How many bytes of the text are left after the words of the next call.
     left: usize,
 }
 
@@ -99,21 +99,21 @@ impl<'a> Paths<'a> {
         }
     }
 
-    /// Goes to a line, behind whose line end these bytes are left.
+    /// Goes to a line, after whose line end these bytes are left.
     pub fn begin_line(&mut self, after: &[u8])
         ensures { self.new ≡ length after.now + 1 }
     {
         self.left = after.len() + 1;
     }
 
-    /// Goes back past the words of a line that stand behind its call.
+    /// Goes back past the words of a line that stand after its call.
     pub(crate) fn go_before(&mut self, words: &[&[u8]])
         ensures { self.old ≤ self.new }
     {
         self.left = self.left.saturating_add(bytes_of(words));
     }
 
-    /// Takes the part of the text that begins where so many bytes are left for the page.
+    /// Takes the part of the text that begins where N bytes are left for the page.
     fn turn_page(&mut self, alloc: Global, left: usize, least: usize) -> Result<(), NoMemory> {
         let text = &self.text[self.text.len().saturating_sub(left)..];
         let many = text.len().min(least.max(PAGE_BYTES));
@@ -122,7 +122,7 @@ impl<'a> Paths<'a> {
         Ok(())
     }
 
-    /// The path that this word spells, if the word stands on the page where so many bytes of the text are left.
+    /// The path that this word spells, if the word stands on the page where N bytes of the text are left.
     fn path_at(&self, left: usize, word: &[u8]) -> Result<Option<Path>, NoMemory>
         ensures { IfOk result (λ path. IfSome path (λ p. path_of word.now ≡ Ok p)) }
     {
@@ -132,7 +132,7 @@ impl<'a> Paths<'a> {
         }
     }
 
-    /// The path that this word spells, behind which so many bytes of the text are left.
+    /// The path that this word spells, after which N bytes of the text are left.
     fn look_up(&mut self, alloc: Global, word: &[u8], behind: usize) -> Result<Path, ReadFault>
         ensures { Gives result (path_of word.now) }
     {
@@ -147,7 +147,7 @@ impl<'a> Paths<'a> {
         }
     }
 
-    /// The path that this word spells, behind which these words of the call stand: whether it leads anywhere is for the
+    /// The path that this word spells, after which these words of the call stand: whether it leads anywhere is for the
     /// store to say.
     pub(crate) fn read(
         &mut self,

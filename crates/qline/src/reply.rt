@@ -21,7 +21,7 @@ fn keyword(wanted: &[u8], word: &[u8]) -> Result<(), ReadFault>
     Err(ReadFault::Fault(TextKind::BadReply))
 }
 
-/// A number behind its sign.
+/// A number after its sign.
 #[tactic(auto, unfolding(crate::specs::RepliesRead::signed))]
 fn signed(sign: u8, word: &[u8]) -> Result<u64, ReadFault>
     ensures { Gives result (signed sign word.now) }
@@ -188,7 +188,7 @@ fn edquot_of(name: &[u8], kind: &[u8], over: &[u8]) -> Result<Reply, ReadFault>
     Ok(Reply::Refused(Refusal::EDQUOT(kind, over)))
 }
 
-/// The reply of a first word and those behind it, of which there are as many as it takes.
+/// The reply of a first word and those after it, of which there are as many as it takes.
 #[tactic(auto, unfolding(crate::specs::RepliesRead::reply_of))]
 fn reply_of(alloc: Global, first: ReplyWord, words: &[&[u8]]) -> Result<Reply, ReadFault>
     ensures { Gives result (reply_of first (map (λ word. word.now) words.now)) }

@@ -39,7 +39,7 @@ pub(crate) fn reply_word_of(word: &[u8]) -> Result<ReplyWord, ReadFault>
     Err(ReadFault::Fault(TextKind::BadReply))
 }
 
-/// The refusal of this name, but for EDQUOT, behind which more words stand.
+/// The refusal of this name, but for EDQUOT, after which more words stand.
 #[tactic(auto, unfolding(crate::specs::RepliesRead::refusal_of))]
 pub(crate) fn refusal_of(word: &[u8]) -> Result<Refusal, ReadFault>
     ensures { Gives result (refusal_of word.now) }

@@ -13,7 +13,7 @@ pub record Written : Type 0 where
 abbrev pub IsWorkers : ℕ → Type 0
 IsWorkers workers = (0 < workers) × (workers ≤ MAX_WORKERS)
 
--- an entry of one of so many workers, whose reply tells of no directory with bytes or blocks
+-- an entry of one of N workers, whose reply tells of no directory with bytes or blocks
 abbrev pub IsEntryOf : ℕ → Entry → Type 0
 IsEntryOf workers e = (0 < e.worker) × (e.worker ≤ workers) × HasLawfulStat e.reply
 

@@ -16,7 +16,7 @@ enum Kept {
     Fill { count: u64, byte: u8 },
 }
 
-/// The bytes that a write brings, which contracts see as a list: shared ones, or so many equal ones.
+/// The bytes that a write brings, which contracts see as a list: shared ones, or N equal ones.
 #[derive(Debug, Drop)]
 pub struct Data {
     kept: Kept,
@@ -41,7 +41,7 @@ impl Data {
         }
     }
 
-    /// So many equal bytes. It takes no memory, however many there are.
+    /// N equal bytes. It takes no memory, however many there are.
     pub fn fill(count: u64, byte: u8) -> Self
         ensures { result ≡ replicate count byte }
     {
@@ -91,7 +91,7 @@ impl Data {
     }
 }
 
-/// Whether these are so many bytes, and each is this one.
+/// Whether these are N bytes, and each is this one.
 fn is_fill(bytes: &[u8], count: u64, byte: u8) -> bool
     ensures { result ≡ (length bytes.now == count && list_all (λ other. other == byte) bytes.now) }
 {

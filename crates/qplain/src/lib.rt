@@ -1,4 +1,4 @@
-//! The plain values of calls and replies, and the plain machine that the store is held against, over `qrules` and `qblocks`.
+//! The plain values of calls and replies, and the plain machine that the store is checked against, over `qrules` and `qblocks`.
 #![tactic(auto)]
 
 pub use board::Board;

@@ -39,7 +39,7 @@ first_fault account moment blocks inodes =
 abbrev pub charge_fault_in : Sort → Account → ℕ → ℕ → Option Over
 charge_fault_in sort account moment more = fault_of sort account moment (count_in sort account + more)
 
--- the first fault of a charge of so many blocks and inodes
+-- the first fault of a charge of N blocks and inodes
 abbrev pub charge_fault : Account → ℕ → ℕ → ℕ → Option Over
 charge_fault account moment blocks inodes =
     first_fault account moment (account.blocks + blocks) (account.inodes + inodes)

@@ -41,7 +41,7 @@ impl Model for Record {
     ghost inverse = { fields_of };
 }
 
-/// What so many blocks count against a limit in KiB.
+/// What N blocks count against a limit in KiB.
 fn kib_of(blocks: u64) -> u64
     requires { blocks ≤ MAX_USE }
     ensures { result ≡ amount_of Blocks blocks }
@@ -102,7 +102,7 @@ impl Record {
         self.inode_end
     }
 
-    /// Whether so many blocks and inodes more are granted at this moment, and else the first limit in the way.
+    /// Whether N blocks and inodes more are granted at this moment, and else the first limit in the way.
     ///
     /// Inodes come before blocks, and a hard limit before a soft one. A soft limit refuses once its grace has
     /// ended. What does not rise is not tested. The superuser, who is `privileged`, passes every limit.

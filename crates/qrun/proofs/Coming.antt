@@ -19,7 +19,7 @@ use Rattle.qplain.specs.declared.bounds.TheConstants.{MAX_ENTRIES}
 use Rattle.qaudit_checks.specs.LawfulBoards.{AreLawful, boards_in}
 use Rattle.qrun.proofs.Stats.{legal-fair}
 
--- the journal of a store that was played on by so many workers is one
+-- the journal of a store that was played on by N workers is one
 pub journal_left : (setting : Setting) (journal : List Entry) (workers : ℕ) → IsLawful (start setting) → IsLegal (start setting) journal
     → length journal ≤ MAX_ENTRIES → IsWorkers workers → All (IsOneOf workers) journal
     → IsJournal (record { workers = workers; entries = journal })

@@ -12,12 +12,12 @@ use Rattle.qstore.specs.Rows.{record_row_of}
 use Rattle.qaudit_checks.specs.OwnRows.{differences_in}
 use Rattle.qrun.specs.declared.outcome.Outcome.{Outcome}
 
--- the entry is of one of so many workers
+-- the entry is of one of N workers
 abbrev pub IsOneOf : ℕ → Entry → Type 0
 IsOneOf workers e = (0 < e.worker) × (e.worker ≤ workers)
 
 -- the store that this legal journal leaves, with its tally, its own records and differences, of which there are none,
--- beside so many workers, these transcripts and what these looks at the boards were given
+-- beside N workers, these transcripts and what these looks at the boards were given
 pub record IsLeftOf (setting : Setting) (journal : List Entry) (workers : ℕ) (transcripts : List Transcript)
     (boards : List (Result Board LookFault)) (o : Outcome) : Type 0 where
   pub setup : o.setup ≡ setting

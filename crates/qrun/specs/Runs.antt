@@ -20,7 +20,7 @@ use Rattle.qrun.specs.declared.outcome.Outcome.{Outcome}
 abbrev pub IsFullOf : List Entry → Result Receipt CallFault → Type 0
 IsFullOf journal answer = answer ≡ Err JournalFull → length journal ≡ MAX_ENTRIES
 
--- the journal is full behind this answer: it has the last place, or tells so
+-- the journal is full after this answer: it has the last place, or tells so
 abbrev pub IsFullBehind : Result Receipt CallFault → Type 0
 IsFullBehind (Ok receipt) = receipt.place ≡ MAX_ENTRIES
 IsFullBehind (Err JournalFull) = Unit {0}
@@ -33,7 +33,7 @@ FullIsToldFirst (answer ∷ later) =
     (IsFullBehind answer → All (λ a. a ≡ Err JournalFull) later) × FullIsToldFirst later
 
 -- a worker's transcript: its script's lines, one answer to each, the receipts are its own entries, no answer tells of a
--- full journal that is not full, and a full one is told of before want of memory
+-- full journal that is not full, and a full one is told of before out of memory
 pub record IsTranscriptOf (worker : ℕ) (lines : List Line) (journal : List Entry) (t : Transcript) : Type 0 where
   pub worker_is : t.worker ≡ worker
   pub lines_are : t.lines ≡ lines

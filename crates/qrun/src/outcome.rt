@@ -25,7 +25,7 @@ pub struct Outcome {
     pub differences: Items<Difference>,
 }
 
-/// What is left of a store that was played on by so many workers, with these transcripts and these looks at its boards.
+/// What is left of a store that was played on by N workers, with these transcripts and these looks at its boards.
 pub fn outcome_of(
     alloc: Global,
     store: JournaledStore,

@@ -23,7 +23,7 @@ fn are_same(one: &Reply, other: &Reply) -> bool
     one == other
 }
 
-/// Makes the call of an entry again and journals it. Where the reply would be another than the entry's, that is told by
+/// Makes the call of an entry again and journals it. Where the reply would be another than the entry's, that is reported by
 /// its place, and nothing is done.
 fn replay_entry(store: &mut JournaledStore, entry: &Entry) -> Result<(), ReplayFault>
     requires few { length store.old.journal < MAX_ENTRIES }

@@ -16,7 +16,7 @@ abbrev pub IsAt : List Entry → ℕ → Entry → Type 0
 IsAt xs place e =
     (before : List Entry) × (after : List Entry) × (xs ≡ before ++ e ∷ after) × (place ≡ length before + 1)
 
--- the line stands in what the seat has seen, at the receipt's place and with its reply, behind all that it had seen; it
+-- the line stands in what the seat has seen, at the receipt's place and with its reply, after all that it had seen; it
 -- is counted once
 pub record IsCalled (line : Line) (old new : Seated) (receipt : Receipt) : Type 0 where
   pub stands : IsAt new.seen receipt.place (entry_of old.worker line receipt.reply)

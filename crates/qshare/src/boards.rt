@@ -15,7 +15,7 @@ pub trait Boards<S: StoreId>: Drop {
     /// The board of the first history is published, and what waits leads from it to the board of the second.
     ghost waits: { Self → List Entry → List Entry → Type 0 };
 
-    /// Lets what a call that is ready will change on the board wait to be published. An Err is want of memory.
+    /// Lets what a call that is ready will change on the board wait to be published. An Err is out of memory.
     fn note(&mut self, store: &JournaledStore, next: &Next) -> Result<(), NoMemory>
         requires store { IsStoreOf S.id.setting store.now }
         requires next { CanFollow store.now next.now }

@@ -78,7 +78,7 @@ impl<'a, S: StoreId, B: Boards<S>> Held<'a, S, B> {
 
     /// Makes a call of the worker that holds the lock and journals it; what it does to the boards waits for the release.
     ///
-    /// Places count on within one hold. Err is JournalFull, told first, where the journal has its 65,536 entries, or
+    /// Places count on within one hold. Err is JournalFull, reported first, where the journal has its 65,536 entries, or
     /// OutOfMemory; it changes nothing, the room included. Moments, refusals and costs are those of `Store::ready`.
     pub fn apply<V: Drop, W: Wait>(
         &mut self,

@@ -45,7 +45,7 @@ impl<S: StoreId, B: Boards<S>> Model for LockedStore<S, B> {
 }
 
 impl<S: StoreId, B: Boards<S>> LockedStore<S, B> {
-    /// A new store under its lock, with an empty journal, for so many seats.
+    /// A new store under its lock, with an empty journal, for N seats.
     pub(crate) fn new(
         store: JournaledStore,
         history: History,
@@ -81,7 +81,7 @@ impl<S: StoreId, B: Boards<S>> LockedStore<S, B> {
 
     /// Makes a call and journals it; what it does to the boards waits to be published.
     ///
-    /// Err is JournalFull, told first, where the journal has its 65,536 entries, or OutOfMemory; it changes nothing.
+    /// Err is JournalFull, reported first, where the journal has its 65,536 entries, or OutOfMemory; it changes nothing.
     pub(crate) fn apply<W: Wait>(
         &mut self,
         rt: &W,

@@ -136,7 +136,7 @@ fn blind_seats<S: StoreId>(
     Ok(seats)
 }
 
-/// A new store of the setup, for so many seats.
+/// A new store of the setup, for N seats.
 fn open_store(alloc: Global, setup: Setup, seats: u64, seed: u64) -> Result<Opened, NoMemory>
     requires few { (0 < seats) × (seats ≤ MAX_SEATS) }
     ensures setting { IfOk result (λ o. o.setting ≡ setup) }
@@ -154,7 +154,7 @@ fn open_store(alloc: Global, setup: Setup, seats: u64, seed: u64) -> Result<Open
 impl Opened {
     /// A new store of the setup, for 1 to 16 seats.
     ///
-    /// The hashes of names begin at `seed`, which may be any number. Seats is told first. After an Err nothing was
+    /// The hashes of names begin at `seed`, which may be any number. Seats is reported first. After an Err nothing was
     /// made.
     pub fn new(alloc: Global, setup: Setup, seats: u64, seed: u64) -> Result<Opened, ShareFault>
         ensures setting { IfOk result (λ o. o.setting ≡ setup) }

@@ -39,7 +39,7 @@ fn make_room(waiting: &mut Vec<PlacedRow>) -> Result<(), NoMemory>
     Ok(())
 }
 
-/// Lets the rows wait that a ready call changes, if it may change any, behind the others. An Err, for want of memory,
+/// Lets the rows wait that a ready call changes, if it may change any, after the others. An Err, out of memory,
 /// leaves the others as they were.
 fn let_wait(
     waiting: &mut Vec<PlacedRow>,

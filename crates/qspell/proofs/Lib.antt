@@ -1,4 +1,4 @@
--- Parts that are put one behind the other.
+-- Parts that are put one after the other.
 pub mod Regrouped
 pub mod Behind
 mod Groups

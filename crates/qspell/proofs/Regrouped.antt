@@ -1,4 +1,4 @@
--- Parts that are put one behind the other, and the same parts put together first.
+-- Parts that are put one after the other, and the same parts put together first.
 use Rattle.std.proofs.Common.{◌≡◌, ℕ, List, [], ◌++◌, append_assoc}
 use Rattle.std.proofs.lemmas.List.{append-nil}
 

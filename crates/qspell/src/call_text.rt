@@ -15,10 +15,10 @@ use std::io::Write;
 /// How many bytes may stand before a call.
 pub const CALL_PLACE: usize = 464;
 
-/// How many bytes a line holds at most behind a call.
+/// How many bytes a line holds at most after a call.
 pub const CALL_ROOM: usize = 640;
 
-/// Puts a verb, which has a space behind it, and a path.
+/// Puts a verb, which has a space after it, and a path.
 fn put_path<W: Write>(
     out: &mut W,
     line: &mut TextLine,
@@ -34,7 +34,7 @@ fn put_path<W: Write>(
     line.put_word(out, path.bytes())
 }
 
-/// Puts a verb, which has a space behind it, and two paths.
+/// Puts a verb, which has a space after it, and two paths.
 fn put_paths<W: Write>(
     out: &mut W,
     line: &mut TextLine,
@@ -51,7 +51,7 @@ fn put_paths<W: Write>(
     put_path(out, line, b" ", to)
 }
 
-/// Puts a verb with a space behind it, a path, a space and a number.
+/// Puts a verb with a space after it, a path, a space and a number.
 fn put_at<W: Write>(
     out: &mut W,
     line: &mut TextLine,
@@ -137,7 +137,7 @@ fn put_chown<W: Write>(
     Ok(())
 }
 
-/// Puts a verb, which has a space behind it, a kind and an id.
+/// Puts a verb, which has a space after it, a kind and an id.
 fn put_owned(line: &mut TextLine, verb: &[u8], kind: Kind, id: u32)
     requires { length line.old + length verb.now + 26 ≤ LINE_ROOM }
     ensures text { line.new ≡ line.old ++ (verb.now ++ (kind_text kind ++ 32 ∷ decimal id)) }
@@ -174,7 +174,7 @@ fn put_setgrace(line: &mut TextLine, graces: &Graces)
     line.field(graces.inode);
 }
 
-/// Puts a call behind what is there, in the one spelling that journals have. What there is no room for is written.
+/// Puts a call after what is there, in the one spelling that journals have. What there is no room for is written.
 pub fn put_call<W: Write>(out: &mut W, line: &mut TextLine, call: &Call) -> Result<(), RefusedWrite>
     requires { length line.old ≤ CALL_PLACE }
     ensures passes { Passes (W.contents out.old) (W.contents out.new) result

@@ -12,7 +12,7 @@ use qtext::{LINE_ROOM, TextLine};
 /// How many bytes may stand before a caller.
 pub const CALLER_PLACE: usize = 64;
 
-/// Puts further groups behind what is there, with a comma before each.
+/// Puts further groups after what is there, with a comma before each.
 fn put_groups(line: &mut TextLine, groups: &[u32])
     requires few { length groups.now ≤ 16 }
     requires room { length line.old ≤ CALLER_PLACE + 41 }
@@ -25,7 +25,7 @@ fn put_groups(line: &mut TextLine, groups: &[u32])
     }
 }
 
-/// Puts a caller behind what is there.
+/// Puts a caller after what is there.
 pub fn put_caller(line: &mut TextLine, cred: &Cred)
     requires { length line.old ≤ CALLER_PLACE }
     ensures text { line.new ≡ line.old ++ caller_text cred.now }

@@ -12,7 +12,7 @@ use std::io::Write;
 /// How many equal bytes' digits are written at once.
 const FILL_PIECE: usize = 256;
 
-/// Puts the digits of so many equal bytes behind what is there. All but the last are written where there are more than
+/// Puts the digits of N equal bytes after what is there. All but the last are written where there are more than
 /// a piece.
 fn put_equal<W: Write>(
     out: &mut W,
@@ -36,7 +36,7 @@ fn put_equal<W: Write>(
     Ok(())
 }
 
-/// Puts the bytes of a write behind what is there. What there is no room for is written.
+/// Puts the bytes of a write after what is there. What there is no room for is written.
 pub(crate) fn put_input<W: Write>(
     out: &mut W,
     line: &mut TextLine,

@@ -104,7 +104,7 @@ pub altered-there : (S : State) (number : ℕ) (change : Inode → Inode) (inode
     → altered S number change ≡ with_inode S number (change inode)
 altered-there S number change inode there = ap (altered_at S number change) there
 
--- what a write of so many bytes allocates is what it has more then
+-- what a write of N bytes allocates is what it has more then
 pub more-of-adds : (file : File) (off : ℕ) (bytes : List ℕ) (blocks : ℕ) → Adds file off (length bytes) blocks
     → MoreBlocks file (after_write file off bytes) blocks
 unfolding after_write with_touched

@@ -34,7 +34,7 @@ pub record IsClaimed (b : Books) (claim : Option Claim) (inode : Option Inode) :
   pub users : IsShareOf b.users User (option_map (share_in User) claim) inode
   pub groups : IsShareOf b.groups Group (option_map (share_in Group) claim) inode
 
--- in the new state the inode of one claim stands in the place of the other's, and so many numbers were given
+-- in the new state the inode of one claim stands in the place of the other's, and N numbers were given
 pub record IsAsked (s : Stored) (from to : Option Claim) (given : ℕ) (S1 : State) : Type 0 where
   pub before : Option Inode
   pub after : Option Inode

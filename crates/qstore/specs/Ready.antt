@@ -20,7 +20,7 @@ use Rattle.qstore.specs.Stored.{IsStorable, Stored}
 abbrev pub IsRefused : Reply → Type 0
 IsRefused reply = (r : Refusal) × reply ≡ Refused r
 
--- the call wants no memory, whatever it is answered: truncate, stat, chown, setquota, setgrace and quota
+-- the call needs no memory, whatever it is answered: truncate, stat, chown, setquota, setgrace and quota
 abbrev pub wants_no_memory : Call → Bool
 wants_no_memory (CreateCall path) = false
 wants_no_memory (MkdirCall path) = false

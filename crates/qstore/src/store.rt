@@ -180,8 +180,8 @@ impl Store {
 
     /// Decides a call and makes every growth that it needs, and leaves the state as it was.
     ///
-    /// `moment` is in seconds; above 2^40 the reply is EINVAL. A refusal is a reply, and wants no memory: EINVAL first,
-    /// then ENAMETOOLONG, the call's own tests, ENOSPC, EDQUOT. Err is want of memory alone, after all refusals, and
+    /// `moment` is in seconds; above 2^40 the reply is EINVAL. A refusal is a reply, and needs no memory: EINVAL first,
+    /// then ENAMETOOLONG, the call's own tests, ENOSPC, EDQUOT. Err is out of memory alone, after all refusals, and
     /// leaves the state as it was, too: only a granted create, mkdir, write, read, link, unlink, rmdir or rename meets
     /// it. The bytes of a write are not copied: the call and what is ready share them.
     ///

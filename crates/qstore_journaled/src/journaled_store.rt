@@ -46,7 +46,7 @@ impl Model for JournaledStore {
 impl JournaledStore {
     /// A new store of the setup, with an empty journal.
     ///
-    /// The hashes of names begin at `seed`, which may be any number. An Err is want of memory; then nothing was made.
+    /// The hashes of names begin at `seed`, which may be any number. An Err is out of memory; then nothing was made.
     pub fn new(alloc: Global, setup: Setup, seed: u64) -> Result<JournaledStore, NoMemory>
         ensures setting { IfOk result (λ j. j.setting ≡ setup) }
         ensures journal { IfOk result (λ j. j.journal ≡ []) }
@@ -88,7 +88,7 @@ impl JournaledStore {
     /// Decides a call as the journal's next entry, and makes every growth that it needs; setup, state and journal stay
     /// as they were.
     ///
-    /// Err is JournalFull, told first, where the journal has its 65,536 entries, or OutOfMemory. Moments, refusals and
+    /// Err is JournalFull, reported first, where the journal has its 65,536 entries, or OutOfMemory. Moments, refusals and
     /// costs are those of `Store::ready`. What is ready is for `commit` of this store, before any other `ready` or
     /// `commit` of it, and may be dropped.
     #[inline(always)]
@@ -129,7 +129,7 @@ impl JournaledStore {
         })
     }
 
-    /// Puts the rows that `commit` of what is ready will change on a board behind others, of which there is room for
+    /// Puts the rows that `commit` of what is ready will change on a board after others, of which there is room for
     /// four. O(1).
     ///
     /// The caller owes that this store had no other `ready` or `commit` since.

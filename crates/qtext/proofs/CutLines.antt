@@ -80,26 +80,26 @@ module _ (text : List ℕ) (start end : ℕ) (found : List (List ℕ)) (so : Fou
       ap words up_to ∙ so.cut (word_of (drop start text))
       ∙ ap (λ (ws : List (List ℕ)). found ++ ws) (parts_last 32 (word_of (drop start text)) lacks_space)
 
-  -- the words with this one, where nothing stands behind it
+  -- the words with this one, where nothing stands after it
   pub words_of_last : end ≡ length text → words text ≡ found ++ word_of (drop start text) ∷ []
   words_of_last whole = rw (whole, take-length text) at words_to_end
 
   pub sound_to_last : end ≡ length text → list_all is_text_byte text ≡ true
   sound_to_last whole = rw (whole, take-length text) at sound_to_end
 
-  -- a line end stands behind it
+  -- a line end stands after it
   pub line_at_feed : end < length text → get_or text end 0 ≡ 10 → parts 10 text ≡ take end text ∷ parts 10 (drop (end + 1) text)
   line_at_feed lt feed =
       ap (parts 10) (rw feed at (at_byte text end lt))
       ∙ parts_first 10 (take end text) (drop (end + 1) text) (lacks_feed text end sound_to_end)
 
-  -- nothing stands behind it
+  -- nothing stands after it
   pub last_line : end ≡ length text → parts 10 text ≡ text ∷ []
   last_line whole =
       let all : take end text ≡ text = rw whole (take-length text) in
       parts_last 10 text (rw all at (lacks_feed text end sound_to_end))
 
-  -- a space stands behind it
+  -- a space stands after it
   pub found_more : end < length text → get_or text end 0 ≡ 32 → FoundUpTo text (end + 1) (found ++ word_of (drop start text) ∷ [])
   found_more lt space = record {
     within = omega arith;

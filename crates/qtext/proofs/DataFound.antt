@@ -134,7 +134,7 @@ byte_fits word byte e =
     step_found (hex_or_fault (decode_of word)) _ two.1 λ bytes are e.
     rw (← same_ok e) (decoded_fits word bytes are 0)
 
--- so many equal bytes are bytes
+-- N equal bytes are bytes
 pub equal_fits : (count byte : ℕ) → byte < 256 → IsBytes (replicate count byte)
 equal_fits zero byte lt i = omega arith
 equal_fits (suc count) byte lt zero = lt

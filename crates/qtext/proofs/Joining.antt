@@ -20,7 +20,7 @@ and_true false b e = absurd cc
 pub and_both : (a b : Bool) → a ≡ true → b ≡ true → (a && b) ≡ true
 and_both a b p q = rw (p, q) refl
 
--- the last word, and a word with a separator behind it
+-- the last word, and a word with a separator after it
 pub parts_last : (s : ℕ) (xs : List ℕ) → lacks s xs ≡ true → parts s xs ≡ xs ∷ []
 parts_last s [] h = refl
 parts_last s (x ∷ xs) h =

@@ -18,7 +18,7 @@ regroup {A} {E} front y (Ok ys) =
     let okay : List A → Result (List A) E = λ l. Ok l in ap okay (sym (append_assoc front (y ∷ []) ys))
 regroup front y (Err e) = refl
 
--- the reading goes on behind a value that could be read
+-- the reading goes on after a value that could be read
 pub goes_on : {A B E : Type 0} (read : A → Result B E) (front : List B) (x : A) (xs rest : List A) (y : B)
     (total : Result (List B) E) → read x ≡ Ok y → rest ≡ x ∷ xs → with_front front (each_of read rest) ≡ total
     → with_front (front ++ y ∷ []) (each_of read xs) ≡ total
@@ -37,7 +37,7 @@ ends {A} {B} {E} read front x xs rest e total h cut so_far =
     let one : with_front front (each_of read (x ∷ xs)) ≡ Err e = rw h refl in
     sym (rw cut at so_far) ∙ one
 
--- the reading of a script's parts ends at a fault, or for want of memory
+-- the reading of a script's parts ends at a fault, or out of memory
 pub ends_at : {A B : Type 0} (read : A → Result B TextKind) (front : List B) (x : A) (xs rest : List A) (e : ReadFault)
     (total : Result (List B) TextKind) → Fails e (read x) → rest ≡ x ∷ xs → with_front front (each_of read rest) ≡ total
     → Fails e total

@@ -35,7 +35,7 @@ parts_none s text le = slice_split_none (λ b. eqb b s) text (λ k d m. fails_be
 pub some_part : (s : ℕ) (text : List ℕ) → 0 < length (parts s text)
 some_part s text = omega (arith, length-slice_split (λ b. eqb b s) text)
 
--- what the answer of `first_part` says, by what stands behind the separator
+-- what the answer of `first_part` says, by what stands after the separator
 pub only_part : {A : Type 0} (now : A → List ℕ) (s : ℕ) (text first : List ℕ) (after : Option A)
     → parts s text ≡ first ∷ parts_after s (option_map now after) → after ≡ None → parts s text ≡ first ∷ []
 only_part now s text first after h e = rw e at h

@@ -17,11 +17,11 @@ begins_character byte = nat_lt byte 0x80 || nat_le 0xc0 byte
 abbrev pub characters_in : List ℕ → ℕ
 characters_in text = length (filter begins_character text)
 
--- a text at the left of so many places, a character each; a longer one stands whole
+-- a text at the left of N places, a character each; a longer one stands whole
 abbrev pub left_in : ℕ → List ℕ → List ℕ
 left_in places text = text ++ spaces (places - characters_in text)
 
--- a text at the right of so many places, a character each; a longer one stands whole
+-- a text at the right of N places, a character each; a longer one stands whole
 abbrev pub right_in : ℕ → List ℕ → List ℕ
 right_in places text = spaces (places - characters_in text) ++ text
 

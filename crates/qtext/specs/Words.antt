@@ -10,7 +10,7 @@ use Rattle.qtext.specs.declared.text_fault.TextKind.TheVariants.{BadNumber}
 abbrev pub parts : ℕ → List ℕ → List (List ℕ)
 parts separator text = slice_split (λ byte. byte == separator) text
 
--- the parts behind a separator, where there is one
+-- the parts after a separator, where there is one
 abbrev pub parts_after : ℕ → Option (List ℕ) → List (List ℕ)
 parts_after separator None = []
 parts_after separator (Some text) = parts separator text

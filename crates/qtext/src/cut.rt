@@ -12,7 +12,7 @@ use std::alloc::AllocError;
 pub struct CutLine<'a> {
     /// The line, with no line end.
     pub bytes: &'a [u8],
-    /// What stands behind its line end, where there is one.
+    /// What stands after its line end, where there is one.
     pub after: Option<&'a [u8]>,
     /// Whether each of its bytes is a space or one that prints.
     pub is_text: bool,

@@ -39,7 +39,7 @@ pub enum TextKind {
     /// The first line of a journal is missing or of another form.
     #[error("bad head")]
     BadHead,
-    /// What stands behind the arguments of a journaled call is not `=>` and a reply.
+    /// What stands after the arguments of a journaled call is not `=>` and a reply.
     #[error("bad reply")]
     BadReply,
 }
@@ -86,7 +86,7 @@ impl TextKind {
     }
 }
 
-/// The first line at fault, counted from 1, with the first thing wrong in it. For want of memory it is line 0.
+/// The first line at fault, counted from 1, with the first thing wrong in it. For out of memory it is line 0.
 #[derive(Clone, Copy, Debug, PartialEq, Eq, Error)]
 #[error("line {line}: {kind}")]
 pub struct TextFault {

@@ -14,7 +14,7 @@ pub const LINE_ROOM: usize = 1_536;
 /// How many bytes may stand before data.
 pub const HEAD_ROOM: usize = 1_000;
 
-/// How many bytes a line holds at most behind a word.
+/// How many bytes a line holds at most after a word.
 pub const WORD_ROOM: usize = 480;
 
 /// How many bytes' digits are written at once.
@@ -64,7 +64,7 @@ impl TextLine {
         &self.bytes[..self.len]
     }
 
-    /// Puts the bytes behind what is there.
+    /// Puts the bytes after what is there.
     pub fn text(&mut self, text: &[u8])
         requires { length self.old + length text.now ≤ LINE_ROOM }
         ensures text { self.new ≡ self.old ++ text.now }
@@ -75,7 +75,7 @@ impl TextLine {
         self.len = end;
     }
 
-    /// Puts one byte behind what is there.
+    /// Puts one byte after what is there.
     pub fn byte(&mut self, byte: u8)
         requires { length self.old < LINE_ROOM }
         ensures byte { self.new ≡ self.old ++ byte ∷ [] }
@@ -85,7 +85,7 @@ impl TextLine {
         self.len += 1;
     }
 
-    /// Puts two decimal digits behind what is there.
+    /// Puts two decimal digits after what is there.
     fn pair(&mut self, n: u64)
         requires small { n < 100 }
         requires room { length self.old + 2 ≤ LINE_ROOM }
@@ -96,7 +96,7 @@ impl TextLine {
         self.byte(b'0' + (n % 10) as u8);
     }
 
-    /// Puts a number of one or two decimal digits behind what is there.
+    /// Puts a number of one or two decimal digits after what is there.
     #[tactic(auto, using(std::proofs::lemmas::Fmt::decimal_digit, itoa::proofs::Decimal::decimal_two))]
     fn small(&mut self, n: u64)
         requires small { n < 100 }
@@ -111,7 +111,7 @@ impl TextLine {
         }
     }
 
-    /// Puts a number in decimal digits behind what is there. One digit is put in line.
+    /// Puts a number in decimal digits after what is there. One digit is put in line.
     #[inline(always)]
     #[tactic(auto, using(std::proofs::lemmas::Fmt::decimal_digit))]
     pub fn number(&mut self, n: u64)
@@ -126,7 +126,7 @@ impl TextLine {
         }
     }
 
-    /// Puts a number of any length in decimal digits behind what is there.
+    /// Puts a number of any length in decimal digits after what is there.
     fn long(&mut self, n: u64)
         requires { length self.old + 20 ≤ LINE_ROOM }
         ensures text { self.new ≡ self.old ++ decimal n }
@@ -145,7 +145,7 @@ impl TextLine {
         self.text(buffer.format(n).as_bytes());
     }
 
-    /// Puts a space and a number in decimal digits behind what is there.
+    /// Puts a space and a number in decimal digits after what is there.
     pub fn field(&mut self, n: u64)
         requires { length self.old + 21 ≤ LINE_ROOM }
         ensures text { self.new ≡ self.old ++ 32 ∷ decimal n }
@@ -155,7 +155,7 @@ impl TextLine {
         self.number(n);
     }
 
-    /// Puts two lower case hexadecimal digits a byte behind what is there.
+    /// Puts two lower case hexadecimal digits a byte after what is there.
     pub fn digits(&mut self, bytes: &[u8])
         requires { length self.old + 2 * length bytes.now ≤ LINE_ROOM }
         ensures text { self.new ≡ self.old ++ encode_lower bytes.now }
@@ -196,7 +196,7 @@ impl TextLine {
         self.put_all(out)
     }
 
-    /// Puts a word of any length behind what is there. What there is no room for is written.
+    /// Puts a word of any length after what is there. What there is no room for is written.
     pub fn put_word<W: Write>(&mut self, out: &mut W, word: &[u8]) -> Result<(), RefusedWrite>
         ensures passes { Passes (W.contents out.old) (W.contents out.new) result (self.old ++ word.now) self.new }
         ensures short { IfOk result (λ _. length self.new ≤ WORD_ROOM) }
@@ -209,7 +209,7 @@ impl TextLine {
         put(out, word)
     }
 
-    /// Puts two lower case hexadecimal digits a byte behind what is there. All but the last are written where there are
+    /// Puts two lower case hexadecimal digits a byte after what is there. All but the last are written where there are
     /// more than a piece.
     fn put_digits<W: Write>(&mut self, out: &mut W, bytes: &[u8]) -> Result<(), RefusedWrite>
         requires { length self.old ≤ HEAD_ROOM }
@@ -228,7 +228,7 @@ impl TextLine {
         Ok(())
     }
 
-    /// Puts bytes as lower case hexadecimal digits, or `-` for none, behind what is there. What there is no room for is
+    /// Puts bytes as lower case hexadecimal digits, or `-` for none, after what is there. What there is no room for is
     /// written.
     pub fn put_data<W: Write>(&mut self, out: &mut W, bytes: &[u8]) -> Result<(), RefusedWrite>
         requires { length self.old ≤ HEAD_ROOM }

@@ -3,7 +3,7 @@ ghost use Rattle.std.specs.Prelude.{◌≡◌, ◌<◌, ◌∷◌, length, IfSom
 ghost use Rattle.std.specs.Option.{option_map};
 ghost use Rattle.qtext.specs.Words.{parts, parts_after};
 
-/// The part before the first separator, and what stands behind that separator where there is one.
+/// The part before the first separator, and what stands after that separator where there is one.
 pub fn first_part(text: &[u8], separator: u8) -> (&[u8], Option<&[u8]>)
     ensures parts { parts separator text.now
         ≡ result.0.now ∷ parts_after separator (option_map (λ after. after.now) result.1) }

@@ -61,7 +61,7 @@ answer_found (arrow ∷ words) r e =
 
 -- ---- lines
 
--- an entry of one of so many workers, whose parts are what their types can hold
+-- an entry of one of N workers, whose parts are what their types can hold
 abbrev pub IsEntry : ℕ → Entry → Type 0
 IsEntry workers e = IsEntryOf workers e × IsHeld e
 

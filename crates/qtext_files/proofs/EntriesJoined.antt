@@ -68,7 +68,7 @@ entry_joined worker moment caller c r =
 abbrev pub head_of_entry : Entry → List ℕ
 head_of_entry e = ((([] ++ decimal e.worker) ++ 32 ∷ decimal e.moment) ++ 32 ∷ []) ++ caller_text e.cred ++ 32 ∷ []
 
--- what stands behind it
+-- what stands after it
 abbrev pub tail_of_entry : Entry → List ℕ
 tail_of_entry e = codes " => " ++ (reply_text e.reply ++ codes "\n")
 
@@ -76,7 +76,7 @@ regrouped : (s w m c k a r n : List ℕ) → (w ++ (s ++ (m ++ (s ++ (c ++ (s ++
     ≡ ((((([] ++ w) ++ (s ++ m)) ++ s) ++ c) ++ s) ++ (k ++ (a ++ (r ++ n)))
 regrouped s w m c k a r n = simp append_assoc
 
--- the text of an entry: what stands before the call, the call, and what stands behind it
+-- the text of an entry: what stands before the call, the call, and what stands after it
 pub entry_parts : (e : Entry) → entry_text e ≡ head_of_entry e ++ (join_with_byte 32 (call_words e.call) ++ tail_of_entry e)
 entry_parts e = rw (entry_joined (decimal e.worker) (decimal e.moment) (caller_text e.cred) e.call e.reply)
     (regrouped (32 ∷ []) (decimal e.worker) (decimal e.moment) (caller_text e.cred) (join_with_byte 32 (call_words e.call)) (codes " => ")

@@ -24,7 +24,7 @@ joined_is_text w ws fits = passes_join is_text_byte 32 (w ∷ ws) refl (weaker_a
 pub joined_parts : (w : List ℕ) (ws : List (List ℕ)) → AllByRecursion IsWord (w ∷ ws) → words (join_with_byte 32 (w ∷ ws)) ≡ w ∷ ws
 joined_parts w ws fits = parts_join 32 w ws (weaker_all is_path_byte (λ b. not (eqb b 32)) (w ∷ ws) word_lacks_space fits)
 
--- and with a line end behind them the first line of any text that begins with it
+-- and with a line end after them the first line of any text that begins with it
 pub raw_again : (n : ℕ) (w : List ℕ) (ws : List (List ℕ)) (rest : List ℕ) → AllByRecursion IsWord (w ∷ ws)
     → raw_lines_from n (parts 10 ((join_with_byte 32 (w ∷ ws) ++ 10 ∷ []) ++ rest))
     ≡ record { number = n; bytes = join_with_byte 32 (w ∷ ws); whole = true } ∷ raw_lines_from (n + 1) (parts 10 rest)

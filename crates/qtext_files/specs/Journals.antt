@@ -45,7 +45,7 @@ entry_in workers (w ∷ m ∷ c ∷ behind) = do
   reply ← answer_in (drop called.1 behind)
   Ok (record { worker = worker; cred = cred; moment = moment; call = called.0; reply = reply })
 
--- the entry in a line, of so many workers, or the first thing wrong in it
+-- the entry in a line, of N workers, or the first thing wrong in it
 unfoldable pub journal_entry_of : ℕ → RawLine → Result Entry TextKind
 journal_entry_of workers l =
     if nat_lt (MAX_ENTRIES + 1) l.number then Err TooMany

@@ -4,13 +4,13 @@ use Rattle.qtext.specs.declared.text_fault.TextKind.{TextKind}
 use Rattle.qtext.specs.declared.text_fault.TextFault.{TextFault}
 use Rattle.qtext.specs.Words.{parts}
 
--- a line with its number, counted from 1, and whether a line end stands behind it
+-- a line with its number, counted from 1, and whether a line end stands after it
 pub record RawLine : Type 0 where
   pub number : ℕ
   pub bytes : List ℕ
   pub whole : Bool
 
--- what stands between line ends, with its number; nothing behind the last line end is no line
+-- what stands between line ends, with its number; nothing after the last line end is no line
 unfoldable pub raw_lines_from : ℕ → List (List ℕ) → List RawLine
 raw_lines_from n [] = []
 raw_lines_from n (l ∷ []) = if length l == 0 then [] else record { number = n; bytes = l; whole = false } ∷ []
@@ -20,7 +20,7 @@ raw_lines_from n (l ∷ m ∷ ls) = record { number = n; bytes = l; whole = true
 abbrev pub raw_lines : List ℕ → List RawLine
 raw_lines text = raw_lines_from 1 (parts 10 text)
 
--- a fault is told with the number of its line
+-- a fault is reported with the number of its line
 abbrev pub in_line : {A : Type 0} → ℕ → Result A TextKind → Result A TextFault
 in_line n (Ok x) = Ok x
 in_line n (Err kind) = Err (record { line = n; kind = kind })

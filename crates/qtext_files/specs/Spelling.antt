@@ -11,7 +11,7 @@ use Rattle.qline.specs.Spelling.{call_words, caller_text}
 abbrev pub line_words : Line → List (List ℕ)
 line_words l = decimal l.moment ∷ caller_text l.cred ∷ call_words l.call
 
--- a line with a space between its words and a line end behind it
+-- a line with a space between its words and a line end after it
 abbrev pub script_line_text : Line → List ℕ
 script_line_text l = join_with_byte 0x20 (line_words l) ++ 10 ∷ []
 
@@ -24,7 +24,7 @@ abbrev pub entry_words : Entry → List (List ℕ)
 entry_words e = decimal e.worker ∷ decimal e.moment ∷ caller_text e.cred
     ∷ (call_words e.call ++ codes "=>" ∷ reply_words e.reply)
 
--- an entry with a space between its words and a line end behind it
+-- an entry with a space between its words and a line end after it
 abbrev pub entry_text : Entry → List ℕ
 entry_text e = join_with_byte 0x20 (entry_words e) ++ 10 ∷ []
 

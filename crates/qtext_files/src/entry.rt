@@ -79,7 +79,7 @@ fn entry_in<'a>(
     }
 }
 
-/// Reads the entries of a journal of so many workers, and keeps the last caller and a page of paths.
+/// Reads the entries of a journal of N workers, and keeps the last caller and a page of paths.
 #[derive(Drop)]
 pub(crate) struct EntryReader<'a> {
     pub(crate) alloc: Global,

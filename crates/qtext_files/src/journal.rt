@@ -20,7 +20,7 @@ use qrules::Items;
 use qtext::{ReadFault, TextFault, TextKind};
 use std::alloc::Global;
 
-/// The entries behind the first line, of so many workers, or the first line at fault.
+/// The entries after the first line, of N workers, or the first line at fault.
 fn entries_of(alloc: Global, workers: u64, text: &[u8]) -> Result<Items<Entry>, TextFault>
     ensures entries { Reads result (each_of (at_entry workers) (raw_lines_from 2 (parts 10 text.now))) }
     ensures few { IfOk result (λ entries. length entries ≤ MAX_ENTRIES) }
@@ -58,7 +58,7 @@ fn journal_in(alloc: Global, text: &[u8]) -> Result<Journal, TextFault>
 }
 
 /// The first line is `quotafs journal 1 workers W`, W from 1 to 16. Each further one is
-/// `WORKER MOMENT CALLER CALL => REPLY`, the worker from 1 to W, with a line feed behind it; there are at most 65,536.
+/// `WORKER MOMENT CALLER CALL => REPLY`, the worker from 1 to W, with a line feed after it; there are at most 65,536.
 /// Data are in lower case, and no call is `fill`. Lines count from 1.
 impl FromText for Journal {
     ghost use Rattle.std.specs.List.{AllByRecursion};
@@ -72,13 +72,13 @@ impl FromText for Journal {
 
     /// Reads a journal: its workers and entries, or the first line at fault with the first thing wrong in it.
     ///
-    /// In a line the first of these is told: too many entries, no line feed, a byte outside 0x20 to 0x7E, the head, the
+    /// In a line the first of these is reported: too many entries, no line feed, a byte outside 0x20 to 0x7E, the head, the
     /// worker, the moment, the caller, the verb, too few arguments, the arguments from left to right, the reply. That an
     /// entry is read says nothing of whether a store answers so.
     ///
     /// An Err gives nothing of it. Line 0 is at fault where memory is wanting, whatever the text says.
     fn read(alloc: Global, text: &[u8]) -> Result<Self, TextFault>
-        // What the text says, want of memory aside.
+        // What the text says, out of memory aside.
         ensures exact { (result ≡ journal_of text.now) ⊎ (result ≡ Err want_of_memory) }
 
         // A journal that was read is spelled so, byte by byte.

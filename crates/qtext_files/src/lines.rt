@@ -38,13 +38,13 @@ pub(crate) trait ReadLine<'a> {
         ensures same_most { most self.new ≡ most self.old };
 }
 
-/// The fault of want of memory, whatever a text says.
+/// The fault out of memory, whatever a text says.
 pub(crate) const WANT_OF_MEMORY: TextFault = TextFault {
     line: 0,
     kind: TextKind::Memory,
 };
 
-/// What the lines of a text say, behind so many others, or the first line at fault.
+/// What the lines of a text say, after N others, or the first line at fault.
 pub(crate) fn read_lines<'a, R: ReadLine<'a>>(
     alloc: Global,
     reader: &mut R,

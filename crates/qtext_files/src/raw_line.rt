@@ -11,7 +11,7 @@ use std::alloc::AllocError;
 pub(crate) struct NextLine<'a> {
     /// The line, with no line end.
     pub(crate) bytes: &'a [u8],
-    /// Whether a line end stands behind it.
+    /// Whether a line end stands after it.
     pub(crate) whole: bool,
     /// Whether each of its bytes is a space or one that prints.
     pub(crate) is_text: bool,

@@ -28,7 +28,7 @@ fn lines_of(alloc: Global, text: &[u8]) -> Result<Items<Line>, TextFault>
     read_lines(alloc, &mut reader, 0, text)
 }
 
-/// A line is `MOMENT CALLER CALL`, with one space between two words and a line feed behind it. There are at most 65,536,
+/// A line is `MOMENT CALLER CALL`, with one space between two words and a line feed after it. There are at most 65,536,
 /// and a text of no bytes has none. They count from 1.
 impl FromText for Script {
     ghost use Rattle.qtext_files.specs.Scripts.{script_of};
@@ -40,13 +40,13 @@ impl FromText for Script {
 
     /// Reads a script: its lines, or the first line at fault with the first thing wrong in it.
     ///
-    /// In a line the first of these is told: too many lines, no line feed, a byte outside 0x20 to 0x7E, the moment, the
+    /// In a line the first of these is reported: too many lines, no line feed, a byte outside 0x20 to 0x7E, the moment, the
     /// caller, the verb, the count of words, the arguments from left to right. That a call is read says nothing of
     /// whether a store takes it.
     ///
     /// An Err gives none of the lines. Line 0 is at fault where memory is wanting, whatever the text says.
     fn read(alloc: Global, text: &[u8]) -> Result<Self, TextFault>
-        // What the text says, want of memory aside.
+        // What the text says, out of memory aside.
         ensures exact { (result ≡ script_of text.now) ⊎ (result ≡ Err want_of_memory) }
 
         // Lines that were read can be spelled out.

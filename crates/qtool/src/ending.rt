@@ -128,7 +128,7 @@ fn put_journal_fault<E: Write>(err: &mut E, fault: &TextFault) -> Result<(), Ref
     put_text_fault(err, fault)
 }
 
-/// Writes which line is at fault and why, behind the text's name.
+/// Writes which line is at fault and why, after the text's name.
 fn put_text_fault<E: Write>(err: &mut E, fault: &TextFault) -> Result<(), RefusedWrite> {
     let pieces = [
         Piece::Text(b": line "),

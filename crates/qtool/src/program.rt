@@ -135,7 +135,7 @@ fn test_seats(scripts: u64, boards: u64) -> Result<(), Ending>
     Ok(())
 }
 
-/// Reads the configuration and the scripts, in the order in which faults are told, and runs them.
+/// Reads the configuration and the scripts, in the order in which faults are reported, and runs them.
 fn run_of<F: Files, R: Threads + Wait + Sync>(
     rt: &R,
     alloc: Global,
@@ -230,11 +230,11 @@ fn do_job<F: Files, O: Write, R: Threads + Wait + Sync>(
 /// the journal of the run to a file, and answers the exit status.
 ///
 /// The first fault ends it with one line on the error output: 2 for the command line, the configuration, a script or a
-/// journal, 3 for want of memory and for a journal that does not fit, 4 for an output or a file for the journal that
+/// journal, 3 out of memory and for a journal that does not fit, 4 for an output or a file for the journal that
 /// refuses, also when it is flushed. Help and the version go to the output, with 0. The line is flushed, so that a
 /// buffered error output gets it by one write.
 ///
-/// The program ends behind it, so the memory of a run is not given back.
+/// The program ends after it, so the memory of a run is not given back.
 ///
 /// `seed` is any number, best one that nobody knows beforehand: where it is known, names can be searched that collide,
 /// and then calls take long. Neither the output nor the status depends on it.

@@ -57,7 +57,7 @@ fn seed(rt: &HostRuntime) -> u64 {
     }
 }
 
-/// Ends for want of memory.
+/// Ends out of memory.
 fn out_of_memory(rt: &HostRuntime) -> ExitCode {
     let _ = eprintln!(rt; "quotafs: memory");
     ExitCode::from(3)

@@ -38,7 +38,7 @@ own_grown worker old new told more own =
     ap (λ j. entries_of j worker) (sym more.1) ∙ numbered-append 1 worker old more.0 in
     subst (IsSubsequence told) (sym parts) (among_more told (entries_of old worker) (numbered (1 + length old) worker more.0) own)
 
--- and so does one more, which stands behind all that was seen
+-- and so does one more, which stands after all that was seen
 pub own_told : (worker : ℕ) (old new : List Entry) (told : List (ℕ × Entry)) (place : ℕ) (e : Entry) → IsPrefix old new → IsAt new place e
     → length old < place → e.worker ≡ worker → IsSubsequence told (entries_of old worker)
     → IsSubsequence (told ++ (place, e) ∷ []) (entries_of new worker)

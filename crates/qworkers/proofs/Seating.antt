@@ -17,7 +17,7 @@ seat_is (suc n) k d less =
     (λ i low. get_or_append_left (seats_of n) (new_seat (n + 1) ∷ []) d i (omega (arith, low, many)) ∙ seat_is n i d low)
     (get_or_push (seats_of n) (new_seat (n + 1)) d n many) k (omega (arith, less))
 
--- the seat behind these
+-- the seat after these
 pub seat_next : (n : ℕ) (before rest : List Seated) (seat : Seated) → before ++ seat ∷ rest ≡ seats_of n
     → (seat ≡ new_seat (length before + 1)) × (length before < n)
 seat_next n before rest seat parts =

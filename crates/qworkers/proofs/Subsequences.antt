@@ -29,7 +29,7 @@ both (x ∷ xs) (y ∷ ys) us vs one other =
 pub among_more : {X : Type 0} (xs ys zs : List X) → IsSubsequence xs ys → IsSubsequence xs (ys ++ zs)
 among_more xs ys zs among = subst (λ us. IsSubsequence us (ys ++ zs)) (append-nil xs) (both xs ys [] zs among (none_among zs))
 
--- and one more behind both
+-- and one more after both
 pub one_more_among : {X : Type 0} (xs ys : List X) (x : X) → IsSubsequence xs ys → IsSubsequence (xs ++ x ∷ []) (ys ++ x ∷ [])
 one_more_among xs ys x among = both xs ys (x ∷ []) (x ∷ []) among (one_itself x)
 

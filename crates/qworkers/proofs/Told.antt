@@ -56,7 +56,7 @@ as_many worker [] [] (t ∷ ts) told = absurd told
 as_many worker (l ∷ scripts) [] ts told = absurd told
 as_many worker (l ∷ scripts) (s ∷ shares) [] told = absurd told
 
--- a share is there where it is the first, or among those behind it
+-- a share is there where it is the first, or among those after it
 one_there : (k worker : ℕ) (s : HandedIn) (shares : List HandedIn) → s.worker ≡ worker → worker ≤ k
     → (worker + 1 ≤ k → list_any (λ s. s.worker == k) shares ≡ true) → (b : Bool) → (s.worker == k) ≡ b
     → list_any (λ s. s.worker == k) (s ∷ shares) ≡ true
@@ -187,7 +187,7 @@ within_told low high worker [] [] (t ∷ ts) told from most = absurd told
 within_told low high worker (l ∷ scripts) [] ts told from most = absurd told
 within_told low high worker (l ∷ scripts) (s ∷ shares) [] told from most = absurd told
 
--- an entry that belongs to one of them is of one of so many workers
+-- an entry that belongs to one of them is of one of N workers
 pub one_of : (scripts : List (List Line)) (shares : List HandedIn) (ts : List Transcript) (journal : List Entry) → AreTold scripts shares ts
     → All (Belongs ts) journal → All (IsOneOf (length ts)) journal
 one_of scripts shares ts journal told belong k d less =
@@ -196,7 +196,7 @@ one_of scripts shares ts journal told belong k d less =
     (within_told 1 (1 + length scripts) 1 scripts shares ts told (omega arith) (omega arith)) (belong k d less) in
     (omega (arith, within.0), omega (arith, within.1, many))
 
--- what is left of a store whose journal was held against what was told, and against what looks were given
+-- what is left of a store whose journal was checked against what was told, and against what looks were given
 pub gathered_told : (setting : Setting) (journal : List Entry) (ts : List Transcript) (looks : List (Result Board LookFault))
     (workers : ℕ) (o : Outcome) → AreAllTold journal ts → AreLawful (start setting) journal (boards_in looks)
     → workers ≡ length ts → IsLeftOf setting journal workers ts looks o → IsOutcomeOf setting (lines_of ts) o

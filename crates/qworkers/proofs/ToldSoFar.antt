@@ -80,7 +80,7 @@ pub told_ended : (scripts : List (List Line)) (shares : List HandedIn) (ts : Lis
 told_ended scripts shares ts rest [] none so_far = told_last scripts shares ts rest so_far
 told_ended scripts shares ts rest (d ∷ left) none so_far = absurd (omega (arith, none))
 
--- no work is left behind all scripts
+-- no work is left after all scripts
 pub no_script : (scripts : List (List Line)) (shares : List HandedIn) (ts : List Transcript) (rest : List (List Line)) (d : Done) (left : List Done)
     → length rest ≡ 0 → IsToldSoFar scripts shares ts rest (d ∷ left) → ⊥
 no_script scripts shares ts [] d left none so_far = no_more scripts shares ts d left so_far

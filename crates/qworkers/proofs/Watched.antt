@@ -1,4 +1,4 @@
--- Shares with that of the watcher behind them, and what its looks were given: lawful boards, whose history grows.
+-- Shares with that of the watcher after them, and what its looks were given: lawful boards, whose history grows.
 use Rattle.std.proofs.Common.{◌≡◌, ℕ, ◌+◌, ◌<◌, ◌≤◌, ◌==◌, ◌||◌, if◌then◌else◌, Bool, true, false, List, [], ◌∷◌, ◌++◌, length, take, sum_by, All, Option, Some, None, Result, Ok, Err, IfOk, refl, sym, ap, subst, ◌∙◌, append-nil, length-append, le_trans, arith, tests}
 use Rattle.std.proofs.Math.Bool.{or-true}
 use Rattle.std.proofs.Math.Seq.{take-length}
@@ -27,7 +27,7 @@ pub all_front : {A : Type 0} (P : A → Type 0) (xs ys : List A) → All P (xs +
 all_front P xs ys all k d less =
     subst P (get_or_append_left xs ys d k less) (all k d (omega (arith, less, length-append xs ys)))
 
--- the share of the next seat behind those that are there
+-- the share of the next seat after those that are there
 there_last : (n k : ℕ) (shares : List HandedIn) (s : HandedIn) (b : Bool) → (s.worker == k) ≡ b → AreThere shares n → s.worker ≡ n + 1
     → 0 < k → k ≤ n + 1 → list_any (λ x. x.worker == k) (shares ++ s ∷ []) ≡ true
 there_last n k shares s true is there own positive few =
@@ -53,7 +53,7 @@ pub all_seats_there : (S : State) (n boards : ℕ) (shares : List HandedIn) (wat
     → IsWatchOf S boards (watcher_for n boards) watch → AreThere (shares ++ shares_in watch) (seats_for n boards)
 all_seats_there S n boards shares watch there looked = there_by S n boards shares watch (boards == 0) there looked
 
--- who watches from the seat behind those of the scripts
+-- who watches from the seat after those of the scripts
 pub watched_from : (S : State) (n seats boards : ℕ) (seat : Option Seated) (watch : Option Watched) → seat ≡ watcher_for seats boards → seats ≡ n
     → IsWatchOf S boards seat watch → IsWatchOf S boards (watcher_for n boards) watch
 watched_from S n seats boards seat watch is same looked =

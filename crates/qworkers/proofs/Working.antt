@@ -45,7 +45,7 @@ pub next_line : (lines : List Line) (k n : ℕ) (line d : Line) → line ≡ get
 next_line lines k n line d is less same =
     subst (λ i. slice_get lines i ≡ Some line) (sym same) (slice_get-get_or lines k d less ∙ ap (λ l. Some l) (sym is))
 
--- a further answer tells of a full journal where the journal is full behind one before it
+-- a further answer tells of a full journal where the journal is full after one before it
 first_push : (answers : List (Result Receipt CallFault)) (answer : Result Receipt CallFault) → FullIsToldFirst answers
     → All (λ a. IsFullBehind a → answer ≡ Err JournalFull) answers → FullIsToldFirst (answers ++ answer ∷ [])
 unfolding FullIsToldFirst

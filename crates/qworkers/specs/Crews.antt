@@ -14,7 +14,7 @@ use Rattle.qworkers.specs.RunFaults.{IsFaultOf}
 use Rattle.qworkers.specs.Watching.{IsWatchOf, Watched, seats_for, watcher_for}
 use Rattle.qworkers.specs.Work.{AreWorks, Done}
 
--- a new seat for each of so many scripts, and the next for who looks at the boards, where somebody does; and for how
+-- a new seat for each of N scripts, and the next for who looks at the boards, where somebody does; and for how
 -- many lines at a time the lock is taken
 pub record IsCrew (scripts : ℕ) (options : Options) (seats : List Seated) (watcher : Option Seated) : Type 0 where
   pub seats_are : seats ≡ seats_of scripts
@@ -26,7 +26,7 @@ pub record Performed : Type 0 where
   pub works : List Done
   pub watch : Option Watched
 
--- each script was played by its worker, and the boards were looked at so many times; or one of so many threads was not
+-- each script was played by its worker, and the boards were looked at N times; or one of so many threads was not
 -- started, or memory was wanting
 abbrev pub ArePlayed : Setting → List (List Line) → ℕ → Result Performed RunFault → Type 0
 ArePlayed setting scripts boards (Ok p) = AreWorks scripts p.works
@@ -40,7 +40,7 @@ pub record CanRun (scripts : ℕ) (options : Options) : Type 0 where
   pub watcher : 0 < options.boards → scripts < MAX_SEATS
   pub batch : (0 < options.batch) × (options.batch ≤ MAX_BATCH)
 
--- what the run of these scripts leaves, with so many looks; or why it has no outcome
+-- what the run of these scripts leaves, with N looks; or why it has no outcome
 abbrev pub IsRun : Setting → List (List Line) → ℕ → Result Outcome RunFault → Type 0
 IsRun setting scripts boards (Ok o) = IsOutcomeOf setting scripts o × (length o.boards ≡ boards)
 IsRun setting scripts boards (Err fault) = IsFaultOf (seats_for (length scripts) boards) fault

@@ -12,7 +12,7 @@ pub record Watched : Type 0 where
   pub share : HandedIn
   pub looks : List (Result Board LookFault)
 
--- the share of this watcher, who has made no call, and so many looks: the boards are lawful, from this state on, over
+-- the share of this watcher, who has made no call, and N looks: the boards are lawful, from this state on, over
 -- the history that it has seen
 pub record IsWatch (S : State) (worker boards : ℕ) (w : Watched) : Type 0 where
   pub worker_is : w.share.worker ≡ worker
@@ -24,11 +24,11 @@ pub record IsWatch (S : State) (worker boards : ℕ) (w : Watched) : Type 0 wher
 abbrev pub seats_for : ℕ → ℕ → ℕ
 seats_for scripts boards = if boards == 0 then scripts else scripts + 1
 
--- the seat behind those of the scripts, where boards are looked at
+-- the seat after those of the scripts, where boards are looked at
 abbrev pub watcher_for : ℕ → ℕ → Option Seated
 watcher_for scripts boards = if boards == 0 then None else Some (new_seat (scripts + 1))
 
--- who has a seat has looked so many times, and nobody else
+-- who has a seat has looked N times, and nobody else
 abbrev pub IsWatchOf : State → ℕ → Option Seated → Option Watched → Type 0
 IsWatchOf S boards None watch = watch ≡ None
 IsWatchOf S boards (Some seat) None = ⊥

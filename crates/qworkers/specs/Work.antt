@@ -42,7 +42,7 @@ pub record AreAnswers (worker : ℕ) (lines : List Line) (seen : List Entry) (ca
 abbrev pub HasAnswers : List Line → Seated → List (Result Receipt CallFault) → Type 0
 HasAnswers lines seat answers = AreAnswers seat.worker lines seat.seen seat.tally.calls answers
 
--- the worker who has this seat holds the lock, may make so many calls under it, and has seen a prefix of the journal
+-- the worker who has this seat holds the lock, may make N calls under it, and has seen a prefix of the journal
 pub record MayMake (many : ℕ) (held : Holding) (seat : Seated) : Type 0 where
   pub by : seat.worker ≡ held.by
   pub room : many ≤ held.room

@@ -4,9 +4,9 @@ ghost use Rattle.std.specs.Prelude.{◌≡◌};
 /// How the workers of a run take the lock, and how many boards are looked at beside them.
 #[derive(Clone, Copy, Debug, PartialEq, Eq)]
 pub struct Options {
-    /// So many boards are looked at while the workers go on, in a thread with a seat of its own; 0: there is none.
+    /// N boards are looked at while the workers go on, in a thread with a seat of its own; 0: there is none.
     pub boards: u64,
-    /// For so many lines at a time a worker takes the lock, 1 to 64.
+    /// For N lines at a time a worker takes the lock, 1 to 64.
     pub batch: u64,
 }
 

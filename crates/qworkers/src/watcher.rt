@@ -34,7 +34,7 @@ impl<S: StoreId> Model for Watch<S> {
     ghost view = { λ w. record { share = w.share; looks = w.looks.items } };
 }
 
-/// That this watcher looks so many times.
+/// That this watcher looks N times.
 #[derive(Drop)]
 pub(crate) struct Watches<S> {
     worker: u64,
@@ -49,7 +49,7 @@ impl<S: StoreId> Promise<Watch<S>> for Watches<S> {
     ghost kept_by = { λ p w. IsWatch (start S.id.setting) p.worker p.boards w };
 }
 
-/// The seats of the workers of so many scripts, and that of who looks at the boards, which is the last.
+/// The seats of the workers of N scripts, and that of who looks at the boards, which is the last.
 pub(crate) fn part_watcher<S: StoreId>(
     seats: Vec<Seat<S, Viewer<S>>>,
     scripts: usize,
@@ -63,7 +63,7 @@ pub(crate) fn part_watcher<S: StoreId>(
     (seats, watcher)
 }
 
-/// Looks so many times, one after the other. No look waits.
+/// Looks N times, one after the other. No look waits.
 fn look_on<S: StoreId>(seat: Seat<S, Viewer<S>>, looks: Vec<Look>, boards: u64) -> Watch<S>
     requires seat { seat.tally ≡ no_tally }
     requires room { (vec_len looks ≡ 0) × (boards ≤ vec_capacity looks) }
@@ -80,7 +80,7 @@ fn look_on<S: StoreId>(seat: Seat<S, Viewer<S>>, looks: Vec<Look>, boards: u64) 
     }
 }
 
-/// Looks so many times in a thread of its own, and waits until it has done so.
+/// Looks N times in a thread of its own, and waits until it has done so.
 fn look_beside<S, R>(
     rt: &R,
     alloc: Global,

@@ -1,4 +1,4 @@
-//! Boards held against a journal: some that were written by hand, and those of a run.
+//! Boards checked against a journal: some that were written by hand, and those of a run.
 
 use crate::given::{lines, setup};
 use qaudit_checks::{BoardFault, check_boards, check_looks};
@@ -47,7 +47,7 @@ fn row(kind: Kind, id: u32, blocks: u64, inodes: u64) -> BoardRow {
     }
 }
 
-/// A board of one file, on which bob has so many blocks, and all together have so many.
+/// A board of one file, on which bob has N blocks, and all together have so many.
 fn board(alloc: Global, version: u64, bob: u64, all: u64) -> Result<Board, Fail> {
     let root = row(Kind::User, 0, 0, 1);
     let bob = row(Kind::User, 1001, bob, 1);

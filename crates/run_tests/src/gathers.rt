@@ -1,4 +1,4 @@
-//! Journals held against a transcript that was written by hand.
+//! Journals checked against a transcript that was written by hand.
 ghost use Rattle.std.specs.Prelude.{◌≡◌, length, IfOk};
 
 use crate::given::{FIRST_FILES, lines};

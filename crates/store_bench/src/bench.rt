@@ -34,7 +34,7 @@ impl Tally {
     }
 }
 
-/// So many calls of one caller.
+/// N calls of one caller.
 #[inline(never)]
 fn apply_each(
     store: &mut Store,

@@ -41,7 +41,7 @@ pub(crate) fn creates(alloc: Global, prefix: &str, first: u64, end: u64) -> io::
     Ok(calls)
 }
 
-/// So many stats.
+/// N stats.
 pub(crate) fn stats(alloc: Global, count: u64, files: u64) -> io::Result<Vec<Call>>
     requires { 1 ≤ files }
 {
@@ -61,7 +61,7 @@ fn write(alloc: Global, file: u64, off: u64, bytes: &[u8]) -> io::Result<Call> {
     })
 }
 
-/// So many writes.
+/// N writes.
 pub(crate) fn writes(
     alloc: Global,
     count: u64,

@@ -90,7 +90,7 @@ pub(crate) fn move_directory(rt: &impl Print, alloc: Global, bench: &mut Bench) 
     say(rt, bench.move_full(&moves)?)
 }
 
-/// A path of so many components.
+/// A path of N components.
 fn nested(alloc: Global, components: u64) -> io::Result<Path> {
     let mut text = String::new(alloc);
     for _ in 0..components {
@@ -99,7 +99,7 @@ fn nested(alloc: Global, components: u64) -> io::Result<Path> {
     path(alloc, &text)
 }
 
-/// Stats of a path of so many components.
+/// Stats of a path of N components.
 fn stats_at(alloc: Global, components: u64) -> io::Result<Vec<Call>> {
     let mut calls = Vec::new(alloc);
     for _ in 0..TIMES {

@@ -37,7 +37,7 @@ fn record(
     })
 }
 
-/// What an audit of the rows tells; names are told as directory and inode, records as kind, id, blocks and inodes.
+/// What an audit of the rows tells; names are reported as directory and inode, records as kind, id, blocks and inodes.
 fn told(
     alloc: Global,
     inodes: &[InodeRow],

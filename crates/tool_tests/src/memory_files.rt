@@ -42,7 +42,7 @@ quotafs journal 1 workers 1
 ";
 
 /// The files `a.toml`, `s.txt` and `s.journal`, for one of which memory may be wanted and not there. Each new file takes
-/// so many bytes, and may refuse to be flushed.
+/// N bytes, and may refuse to be flushed.
 #[derive(Drop)]
 pub(crate) struct MemoryFiles<'a> {
     pub(crate) alloc: Global,

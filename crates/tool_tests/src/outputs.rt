@@ -53,7 +53,7 @@ fn help_and_flushes_may_be_refused(rt: HostRuntime) -> Result<(), AllocError> {
     Ok(())
 }
 
-/// The status of a run, behind whose outcome the file for the journal takes so many bytes.
+/// The status of a run, after whose outcome the file for the journal takes N bytes.
 fn status_of_journal<R: Threads + Wait + Sync>(
     rt: &R,
     alloc: Global,

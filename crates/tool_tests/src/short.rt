@@ -3,7 +3,7 @@
 use std::alloc::Global;
 use std::io::{self, ErrorKind, Write};
 
-/// A writer that takes so many bytes, one at a time, and then refuses. It may refuse to be flushed, too.
+/// A writer that takes N bytes, one at a time, and then refuses. It may refuse to be flushed, too.
 #[derive(Drop)]
 pub(crate) struct Short {
     pub(crate) taken: Vec<u8>,

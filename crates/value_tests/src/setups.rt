@@ -25,7 +25,7 @@ pub(crate) fn named(alloc: Global, id: u32, name: &str) -> Result<Principal, NoM
     })
 }
 
-/// A setup of so many blocks and 6 inodes, with two users and one group.
+/// A setup of N blocks and 6 inodes, with two users and one group.
 pub(crate) fn setup(
     alloc: Global,
     blocks: u64,
@@ -41,7 +41,7 @@ pub(crate) fn setup(
     Ok(Setup::new(blocks, 6, GRACES, all, groups))
 }
 
-// Each row but the first has a number or a name out of range, which is told before what else is wrong.
+// Each row but the first has a number or a name out of range, which is reported before what else is wrong.
 #[test]
 fn blocks_and_names_have_ranges(rt: HostRuntime) -> Result<(), NoMemory> {
     let alloc = rt.alloc();

@@ -24,7 +24,7 @@ impl Accounts {
         Ok(rows)
     }
 
-    /// Puts the rows that a bill changes on a board behind others, of which there is room for four. O(1).
+    /// Puts the rows that a bill changes on a board after others, of which there is room for four. O(1).
     pub fn push_changed_rows(&self, bill: &Bill, rows: &mut Vec<PlacedRow>)
         requires placed { IsBillFor self.now bill.now }
         requires room { vec_len rows.old + 4 ≤ vec_capacity rows.old }

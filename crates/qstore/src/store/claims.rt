@@ -61,7 +61,7 @@ impl Store {
         self.slots(uid, gid)
     }
 
-    /// What an inode of these owners takes that has so many blocks.
+    /// What an inode of these owners takes that has N blocks.
     pub(super) fn claim(
         &self,
         cred: &Cred,
@@ -95,7 +95,7 @@ impl Store {
     }
 
     /// Keeps the bill of a change by which the inode of one claim comes to stand in the place of the other's, and which
-    /// gives so many numbers, or tells why it is refused.
+    /// gives N numbers, or tells why it is refused.
     pub(super) fn admit(
         &mut self,
         cred: &Cred,

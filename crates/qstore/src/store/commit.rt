@@ -37,7 +37,7 @@ impl Store {
         self.accounts.settle(&self.bill);
     }
 
-    /// Puts the rows that `commit` of a ready call will change on a board behind others, of which there is room for
+    /// Puts the rows that `commit` of a ready call will change on a board after others, of which there is room for
     /// four. O(1). It is out of line, so that what is ready has no address where a call changes no row.
     ///
     /// The caller owes that this store had no other `ready`, `apply` or `commit` since.

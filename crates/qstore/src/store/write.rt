@@ -54,7 +54,7 @@ impl Store {
         }
     }
 
-    /// Whether the end of so many bytes at the offset is past the file limit.
+    /// Whether the end of N bytes at the offset is past the file limit.
     fn is_past_limit(&self, off: u64, len: u64) -> bool
         requires { len ≤ MAX_DATA }
         ensures past { result ≡ nat_lt self.now.state.file_limit (off + len) }

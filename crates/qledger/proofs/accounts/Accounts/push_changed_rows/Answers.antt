@@ -7,7 +7,7 @@ use Rattle.qledger.specs.Pushed.{placed_in}
 use Rattle.qledger.proofs.Boards.{effect-billed}
 use Rattle.qledger.proofs.accounts.Accounts.push_changed_rows.Goals as goal
 
--- what is put behind a list four times stands behind it
+-- what is put after a list four times stands after it
 behind-four : (rows r1 r2 r3 r4 a b c d : List PlacedRow) → r1 ≡ rows ++ a → r2 ≡ r1 ++ b → r3 ≡ r2 ++ c → r4 ≡ r3 ++ d
     → r4 ≡ rows ++ (a ++ b ++ c ++ d)
 behind-four rows r1 r2 r3 r4 a b c d first second third fourth =
