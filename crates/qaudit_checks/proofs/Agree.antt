@@ -4,7 +4,7 @@ use Rattle.std.specs.List.{filter}
 use Rattle.qrules.specs.declared.kind.Kind.{Kind}
 use Rattle.qrules.specs.declared.kind.Kind.TheVariants.{User, Group}
 use Rattle.qplain.specs.State.{State}
-use Rattle.qlaws.specs.Laws.{IsLawful}
+use Rattle.qplain_laws.specs.Laws.{IsLawful}
 use Rattle.qaudit.specs.declared.difference.Difference.TheVariants.{NoRow, Links}
 use Rattle.qaudit.specs.Recount.{ascending, count_of, counts_by, link_row, owner_of, recount_of}
 use Rattle.qaudit.specs.Differences.{counted_for, has_record, is_off, is_off_by_links, link_differences, owners_without_record, use_difference, use_differences}

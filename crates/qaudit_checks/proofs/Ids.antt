@@ -5,7 +5,7 @@ use Rattle.std.specs.BTreeSet.{insert_key}
 use Rattle.std.specs.List.{fold, list_any}
 use Rattle.std.specs.Ordering.{is_eq, match_ordering, nat_cmp}
 use Rattle.std.proofs.lemmas.List.Elements.{All-cons, All-head, All-nil, All-tail}
-use Rattle.qlaws.proofs.Tables.{same-number}
+use Rattle.qplain_laws.proofs.Tables.{same-number}
 use Rattle.qaudit.specs.Recount.{ascending}
 
 -- the number is among these

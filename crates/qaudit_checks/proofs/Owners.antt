@@ -9,7 +9,7 @@ use Rattle.qrules.specs.declared.kind.Kind.TheVariants.{User, Group}
 use Rattle.qplain.specs.Arguments as plain
 use Rattle.qplain.specs.Arguments.{is_declared, is_holder}
 use Rattle.qplain.specs.State.{Inode, State}
-use Rattle.qlaws.specs.Laws.{has_known_owners}
+use Rattle.qplain_laws.specs.Laws.{has_known_owners}
 use Rattle.qaudit.specs.Recount.{ascending, owner_of}
 use Rattle.qaudit.specs.Differences.{has_record, is_same_kind}
 use Rattle.qstore.specs.Rows.{inode_row_of, record_row_of}

@@ -10,7 +10,7 @@ use Rattle.qplain.specs.declared.receipt.Receipt.{Receipt}
 use Rattle.qplain.specs.declared.transcript.Transcript.{Transcript}
 use Rattle.qplain.specs.Journal.{entries_of}
 use Rattle.qplain.specs.Transcripts.{journaled_line, journaled_lines}
-use Rattle.qlaws.proofs.Playing.{own-one_more}
+use Rattle.qplain_laws.proofs.Playing.{own-one_more}
 use Rattle.qaudit_checks.specs.Gathered.{HasMore, IsTold, receipts_of}
 use Rattle.qaudit_checks.specs.FirstMismatch.{AreSeenAnswers, AreToldBefore, IsFirstOther, IsNextReceipt}
 

@@ -4,7 +4,7 @@ use Rattle.qrules.specs.declared.inode_row.InodeRow.{InodeRow}
 use Rattle.qrules.specs.declared.name_row.NameRow.{NameRow}
 use Rattle.qrules.specs.declared.record_row.RecordRow.{RecordRow}
 use Rattle.qplain.specs.State.{State}
-use Rattle.qlaws.specs.Laws.{IsLawful}
+use Rattle.qplain_laws.specs.Laws.{IsLawful}
 use Rattle.qaudit.specs.declared.difference.Difference.{Difference}
 use Rattle.qaudit.specs.Recount.{recount_of}
 use Rattle.qaudit.specs.Differences.{differences_of}

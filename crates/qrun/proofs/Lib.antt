@@ -1,6 +1,13 @@
--- What a journal tells of directories, what a run comes to, a journal played
--- again, and that of a run.
-pub mod Stats
-pub mod Coming
-pub mod Replaying
-pub mod GivingBack
+-- What stands among other things in order, a worker's own entries, one more line of its script, transcripts put together,
+-- receipts counted, seats by their places, the watcher's share, what faults tell, and what a run comes
+-- to.
+pub mod Subsequences
+pub mod Owning
+pub mod Working
+pub mod Told
+pub mod ToldSoFar
+pub mod Counting
+pub mod Seating
+pub mod Watched
+pub mod Naming
+pub mod Running

@@ -1,6 +1,7 @@
--- In reading order: what a run leaves, what a replay leaves, and the numbers of their faults. A module that no public
--- clause cites says so.
-pub mod Runs
-pub mod Replays
-pub mod ReplayFaults
-pub mod Left
+-- In reading order: the numbers of faults, what workers and the watcher have done, who plays and what they have done
+-- together, and the workers' transcripts.
+pub mod RunFaults
+pub mod Work
+pub mod Watching
+pub mod Crews
+pub mod Told

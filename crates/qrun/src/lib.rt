@@ -1,10 +1,17 @@
-//! Outcomes of runs and of replays, and journals played again.
+//! Runs: 1 to 16 scripts, each played by a worker in a thread of its own, on one shared store.
 #![tactic(auto)]
 
-pub use outcome::{Outcome, outcome_of};
-pub use replay_fault::ReplayFault;
-pub use replays::replay;
+pub use gate::{Gate, NoGate};
+pub use options::Options;
+pub use run_fault::RunFault;
+pub use runs::run_scripts;
 
-mod outcome;
-mod replay_fault;
-mod replays;
+mod concluding;
+mod crew;
+mod gate;
+mod options;
+mod run_fault;
+mod runs;
+mod telling;
+mod watcher;
+mod worker;

@@ -7,8 +7,8 @@ use Rattle.qplain.specs.declared.line.Line.{Line}
 use Rattle.qplain.specs.declared.receipt.Receipt.{Receipt}
 use Rattle.qplain.specs.declared.tallies.Tallies.{Tallies}
 use Rattle.qplain.specs.Journal.{entry_of}
-use Rattle.qhistory.specs.Histories.{Recorded, recorded}
-use Rattle.qhistory.proofs.Prefixes.{prefix_trans}
+use Rattle.qshare_history.specs.Histories.{Recorded, recorded}
+use Rattle.qshare_history.proofs.Prefixes.{prefix_trans}
 use Rattle.qshare.specs.Calls.{IsJournaled}
 use Rattle.qshare.specs.Locked.{Locked}
 

@@ -8,12 +8,12 @@ use Rattle.qplain.specs.Setups.{Setting}
 use Rattle.qplain.specs.State.{State, start}
 use Rattle.qplain.specs.Use.{total_of}
 use Rattle.qplain.specs.Journal.{IsLegal, play, played}
-use Rattle.qlaws.proofs.Playing.{play-one_more}
+use Rattle.qplain_laws.proofs.Playing.{play-one_more}
 use Rattle.qstore.specs.Ready.{committed}
-use Rattle.qhistory.specs.Histories.{Recorded, recorded}
-use Rattle.qhistory.specs.StoreIds.{Identity}
-use Rattle.qboards.specs.declared.board_change.BoardChange.{BoardChange}
-use Rattle.qboards.specs.Boards.{BringsOn, changed_by, shown_of, with_rows}
+use Rattle.qshare_history.specs.Histories.{Recorded, recorded}
+use Rattle.qshare_history.specs.StoreIds.{Identity}
+use Rattle.qshare_boards.specs.declared.board_change.BoardChange.{BoardChange}
+use Rattle.qshare_boards.specs.Boards.{BringsOn, changed_by, shown_of, with_rows}
 use Rattle.qstore_journaled.specs.declared.next.Next.{Next}
 use Rattle.qstore_journaled.specs.Journaled.{IsStoreOf, Journaled}
 use Rattle.qstore_journaled.specs.Next.{CanFollow}

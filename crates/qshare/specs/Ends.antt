@@ -2,7 +2,7 @@
 use Rattle.std.specs.Prelude.{◌≡◌, ℕ, List, All}
 use mathlib.Core.List.{IsPrefix}
 use Rattle.qplain.specs.Journal.{tally_of}
-use Rattle.qhistory.specs.Shares.{HandedIn, tally_of_shares}
+use Rattle.qshare_history.specs.Shares.{HandedIn, tally_of_shares}
 use Rattle.qstore_journaled.specs.Journaled.{IsPlayed, Journaled}
 
 -- a store that is what its journal leaves; what the shares have counted is the journal's tally, and each has seen a

@@ -4,9 +4,9 @@ use mathlib.Core.List.{IsPrefix}
 use Rattle.qplain.specs.declared.entry.Entry.{Entry}
 use Rattle.qplain.specs.declared.tallies.Tallies.{Tallies}
 use Rattle.qplain.specs.Journal.{no_tally, tally_of}
-use Rattle.qhistory.specs.Counted.{Counted}
-use Rattle.qhistory.specs.Histories.{Recorded, recorded}
-use Rattle.qhistory.specs.StoreIds.{Identity}
+use Rattle.qshare_history.specs.Counted.{Counted}
+use Rattle.qshare_history.specs.Histories.{Recorded, recorded}
+use Rattle.qshare_history.specs.StoreIds.{Identity}
 use Rattle.qstore_journaled.specs.Journaled.{IsStoreOf, Journaled}
 
 -- the journal, and how much of it is published

@@ -6,7 +6,7 @@ use Rattle.qplain.specs.declared.entry.Entry.{Entry}
 use Rattle.qplain.specs.Journal.{board_of}
 use Rattle.qplain.specs.Setups.{Setting}
 use Rattle.qplain.specs.State.{State, start}
-use Rattle.qboards.specs.Boards.{shown_of, with_rows}
+use Rattle.qshare_boards.specs.Boards.{shown_of, with_rows}
 
 -- the rows of a state's board
 abbrev pub rows_of : State → List BoardRow

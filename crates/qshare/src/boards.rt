@@ -2,12 +2,12 @@
 ghost use Rattle.std.specs.Prelude.{◌≡◌, ◌++◌, ◌∷◌, [], List, IfOk, OnErr};
 ghost use mathlib.Core.List.{IsPrefix};
 ghost use Rattle.qplain.specs.declared.entry.Entry.{Entry};
-ghost use Rattle.qhistory.specs.Histories.{recorded};
+ghost use Rattle.qshare_history.specs.Histories.{recorded};
 ghost use Rattle.qstore_journaled.specs.Journaled.{IsStoreOf};
 ghost use Rattle.qstore_journaled.specs.Next.{CanFollow};
 
-use qhistory::{Prefix, StoreId};
 use qplain::NoMemory;
+use qshare_history::{Prefix, StoreId};
 use qstore_journaled::{JournaledStore, Next};
 
 /// What lies under a shared store's lock for those who look at its boards: `Published`, or `NoBoards` where nobody can.

@@ -4,7 +4,7 @@ ghost use Rattle.qshare.specs.ShareFaults.{end_fault_number};
 
 use crate::boards::Boards;
 use crate::shared::Shared;
-use qhistory::{Share, StoreId};
+use qshare_history::{Share, StoreId};
 
 /// Why a shared store was not ended. It gives the store and the shares back, unchanged.
 #[derive(Drop)]

@@ -12,8 +12,8 @@ use crate::boards::Boards;
 use crate::locked_store::LockedStore;
 use crate::seat::Seat;
 use crate::shared::Shared;
-use qhistory::StoreId;
 use qplain::{Call, CallFault, Cred, Receipt};
+use qshare_history::StoreId;
 use std::marker::Model;
 use std::sync::{MutexGuard, Wait};
 

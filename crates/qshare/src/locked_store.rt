@@ -5,15 +5,15 @@ ghost use Rattle.qplain.specs.declared.bounds.TheConstants.{MAX_ENTRIES};
 ghost use Rattle.qplain.specs.declared.call_fault.CallFault.TheVariants.{JournalFull};
 ghost use Rattle.qplain.specs.Journal.{IsLegal, no_tally};
 ghost use Rattle.qplain.specs.State.{start};
-ghost use Rattle.qhistory.specs.Histories.{recorded};
+ghost use Rattle.qshare_history.specs.Histories.{recorded};
 ghost use Rattle.qstore_journaled.specs.Journaled.{IsStoreOf};
 ghost use Rattle.qstore_journaled.specs.Lines.{line_of};
 ghost use Rattle.qshare.specs.Calls.{IsJournaled};
 ghost use Rattle.qshare.specs.Ends.{IsEndOf};
 
 use crate::boards::Boards;
-use qhistory::{History, Prefix, SeatTally, Share, StoreId, TallyPart, TallyTotal, together};
 use qplain::{Call, CallFault, Cred, Receipt};
+use qshare_history::{History, Prefix, SeatTally, Share, StoreId, TallyPart, TallyTotal, together};
 use qstore_journaled::JournaledStore;
 use std::marker::Model;
 use std::sync::Wait;

@@ -1,8 +1,8 @@
 ghost use Rattle.std.specs.Prelude.{◌≡◌};
 
 use crate::boards::Boards;
-use qhistory::{Prefix, StoreId};
 use qplain::NoMemory;
+use qshare_history::{Prefix, StoreId};
 use qstore_journaled::{JournaledStore, Next};
 
 /// Nobody can look at the boards of the store: nothing is published and nothing waits.

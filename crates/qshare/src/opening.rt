@@ -3,7 +3,7 @@ ghost use Rattle.std.specs.Prelude.{◌≡◌, ◌<◌, ◌≤◌, ◌⊎◌, []
 ghost use Rattle.qplain.specs.Journal.{board_of, no_tally};
 ghost use Rattle.qplain.specs.Setups.{IsLawfulSetup};
 ghost use Rattle.qplain.specs.State.{start};
-ghost use Rattle.qhistory.specs.Histories.{recorded};
+ghost use Rattle.qshare_history.specs.Histories.{recorded};
 ghost use Rattle.qstore_journaled.specs.Journaled.{IsStoreOf};
 ghost use Rattle.qshare.specs.Seats.{seats_of};
 ghost use Rattle.qshare.specs.declared.share_fault.ShareFault.TheVariants.{Seats};
@@ -15,10 +15,10 @@ use crate::published::Published;
 use crate::seat::{Blind, Seat};
 use crate::share_fault::ShareFault;
 use crate::shared::Shared;
-use qboards::{Publisher, Viewer};
-use qhistory::{BlankCounters, History, Prefix, StoreId, TallyPart};
 use qplain::{Board, NoMemory, Setup};
 use qrules::Items;
+use qshare_boards::{Publisher, Viewer};
+use qshare_history::{BlankCounters, History, Prefix, StoreId, TallyPart};
 use qstore::Store;
 use qstore_journaled::JournaledStore;
 use std::alloc::Global;
@@ -40,7 +40,7 @@ pub struct Opened {
 
 impl Model for Opened {
     ghost use Rattle.std.specs.Prelude.{◌≡◌, ◌<◌, ◌≤◌, []};
-    ghost use Rattle.qhistory.specs.StoreIds.{Identity};
+    ghost use Rattle.qshare_history.specs.StoreIds.{Identity};
 
     ghost Value = { Identity };
 

@@ -6,9 +6,9 @@ ghost use Rattle.qshare.specs.declared.published.TheConstants.{MOST_ROWS};
 ghost use Rattle.qshare.specs.Waiting.{LeadsOn};
 
 use crate::boards::Boards;
-use qboards::{BoardChange, Publisher};
-use qhistory::{Prefix, StoreId};
 use qplain::{NoMemory, PlacedRow};
+use qshare_boards::{BoardChange, Publisher};
+use qshare_history::{Prefix, StoreId};
 use qstore_journaled::{JournaledStore, Next};
 use std::alloc::Global;
 use std::sync::Wait;

@@ -2,18 +2,18 @@
 ghost use Rattle.std.specs.Prelude.{◌≡◌, ◌≤◌, length, IfOk};
 ghost use Rattle.qplain.specs.Journal.{IsLegal, no_tally};
 ghost use Rattle.qplain.specs.State.{start};
-ghost use Rattle.qhistory.specs.Histories.{recorded};
-ghost use Rattle.qboards.specs.Boards.{IsHistoryOf, shown_of};
-ghost use Rattle.qboards.specs.Looks.{IsBoardAnswer, IsRecordAnswer};
-ghost use Rattle.qboards.specs.Whole.{IsWhole};
+ghost use Rattle.qshare_history.specs.Histories.{recorded};
+ghost use Rattle.qshare_boards.specs.Boards.{IsHistoryOf, shown_of};
+ghost use Rattle.qshare_boards.specs.Looks.{IsBoardAnswer, IsRecordAnswer};
+ghost use Rattle.qshare_boards.specs.Whole.{IsWhole};
 ghost use Rattle.qshare.specs.Seats.{HasLooked, HasSeenOn};
 
 use crate::boards::Boards;
 use crate::locked_store::LockedStore;
-use qboards::{Looked, Viewer};
-use qhistory::{Prefix, SeatTally, Share, StoreId, TallyPart};
 use qplain::{Board, LookFault};
 use qrules::{BoardRow, Kind};
+use qshare_boards::{Looked, Viewer};
+use qshare_history::{Prefix, SeatTally, Share, StoreId, TallyPart};
 use std::marker::Model;
 
 /// What a seat of a store has whose boards nobody can look at.
@@ -32,7 +32,7 @@ pub struct Seat<S: StoreId, V: Drop> {
 
 impl<S: StoreId, V: Drop> Model for Seat<S, V> {
     ghost use Rattle.std.specs.Prelude.{◌≡◌};
-    ghost use Rattle.qboards.specs.Boards.{IsHistoryOf};
+    ghost use Rattle.qshare_boards.specs.Boards.{IsHistoryOf};
     ghost use Rattle.qshare.specs.Seats.{Seated};
 
     ghost Value = { Seated };

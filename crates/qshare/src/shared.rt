@@ -3,7 +3,7 @@ ghost use Rattle.std.specs.Prelude.{◌≡◌, ◌≤◌, ◌↔◌, ℕ, length
 ghost use Rattle.std.specs.Result.{IsOk};
 ghost use Rattle.qplain.specs.declared.bounds.TheConstants.{MAX_ENTRIES};
 ghost use Rattle.qplain.specs.declared.call_fault.CallFault.TheVariants.{JournalFull};
-ghost use Rattle.qhistory.specs.Shares.{AreThere, IsLeastMissing};
+ghost use Rattle.qshare_history.specs.Shares.{AreThere, IsLeastMissing};
 ghost use Rattle.qstore_journaled.specs.Lines.{line_of};
 ghost use Rattle.qshare.specs.Calls.{IsCalled};
 ghost use Rattle.qshare.specs.Ends.{IsEndOf};
@@ -13,8 +13,8 @@ use crate::boards::Boards;
 use crate::end_fault::EndFault;
 use crate::locked_store::LockedStore;
 use crate::seat::Seat;
-use qhistory::{Share, StoreId, least_missing};
 use qplain::{Call, CallFault, Cred, Receipt};
+use qshare_history::{Share, StoreId, least_missing};
 use qstore_journaled::JournaledStore;
 use std::sync::{Mutex, Wait};
 

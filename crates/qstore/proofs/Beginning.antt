@@ -8,10 +8,10 @@ use Rattle.qplain.specs.declared.bounds.TheConstants.{FILE_LIMIT, ROOT}
 use Rattle.qplain.specs.Setups.{IsLawfulSetup, Setting}
 use Rattle.qplain.specs.State.{State, root, start}
 use Rattle.qplain.specs.Use.{links_of}
-use Rattle.qlaws.proofs.Start.{start_is_lawful}
-use Rattle.qtree.specs.TreeOf.{AreLinks}
-use Rattle.qchange.proofs.Making.{InOrder}
-use Rattle.qledger.specs.Books.{AreBooksOf, AreInRange}
+use Rattle.qplain_laws.proofs.Start.{start_is_lawful}
+use Rattle.qstore_tree.specs.TreeOf.{AreLinks}
+use Rattle.qstore_change.proofs.Making.{InOrder}
+use Rattle.qstore_accounts.specs.Books.{AreBooksOf, AreInRange}
 use Rattle.qstore.specs.Kept.{IsCounted, state_of}
 use Rattle.qstore.specs.declared.store.Store.TheInside.{Inside}
 

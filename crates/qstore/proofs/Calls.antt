@@ -16,14 +16,14 @@ use Rattle.qplain.specs.Rights.{may_give, may_remove, may_write}
 use Rattle.qplain.specs.State.{Inode, State, inode_at, named, new_directory, new_file}
 use Rattle.qplain.specs.Use.{links_of, weight}
 use Rattle.qplain.specs.Walk.{led_to}
-use Rattle.qlaws.specs.Laws.{FitsTogether}
-use Rattle.qlaws.proofs.Settling.{absent-next}
-use Rattle.qlaws.proofs.Removing.{Replaces-last, Replaces-more, links_of-unlinked}
-use Rattle.qlaws.proofs.Replacing.{Replaces-changed, Replaces-created}
-use Rattle.qledger.specs.declared.claim.Claim.{Claim}
-use Rattle.qledger.specs.declared.claim.Slots.{Slots}
-use Rattle.qledger.specs.Books.{HasSlots}
-use Rattle.qtree.specs.Tree.{IsSameTree, RoomyTree}
+use Rattle.qplain_laws.specs.Laws.{FitsTogether}
+use Rattle.qplain_laws.proofs.Settling.{absent-next}
+use Rattle.qplain_laws.proofs.Removing.{Replaces-last, Replaces-more, links_of-unlinked}
+use Rattle.qplain_laws.proofs.Replacing.{Replaces-changed, Replaces-created}
+use Rattle.qstore_accounts.specs.declared.claim.Claim.{Claim}
+use Rattle.qstore_accounts.specs.declared.claim.Slots.{Slots}
+use Rattle.qstore_accounts.specs.Books.{HasSlots}
+use Rattle.qstore_tree.specs.Tree.{IsSameTree, RoomyTree}
 use Rattle.qstore.specs.declared.store.Store.TheInside.{Inside}
 use Rattle.qstore.specs.declared.file_type.FileType.{FileType}
 use Rattle.qstore.specs.declared.file_type.FileType.TheVariants.{File as AFile, Directory}
@@ -32,7 +32,7 @@ use Rattle.qstore.specs.Kept.{state_of, stored_of}
 use Rattle.qstore.specs.FileTypes.{inode_new}
 use Rattle.qstore.specs.Targets.{IsTarget}
 use Rattle.qstore.specs.Decided.{IsAsked, IsClaimed, IsConsistent}
-use Rattle.qchange.specs.Changes.{altered, altered_at}
+use Rattle.qstore_change.specs.Changes.{altered, altered_at}
 use Rattle.qstore.specs.Stored.{IsSameStore, Stored}
 use Rattle.qstore.proofs.Deciding.{asked-for, claimed, claimed-again, unclaimed}
 

@@ -18,25 +18,25 @@ use Rattle.qplain.specs.Decision.{ends_after, refusal_between}
 use Rattle.qplain.specs.State.{Inode, State, inode_at}
 use Rattle.qplain.specs.Step.{change_between, settle}
 use Rattle.qplain.specs.Use.{weight}
-use Rattle.qlaws.specs.Laws.{IsLawful}
-use Rattle.qlaws.specs.Replaces.{Replaces, weight_of}
-use Rattle.qlaws.proofs.Replacing.{Replaces-changed, change-after}
-use Rattle.qlaws.proofs.Settling.{settle-granted, settle-refused, settle-with_limits_of}
-use Rattle.qledger.specs.declared.bill.Bill.{Bill}
-use Rattle.qledger.specs.declared.claim.Claim.{Claim}
-use Rattle.qledger.specs.declared.claim.Slots.{Slots}
-use Rattle.qledger.specs.Bills.{IsBillFor, settled}
-use Rattle.qledger.specs.Books.{AreBooksOf, Books, HasSlots}
-use Rattle.qledger.specs.KeptHolders.{holders_in}
-use Rattle.qledger.specs.Replacements.{IsReplacement}
-use Rattle.qledger.proofs.Booked.{claim-weight}
+use Rattle.qplain_laws.specs.Laws.{IsLawful}
+use Rattle.qplain_laws.specs.Replaces.{Replaces, weight_of}
+use Rattle.qplain_laws.proofs.Replacing.{Replaces-changed, change-after}
+use Rattle.qplain_laws.proofs.Settling.{settle-granted, settle-refused, settle-with_limits_of}
+use Rattle.qstore_accounts.specs.declared.bill.Bill.{Bill}
+use Rattle.qstore_accounts.specs.declared.claim.Claim.{Claim}
+use Rattle.qstore_accounts.specs.declared.claim.Slots.{Slots}
+use Rattle.qstore_accounts.specs.Bills.{IsBillFor, settled}
+use Rattle.qstore_accounts.specs.Books.{AreBooksOf, Books, HasSlots}
+use Rattle.qstore_accounts.specs.KeptHolders.{holders_in}
+use Rattle.qstore_accounts.specs.Replacements.{IsReplacement}
+use Rattle.qstore_accounts.proofs.Booked.{claim-weight}
 use Rattle.qstore.specs.declared.ready.Plan.{Plan}
 use Rattle.qstore.specs.declared.ready.Plan.TheVariants.{Nothing, Change, Limits as SetLimits}
 use Rattle.qstore.specs.declared.ready.Ready.{Ready}
-use Rattle.qchange.specs.declared.tree_change.TreeChange.{TreeChange}
+use Rattle.qstore_change.specs.declared.tree_change.TreeChange.{TreeChange}
 use Rattle.qstore.specs.Decided.{IsAsked, IsBilled, IsClaimed, IsDecided, IsUnbilled, IsConsistent}
 use Rattle.qstore.specs.Ready.{CanCarryOut, IsRefused, billed, effect}
-use Rattle.qchange.specs.Changes.{CanChange, changed}
+use Rattle.qstore_change.specs.Changes.{CanChange, changed}
 use Rattle.qstore.specs.Stored.{IsSameStore, Stored}
 use Rattle.qstore.specs.Told.{told}
 

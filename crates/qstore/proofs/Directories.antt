@@ -9,11 +9,11 @@ use Rattle.qplain.specs.Rights.{may_remove}
 use Rattle.qplain.specs.State.{Inode, State, inode_at, is_directory, named, new_directory}
 use Rattle.qplain.specs.Use.{is_empty, links_of}
 use Rattle.qplain.specs.Walk.{led_to}
-use Rattle.qlaws.specs.Laws.{IsLawful}
-use Rattle.qlaws.proofs.Bounding.{too_many-directory}
-use Rattle.qlaws.proofs.Removing.{Replaces-last, one_name}
-use Rattle.qtree.proofs.Directories.{directory-there}
-use Rattle.qledger.specs.declared.claim.Claim.{Claim}
+use Rattle.qplain_laws.specs.Laws.{IsLawful}
+use Rattle.qplain_laws.proofs.Bounding.{too_many-directory}
+use Rattle.qplain_laws.proofs.Removing.{Replaces-last, one_name}
+use Rattle.qstore_tree.proofs.Directories.{directory-there}
+use Rattle.qstore_accounts.specs.declared.claim.Claim.{Claim}
 use Rattle.qstore.specs.Decided.{IsAsked, IsClaimed, IsConsistent}
 use Rattle.qstore.specs.Stored.{Stored}
 use Rattle.qstore.proofs.Deciding.{asked-for, unclaimed}

@@ -3,7 +3,7 @@ use Rattle.std.proofs.Common.{ℕ, List, None, arith}
 use Rattle.std.specs.BTreeMap.{insert_entry}
 use Rattle.qplain.specs.Names.{with_name}
 use Rattle.qplain.specs.State.{name_key_cmp}
-use Rattle.qlaws.proofs.Replacing.{Replaces-names}
+use Rattle.qplain_laws.proofs.Replacing.{Replaces-names}
 use Rattle.qstore.specs.Decided.{IsAsked, IsConsistent}
 use Rattle.qstore.specs.Stored.{Stored}
 use Rattle.qstore.proofs.Deciding.{asked-for, unclaimed}

@@ -16,9 +16,9 @@ use Rattle.qplain.specs.State.{Inode, State, inode_at}
 use Rattle.qplain.specs.Use.{links_of, weight}
 use Rattle.qstore.specs.Kept.{IsCounted}
 use Rattle.qstore.specs.Rows.{inode_row_of}
-use Rattle.qtree.specs.Tree.{kept_row}
-use Rattle.qledger.specs.Books.{Books}
-use Rattle.qtree.proofs.Rows.{HasFewBlocks}
+use Rattle.qstore_tree.specs.Tree.{kept_row}
+use Rattle.qstore_accounts.specs.Books.{Books}
+use Rattle.qstore_tree.proofs.Rows.{HasFewBlocks}
 
 -- blocks that are few in all are few in each inode
 few-of : (es : List (ℕ × Inode)) → sum_by (weight Blocks) (values_of es) ≤ MAX_BLOCKS → All HasFewBlocks es

@@ -5,8 +5,8 @@ use Rattle.qrules.specs.Sort.{Blocks}
 use Rattle.qplain.specs.Renames.{passes, renamed}
 use Rattle.qplain.specs.State.{Inode, inode_at, is_directory, named}
 use Rattle.qplain.specs.Use.{is_empty, links_of, names_to, weight}
-use Rattle.qlaws.proofs.Renaming.{Replaces-held_on, Replaces-moved, Replaces-replaced, names_to-target, one_name-replaced}
-use Rattle.qledger.specs.declared.claim.Claim.{Claim}
+use Rattle.qplain_laws.proofs.Renaming.{Replaces-held_on, Replaces-moved, Replaces-replaced, names_to-target, one_name-replaced}
+use Rattle.qstore_accounts.specs.declared.claim.Claim.{Claim}
 use Rattle.qstore.specs.Decided.{IsAsked, IsClaimed, IsConsistent}
 use Rattle.qstore.specs.Stored.{Stored}
 use Rattle.qstore.proofs.Deciding.{asked-for, unclaimed}

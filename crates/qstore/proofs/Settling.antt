@@ -3,14 +3,14 @@ use Rattle.std.proofs.Common.{◌≡◌, ℕ, Bool, true, false, List, Option, S
 use Rattle.std.specs.Option.{option_map}
 use Rattle.qplain.specs.State.{Holder, Inode, State, inode_at}
 use Rattle.qplain.specs.Use.{links_of}
-use Rattle.qtree.specs.TreeOf.{AreLinks, IsTreeOf}
-use Rattle.qchange.specs.declared.tree_change.TreeChange.{TreeChange}
-use Rattle.qchange.specs.declared.tree_change.TreeChange.TheVariants.{Create, Mkdir, Write, Truncate, Unlink, Rmdir, Link, Rename, Chown}
-use Rattle.qchange.specs.Changes.{altered_at, changed}
-use Rattle.qledger.specs.Bills.{settled}
-use Rattle.qledger.specs.Books.{AreBooksOf, AreInRange, Books}
-use Rattle.qledger.specs.KeptHolders.{holders_in}
-use Rattle.qledger.proofs.Booked.{in_range-settled}
+use Rattle.qstore_tree.specs.TreeOf.{AreLinks, IsTreeOf}
+use Rattle.qstore_change.specs.declared.tree_change.TreeChange.{TreeChange}
+use Rattle.qstore_change.specs.declared.tree_change.TreeChange.TheVariants.{Create, Mkdir, Write, Truncate, Unlink, Rmdir, Link, Rename, Chown}
+use Rattle.qstore_change.specs.Changes.{altered_at, changed}
+use Rattle.qstore_accounts.specs.Bills.{settled}
+use Rattle.qstore_accounts.specs.Books.{AreBooksOf, AreInRange, Books}
+use Rattle.qstore_accounts.specs.KeptHolders.{holders_in}
+use Rattle.qstore_accounts.proofs.Booked.{in_range-settled}
 use Rattle.qstore.specs.declared.store.Store.TheInside.{Inside}
 use Rattle.qstore.specs.Kept.{IsCounted, state_of, stored_of}
 use Rattle.qstore.specs.Ready.{CanSettle, billed}

@@ -5,7 +5,7 @@ use Rattle.qplain.specs.declared.reply.Reply.{Reply}
 use Rattle.qplain.specs.Caller.{Caller}
 use Rattle.qplain.specs.State.{State}
 use Rattle.qplain.specs.Step.{step}
-use Rattle.qlaws.proofs.Settling.{IsLawful-from_step, KeepsSetup-from_step}
+use Rattle.qplain_laws.proofs.Settling.{IsLawful-from_step, KeepsSetup-from_step}
 use Rattle.qstore.specs.Stored.{IsStorable}
 
 -- a step of a sound state leaves a sound state

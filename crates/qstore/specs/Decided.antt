@@ -8,12 +8,12 @@ use Rattle.qplain.specs.Decision.{ends_after, refusal_between}
 use Rattle.qplain.specs.declared.refusal.Refusal.{Refusal}
 use Rattle.qplain.specs.State.{Inode, State}
 use Rattle.qplain.specs.Step.{settle}
-use Rattle.qledger.specs.declared.bill.Bill.{Bill}
-use Rattle.qledger.specs.declared.claim.Claim.{Claim}
-use Rattle.qledger.specs.Bills.{IsBillFor, settled}
-use Rattle.qledger.specs.Books.{AreBooksOf, Books}
-use Rattle.qledger.specs.Claims.{IsShareOf, share_in}
-use Rattle.qledger.specs.Replacements.{IsReplacement}
+use Rattle.qstore_accounts.specs.declared.bill.Bill.{Bill}
+use Rattle.qstore_accounts.specs.declared.claim.Claim.{Claim}
+use Rattle.qstore_accounts.specs.Bills.{IsBillFor, settled}
+use Rattle.qstore_accounts.specs.Books.{AreBooksOf, Books}
+use Rattle.qstore_accounts.specs.Claims.{IsShareOf, share_in}
+use Rattle.qstore_accounts.specs.Replacements.{IsReplacement}
 use Rattle.qstore.specs.declared.ready.Ready.{Ready}
 use Rattle.qstore.specs.Ready.{CanCarryOut, committed}
 use Rattle.qstore.specs.Stored.{IsStorable, Stored}

@@ -3,7 +3,7 @@ use Rattle.std.specs.Prelude.{ℕ, List}
 use Rattle.qplain.specs.State.{Inode, State, new_directory, new_file}
 use Rattle.qstore.specs.declared.file_type.FileType.{FileType}
 use Rattle.qstore.specs.declared.file_type.FileType.TheVariants.{File, Directory}
-use Rattle.qchange.specs.Changes.{CanRmdir, CanUnlink}
+use Rattle.qstore_change.specs.Changes.{CanRmdir, CanUnlink}
 
 -- an empty file or directory of these owners
 abbrev pub inode_new : FileType → ℕ → ℕ → Inode

@@ -5,9 +5,9 @@ use Rattle.std.specs.Ordering.{nat_cmp}
 use Rattle.std.specs.List.Sorted.{IsStrictlySortedBy}
 use Rattle.std.specs.Map.{keys_of}
 use Rattle.qplain.specs.State.{State}
-use Rattle.qtree.specs.TreeOf.{AreLinks}
-use Rattle.qledger.specs.Books.{AreBooksOf, AreInRange, Books}
-use Rattle.qledger.specs.KeptHolders.{holders_in}
+use Rattle.qstore_tree.specs.TreeOf.{AreLinks}
+use Rattle.qstore_accounts.specs.Books.{AreBooksOf, AreInRange, Books}
+use Rattle.qstore_accounts.specs.KeptHolders.{holders_in}
 use Rattle.qstore.specs.declared.store.Store.TheInside.{Inside}
 use Rattle.qstore.specs.Stored.{IsStorable, Stored}
 

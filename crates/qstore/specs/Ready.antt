@@ -7,10 +7,10 @@ use Rattle.qplain.specs.declared.refusal.Refusal.{Refusal}
 use Rattle.qplain.specs.declared.reply.Reply.{Reply}
 use Rattle.qplain.specs.declared.reply.Reply.TheVariants.{Refused}
 use Rattle.qplain.specs.State.{State}
-use Rattle.qchange.specs.Changes.{CanChange, changed}
-use Rattle.qledger.specs.Bills.{IsBillFor, settled}
-use Rattle.qledger.specs.Books.{AreBooksOf}
-use Rattle.qledger.specs.KeptHolders.{holders_in}
+use Rattle.qstore_change.specs.Changes.{CanChange, changed}
+use Rattle.qstore_accounts.specs.Bills.{IsBillFor, settled}
+use Rattle.qstore_accounts.specs.Books.{AreBooksOf}
+use Rattle.qstore_accounts.specs.KeptHolders.{holders_in}
 use Rattle.qstore.specs.declared.ready.Plan.{Plan}
 use Rattle.qstore.specs.declared.ready.Plan.TheVariants.{Nothing, Change, Limits, SetGraces}
 use Rattle.qstore.specs.declared.ready.Ready.{Ready}

@@ -3,8 +3,8 @@ use Rattle.std.specs.Prelude.{ℕ, length}
 use Rattle.qrules.specs.declared.inode_row.InodeRow.{InodeRow}
 use Rattle.qplain.specs.State.{Inode, State}
 use Rattle.qplain.specs.Use.{links_of}
-pub use Rattle.qledger.specs.Rows.{StandsBefore, record_row_of}
-pub use Rattle.qtree.specs.Tree.{name_row_of}
+pub use Rattle.qstore_accounts.specs.Rows.{StandsBefore, record_row_of}
+pub use Rattle.qstore_tree.specs.Tree.{name_row_of}
 
 -- the row of an inode under its number, with its counted links
 abbrev pub inode_row_of : State → ℕ × Inode → InodeRow

@@ -3,10 +3,10 @@
 use Rattle.std.specs.Prelude.{◌≡◌, ◌≤◌}
 use Rattle.qblocks.specs.declared.file.TheConstants.{MAX_SIZE}
 use Rattle.qplain.specs.State.{State}
-use Rattle.qlaws.specs.Laws.{IsLawful}
-use Rattle.qtree.specs.Room.{Room}
-use Rattle.qledger.specs.declared.bill.Bill.{Bill}
-use Rattle.qledger.specs.Books.{Books}
+use Rattle.qplain_laws.specs.Laws.{IsLawful}
+use Rattle.qstore_tree.specs.Room.{Room}
+use Rattle.qstore_accounts.specs.declared.bill.Bill.{Bill}
+use Rattle.qstore_accounts.specs.Books.{Books}
 
 -- a state that a store can be in: a lawful one, whose file limit is within what a file can hold
 pub record IsStorable (S : State) : Type 0 where

@@ -1,8 +1,8 @@
 -- What the reply to a granted call tells. No public clause cites this module.
 use Rattle.std.specs.Prelude.{◌-◌, Option}
 use Rattle.qplain.specs.declared.change.Change.{Change}
-use Rattle.qledger.specs.declared.claim.Claim.{Claim}
-use Rattle.qledger.specs.Claims.{weight_in}
+use Rattle.qstore_accounts.specs.declared.claim.Claim.{Claim}
+use Rattle.qstore_accounts.specs.Claims.{weight_in}
 
 -- how the totals rise and fall where the inode of one claim comes to stand in the place of the other's
 abbrev pub told : Option Claim → Option Claim → Change

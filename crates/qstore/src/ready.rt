@@ -5,10 +5,10 @@ ghost use Rattle.qstore.specs.Ready.{committed};
 ghost use Rattle.qstore.specs.Stored.{Stored};
 ghost use Rattle.qstore.specs.Told.{told};
 
-use qchange::TreeChange;
-use qledger::{Claim, change_of};
 use qplain::{Data, Refusal, Reply};
 use qrules::Graces;
+use qstore_accounts::{Claim, change_of};
+use qstore_change::TreeChange;
 
 /// What a granted call still has to do.
 #[derive(Drop)]

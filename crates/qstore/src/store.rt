@@ -8,18 +8,18 @@ ghost use Rattle.qplain.specs.Caller.{is_superuser};
 ghost use Rattle.qplain.specs.Arguments.{has_bad_number};
 ghost use Rattle.qplain.specs.Calls.{attempt_of};
 ghost use Rattle.qplain.specs.Step.{settle, step};
-ghost use Rattle.qlaws.specs.Laws.{IsLawful, PassesNoLimit};
-ghost use Rattle.qtree.specs.TreeOf.{IsTreeOf};
-ghost use Rattle.qledger.specs.Books.{HasSlots};
+ghost use Rattle.qplain_laws.specs.Laws.{IsLawful, PassesNoLimit};
+ghost use Rattle.qstore_tree.specs.TreeOf.{IsTreeOf};
+ghost use Rattle.qstore_accounts.specs.Books.{HasSlots};
 ghost use Rattle.qstore.specs.Stored.{IsSameStore, IsStorable, Stored};
 ghost use Rattle.qstore.specs.Decided.{IsDecided, IsConsistent};
 ghost use Rattle.qstore.specs.Ready.{CanCarryOut, IsReady, IsRefused, committed, wants_no_memory};
 
 use crate::ready::{Plan, Ready};
-use qledger::{Accounts, Bill, Slots};
 use qplain::{Call, Cred, FILE_LIMIT, NoMemory, Reply, Setup};
 use qrules::MAX_MOMENT;
-use qtree::Tree;
+use qstore_accounts::{Accounts, Bill, Slots};
+use qstore_tree::Tree;
 use std::alloc::Global;
 use std::marker::Model;
 

@@ -10,9 +10,9 @@ use Rattle.qplain.specs.Setups.{IsLawfulSetup, Setting}
 use Rattle.qplain.specs.State.{State, start}
 use Rattle.qplain.specs.Journal.{CanCount, change_of, counted, play, played, tally_of}
 use Rattle.qplain.specs.Step.{step}
-use Rattle.qlaws.proofs.Playing.{legal-one_more, play-one_more}
-use Rattle.qlaws.proofs.Start.{start_is_lawful}
-use Rattle.qlaws.proofs.Tallying.{tallies_have_room, tally-one_more}
+use Rattle.qplain_laws.proofs.Playing.{legal-one_more, play-one_more}
+use Rattle.qplain_laws.proofs.Start.{start_is_lawful}
+use Rattle.qplain_laws.proofs.Tallying.{tallies_have_room, tally-one_more}
 use Rattle.qstore.specs.declared.ready.Ready.{Ready}
 use Rattle.qstore.specs.Ready.{committed}
 use Rattle.qstore.specs.Stored.{Stored}

@@ -6,7 +6,7 @@ use Rattle.qplain.specs.declared.entry.Entry.{Entry}
 use Rattle.qplain.specs.Setups.{IsLawfulSetup, Setting}
 use Rattle.qplain.specs.State.{start}
 use Rattle.qplain.specs.Journal.{IsLegal, play}
-use Rattle.qlaws.specs.Laws.{IsLawful}
+use Rattle.qplain_laws.specs.Laws.{IsLawful}
 use Rattle.qstore.specs.Stored.{Stored}
 
 -- the setup, the store and its journal, and for how many entries more the journal has room

@@ -14,14 +14,14 @@ use Rattle.qtext.specs.Reading.{◌>>=◌}
 use Rattle.qtext.specs.Words.{is_text_byte, number_of, words}
 use Rattle.qtext.proofs.StepsFound.{joined, not_false, Spells, kept, passed, same_ok, same_word, step_found, word_found}
 use Rattle.qtext.proofs.WordsFound.{number_found}
-use Rattle.qline.specs.Journaled.{journaled_call_in}
-use Rattle.qline.specs.RepliesRead.{reply_in}
-use Rattle.qline.specs.RepliesSpelled.{reply_words}
+use Rattle.qtext_read.specs.Journaled.{journaled_call_in}
+use Rattle.qtext_read.specs.RepliesRead.{reply_in}
+use Rattle.qtext_read.specs.RepliesSpelled.{reply_words}
 use Rattle.qplain.specs.Held.{HasLawfulStat, IsReply, IsHeld}
-use Rattle.qline.proofs.ArgumentsFound.{any_number}
-use Rattle.qline.proofs.CallersFound.{any_caller}
-use Rattle.qline.proofs.CallsFound.{journaled_found}
-use Rattle.qline.proofs.RepliesFound.{any_reply}
+use Rattle.qtext_read.proofs.ArgumentsFound.{any_number}
+use Rattle.qtext_read.proofs.CallersFound.{any_caller}
+use Rattle.qtext_read.proofs.CallsFound.{journaled_found}
+use Rattle.qtext_read.proofs.RepliesFound.{any_reply}
 use Rattle.qtext_files.specs.RawLines.{RawLine}
 use Rattle.qtext_files.specs.Journals.{answer_in, at_entry, entry_in, journal_entry_of, head_in, head_of, head_keyword, workers_told, worker_of, workers_of}
 use Rattle.qplain.specs.Journals.{IsEntryOf, IsWorkers}

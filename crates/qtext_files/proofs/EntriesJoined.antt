@@ -6,10 +6,10 @@ use Rattle.qplain.specs.declared.entry.Entry.{Entry}
 use Rattle.qplain.specs.declared.call.Call.TheVariants.{Create, Mkdir, Write, Truncate, Read, Stat, Link, Unlink, Rmdir, Rename, Chown, SetQuota, SetGrace, Quota}
 use Rattle.qplain.specs.declared.reply.Reply.{Reply}
 use Rattle.qplain.specs.declared.reply.Reply.TheVariants.{Done, Bytes, Stat as StatReply, Quota as QuotaReply, Refused}
-use Rattle.qline.specs.Replies.{reply_text}
-use Rattle.qline.specs.RepliesSpelled.{reply_words}
-use Rattle.qline.specs.Spelling.{call_words, caller_text}
-use Rattle.qline.proofs.RepliesJoined.{reply_joined}
+use Rattle.qtext_read.specs.Replies.{reply_text}
+use Rattle.qtext_read.specs.RepliesSpelled.{reply_words}
+use Rattle.qtext_read.specs.Spelling.{call_words, caller_text}
+use Rattle.qtext_read.proofs.RepliesJoined.{reply_joined}
 use Rattle.qtext_files.specs.Spelling.{entry_text}
 
 -- words that have a first one

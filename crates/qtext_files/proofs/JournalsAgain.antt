@@ -10,13 +10,13 @@ use Rattle.qtext.specs.Reading.{each_of}
 use Rattle.qtext.specs.TextFaults.{want_of_memory}
 use Rattle.qtext.specs.Words.{parts}
 use Rattle.qtext.proofs.WordsAgain.{number_again}
-use Rattle.qline.specs.RepliesSpelled.{reply_words}
-use Rattle.qline.specs.Spelling.{call_words, caller_text}
-use Rattle.qline.proofs.ArgumentsAgain.{decimal_word}
-use Rattle.qline.proofs.CallersAgain.{caller_again, caller_word}
-use Rattle.qline.proofs.CallsAgain.{IsWord, any_number, call_word}
-use Rattle.qline.proofs.JournaledAgain.{journaled_again}
-use Rattle.qline.proofs.RepliesAgain.{reply_again, reply_word}
+use Rattle.qtext_read.specs.RepliesSpelled.{reply_words}
+use Rattle.qtext_read.specs.Spelling.{call_words, caller_text}
+use Rattle.qtext_read.proofs.ArgumentsAgain.{decimal_word}
+use Rattle.qtext_read.proofs.CallersAgain.{caller_again, caller_word}
+use Rattle.qtext_read.proofs.CallsAgain.{IsWord, any_number, call_word}
+use Rattle.qtext_read.proofs.JournaledAgain.{journaled_again}
+use Rattle.qtext_read.proofs.RepliesAgain.{reply_again, reply_word}
 use Rattle.qtext_files.specs.RawLines.{raw_lines_from}
 use Rattle.qtext_files.proofs.EntriesFound.{IsEntry}
 use Rattle.qtext_files.proofs.LinesAgain.{joined_is_text, joined_parts, raw_again}

@@ -6,8 +6,8 @@ use Rattle.qtext.specs.Words.{is_text_byte, parts, words}
 use Rattle.qtext.proofs.Joining.{lacks, parts_first, parts_join, passes_join, passes_weaker}
 use Rattle.qtext.proofs.Splitting.{some_part}
 use Rattle.qtext.proofs.WordsAgain.{text_lacks_feed}
-use Rattle.qline.proofs.ArgumentsAgain.{word_is_text, word_lacks_space}
-use Rattle.qline.proofs.CallsAgain.{IsWord}
+use Rattle.qtext_read.proofs.ArgumentsAgain.{word_is_text, word_lacks_space}
+use Rattle.qtext_read.proofs.CallsAgain.{IsWord}
 use Rattle.qtext_files.specs.RawLines.{raw_lines_from}
 use Rattle.qtext_files.proofs.RawLines.{more_lines}
 

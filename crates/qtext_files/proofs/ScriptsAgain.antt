@@ -10,10 +10,10 @@ use Rattle.qtext.specs.declared.text_fault.TextFault.{TextFault}
 use Rattle.qtext.specs.Reading.{each_of}
 use Rattle.qtext.specs.TextFaults.{want_of_memory}
 use Rattle.qtext.specs.Words.{parts}
-use Rattle.qline.specs.Spelling.{caller_text, call_words}
-use Rattle.qline.proofs.ArgumentsAgain.{decimal_word}
-use Rattle.qline.proofs.CallersAgain.{caller_word, caller_again}
-use Rattle.qline.proofs.CallsAgain.{IsWord, any_number, call_word, call_again}
+use Rattle.qtext_read.specs.Spelling.{caller_text, call_words}
+use Rattle.qtext_read.proofs.ArgumentsAgain.{decimal_word}
+use Rattle.qtext_read.proofs.CallersAgain.{caller_word, caller_again}
+use Rattle.qtext_read.proofs.CallsAgain.{IsWord, any_number, call_word, call_again}
 use Rattle.qtext_files.specs.RawLines.{raw_lines_from}
 use Rattle.qtext_files.specs.Scripts.{line_in, script_line_of, at_line, script_of}
 use Rattle.qtext_files.specs.Spelling.{line_words, script_spelling}

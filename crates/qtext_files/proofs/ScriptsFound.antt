@@ -8,10 +8,10 @@ use Rattle.qtext.specs.declared.text_fault.TextKind.TheVariants.{BadByte, Cut, T
 use Rattle.qtext.specs.Reading.{each_of}
 use Rattle.qtext.specs.Words.{is_text_byte, number, words}
 use Rattle.qtext.proofs.StepsFound.{passed, same_ok, step_found, word_found}
-use Rattle.qline.specs.Calls.{call_in}
-use Rattle.qline.proofs.ArgumentsFound.{any_number}
-use Rattle.qline.proofs.CallersFound.{any_caller}
-use Rattle.qline.proofs.CallsFound.{call_fits}
+use Rattle.qtext_read.specs.Calls.{call_in}
+use Rattle.qtext_read.proofs.ArgumentsFound.{any_number}
+use Rattle.qtext_read.proofs.CallersFound.{any_caller}
+use Rattle.qtext_read.proofs.CallsFound.{call_fits}
 use Rattle.qtext_files.specs.RawLines.{RawLine, raw_lines}
 use Rattle.qtext_files.specs.Scripts.{line_in, script_line_of, at_line, script_of}
 use Rattle.qtext_files.proofs.RawLines.{in_line_found}

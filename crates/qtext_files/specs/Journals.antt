@@ -9,9 +9,9 @@ use Rattle.qtext.specs.declared.text_fault.TextKind.TheVariants.{Cut, BadByte, B
 use Rattle.qtext.specs.declared.text_fault.TextFault.{TextFault}
 use Rattle.qtext.specs.Reading.{◌>>=◌, each_of}
 use Rattle.qtext.specs.Words.{is_text_byte, words, number, number_of}
-use Rattle.qline.specs.Callers.{caller_of}
-use Rattle.qline.specs.Journaled.{journaled_call_in}
-use Rattle.qline.specs.RepliesRead.{reply_in}
+use Rattle.qtext_read.specs.Callers.{caller_of}
+use Rattle.qtext_read.specs.Journaled.{journaled_call_in}
+use Rattle.qtext_read.specs.RepliesRead.{reply_in}
 use Rattle.qplain.specs.Journals.{Written}
 use Rattle.qtext_files.specs.RawLines.{RawLine, in_line, raw_lines}
 use Rattle.qplain.specs.declared.bounds.TheConstants.{MAX_ENTRIES, MAX_WORKERS}

@@ -8,8 +8,8 @@ use Rattle.qtext.specs.declared.text_fault.TextFault.{TextFault}
 use Rattle.qplain.specs.declared.bounds.TheConstants.{MAX_LINES}
 use Rattle.qtext.specs.Reading.{◌>>=◌, each_of}
 use Rattle.qtext.specs.Words.{is_text_byte, words, number}
-use Rattle.qline.specs.Callers.{caller_of}
-use Rattle.qline.specs.Calls.{call_in}
+use Rattle.qtext_read.specs.Callers.{caller_of}
+use Rattle.qtext_read.specs.Calls.{call_in}
 use Rattle.qtext_files.specs.RawLines.{RawLine, in_line, raw_lines}
 
 -- MOMENT CALLER CALL

@@ -4,8 +4,8 @@ use Rattle.std.specs.List.{flat_map, join_with_byte}
 use Rattle.qplain.specs.Journals.{Written}
 use Rattle.qplain.specs.declared.entry.Entry.{Entry}
 use Rattle.qplain.specs.declared.line.Line.{Line}
-use Rattle.qline.specs.RepliesSpelled.{reply_words}
-use Rattle.qline.specs.Spelling.{call_words, caller_text}
+use Rattle.qtext_read.specs.RepliesSpelled.{reply_words}
+use Rattle.qtext_read.specs.Spelling.{call_words, caller_text}
 
 -- MOMENT CALLER CALL
 abbrev pub line_words : Line → List (List ℕ)

@@ -1,10 +1,10 @@
 ghost use Rattle.std.specs.Prelude.{◌≡◌, Ok, None};
 ghost use Rattle.qtext.specs.Gives.{Gives};
-ghost use Rattle.qline.specs.Callers.{caller_of};
+ghost use Rattle.qtext_read.specs.Callers.{caller_of};
 
-use qline::caller_of;
 use qplain::Cred;
 use qtext::ReadFault;
+use qtext_read::caller_of;
 use std::alloc::Global;
 use std::marker::Model;
 

@@ -7,9 +7,9 @@ ghost use Rattle.qtext_files.specs.Journals.{answer_in, entry_in, journal_entry_
 use crate::callers::Callers;
 use crate::lines::ReadLine;
 use crate::raw_line::NextLine;
-use qline::{Paths, journaled_call_in, reply_in};
 use qplain::{Entry, MAX_ENTRIES, Reply};
 use qtext::{ReadFault, TextKind, number, number_of};
+use qtext_read::{Paths, journaled_call_in, reply_in};
 use std::alloc::Global;
 
 /// The number of a worker, of which there are so many, from 1.

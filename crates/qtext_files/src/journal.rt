@@ -14,10 +14,10 @@ use crate::entry::EntryReader;
 use crate::head::head_of;
 use crate::lines::{WANT_OF_MEMORY, read_lines};
 use crate::raw_line::next_line;
-use qline::Paths;
 use qplain::{Entry, Journal};
 use qrules::Items;
 use qtext::{ReadFault, TextFault, TextKind};
+use qtext_read::Paths;
 use std::alloc::Global;
 
 /// The entries after the first line, of N workers, or the first line at fault.

@@ -5,8 +5,8 @@ ghost use Rattle.qtext.specs.Written.{Writes};
 ghost use Rattle.qtext_files.specs.Spelling.{entry_text, head_text, journal_spelling};
 
 use qplain::{Entry, Journal};
-use qspell::{WriteFault, put_call, put_caller, put_reply};
 use qtext::{RefusedWrite, TextLine};
+use qtext_write::{WriteFault, put_call, put_caller, put_reply};
 use std::io::Write;
 
 /// `quotafs journal 1 workers W`.

@@ -3,7 +3,7 @@
 
 pub use from_text::FromText;
 pub use journal_text::{put_journal, write_journal};
-pub use qspell::WriteFault;
+pub use qtext_write::WriteFault;
 
 mod callers;
 mod entry;

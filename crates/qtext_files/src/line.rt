@@ -7,9 +7,9 @@ ghost use Rattle.qtext_files.specs.Scripts.{line_in, script_line_of};
 use crate::callers::Callers;
 use crate::lines::ReadLine;
 use crate::raw_line::NextLine;
-use qline::{Paths, call_in};
 use qplain::{Line, MAX_LINES};
 use qtext::{ReadFault, TextKind, number};
+use qtext_read::{Paths, call_in};
 use std::alloc::Global;
 
 /// `MOMENT CALLER CALL`.

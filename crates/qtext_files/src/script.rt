@@ -9,10 +9,10 @@ use crate::FromText;
 use crate::callers::Callers;
 use crate::line::LineReader;
 use crate::lines::read_lines;
-use qline::Paths;
 use qplain::{Line, Script};
 use qrules::Items;
 use qtext::TextFault;
+use qtext_read::Paths;
 use std::alloc::Global;
 
 /// The lines of a script, or the first line at fault with the first thing wrong in it.

@@ -1,8 +1,8 @@
 -- What the program owes a job.
 use Rattle.std.specs.Prelude.{ℕ, ◌<◌, ◌≤◌, length}
 use Rattle.qplain.specs.declared.bounds.TheConstants.{MAX_WORKERS}
-use Rattle.qjob.specs.declared.job.Job.{Job}
-use Rattle.qjob.specs.declared.job.Job.TheVariants.{Run, Replay}
+use Rattle.qtext_job.specs.declared.job.Job.{Job}
+use Rattle.qtext_job.specs.declared.job.Job.TheVariants.{Run, Replay}
 
 -- a run has a script
 abbrev pub HasScript : Job → Type 0

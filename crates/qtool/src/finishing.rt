@@ -2,14 +2,14 @@
 ghost use Rattle.std.specs.Prelude.{◌≡◌, Err, IfOk, IfErr};
 ghost use Rattle.std.specs.Io.KnownBytes.{Appends};
 ghost use Rattle.qtext.specs.Written.{AppendsFront, Writes};
-ghost use Rattle.qoutcome.specs.Outcomes.{outcome_text};
+ghost use Rattle.qtext_outcome.specs.Outcomes.{outcome_text};
 ghost use Rattle.qtext_files.specs.Spelling.{journal_spelling};
 ghost use Rattle.qtool.specs.declared.finishing.Refuser.TheVariants.{Output};
 
 use crate::{Files, Journal, Outcome};
-use qoutcome::put_outcome;
 use qtext::RefusedWrite;
 use qtext_files::put_journal;
+use qtext_outcome::put_outcome;
 use std::io::Write;
 
 /// What refused what came of a run.

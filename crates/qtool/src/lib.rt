@@ -6,18 +6,18 @@ pub use finishing::{Refuser, write_run};
 pub use program::tool;
 pub use qaudit::report;
 pub use qaudit_checks::{BoardFault, Mismatch, check_boards, gather};
-pub use qconfig::{Config, ConfigFault};
-pub use qjob::{Job, LineFault};
-pub use qoutcome::{WriteFault, write_outcome};
 pub use qplain::{
     Board, CallFault, Entry, Journal, Line, LookFault, MAX_LINES, Receipt, Script, Setup,
     Transcript,
 };
-pub use qrun::{Outcome, ReplayFault};
+pub use qrun::{Gate, NoGate, Options, RunFault};
+pub use qrun_replay::{Outcome, ReplayFault};
 pub use qstore::Store;
 pub use qtext::{TextFault, TextKind};
+pub use qtext_config::{Config, ConfigFault};
 pub use qtext_files::{FromText, write_journal};
-pub use qworkers::{Gate, NoGate, Options, RunFault};
+pub use qtext_job::{Job, LineFault};
+pub use qtext_outcome::{WriteFault, write_outcome};
 pub use runs::{replay, run, run_with};
 
 mod ending;

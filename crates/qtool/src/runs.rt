@@ -3,16 +3,16 @@ ghost use Rattle.std.specs.Prelude.{◌≡◌, ◌<◌, ◌≤◌, [], ℕ, List
 ghost use Rattle.qplain.specs.declared.line.Line.{Line};
 ghost use Rattle.qplain.specs.State.{start};
 ghost use Rattle.qshare.specs.declared.opening.TheConstants.{MAX_SEATS};
-ghost use Rattle.qrun.specs.declared.outcome.Outcome.{Outcome};
-ghost use Rattle.qrun.specs.declared.replay_fault.ReplayFault.TheVariants.{Mismatch};
-ghost use Rattle.qrun.specs.Replays.{GivesBack, IsFirstMismatch, IsReplayOf};
-ghost use Rattle.qrun.specs.Runs.{IsOutcomeOf};
-ghost use Rattle.qworkers.specs.Crews.{CanRun};
-ghost use Rattle.qworkers.specs.RunFaults.{IsFaultOf};
-ghost use Rattle.qworkers.specs.Watching.{seats_for};
+ghost use Rattle.qrun_replay.specs.declared.outcome.Outcome.{Outcome};
+ghost use Rattle.qrun_replay.specs.declared.replay_fault.ReplayFault.TheVariants.{Mismatch};
+ghost use Rattle.qrun_replay.specs.Replays.{GivesBack, IsFirstMismatch, IsReplayOf};
+ghost use Rattle.qrun_replay.specs.Runs.{IsOutcomeOf};
+ghost use Rattle.qrun.specs.Crews.{CanRun};
+ghost use Rattle.qrun.specs.RunFaults.{IsFaultOf};
+ghost use Rattle.qrun.specs.Watching.{seats_for};
 
 use crate::{Config, Journal, Options, Outcome, ReplayFault, RunFault, Script};
-use qworkers::{Gate, NoGate, run_scripts};
+use qrun::{Gate, NoGate, run_scripts};
 use std::alloc::Global;
 use std::sync::Wait;
 use std::thread::Threads;
@@ -78,5 +78,5 @@ pub fn replay(
     ensures of_a_run { (scripts : List (List Line)) (run : Outcome) → IsOutcomeOf config.setup scripts run
         → journal.now ≡ run.journal → GivesBack run result }
 {
-    qrun::replay(alloc, config.setup, journal, seed)
+    qrun_replay::replay(alloc, config.setup, journal, seed)
 }

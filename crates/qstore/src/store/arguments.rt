@@ -3,15 +3,15 @@ ghost use Rattle.std.specs.Prelude.{◌≡◌, not, nat_lt, ◌||◌, ◌≤◌,
 ghost use Rattle.std.specs.List.{list_all};
 ghost use Rattle.qrules.specs.declared.kind.Kind.TheVariants.{User, Group};
 ghost use Rattle.qplain.specs.Arguments.{has_bad_number, is_declared, is_undeclared, refusal_of_arguments};
-ghost use Rattle.qledger.specs.Books.{HasSlots};
+ghost use Rattle.qstore_accounts.specs.Books.{HasSlots};
 ghost use Rattle.qstore.specs.Decided.{IsConsistent};
 ghost use Rattle.qstore.specs.Stored.{IsStorable};
 
 use crate::store::Store;
-use qledger::Slots;
 use qplain::{Call, Cred, MAX_DATA, Refusal};
 use qrules::{Kind, MAX_MOMENT};
-use qwalk::paths_fault;
+use qstore_accounts::Slots;
+use qstore_walk::paths_fault;
 
 impl Store {
     /// Whether this principal is declared.

@@ -4,17 +4,17 @@ ghost use Rattle.qrules.specs.declared.kind.Kind.TheVariants.{User, Group};
 ghost use Rattle.qplain.specs.Arguments.{is_undeclared};
 ghost use Rattle.qplain.specs.Attempt.{at_path};
 ghost use Rattle.qplain.specs.Owners.{chown_at};
-ghost use Rattle.qledger.specs.Books.{HasSlots};
+ghost use Rattle.qstore_accounts.specs.Books.{HasSlots};
 ghost use Rattle.qstore.specs.Decided.{IsDecided, IsConsistent};
 ghost use Rattle.qstore.specs.Stored.{IsSameStore};
 
 use crate::ready::Ready;
 use crate::store::Store;
-use qchange::TreeChange;
-use qledger::Slots;
 use qplain::{Cred, Refusal};
 use qrules::MAX_MOMENT;
-use qwalk::{Found, find, may_give};
+use qstore_accounts::Slots;
+use qstore_change::TreeChange;
+use qstore_walk::{Found, find, may_give};
 
 impl Store {
     /// Decides other owners of an inode; what is None stays.

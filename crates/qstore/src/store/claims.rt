@@ -7,19 +7,19 @@ ghost use Rattle.qplain.specs.State.{Inode, State, inode_at};
 ghost use Rattle.qplain.specs.Use.{weight};
 ghost use Rattle.qplain.specs.Arguments.{is_declared};
 ghost use Rattle.qplain.specs.Attempt.{Becomes};
-ghost use Rattle.qtree.specs.Nodes.{inode_of};
-ghost use Rattle.qledger.specs.Books.{HasSlots};
+ghost use Rattle.qstore_tree.specs.Nodes.{inode_of};
+ghost use Rattle.qstore_accounts.specs.Books.{HasSlots};
 ghost use Rattle.qstore.specs.Decided.{IsAsked, IsBilled, IsClaimed, IsDecided, IsUnbilled, IsConsistent};
-ghost use Rattle.qchange.specs.Changes.{CanChange, changed};
+ghost use Rattle.qstore_change.specs.Changes.{CanChange, changed};
 ghost use Rattle.qstore.specs.Stored.{IsSameStore};
 
 use crate::ready::Ready;
 use crate::store::Store;
-use qchange::TreeChange;
-use qledger::{Claim, Slots};
 use qplain::{Cred, MAX_BLOCKS, Refusal};
 use qrules::{Kind, MAX_MOMENT};
-use qtree::{Content, Node};
+use qstore_accounts::{Claim, Slots};
+use qstore_change::TreeChange;
+use qstore_tree::{Content, Node};
 
 /// The allocated blocks of an inode.
 fn blocks_of(node: &Node) -> u64

@@ -1,14 +1,14 @@
 //! What is decided, done, and told as it changes a board. It takes no memory and always succeeds.
 ghost use Rattle.std.specs.Prelude.{◌≡◌, ◌≤◌, ◌+◌, vec_len, vec_capacity};
 ghost use Rattle.qstore.specs.Ready.{CanCarryOut, CanSettle, IsReady, billed, committed, effect};
-ghost use Rattle.qchange.specs.Changes.{CanChange, changed};
-ghost use Rattle.qledger.specs.Pushed.{IsPushed};
+ghost use Rattle.qstore_change.specs.Changes.{CanChange, changed};
+ghost use Rattle.qstore_accounts.specs.Pushed.{IsPushed};
 ghost use Rattle.qstore.specs.Stored.{IsStorable};
 
 use crate::ready::{Plan, Ready};
 use crate::store::Store;
-use qchange::{TreeChange, make};
 use qplain::{Data, PlacedRow};
+use qstore_change::{TreeChange, make};
 
 impl Store {
     /// Does what is decided. It is out of line, so that a call that only answers hands no plan on.

@@ -6,22 +6,22 @@ ghost use Rattle.qplain.specs.Attempt.{Becomes, in_parent};
 ghost use Rattle.qplain.specs.Names.{create_as, created};
 ghost use Rattle.qplain.specs.State.{State, is_directory, named};
 ghost use Rattle.qplain.specs.Step.{settle};
-ghost use Rattle.qtree.specs.Room.{Room};
-ghost use Rattle.qledger.specs.Books.{HasSlots};
+ghost use Rattle.qstore_tree.specs.Room.{Room};
+ghost use Rattle.qstore_accounts.specs.Books.{HasSlots};
 ghost use Rattle.qstore.specs.Decided.{IsDecided, IsConsistent};
 ghost use Rattle.qstore.specs.FileTypes.{inode_new};
-ghost use Rattle.qchange.specs.Changes.{CanChange, CanCreate, changed};
+ghost use Rattle.qstore_change.specs.Changes.{CanChange, CanCreate, changed};
 ghost use Rattle.qstore.specs.Ready.{IsRefused};
 ghost use Rattle.qstore.specs.Stored.{IsSameStore};
 
 use crate::file_type::FileType;
 use crate::ready::Ready;
 use crate::store::Store;
-use qchange::TreeChange;
-use qledger::{Claim, Slots};
 use qplain::{Cred, NoMemory, Refusal};
 use qrules::MAX_MOMENT;
-use qwalk::last_component;
+use qstore_accounts::{Claim, Slots};
+use qstore_change::TreeChange;
+use qstore_walk::last_component;
 
 /// The change by which a new inode comes to stand.
 fn creation(sort: FileType, dir: u64, name: String, uid: u32, gid: u32) -> TreeChange

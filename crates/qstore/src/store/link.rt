@@ -5,17 +5,17 @@ ghost use Rattle.qplain.specs.Attempt.{Becomes, at_path};
 ghost use Rattle.qplain.specs.Names.{link_to, with_name};
 ghost use Rattle.qplain.specs.State.{is_directory, named};
 ghost use Rattle.qplain.specs.Step.{settle};
-ghost use Rattle.qtree.specs.TreeOf.{IsFile};
+ghost use Rattle.qstore_tree.specs.TreeOf.{IsFile};
 ghost use Rattle.qstore.specs.Decided.{IsDecided, IsConsistent};
 ghost use Rattle.qstore.specs.Ready.{IsRefused};
 ghost use Rattle.qstore.specs.Stored.{IsSameStore};
 
 use crate::ready::Ready;
 use crate::store::Store;
-use qchange::TreeChange;
 use qplain::{Cred, NoMemory};
 use qrules::MAX_MOMENT;
-use qwalk::further_name;
+use qstore_change::TreeChange;
+use qstore_walk::further_name;
 
 impl Store {
     /// Decides a further name of a file, and makes room for it.

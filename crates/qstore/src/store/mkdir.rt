@@ -6,7 +6,7 @@ ghost use Rattle.qplain.specs.Attempt.{in_parent};
 ghost use Rattle.qplain.specs.Names.{created, mkdir_as, unless_too_many_links};
 ghost use Rattle.qplain.specs.State.{is_directory, named, new_directory};
 ghost use Rattle.qplain.specs.Step.{settle};
-ghost use Rattle.qledger.specs.Books.{HasSlots};
+ghost use Rattle.qstore_accounts.specs.Books.{HasSlots};
 ghost use Rattle.qstore.specs.Decided.{IsDecided, IsConsistent};
 ghost use Rattle.qstore.specs.Ready.{IsRefused};
 ghost use Rattle.qstore.specs.Stored.{IsSameStore};
@@ -14,10 +14,10 @@ ghost use Rattle.qstore.specs.Stored.{IsSameStore};
 use crate::file_type::FileType;
 use crate::ready::Ready;
 use crate::store::Store;
-use qledger::Slots;
 use qplain::{Cred, NoMemory, Refusal};
 use qrules::MAX_MOMENT;
-use qwalk::{has_all_links, last_component};
+use qstore_accounts::Slots;
+use qstore_walk::{has_all_links, last_component};
 
 impl Store {
     /// Decides the making of a directory, and makes room for it.

@@ -4,10 +4,10 @@ ghost use Rattle.qplain.specs.Quotas.{ask_quota};
 ghost use Rattle.qplain.specs.Step.{settle};
 
 use crate::store::Store;
-use qledger::KeptHolder;
 use qplain::{Cred, Quota, Refusal, Reply};
 use qrules::Kind;
-use qwalk::is_own;
+use qstore_accounts::KeptHolder;
+use qstore_walk::is_own;
 
 /// What a kept holder's record holds.
 fn quota_of(holder: &KeptHolder) -> Quota

@@ -9,8 +9,8 @@ ghost use Rattle.qstore.specs.Ready.{IsRefused};
 
 use crate::store::Store;
 use qplain::{NoMemory, Refusal, Reply, SharedItems};
-use qtree::Content;
-use qwalk::find;
+use qstore_tree::Content;
+use qstore_walk::find;
 
 impl Store {
     /// The reply to a read.

@@ -8,10 +8,10 @@ ghost use Rattle.qplain.specs.Renames.{passes, rename_as, rename_from, renamed};
 ghost use Rattle.qplain.specs.State.{Inode, inode_at, is_directory, named};
 ghost use Rattle.qplain.specs.Step.{settle};
 ghost use Rattle.qplain.specs.Use.{is_empty};
-ghost use Rattle.qtree.specs.Room.{Room, name_room};
-ghost use Rattle.qwalk.specs.Paths.{name_in};
-ghost use Rattle.qchange.specs.Changes.{CanRename};
-ghost use Rattle.qledger.specs.Books.{HasSlots};
+ghost use Rattle.qstore_tree.specs.Room.{Room, name_room};
+ghost use Rattle.qstore_walk.specs.Paths.{name_in};
+ghost use Rattle.qstore_change.specs.Changes.{CanRename};
+ghost use Rattle.qstore_accounts.specs.Books.{HasSlots};
 ghost use Rattle.qstore.specs.Decided.{IsAsked, IsDecided, IsConsistent};
 ghost use Rattle.qstore.specs.Ready.{IsRefused};
 ghost use Rattle.qstore.specs.Stored.{IsSameStore};
@@ -19,12 +19,12 @@ ghost use Rattle.qstore.specs.Stored.{IsSameStore};
 use crate::ready::Ready;
 use crate::store::Store;
 use crate::store::unlink::left_of;
-use qchange::TreeChange;
-use qledger::{Claim, Slots};
 use qplain::{Cred, NO_CHANGE, NoMemory, Path, Reply};
 use qrules::MAX_MOMENT;
-use qtree::Content;
-use qwalk::{Renaming, find_renaming, inode, is_its_own, rename_fault};
+use qstore_accounts::{Claim, Slots};
+use qstore_change::TreeChange;
+use qstore_tree::Content;
+use qstore_walk::{Renaming, find_renaming, inode, is_its_own, rename_fault};
 
 /// What the inode that is replaced takes of its owners' records, before and after, where there is one.
 struct Replaced {

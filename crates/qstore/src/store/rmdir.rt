@@ -7,8 +7,8 @@ ghost use Rattle.qplain.specs.Names.{rmdir_as};
 ghost use Rattle.qplain.specs.State.{is_directory, named};
 ghost use Rattle.qplain.specs.Step.{settle};
 ghost use Rattle.qplain.specs.Use.{is_empty};
-ghost use Rattle.qwalk.specs.Paths.{name_in};
-ghost use Rattle.qledger.specs.Books.{HasSlots};
+ghost use Rattle.qstore_walk.specs.Paths.{name_in};
+ghost use Rattle.qstore_accounts.specs.Books.{HasSlots};
 ghost use Rattle.qstore.specs.Decided.{IsDecided, IsConsistent};
 ghost use Rattle.qstore.specs.Ready.{IsRefused};
 ghost use Rattle.qstore.specs.Stored.{IsSameStore};
@@ -16,11 +16,11 @@ ghost use Rattle.qstore.specs.Stored.{IsSameStore};
 use crate::file_type::FileType;
 use crate::ready::Ready;
 use crate::store::Store;
-use qledger::Slots;
 use qplain::{Cred, NoMemory, Path, Refusal};
 use qrules::MAX_MOMENT;
-use qtree::Content;
-use qwalk::{inode, is_empty, last_component, may_remove};
+use qstore_accounts::Slots;
+use qstore_tree::Content;
+use qstore_walk::{inode, is_empty, last_component, may_remove};
 
 impl Store {
     /// Decides that a directory goes.

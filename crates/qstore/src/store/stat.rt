@@ -7,7 +7,7 @@ ghost use Rattle.qplain.specs.Step.{settle};
 
 use crate::store::Store;
 use qplain::Reply;
-use qwalk::{find, stat_of};
+use qstore_walk::{find, stat_of};
 
 impl Store {
     /// The reply to a stat.

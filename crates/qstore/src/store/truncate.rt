@@ -2,18 +2,18 @@
 ghost use Rattle.std.specs.Prelude.{◌≤◌, []};
 ghost use Rattle.qplain.specs.Attempt.{at_path};
 ghost use Rattle.qplain.specs.Files.{truncate_at};
-ghost use Rattle.qledger.specs.Books.{HasSlots};
+ghost use Rattle.qstore_accounts.specs.Books.{HasSlots};
 ghost use Rattle.qstore.specs.Decided.{IsDecided, IsConsistent};
 ghost use Rattle.qstore.specs.Stored.{IsSameStore};
 
 use crate::ready::Ready;
 use crate::store::Store;
-use qchange::TreeChange;
-use qledger::{Claim, Slots};
 use qplain::{Cred, Refusal};
 use qrules::MAX_MOMENT;
-use qtree::Content;
-use qwalk::{Found, find, may_write};
+use qstore_accounts::{Claim, Slots};
+use qstore_change::TreeChange;
+use qstore_tree::Content;
+use qstore_walk::{Found, find, may_write};
 
 impl Store {
     /// Decides another size of a file.

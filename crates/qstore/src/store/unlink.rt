@@ -6,10 +6,10 @@ ghost use Rattle.qplain.specs.Attempt.{Becomes, in_parent};
 ghost use Rattle.qplain.specs.Names.{swept, unlink_as, without_name};
 ghost use Rattle.qplain.specs.State.{State, named};
 ghost use Rattle.qplain.specs.Step.{settle};
-ghost use Rattle.qtree.specs.Room.{Room};
-ghost use Rattle.qwalk.specs.Paths.{name_in};
-ghost use Rattle.qchange.specs.Changes.{CanChange, changed};
-ghost use Rattle.qledger.specs.Books.{HasSlots};
+ghost use Rattle.qstore_tree.specs.Room.{Room};
+ghost use Rattle.qstore_walk.specs.Paths.{name_in};
+ghost use Rattle.qstore_change.specs.Changes.{CanChange, changed};
+ghost use Rattle.qstore_accounts.specs.Books.{HasSlots};
 ghost use Rattle.qstore.specs.Decided.{IsAsked, IsDecided, IsConsistent};
 ghost use Rattle.qstore.specs.FileTypes.{CanRemove};
 ghost use Rattle.qstore.specs.Ready.{IsRefused};
@@ -18,12 +18,12 @@ ghost use Rattle.qstore.specs.Stored.{IsSameStore};
 use crate::file_type::FileType;
 use crate::ready::Ready;
 use crate::store::Store;
-use qchange::TreeChange;
-use qledger::{Claim, Slots};
 use qplain::{Cred, NoMemory, Path, Refusal};
 use qrules::MAX_MOMENT;
-use qtree::{Content, Node};
-use qwalk::{inode, last_component, may_remove};
+use qstore_accounts::{Claim, Slots};
+use qstore_change::TreeChange;
+use qstore_tree::{Content, Node};
+use qstore_walk::{inode, last_component, may_remove};
 
 /// What is left of what a file takes, once a name of it has gone.
 pub(super) fn left_of(node: &Node, claim: Claim) -> Option<Claim>

@@ -4,7 +4,7 @@ ghost use Rattle.std.specs.Result.{IsOk};
 ghost use Rattle.qplain.specs.Attempt.{at_path};
 ghost use Rattle.qplain.specs.Files.{write_into};
 ghost use Rattle.qplain.specs.Step.{settle};
-ghost use Rattle.qledger.specs.Books.{HasSlots};
+ghost use Rattle.qstore_accounts.specs.Books.{HasSlots};
 ghost use Rattle.qstore.specs.Decided.{IsDecided, IsConsistent};
 ghost use Rattle.qstore.specs.Ready.{IsRefused};
 ghost use Rattle.qstore.specs.Stored.{IsSameStore};
@@ -12,12 +12,12 @@ ghost use Rattle.qstore.specs.Targets.{IsTarget};
 
 use crate::ready::Ready;
 use crate::store::Store;
-use qchange::TreeChange;
-use qledger::{Claim, Slots};
 use qplain::{Cred, Data, MAX_DATA, NO_CHANGE, NoMemory, Refusal, Reply};
 use qrules::MAX_MOMENT;
-use qtree::Content;
-use qwalk::{Found, find, may_write};
+use qstore_accounts::{Claim, Slots};
+use qstore_change::TreeChange;
+use qstore_tree::Content;
+use qstore_walk::{Found, find, may_write};
 
 /// A file that may be written into: what it takes, and how many blocks the write allocates.
 #[derive(Clone, Copy)]

@@ -2,7 +2,7 @@ use Rattle.std.proofs.Common.{◌≡◌, ap, subst, sym, ◌∙◌}
 use mathlib.Core.List.{IsPrefix}
 use Rattle.qplain.specs.Journal.{IsLegal}
 use Rattle.qplain.specs.State.{start}
-use Rattle.qhistory.proofs.Prefixes.{prefix_trans}
+use Rattle.qshare_history.proofs.Prefixes.{prefix_trans}
 use Rattle.qshare.proofs.Growing.{goes_on, seen_of}
 use Rattle.qshare.proofs.shared.call_locked.Goals as goal
 

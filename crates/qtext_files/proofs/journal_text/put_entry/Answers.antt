@@ -1,7 +1,7 @@
 use Rattle.std.proofs.Common.{append_assoc, codes, ◌++◌}
 use Rattle.qtext.proofs.Fronts.{partly_last}
-use Rattle.qline.specs.Replies.{reply_text}
-use Rattle.qspell.proofs.Behind.{behind, refused_whole}
+use Rattle.qtext_read.specs.Replies.{reply_text}
+use Rattle.qtext_write.proofs.Behind.{behind, refused_whole}
 use Rattle.qtext_files.proofs.EntriesJoined.{entry_parts, head_of_entry}
 use Rattle.qtext_files.proofs.journal_text.put_entry.Goals as goal
 

@@ -2,7 +2,7 @@ use Rattle.std.proofs.Common.{All, subst, arith}
 use Rattle.std.proofs.lemmas.List.{take_all}
 use Rattle.std.proofs.lemmas.List.Elements.{All-more}
 use mathlib.Core.List.{IsPrefix}
-use Rattle.qhistory.proofs.Prefixes.{prefix_trans}
+use Rattle.qshare_history.proofs.Prefixes.{prefix_trans}
 use Rattle.qshare.proofs.locked_store.LockedStore.await_all.Goals as goal
 
 pub loop-share-preserved : goal.loop-share-preserved

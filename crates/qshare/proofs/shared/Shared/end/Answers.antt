@@ -1,5 +1,5 @@
 use Rattle.std.proofs.Common.{sym, subst, ◌∙◌}
-use Rattle.qhistory.specs.Shares.{IsLeastMissing}
+use Rattle.qshare_history.specs.Shares.{IsLeastMissing}
 use Rattle.qshare.proofs.shared.Shared.end.Goals as goal
 
 pub returns-in-Some-clause-all : goal.returns-in-Some-clause-all

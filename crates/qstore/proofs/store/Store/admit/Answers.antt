@@ -1,7 +1,7 @@
 use Rattle.std.proofs.Common.{Ok, Err, Result, sym, ap, subst}
 use Rattle.std.specs.Prelude.{IfErr, OnOk}
-use Rattle.qledger.specs.Books.{Books}
-use Rattle.qledger.specs.Replacements.{IsReplacement}
+use Rattle.qstore_accounts.specs.Books.{Books}
+use Rattle.qstore_accounts.specs.Replacements.{IsReplacement}
 use Rattle.qstore.specs.Decided.{IsBilled, IsUnbilled}
 use Rattle.qstore.specs.Kept.{state_of, stored_of}
 use Rattle.qstore.specs.Stored.{Stored}

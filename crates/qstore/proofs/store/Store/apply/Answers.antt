@@ -1,8 +1,8 @@
 use Rattle.std.proofs.Common.{All, sym, subst, ap, ◌∙◌}
 use Rattle.qplain.specs.declared.reply.Reply.{Reply}
 use Rattle.qplain.specs.State.{State}
-use Rattle.qlaws.specs.Laws.{PassesNoLimit}
-use Rattle.qlaws.proofs.Within.{limits_hold}
+use Rattle.qplain_laws.specs.Laws.{PassesNoLimit}
+use Rattle.qplain_laws.proofs.Within.{limits_hold}
 use Rattle.qstore.proofs.store.Store.apply.Goals as goal
 
 pub returns-clause-limits : goal.returns-clause-limits

@@ -2,8 +2,8 @@ use Rattle.std.proofs.Common.{◌≡◌, true, ◌&&◌, Some, refl, sym, subst,
 use Rattle.qrules.specs.declared.kind.Kind.TheVariants.{User, Group}
 use Rattle.qplain.specs.Arguments.{is_declared}
 use Rattle.qplain.specs.State.{inode_at}
-use Rattle.qtree.specs.Nodes.{inode_of}
-use Rattle.qlaws.proofs.Fitting.{known-owners}
+use Rattle.qstore_tree.specs.Nodes.{inode_of}
+use Rattle.qplain_laws.proofs.Fitting.{known-owners}
 use Rattle.qstore.specs.Kept.{state_of}
 use Rattle.qstore.specs.Stored.{Stored}
 use Rattle.qstore.proofs.Deciding.{weight-fits}

@@ -1,8 +1,8 @@
 use Rattle.std.proofs.Common.{ap, refl, subst, sym}
-use Rattle.qlaws.specs.Laws.{IsLawful}
-use Rattle.qtree.specs.Room.{Room}
+use Rattle.qplain_laws.specs.Laws.{IsLawful}
+use Rattle.qstore_tree.specs.Room.{Room}
 use Rattle.qstore.specs.declared.store.Store.TheInside.{Inside}
-use Rattle.qchange.specs.Changes.{CanChange, changed}
+use Rattle.qstore_change.specs.Changes.{CanChange, changed}
 use Rattle.qstore.specs.Stored.{Stored}
 use Rattle.qstore.proofs.Settling.{bounds-changed, counted-billed, tree-kept}
 use Rattle.qstore.proofs.store.Store.commit_change.Goals as goal

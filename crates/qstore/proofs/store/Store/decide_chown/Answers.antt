@@ -5,8 +5,8 @@ use Rattle.qplain.specs.Attempt.{Becomes}
 use Rattle.qplain.specs.declared.refusal.Refusal.TheVariants.{EPERM}
 use Rattle.qplain.specs.Owners.{chown_at, give, with_owners}
 use Rattle.qplain.specs.Rights.{may_give}
-use Rattle.qtree.specs.Nodes.{inode_of}
-use Rattle.qlaws.proofs.Fitting.{known-owners}
+use Rattle.qstore_tree.specs.Nodes.{inode_of}
+use Rattle.qplain_laws.proofs.Fitting.{known-owners}
 use Rattle.qstore.specs.Decided.{IsAsked}
 use Rattle.qstore.proofs.Calls.{altered-there, give-becomes, give-refused, changed-asked, named-declared}
 use Rattle.qstore.proofs.Deciding.{decided-along, decided-refused}

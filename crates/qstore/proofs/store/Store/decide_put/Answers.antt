@@ -4,8 +4,8 @@ use Rattle.qblocks.specs.File.{after_write}
 use Rattle.qblocks.specs.WriteRoom.{IsReadyToPut}
 use Rattle.qplain.specs.Files.{with_file}
 use Rattle.qplain.specs.State.{State, inode_at}
-use Rattle.qtree.specs.Tree.{file_room}
-use Rattle.qchange.specs.declared.tree_change.TreeChange.TheVariants.{Write}
+use Rattle.qstore_tree.specs.Tree.{file_room}
+use Rattle.qstore_change.specs.declared.tree_change.TreeChange.TheVariants.{Write}
 use Rattle.qstore.specs.declared.ready.Plan.TheVariants.{Change}
 use Rattle.qstore.specs.Decided.{IsBilled}
 use Rattle.qstore.specs.Kept.{stored_of}

@@ -5,7 +5,7 @@ use Rattle.qplain.specs.Attempt.{Answer, Refuse}
 use Rattle.qplain.specs.Files.{read_from}
 use Rattle.qplain.specs.Step.{settle}
 use Rattle.qblocks.specs.File.{read_at}
-use Rattle.qtree.specs.Nodes.{file_in, inode_of, is_dir_content}
+use Rattle.qstore_tree.specs.Nodes.{file_in, inode_of, is_dir_content}
 use Rattle.qstore.proofs.Deciding.{bytes-unrefused}
 use Rattle.qstore.proofs.store.Store.decide_read.Goals as goal
 

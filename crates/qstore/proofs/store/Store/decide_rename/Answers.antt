@@ -7,8 +7,8 @@ use Rattle.qplain.specs.Renames.{passes, rename_as, rename_from}
 use Rattle.qplain.specs.State.{inode_at, named}
 use Rattle.qplain.specs.Step.{settle}
 use Rattle.qplain.specs.Walk.{components}
-use Rattle.qwalk.specs.Paths.{name_in}
-use Rattle.qwalk.proofs.Renamed.{rename-own, some-inode}
+use Rattle.qstore_walk.specs.Paths.{name_in}
+use Rattle.qstore_walk.proofs.Renamed.{rename-own, some-inode}
 use Rattle.qstore.specs.Decided.{IsDecided}
 use Rattle.qstore.specs.Ready.{IsRefused}
 use Rattle.qstore.proofs.Deciding.{decided-answered}

@@ -3,7 +3,7 @@ use Rattle.qplain.specs.declared.reply.Reply.TheVariants.{Done}
 use Rattle.qplain.specs.declared.refusal.Refusal.TheVariants.{EPERM}
 use Rattle.qplain.specs.Attempt.{Becomes, Refuse, no_change}
 use Rattle.qplain.specs.Step.{settle}
-use Rattle.qlaws.proofs.Settling.{ends_after-graced, settle-graced}
+use Rattle.qplain_laws.proofs.Settling.{ends_after-graced, settle-graced}
 use Rattle.qstore.proofs.store.Store.decide_set_grace.Goals as goal
 
 pub returns : goal.returns

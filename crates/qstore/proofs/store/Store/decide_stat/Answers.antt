@@ -2,7 +2,7 @@ use Rattle.std.proofs.Common.{sym, ap, ◌∙◌}
 use Rattle.qplain.specs.declared.reply.Reply.TheVariants.{Stat}
 use Rattle.qplain.specs.Files.{stat_at, stat_of}
 use Rattle.qplain.specs.Step.{settle}
-use Rattle.qtree.specs.Nodes.{inode_of}
+use Rattle.qstore_tree.specs.Nodes.{inode_of}
 use Rattle.qstore.proofs.store.Store.decide_stat.Goals as goal
 
 pub returns-in-Ok : goal.returns-in-Ok

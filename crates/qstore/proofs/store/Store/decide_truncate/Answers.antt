@@ -5,7 +5,7 @@ use Rattle.qplain.specs.Attempt.{Becomes}
 use Rattle.qplain.specs.declared.refusal.Refusal.TheVariants.{EACCES, EFBIG, EISDIR}
 use Rattle.qplain.specs.Files.{truncate_at}
 use Rattle.qplain.specs.Rights.{may_write}
-use Rattle.qtree.specs.Nodes.{file_in, inode_of, is_dir_content}
+use Rattle.qstore_tree.specs.Nodes.{file_in, inode_of, is_dir_content}
 use Rattle.qstore.specs.Stored.{Stored}
 use Rattle.qstore.proofs.Calls.{altered-there, resized-asked, truncate-becomes}
 use Rattle.qstore.proofs.Deciding.{decided-along, decided-refused}

@@ -1,7 +1,7 @@
 use Rattle.std.proofs.Common.{[], refl, subst, sym}
 use Rattle.qplain.specs.State.{State}
-use Rattle.qtree.specs.Room.{Room}
-use Rattle.qchange.specs.Changes.{CanChange, changed}
+use Rattle.qstore_tree.specs.Room.{Room}
+use Rattle.qstore_change.specs.Changes.{CanChange, changed}
 use Rattle.qstore.proofs.Deciding.{decided-billed, decided-unbilled}
 use Rattle.qstore.proofs.store.Store.grant.Goals as goal
 

@@ -1,8 +1,8 @@
 use Rattle.std.proofs.Common.{rules, ◌≡◌, [], string_bytes, refl, sym, ap, subst}
 use Rattle.qplain.specs.Renames.{renamed}
 use Rattle.qplain.specs.State.{State}
-use Rattle.qwalk.specs.Paths.{name_in}
-use Rattle.qchange.specs.Changes.{CanRename}
+use Rattle.qstore_walk.specs.Paths.{name_in}
+use Rattle.qstore_change.specs.Changes.{CanRename}
 use Rattle.qstore.specs.Decided.{IsBilled}
 use Rattle.qstore.specs.Kept.{stored_of}
 use Rattle.qstore.specs.Stored.{Stored}

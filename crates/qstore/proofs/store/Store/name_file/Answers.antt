@@ -1,7 +1,7 @@
 use Rattle.std.proofs.Common.{rules, ◌≡◌, [], string_bytes, refl, None, sym, ap, subst, ◌∙◌}
 use Rattle.qplain.specs.Names.{with_name}
 use Rattle.qplain.specs.State.{State, is_directory, named}
-use Rattle.qtree.specs.TreeOf.{IsFile}
+use Rattle.qstore_tree.specs.TreeOf.{IsFile}
 use Rattle.qstore.specs.Decided.{IsBilled}
 use Rattle.qstore.specs.Kept.{stored_of}
 use Rattle.qstore.specs.Stored.{Stored}

@@ -6,11 +6,11 @@ use Rattle.qplain.specs.declared.effect.PlacedRow.{PlacedRow}
 use Rattle.qplain.specs.Journal.{row_of}
 use Rattle.qplain.specs.State.{State}
 use Rattle.qplain.specs.Use.{total_of}
-use Rattle.qchange.specs.declared.tree_change.TreeChange.{TreeChange}
-use Rattle.qchange.specs.Changes.{changed}
-use Rattle.qledger.specs.Bills.{settled}
-use Rattle.qledger.specs.Books.{AreBooksOf}
-use Rattle.qledger.specs.Pushed.{IsPushed}
+use Rattle.qstore_change.specs.declared.tree_change.TreeChange.{TreeChange}
+use Rattle.qstore_change.specs.Changes.{changed}
+use Rattle.qstore_accounts.specs.Bills.{settled}
+use Rattle.qstore_accounts.specs.Books.{AreBooksOf}
+use Rattle.qstore_accounts.specs.Pushed.{IsPushed}
 use Rattle.qstore.specs.declared.ready.Plan.{Plan}
 use Rattle.qstore.specs.declared.ready.Plan.TheVariants.{Nothing, Change, Limits, SetGraces}
 use Rattle.qstore.specs.declared.store.Store.TheInside.{Inside}

@@ -6,9 +6,9 @@ use Rattle.qplain.specs.State.{inode_at, is_directory, named}
 use Rattle.qplain.specs.Step.{settle}
 use Rattle.qplain.specs.Use.{is_empty}
 use Rattle.qplain.specs.Walk.{components}
-use Rattle.qtree.specs.Nodes.{inode_of}
-use Rattle.qwalk.specs.Paths.{name_in}
-use Rattle.qwalk.proofs.Renamed.{rename-becomes, rename-refused, tests-passed}
+use Rattle.qstore_tree.specs.Nodes.{inode_of}
+use Rattle.qstore_walk.specs.Paths.{name_in}
+use Rattle.qstore_walk.proofs.Renamed.{rename-becomes, rename-refused, tests-passed}
 use Rattle.qstore.specs.Decided.{IsDecided}
 use Rattle.qstore.specs.Ready.{IsRefused}
 use Rattle.qstore.proofs.Deciding.{decided-refused}

@@ -2,8 +2,8 @@ use Rattle.std.proofs.Common.{◌≡◌, ◌==◌, not, None, Some, ap, refl, sy
 use Rattle.qplain.specs.Renames.{passes}
 use Rattle.qplain.specs.State.{inode_at, named}
 use Rattle.qplain.specs.Use.{is_empty}
-use Rattle.qlaws.proofs.Finding.{led-there}
-use Rattle.qtree.specs.Nodes.{inode_of, is_dir_content}
+use Rattle.qplain_laws.proofs.Finding.{led-there}
+use Rattle.qstore_tree.specs.Nodes.{inode_of, is_dir_content}
 use Rattle.qstore.proofs.Replaced.{directory-asked, file-asked, moved-asked}
 use Rattle.qstore.proofs.store.Store.replaced.Goals as goal
 

@@ -5,7 +5,7 @@ use Rattle.qplain.specs.Rights.{may_remove}
 use Rattle.qplain.specs.State.{inode_at}
 use Rattle.qplain.specs.Step.{settle}
 use Rattle.qplain.specs.Use.{is_empty}
-use Rattle.qtree.specs.Nodes.{inode_of, is_dir_content}
+use Rattle.qstore_tree.specs.Nodes.{inode_of, is_dir_content}
 use Rattle.qstore.specs.Decided.{IsAsked}
 use Rattle.qstore.specs.Ready.{IsRefused}
 use Rattle.qstore.proofs.Directories.{removed-asked, rmdir-becomes}

@@ -5,9 +5,9 @@ use Rattle.qplain.specs.Names.{swept, without_name}
 use Rattle.qplain.specs.Rights.{may_remove}
 use Rattle.qplain.specs.State.{inode_at}
 use Rattle.qplain.specs.Step.{settle}
-use Rattle.qtree.specs.Nodes.{inode_of, is_dir_content}
+use Rattle.qstore_tree.specs.Nodes.{inode_of, is_dir_content}
 use Rattle.qstore.specs.Decided.{IsAsked, IsDecided}
-use Rattle.qchange.specs.Changes.{CanUnlink}
+use Rattle.qstore_change.specs.Changes.{CanUnlink}
 use Rattle.qstore.specs.Ready.{IsRefused}
 use Rattle.qstore.proofs.Calls.{unlink-becomes, unlinked-asked}
 use Rattle.qstore.proofs.store.Store.take_name.Goals as goal

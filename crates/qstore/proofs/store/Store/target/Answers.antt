@@ -2,7 +2,7 @@ use Rattle.std.proofs.Common.{rules, ◌≡◌, ◌+◌, ◌==◌, true, false, 
 use Rattle.qplain.specs.Files.{write_into}
 use Rattle.qplain.specs.Rights.{may_write}
 use Rattle.qplain.specs.Step.{settle}
-use Rattle.qtree.specs.Nodes.{inode_of, is_dir_content}
+use Rattle.qstore_tree.specs.Nodes.{inode_of, is_dir_content}
 use Rattle.qstore.proofs.Calls.{write-becomes}
 use Rattle.qstore.proofs.store.Store.target.Goals as goal
 

@@ -1,6 +1,6 @@
 use Rattle.std.proofs.Common.{refl, sym, ap, subst, ◌∙◌}
 use Rattle.qplain.specs.Journal.{tally_of}
-use Rattle.qlaws.proofs.Tallying.{tally-one_more}
+use Rattle.qplain_laws.proofs.Tallying.{tally-one_more}
 use Rattle.qstore_journaled.specs.KeptJournaled.{journaled_of}
 use Rattle.qstore_journaled.specs.Next.{CanFollow}
 use Rattle.qstore_journaled.proofs.Journaling.{played_on}

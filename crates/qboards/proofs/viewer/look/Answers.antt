@@ -1,5 +1,0 @@
-use Rattle.qboards.proofs.Rules.{looks}
-use Rattle.qboards.proofs.viewer.look.Goals as goal
-
-pub enter_as-requires : goal.enter_as-requires
-enter_as-requires g c x = looks _ _ _ _ x

@@ -1,6 +1,0 @@
-use Rattle.std.proofs.Common.{◌≡◌, ◌≤◌, length}
-use Rattle.qhistory.specs.Shares.{tally_of_shares}
-use Rattle.qhistory.proofs.share.together.Given as goal
-
-abbrev pub invariant-loop-share : goal.invariant-loop-share
-invariant-loop-share g l = (l.all ≡ record { tally = tally_of_shares l.yielded; parts = length l.yielded }) × (length l.yielded ≤ g.S.StoreId.id.counters.parts)

@@ -1,8 +1,0 @@
-use Rattle.qlaws.proofs.Tallying.{tallies_are_small, tallies_balance}
-use Rattle.qlaws.proofs.journals.tallies_add_up.Goals as goal
-
-pub returns-clause-small : goal.returns-clause-small
-returns-clause-small c = tallies_are_small
-
-pub returns-clause-balance : goal.returns-clause-balance
-returns-clause-balance c = tallies_balance

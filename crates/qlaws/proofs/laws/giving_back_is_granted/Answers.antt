@@ -1,5 +1,0 @@
-use Rattle.qlaws.proofs.FreeNames.{giving_back_is_granted}
-use Rattle.qlaws.proofs.laws.giving_back_is_granted.Goals as goal
-
-pub returns : goal.returns
-returns c = giving_back_is_granted

@@ -1,5 +1,0 @@
-use Rattle.qlaws.proofs.Numbering.{numbers_go_on}
-use Rattle.qlaws.proofs.laws.numbers_go_on.Goals as goal
-
-pub returns : goal.returns
-returns c = numbers_go_on

@@ -1,7 +1,0 @@
-use Rattle.std.proofs.Common.{◌≡◌, map, take}
-use Rattle.qledger.specs.Ledgers.{new_holder}
-use Rattle.qledger.proofs.ledger.Ledger.new.Given as goal
-
--- the kept holders so far are those of the principals so far
-abbrev pub invariant-loop-principal : goal.invariant-loop-principal
-invariant-loop-principal l = l.holders.items ≡ map (new_holder l.graces) (take l.principal-index l.principals)

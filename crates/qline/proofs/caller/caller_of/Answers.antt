@@ -1,6 +1,0 @@
-use Rattle.qline.specs.Callers.{caller_in}
-use Rattle.qline.proofs.caller.caller_of.Goals as goal
-
-pub returns : goal.returns
-unfolding caller_in
-returns c = rw c.first_part.ensures.parts c.caller_from.ensures

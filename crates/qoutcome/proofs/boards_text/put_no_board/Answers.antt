@@ -1,4 +1,0 @@
-use Rattle.qoutcome.proofs.boards_text.put_no_board.Goals as goal
-
-pub returns : goal.returns
-returns g c = rw c.fault_word.ensures at c.put_pieces.ensures

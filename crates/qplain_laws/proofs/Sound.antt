@@ -1,0 +1,102 @@
+-- What each change of an inode leaves of it: a directory that holds nothing, and allocated indexes in order.
+use Rattle.std.proofs.Common.{◌≡◌, ℕ, zero, suc, Bool, true, false, not, ◌&&◌, nat_le, cond, List, [], ◌∷◌, length, filter, Option, Some, None, refl, subst, sym, arith}
+use Rattle.std.specs.Ordering.{nat_cmp}
+use Rattle.std.specs.List.Sorted.{IsStrictlySortedBy}
+use Rattle.std.proofs.lemmas.List.Kept.{IsStrictlySortedBy-filter}
+use Rattle.qblocks.specs.File.{File, after_truncate, after_write, begins_below, empty_file, size_of, with_touched}
+use Rattle.qblocks.proofs.Indexes.{Rises, Rises-with_index}
+use Rattle.std.specs.Option.{unwrap_or}
+use Rattle.std.proofs.lemmas.Bool.{and_from, and_parts}
+use Rattle.qrules.specs.declared.kind.Kind.{Kind}
+use Rattle.qrules.specs.declared.kind.Kind.TheVariants.{User, Group}
+use Rattle.qplain.specs.State.{Inode, State}
+use Rattle.qplain.specs.Arguments.{is_declared, is_known, is_undeclared}
+use Rattle.qplain.specs.Caller.{Caller}
+use Rattle.std.specs.List.{list_all}
+use Rattle.qplain.specs.Owners.{with_owners}
+use Rattle.qplain_laws.specs.Laws.{IsSound, has_known_owners}
+use Rattle.qplain_laws.proofs.Orders.{above-zero, rises-sorted, sorted-rises}
+
+-- the inode may stand where the other stood: it is as much a directory, its owners are known, and it is sound
+pub record MayFollow (S : State) (inode changed : Inode) : Type 0 where
+  pub dir : changed.dir ≡ inode.dir
+  pub owners : has_known_owners S inode ≡ true → has_known_owners S changed ≡ true
+  pub sound : IsSound inode → IsSound changed
+
+rises-touched : (xs : List ℕ) (off n : ℕ) → Rises 0 xs → Rises 0 (with_touched xs off n)
+unfolding with_touched
+rises-touched xs off zero rises = rises
+rises-touched xs off (suc n) rises = Rises-with_index 0 (with_touched xs off n) _ (rises-touched xs off n rises) (omega arith)
+
+in_order-after_write : (file : File) (off : ℕ) (bytes : List ℕ) → IsStrictlySortedBy nat_cmp file.allocated
+    → IsStrictlySortedBy nat_cmp (after_write file off bytes).allocated
+unfolding after_write
+in_order-after_write file off [] sorted = sorted
+in_order-after_write file off (byte ∷ rest) sorted =
+    sorted-rises 0 (with_touched file.allocated off (length (byte ∷ rest)))
+    (rises-touched file.allocated off (length (byte ∷ rest)) (rises-sorted 0 file.allocated (above-zero file.allocated) sorted))
+
+in_order-after_truncate : (file : File) (size : ℕ) → IsStrictlySortedBy nat_cmp file.allocated
+    → IsStrictlySortedBy nat_cmp (after_truncate file size).allocated
+unfolding after_truncate
+in_order-after_truncate file size sorted =
+    elim (nat_le (size_of file) size) as (λ b. IsStrictlySortedBy nat_cmp (cond b file.allocated (filter (begins_below size) file.allocated))) [
+      | true ↦ sorted
+      | false ↦ IsStrictlySortedBy-filter nat_cmp (begins_below size) file.allocated sorted
+    ]
+
+-- a file may follow with other bytes and blocks in order
+file-follows : (S : State) (inode : Inode) (file : File) → inode.dir ≡ false
+    → (IsStrictlySortedBy nat_cmp inode.file.allocated → IsStrictlySortedBy nat_cmp file.allocated) → MayFollow S inode (record inode { file = file })
+file-follows S inode file is_file keeps = record {
+  dir = refl;
+  owners = λ known. known;
+  sound = λ sound. record { holds_nothing = λ is_dir. cc; in_order = keeps sound.in_order };
+}
+
+-- as after a write
+pub written-follows : (S : State) (inode : Inode) (off : ℕ) (bytes : List ℕ) → inode.dir ≡ false
+    → MayFollow S inode (record inode { file = after_write inode.file off bytes })
+written-follows S inode off bytes is_file =
+    file-follows S inode (after_write inode.file off bytes) is_file (in_order-after_write inode.file off bytes)
+
+-- and after a truncation
+pub truncated-follows : (S : State) (inode : Inode) (size : ℕ) → inode.dir ≡ false
+    → MayFollow S inode (record inode { file = after_truncate inode.file size })
+truncated-follows S inode size is_file =
+    file-follows S inode (after_truncate inode.file size) is_file (in_order-after_truncate inode.file size)
+
+owner-declared : (S : State) (kind : Kind) (o : Option ℕ) (old : ℕ) → is_undeclared S kind o ≡ false → is_declared S kind old ≡ true
+    → is_declared S kind (unwrap_or o old) ≡ true
+owner-declared S kind None old named known = known
+owner-declared S kind (Some id) old named known = true-from_not (is_declared S kind id) named
+  where
+    true-from_not : (b : Bool) → not b ≡ false → b ≡ true
+    true-from_not true h = refl
+    true-from_not false h = cc
+
+-- an inode may follow under owners that are declared
+pub owned-follows : (S : State) (inode : Inode) (uid gid : Option ℕ) → is_undeclared S User uid ≡ false → is_undeclared S Group gid ≡ false
+    → MayFollow S inode (with_owners inode (unwrap_or uid inode.uid) (unwrap_or gid inode.gid))
+owned-follows S inode uid gid user group = record {
+  dir = refl;
+  owners = λ known.
+      let parts = and_parts (is_declared S User inode.uid) (is_declared S Group inode.gid) known in
+      λ i. owner-declared S User uid inode.uid user parts.0 i && owner-declared S Group gid inode.gid group parts.1 i;
+  sound = λ sound. record { holds_nothing = sound.holds_nothing; in_order = sound.in_order };
+}
+
+-- an inode with an empty file is sound
+pub empty-sound : (inode : Inode) → inode.file ≡ empty_file → IsSound inode
+unfolding IsStrictlySortedBy
+empty-sound inode empty = record {
+  holds_nothing = λ is_dir. empty;
+  in_order = subst (λ (file : File). IsStrictlySortedBy nat_cmp file.allocated) (sym empty) tt;
+}
+
+-- what belongs to a caller who is known has known owners
+pub known-caller : (S : State) (cred : Caller) → is_known S cred ≡ true → (is_declared S User cred.uid && is_declared S Group cred.gid) ≡ true
+known-caller S cred known =
+    let parts = and_parts (is_declared S User cred.uid) (is_declared S Group cred.gid && list_all (is_declared S Group) cred.more) known in
+    and_from (is_declared S User cred.uid) (is_declared S Group cred.gid) parts.0
+    (and_parts (is_declared S Group cred.gid) (list_all (is_declared S Group) cred.more) parts.1).0

@@ -1,0 +1,8 @@
+use Rattle.qplain_laws.proofs.Tallying.{tallies_are_small, tallies_balance}
+use Rattle.qplain_laws.proofs.journals.tallies_add_up.Goals as goal
+
+pub returns-clause-small : goal.returns-clause-small
+returns-clause-small c = tallies_are_small
+
+pub returns-clause-balance : goal.returns-clause-balance
+returns-clause-balance c = tallies_balance

@@ -1,0 +1,58 @@
+//! Worked examples of the plain machine: each clause is one, and holds by computation.
+ghost use Rattle.qplain_laws.specs.Examples.{BoardOfJournal, CreateWriteStat, EmptyWrite, EntriesOfWorker, ExampleIsGranted, GraceHasEnded, GraceRuns, GracesMoveNone, HardLimit, JournalIsLegal, LimitsAnew, Paths, ReadOverAHole, Rights, SixInodes, SpaceBeforeQuota, SuperuserPasses, TallyOfJournal, UnknownCallers, WhoseLimitFirst, WriteOverAnEdge};
+ghost use Rattle.qplain_laws.specs.MoreExamples.{EndsMove, GrownAgain, InodesGivenBack, LastName, MayGive, MayTruncate, MayUnlink, NoNumberAgain, OnlyWhatRises, OtherGroup, Shorter, ShorterByBytes};
+ghost use Rattle.qplain_laws.specs.NameExamples.{DirectoriesGo, DirectoriesMove, FurtherNames, MayLink, MayMakeDirectories, MayRemoveDirectories, MayRename, NamesMove, NewDirectories};
+
+/// What the definitions answer on small scripts, counted by hand from the rules. It does nothing when it runs.
+pub fn worked_examples()
+    ensures example_is_granted { ExampleIsGranted }
+    ensures create_write_stat { CreateWriteStat }
+    ensures write_over_an_edge { WriteOverAnEdge }
+    ensures hard_limit { HardLimit }
+    ensures space_before_quota { SpaceBeforeQuota }
+    ensures grace_runs { GraceRuns }
+    ensures grace_has_ended { GraceHasEnded }
+    ensures superuser_passes { SuperuserPasses }
+    ensures limits_anew { LimitsAnew }
+    ensures graces_move_none { GracesMoveNone }
+    ensures empty_write { EmptyWrite }
+    ensures read_over_a_hole { ReadOverAHole }
+    ensures unknown_callers { UnknownCallers }
+    ensures paths { Paths }
+    ensures rights { Rights }
+    ensures six_inodes { SixInodes }
+    ensures whose_limit_first { WhoseLimitFirst }
+    ensures journal_is_legal { JournalIsLegal }
+    ensures tally_of_journal { TallyOfJournal }
+    ensures entries_of_worker { EntriesOfWorker }
+    ensures board_of_journal { BoardOfJournal }
+{}
+
+/// What they answer to truncate, unlink and chown.
+pub fn more_worked_examples()
+    ensures shorter { Shorter }
+    ensures shorter_by_bytes { ShorterByBytes }
+    ensures grown_again { GrownAgain }
+    ensures may_truncate { MayTruncate }
+    ensures last_name { LastName }
+    ensures no_number_again { NoNumberAgain }
+    ensures may_unlink { MayUnlink }
+    ensures inodes_given_back { InodesGivenBack }
+    ensures other_group { OtherGroup }
+    ensures only_what_rises { OnlyWhatRises }
+    ensures may_give { MayGive }
+    ensures ends_move { EndsMove }
+{}
+
+/// What they answer to mkdir, rmdir, link and rename.
+pub fn worked_examples_of_names()
+    ensures new_directories { NewDirectories }
+    ensures may_make_directories { MayMakeDirectories }
+    ensures directories_go { DirectoriesGo }
+    ensures may_remove_directories { MayRemoveDirectories }
+    ensures further_names { FurtherNames }
+    ensures may_link { MayLink }
+    ensures names_move { NamesMove }
+    ensures directories_move { DirectoriesMove }
+    ensures may_rename { MayRename }
+{}

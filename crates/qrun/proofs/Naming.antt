@@ -1,0 +1,54 @@
+-- The threads that faults name.
+use Rattle.std.proofs.Common.{◌≡◌, ◌<◌, ◌≤◌, ℕ, ◌+◌, ◌==◌, if◌then◌else◌, Bool, true, false, Result, Ok, Err, IfErr, IfSome, None, Some, refl, sym, subst, arith}
+use Rattle.std.specs.Result.{IsErrAnd}
+use Rattle.qplain.specs.Journal.{no_tally}
+use Rattle.qshare.specs.Seats.{new_seat}
+use Rattle.qrun.specs.declared.run_fault.RunFault.{RunFault}
+use Rattle.qrun.specs.declared.run_fault.RunFault.TheVariants.{Memory, Mismatch, NoReader, NotStarted}
+use Rattle.qrun.specs.RunFaults.{IsFaultOf}
+use Rattle.qrun.specs.Watching.{seats_for, watcher_for}
+
+fits_by : (n : ℕ) (b : Bool) → n ≤ (if b then n else n + 1)
+fits_by n true = omega arith
+fits_by n false = omega arith
+
+-- there is a seat for each script
+pub scripts_fit : (n boards : ℕ) → n ≤ seats_for n boards
+scripts_fit n boards = fits_by n (boards == 0)
+
+last_by : (n : ℕ) (b : Bool) → IfSome (if b then None else Some (new_seat (n + 1))) (λ s. (0 < s.worker) × (s.worker ≤ (if b then n else n + 1)))
+last_by n true = tt
+last_by n false = (omega arith, omega arith)
+
+-- and one for the watcher
+pub watcher_fits : (n boards : ℕ) → IfSome (watcher_for n boards) (λ s. (0 < s.worker) × (s.worker ≤ seats_for n boards))
+watcher_fits n boards = last_by n (boards == 0)
+
+-- the thread of the seat after those that were started
+pub names_seat : (n scripts before own : ℕ) → own ≡ before + 1 → before < scripts → scripts ≤ n → IsFaultOf n (NotStarted own)
+names_seat n scripts before own next low few = (omega (arith, next), omega (arith, next, low, few))
+
+-- a fault that is handed on
+pub names_on : {T : Type 0} (n : ℕ) (r : Result T RunFault) (fault : RunFault) → IsErrAnd r (λ e. e ≡ fault) → IsFaultOf n fault
+    → IfErr r (IsFaultOf n)
+names_on n (Ok x) fault is names = tt
+names_on n (Err e) fault is names = subst (IsFaultOf n) (sym is) names
+
+-- a fault that names no thread
+pub fault_of_any : (n : ℕ) (fault : RunFault) → IsFaultOf 0 fault → IsFaultOf n fault
+fault_of_any n Memory none = tt
+fault_of_any n (NotStarted worker) none = absurd (omega (arith, none.0, none.1))
+fault_of_any n (Mismatch place) none = absurd none
+fault_of_any n NoReader none = tt
+
+pub names_none : {T : Type 0} (n : ℕ) (r : Result T RunFault) → IfErr r (IsFaultOf 0) → IfErr r (IsFaultOf n)
+names_none n (Ok x) none = tt
+names_none n (Err e) none = fault_of_any n e none
+
+-- the watcher's seat is new
+idle_last : (n : ℕ) (b : Bool) → IfSome (if b then None else Some (new_seat (n + 1))) (λ s. s.tally ≡ no_tally)
+idle_last n true = tt
+idle_last n false = refl
+
+pub watcher_idle : (n boards : ℕ) → IfSome (watcher_for n boards) (λ s. s.tally ≡ no_tally)
+watcher_idle n boards = idle_last n (boards == 0)

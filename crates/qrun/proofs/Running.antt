@@ -1,0 +1,33 @@
+-- What a run comes to, put together of its parts.
+use Rattle.std.proofs.Common.{◌≡◌, ℕ, List, length, Result, Ok, Err, IfErr, IfOk, ap, ◌∙◌, subst, sym}
+use Rattle.std.specs.Result.{IsErrAnd}
+use Rattle.qplain.specs.declared.board.Board.{Board}
+use Rattle.qplain.specs.declared.line.Line.{Line}
+use Rattle.qplain.specs.declared.look_fault.LookFault.{LookFault}
+use Rattle.qplain.specs.Setups.{Setting}
+use Rattle.qrun_replay.specs.declared.outcome.Outcome.{Outcome}
+use Rattle.qrun_replay.specs.Runs.{IsOutcomeOf}
+use Rattle.qrun.specs.declared.run_fault.RunFault.{RunFault}
+use Rattle.qrun.specs.Crews.{ArePlayed, IsRun, Performed}
+use Rattle.qrun.specs.RunFaults.{IsFaultOf}
+use Rattle.qrun.specs.Watching.{seats_for}
+use Rattle.qrun.proofs.Naming.{fault_of_any}
+
+-- an outcome with as many looks as were wanted, or a fault that names no thread
+pub is_run : (setting : Setting) (scripts : List (List Line)) (boards : ℕ) (looks : List (Result Board LookFault)) (r : Result Outcome RunFault)
+    → length looks ≡ boards → IfOk r (IsOutcomeOf setting scripts) → IfOk r (λ o. o.boards ≡ looks) → IfErr r (IsFaultOf 0)
+    → IsRun setting scripts boards r
+is_run setting scripts boards looks (Ok o) many outcome is none = (outcome, ap length is ∙ many)
+is_run setting scripts boards looks (Err fault) many outcome is none = fault_of_any (seats_for (length scripts) boards) fault none
+
+-- what was performed, once it is taken apart
+pub played_of : (setting : Setting) (given scripts : List (List Line)) (boards : ℕ) (p done : Performed) → given ≡ scripts → done ≡ p
+    → ArePlayed setting given boards (Ok p) → ArePlayed setting scripts boards (Ok done)
+played_of setting given scripts boards p done same is played =
+    subst (λ ls. ArePlayed setting ls boards (Ok done)) same (subst (λ (q : Performed). ArePlayed setting given boards (Ok q)) (sym is) played)
+
+-- a fault that is handed on
+pub not_played : (setting : Setting) (scripts : List (List Line)) (boards : ℕ) (r : Result Performed RunFault) (fault : RunFault)
+    → IsErrAnd r (λ e. e ≡ fault) → IsFaultOf (seats_for (length scripts) boards) fault → ArePlayed setting scripts boards r
+not_played setting scripts boards (Ok p) fault is names = absurd is
+not_played setting scripts boards (Err e) fault is names = subst (IsFaultOf (seats_for (length scripts) boards)) (sym is) names

@@ -1,0 +1,206 @@
+-- Transcripts put together one after the other, and what all of them say.
+use Rattle.std.proofs.Common.{◌≡◌, ℕ, suc, ◌+◌, ◌<◌, ◌≤◌, ◌==◌, ◌||◌, true, false, Bool, List, [], ◌∷◌, ◌++◌, length, map, All, Result, refl, sym, ap, subst, ◌∙◌, arith, tests}
+use Rattle.std.proofs.lemmas.List.Elements.{All-cons, All-contains, All-head, All-nil, All-tail}
+use Rattle.std.specs.List.{list_any, AllByRecursion, IsDistinct}
+use mathlib.Core.List.{IsPrefix}
+use Rattle.qplain.specs.declared.board.Board.{Board}
+use Rattle.qplain.specs.declared.call_fault.CallFault.{CallFault}
+use Rattle.qplain.specs.declared.entry.Entry.{Entry}
+use Rattle.qplain.specs.declared.line.Line.{Line}
+use Rattle.qplain.specs.declared.look_fault.LookFault.{LookFault}
+use Rattle.qplain.specs.declared.receipt.Receipt.{Receipt}
+use Rattle.qplain.specs.declared.transcript.Transcript.{Transcript}
+use Rattle.qplain.specs.Journal.{entries_of}
+use Rattle.qplain.specs.Transcripts.{Belongs, journaled_lines}
+use Rattle.qplain.specs.declared.bounds.TheConstants.{MAX_ENTRIES}
+use Rattle.qshare_history.specs.Shares.{AreThere, HandedIn}
+use Rattle.qshare_history.proofs.Prefixes.{prefix_length}
+use Rattle.qrun_replay.specs.Runs.{AreTranscriptsOf, IsFullBehind, IsFullOf, IsOutcomeOf}
+use Rattle.qplain.specs.Setups.{Setting}
+use Rattle.qplain.specs.State.{start}
+use Rattle.qaudit_checks.specs.LawfulBoards.{AreLawful, boards_in}
+use Rattle.qaudit_checks.specs.Gathered.{IsGathered}
+use Rattle.qrun_replay.specs.declared.outcome.Outcome.{Outcome}
+use Rattle.qrun_replay.specs.Left.{IsLeftOf, IsOneOf}
+use Rattle.qrun_replay.proofs.Coming.{alone}
+use Rattle.qrun.specs.Told.{AreAllTold, AreTold, AreToldFrom, IsTold, lines_of}
+use Rattle.qrun.specs.Work.{HasSeenFull}
+
+pub none_told : (worker : ℕ) → AreToldFrom worker [] [] []
+unfolding AreToldFrom
+none_told worker = tt
+
+-- one transcript more
+pub one_more_told : (worker : ℕ) (scripts : List (List Line)) (shares : List HandedIn) (ts : List Transcript) (lines : List Line)
+    (share : HandedIn) (t : Transcript)
+    → AreToldFrom worker scripts shares ts → IsTold (worker + length scripts) lines share t
+    → AreToldFrom worker (scripts ++ lines ∷ []) (shares ++ share ∷ []) (ts ++ t ∷ [])
+unfolding AreToldFrom
+one_more_told worker [] [] [] lines share t told one = (subst (λ w. IsTold w lines share t) (omega arith) one, tt)
+one_more_told worker (l ∷ scripts) (s ∷ shares) (u ∷ ts) lines share t told one =
+    (told.0, one_more_told (worker + 1) scripts shares ts lines share t told.1 (subst (λ w. IsTold w lines share t) (omega arith) one))
+one_more_told worker [] (s ∷ shares) ts lines share t told one = absurd told
+one_more_told worker [] [] (u ∷ ts) lines share t told one = absurd told
+one_more_told worker (l ∷ scripts) [] ts lines share t told one = absurd told
+one_more_told worker (l ∷ scripts) (s ∷ shares) [] lines share t told one = absurd told
+
+-- there are as many shares and transcripts as scripts
+pub as_many : (worker : ℕ) (scripts : List (List Line)) (shares : List HandedIn) (ts : List Transcript) → AreToldFrom worker scripts shares ts
+    → (length shares ≡ length scripts) × (length ts ≡ length scripts)
+unfolding AreToldFrom
+as_many worker [] [] [] told = (refl, refl)
+as_many worker (l ∷ scripts) (s ∷ shares) (t ∷ ts) told =
+    let rest = as_many (worker + 1) scripts shares ts told.1 in (ap suc rest.0, ap suc rest.1)
+as_many worker [] (s ∷ shares) ts told = absurd told
+as_many worker [] [] (t ∷ ts) told = absurd told
+as_many worker (l ∷ scripts) [] ts told = absurd told
+as_many worker (l ∷ scripts) (s ∷ shares) [] told = absurd told
+
+-- a share is there where it is the first, or among those after it
+one_there : (k worker : ℕ) (s : HandedIn) (shares : List HandedIn) → s.worker ≡ worker → worker ≤ k
+    → (worker + 1 ≤ k → list_any (λ s. s.worker == k) shares ≡ true) → (b : Bool) → (s.worker == k) ≡ b
+    → list_any (λ s. s.worker == k) (s ∷ shares) ≡ true
+one_there k worker s shares own from behind true is =
+    subst (λ (b : Bool). (b || list_any (λ (x : HandedIn). x.worker == k) shares) ≡ true) (sym is) refl
+one_there k worker s shares own from behind false is =
+    let other : (worker == k) ≡ false = ap (λ w. w == k) (sym own) ∙ is in
+    let later : worker + 1 ≤ k = grind (arith, tests, from, other) in
+    subst (λ (b : Bool). (b || list_any (λ (x : HandedIn). x.worker == k) shares) ≡ true) (sym is) (behind later)
+
+-- the shares of all workers are there
+there_from : (worker : ℕ) (scripts : List (List Line)) (shares : List HandedIn) (ts : List Transcript) → AreToldFrom worker scripts shares ts
+    → (k : ℕ) → worker ≤ k → k < worker + length scripts → list_any (λ s. s.worker == k) shares ≡ true
+unfolding AreToldFrom
+there_from worker [] [] [] told k from less = absurd (omega (arith, from, less))
+there_from worker (l ∷ scripts) (s ∷ shares) (t ∷ ts) told k from less =
+    one_there k worker s shares told.0.work.worker_is from
+    (λ later. there_from (worker + 1) scripts shares ts told.1 k later (omega (arith, less))) (s.worker == k) refl
+there_from worker [] (s ∷ shares) ts told k from less = absurd told
+there_from worker [] [] (t ∷ ts) told k from less = absurd told
+there_from worker (l ∷ scripts) [] ts told k from less = absurd told
+there_from worker (l ∷ scripts) (s ∷ shares) [] told k from less = absurd told
+
+pub all_there : (scripts : List (List Line)) (shares : List HandedIn) (ts : List Transcript) → AreTold scripts shares ts → AreThere shares (length scripts)
+all_there scripts shares ts told k positive few = there_from 1 scripts shares ts told k positive (omega (arith, few))
+
+-- who was told of a full journal has seen a beginning of this one, which is no longer than it may be
+full_of : (journal seen : List Entry) (answers : List (Result Receipt CallFault)) → IsPrefix seen journal → length journal ≤ MAX_ENTRIES
+    → All (HasSeenFull seen) answers → All (IsFullOf journal) answers
+full_of journal seen answers begins few all k d less told =
+    let behind : MAX_ENTRIES ≤ length seen = all k d less (subst IsFullBehind (sym told) tt) in
+    let grown : length seen ≤ length journal = prefix_length seen journal begins in
+    omega (arith, few, behind, grown)
+
+-- the transcripts are those of the scripts, where their receipts stand for the workers' own entries
+pub transcripts_from : (worker : ℕ) (scripts : List (List Line)) (shares : List HandedIn) (ts : List Transcript) (journal : List Entry)
+    → AreToldFrom worker scripts shares ts
+    → All (λ s. IsPrefix s.seen journal) shares → length journal ≤ MAX_ENTRIES
+    → All (λ t. journaled_lines t.worker t.lines t.answers ≡ entries_of journal t.worker) ts
+    → AreTranscriptsOf worker scripts journal ts
+unfolding AreToldFrom AreTranscriptsOf
+transcripts_from worker [] [] [] journal told seen few own = tt
+transcripts_from worker (lines ∷ scripts) (s ∷ shares) (t ∷ ts) journal told seen few own =
+    let one = told.0 in
+    let mine : journaled_lines t.worker t.lines t.answers ≡ entries_of journal t.worker =
+    All-head (λ (t : Transcript). journaled_lines t.worker t.lines t.answers ≡ entries_of journal t.worker) t ts own in (
+      record {
+        worker_is = one.worker_is;
+        lines_are = one.lines_are;
+        each = one.work.each;
+        own = rw (sym one.worker_is, sym one.lines_are) mine;
+        full = full_of journal s.seen t.answers (All-head (λ (s : HandedIn). IsPrefix s.seen journal) s shares seen) few one.work.are.full;
+        first = one.work.are.first;
+      },
+      transcripts_from (worker + 1) scripts shares ts journal told.1 (All-tail (λ (s : HandedIn). IsPrefix s.seen journal) s shares seen) few
+          (All-tail (λ (t : Transcript). journaled_lines t.worker t.lines t.answers ≡ entries_of journal t.worker) t ts own),
+    )
+transcripts_from worker [] (s ∷ shares) ts journal told seen few own = absurd told
+transcripts_from worker [] [] (t ∷ ts) journal told seen few own = absurd told
+transcripts_from worker (l ∷ scripts) [] ts journal told seen few own = absurd told
+transcripts_from worker (l ∷ scripts) (s ∷ shares) [] journal told seen few own = absurd told
+
+-- the scripts are the transcripts' lines
+pub lines_told : (worker : ℕ) (scripts : List (List Line)) (shares : List HandedIn) (ts : List Transcript) → AreToldFrom worker scripts shares ts
+    → lines_of ts ≡ scripts
+unfolding AreToldFrom
+lines_told worker [] [] [] told = refl
+lines_told worker (l ∷ scripts) (s ∷ shares) (t ∷ ts) told =
+    rw (told.0.lines_are, lines_told (worker + 1) scripts shares ts told.1) refl
+lines_told worker [] (s ∷ shares) ts told = absurd told
+lines_told worker [] [] (t ∷ ts) told = absurd told
+lines_told worker (l ∷ scripts) [] ts told = absurd told
+lines_told worker (l ∷ scripts) (s ∷ shares) [] told = absurd told
+
+-- each line is answered
+pub each_told : (worker : ℕ) (scripts : List (List Line)) (shares : List HandedIn) (ts : List Transcript) → AreToldFrom worker scripts shares ts
+    → All (λ t. length t.answers ≡ length t.lines) ts
+unfolding AreToldFrom
+each_told worker [] [] [] told = All-nil (λ (t : Transcript). length t.answers ≡ length t.lines)
+each_told worker (l ∷ scripts) (s ∷ shares) (t ∷ ts) told =
+    All-cons (λ (t : Transcript). length t.answers ≡ length t.lines) t ts (told.0.work.each ∙ ap length (sym told.0.lines_are))
+    (each_told (worker + 1) scripts shares ts told.1)
+each_told worker [] (s ∷ shares) ts told = absurd told
+each_told worker [] [] (t ∷ ts) told = absurd told
+each_told worker (l ∷ scripts) [] ts told = absurd told
+each_told worker (l ∷ scripts) (s ∷ shares) [] told = absurd told
+
+-- who comes earlier is none of these
+none_earlier : (earlier worker : ℕ) (scripts : List (List Line)) (shares : List HandedIn) (ts : List Transcript) → AreToldFrom worker scripts shares ts
+    → earlier < worker → AllByRecursion (λ t. (earlier == t.worker) ≡ false) ts
+unfolding AreToldFrom
+none_earlier earlier worker [] [] [] told less = tt
+none_earlier earlier worker (l ∷ scripts) (s ∷ shares) (t ∷ ts) told less =
+    let own : t.worker ≡ worker = told.0.worker_is in
+    let other : (earlier == t.worker) ≡ false = grind (arith, tests, own, less) in
+    (other, none_earlier earlier (worker + 1) scripts shares ts told.1 (omega (arith, less)))
+none_earlier earlier worker [] (s ∷ shares) ts told less = absurd told
+none_earlier earlier worker [] [] (t ∷ ts) told less = absurd told
+none_earlier earlier worker (l ∷ scripts) [] ts told less = absurd told
+none_earlier earlier worker (l ∷ scripts) (s ∷ shares) [] told less = absurd told
+
+-- each transcript is of another worker
+pub apart_told : (worker : ℕ) (scripts : List (List Line)) (shares : List HandedIn) (ts : List Transcript) → AreToldFrom worker scripts shares ts
+    → IsDistinct (λ one other. one.worker == other.worker) ts
+unfolding AreToldFrom IsDistinct
+apart_told worker [] [] [] told = tt
+apart_told worker (l ∷ scripts) (s ∷ shares) (t ∷ ts) told =
+    let own : t.worker ≡ worker = told.0.worker_is in (
+      none_earlier t.worker (worker + 1) scripts shares ts told.1 (omega (arith, own)),
+      apart_told (worker + 1) scripts shares ts told.1,
+    )
+apart_told worker [] (s ∷ shares) ts told = absurd told
+apart_told worker [] [] (t ∷ ts) told = absurd told
+apart_told worker (l ∷ scripts) [] ts told = absurd told
+apart_told worker (l ∷ scripts) (s ∷ shares) [] told = absurd told
+
+-- the workers' numbers are within these bounds
+within_told : (low high worker : ℕ) (scripts : List (List Line)) (shares : List HandedIn) (ts : List Transcript) → AreToldFrom worker scripts shares ts
+    → low ≤ worker → worker + length scripts ≤ high → All (λ w. (low ≤ w) × (w < high)) (map (λ t. t.worker) ts)
+unfolding AreToldFrom
+within_told low high worker [] [] [] told from most = All-nil (λ w. (low ≤ w) × (w < high))
+within_told low high worker (l ∷ scripts) (s ∷ shares) (t ∷ ts) told from most =
+    let own : t.worker ≡ worker = told.0.worker_is in
+    All-cons (λ w. (low ≤ w) × (w < high)) t.worker (map (λ t. t.worker) ts) (omega (arith, own, from), omega (arith, own, most))
+    (within_told low high (worker + 1) scripts shares ts told.1 (omega (arith, from)) (omega (arith, most)))
+within_told low high worker [] (s ∷ shares) ts told from most = absurd told
+within_told low high worker [] [] (t ∷ ts) told from most = absurd told
+within_told low high worker (l ∷ scripts) [] ts told from most = absurd told
+within_told low high worker (l ∷ scripts) (s ∷ shares) [] told from most = absurd told
+
+-- an entry that belongs to one of them is of one of N workers
+pub one_of : (scripts : List (List Line)) (shares : List HandedIn) (ts : List Transcript) (journal : List Entry) → AreTold scripts shares ts
+    → All (Belongs ts) journal → All (IsOneOf (length ts)) journal
+one_of scripts shares ts journal told belong k d less =
+    let many : length ts ≡ length scripts = (as_many 1 scripts shares ts told).1 in
+    let within = All-contains (λ w. (1 ≤ w) × (w < 1 + length scripts)) (map (λ t. t.worker) ts) _
+    (within_told 1 (1 + length scripts) 1 scripts shares ts told (omega arith) (omega arith)) (belong k d less) in
+    (omega (arith, within.0), omega (arith, within.1, many))
+
+-- what is left of a store whose journal was checked against what was told, and against what looks were given
+pub gathered_told : (setting : Setting) (journal : List Entry) (ts : List Transcript) (looks : List (Result Board LookFault))
+    (workers : ℕ) (o : Outcome) → AreAllTold journal ts → AreLawful (start setting) journal (boards_in looks)
+    → workers ≡ length ts → IsLeftOf setting journal workers ts looks o → IsOutcomeOf setting (lines_of ts) o
+gathered_told setting journal ts looks workers o all lawful many left =
+    let shares = all.told.shares in
+    alone setting (lines_of ts) journal workers ts looks o left (many ∙ (as_many 1 (lines_of ts) shares ts all.told.told).1)
+    (transcripts_from 1 (lines_of ts) shares ts journal all.told.told all.told.seen left.few all.gathered.own) all.gathered.belong lawful

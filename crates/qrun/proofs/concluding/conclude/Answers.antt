@@ -1,0 +1,18 @@
+use Rattle.std.proofs.Common.{◌≡◌, length, sym, ap, ◌∙◌}
+use Rattle.qrun.specs.Told.{lines_of}
+use Rattle.qrun.proofs.Told.{gathered_told, one_of}
+use Rattle.qrun.proofs.concluding.conclude.Goals as goal
+
+pub outcome_of-requires-clause-each : goal.outcome_of-requires-clause-each
+outcome_of-requires-clause-each c =
+    let all = c.requires.told in
+    let many : length c.args.transcripts.items ≡ c.len-workers.result = sym c.args.transcripts.ok.0 ∙ sym c.len-workers.ensures in
+    let each = one_of (lines_of c.args.transcripts.items) all.told.shares c.args.transcripts.items c.args.store.journal all.told.told
+    all.gathered.belong in
+    rw (sym many) each
+
+pub returns-clause-outcome : goal.returns-clause-outcome
+returns-clause-outcome c =
+    let many : c.len-workers.result ≡ length c.args.transcripts.items = c.len-workers.ensures ∙ c.args.transcripts.ok.0 in
+    gathered_told c.args.store.setting c.args.store.journal c.args.transcripts.items c.args.looks.items c.len-workers.result
+    c.in_ok-outcome.outcome c.requires.told c.requires.lawful many (rw (sym c.new.ensures, sym c.new-2.ensures) c.in_ok-outcome.ensures)

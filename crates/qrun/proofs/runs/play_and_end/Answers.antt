@@ -1,0 +1,86 @@
+use Rattle.std.proofs.Common.{◌≡◌, ◌++◌, true, false, All, IfOk, ◌<◌, ◌≤◌, length, sum_by, ap, subst, sym, ◌∙◌}
+use mathlib.Core.List.{IsPrefix}
+use Rattle.qshare_history.specs.Shares.{AreThere, HandedIn}
+use Rattle.qplain.specs.State.{start}
+use Rattle.qaudit_checks.specs.LawfulBoards.{AreLawful, boards_in}
+use Rattle.qrun_replay.specs.Runs.{IsOutcomeOf}
+use Rattle.qrun.specs.Told.{AreTold, lines_of}
+use Rattle.qrun.specs.Watching.{IsWatchOf, seats_for, shares_in, watcher_for}
+use Rattle.qrun.proofs.Counting.{all_gathered}
+use Rattle.qrun.proofs.Running.{is_run, played_of}
+use Rattle.qrun.proofs.Told.{all_there, as_many, lines_told}
+use Rattle.qrun.proofs.Watched.{all_front, all_seats_there, as_many_looks, calls_counted, looks_lawful}
+use Rattle.qrun.proofs.runs.play_and_end.Goals as goal
+
+pub conclude-requires-clause-told : goal.conclude-requires-clause-told
+conclude-requires-clause-told g c =
+    let played =
+    played_of g.S.StoreId.id.setting c.deref.result.now c.args.scripts.items c.args.options.boards c.in_ok-works.field-0
+    (record { works = c.works.inside.works.items; watch = c.works.inside.watch }) c.deref.ensures.value c.works.view_is c.in_ok-works.ensures in
+    let own = c.in_ok-own.own.items in
+    let ts = c.in_ok-own.transcripts.items in
+    let scripts = c.args.scripts.items in
+    let journal = c.in-Ok.store.journal in
+    let watch = c.works.inside.watch in
+    let Seen : HandedIn → Type 0 = λ s. IsPrefix s.seen journal in
+    let seen = all_front Seen own (shares_in watch) (subst (All Seen) c.in_ok-shares.ensures.shares c.in-Ok.ensures.end.seen) in
+    let S = start g.S.StoreId.id.setting in
+    let boards = c.args.options.boards in
+    let calls : sum_by (λ s. s.tally.calls) c.in_ok-shares.shares.items ≡ length journal = ap (λ t. t.calls) c.in-Ok.ensures.end.tally in
+    record {
+      workers = rw (as_many 1 scripts own ts c.in_ok-own.ensures).1 c.requires.few;
+      told = record {
+        shares = own;
+        told = subst (λ ls. AreTold ls own ts) (sym (lines_told 1 scripts own ts c.in_ok-own.ensures)) c.in_ok-own.ensures;
+        seen = seen;
+      };
+      gathered = all_gathered scripts own ts journal c.in_ok-own.ensures seen
+          (calls_counted S (length scripts) boards own c.in_ok-shares.shares.items watch (length journal) played.1
+          c.in_ok-shares.ensures.shares calls);
+    }
+
+pub conclude-requires-clause-lawful : goal.conclude-requires-clause-lawful
+conclude-requires-clause-lawful g c =
+    let played =
+    played_of g.S.StoreId.id.setting c.deref.result.now c.args.scripts.items c.args.options.boards c.in_ok-works.field-0
+    (record { works = c.works.inside.works.items; watch = c.works.inside.watch }) c.deref.ensures.value c.works.view_is c.in_ok-works.ensures in
+    let journal = c.in-Ok.store.journal in
+    let looks = c.in_ok-shares.looks.items in
+    subst (λ s. AreLawful (start s) journal (boards_in looks)) (sym c.in-Ok.ensures.setting)
+    (looks_lawful (start g.S.StoreId.id.setting) (length c.args.scripts.items) c.args.options.boards c.in_ok-own.own.items
+    c.in_ok-shares.shares.items c.works.inside.watch looks journal played.1 c.in_ok-shares.ensures.shares
+    c.in_ok-shares.ensures.looks c.in-Ok.ensures.end.seen)
+
+pub unreachable-requires : goal.unreachable-requires
+unreachable-requires g c =
+    let played =
+    played_of g.S.StoreId.id.setting c.deref.result.now c.args.scripts.items c.args.options.boards c.in_ok-works.field-0
+    (record { works = c.works.inside.works.items; watch = c.works.inside.watch }) c.deref.ensures.value c.works.view_is c.in_ok-works.ensures in
+    let own = c.in_ok-own.own.items in
+    let scripts = c.args.scripts.items in
+    let boards = c.args.options.boards in
+    let watch = c.works.inside.watch in
+    let there : AreThere (own ++ shares_in watch) (seats_for (length scripts) boards) =
+    all_seats_there (start g.S.StoreId.id.setting) (length scripts) boards own watch
+    (all_there scripts own c.in_ok-own.transcripts.items c.in_ok-own.ensures) played.1 in
+    let all : AreThere c.in_ok-shares.shares.items g.S.StoreId.id.counters.parts =
+    subst (AreThere c.in_ok-shares.shares.items) (sym c.requires.seats)
+    (subst (λ xs. AreThere xs (seats_for (length scripts) boards)) (sym c.in_ok-shares.ensures.shares) there) in
+    let wrong : false ≡ true = c.in-Err.ensures.all all in
+    absurd cc
+
+pub returns : goal.returns
+returns g c =
+    let played =
+    played_of g.S.StoreId.id.setting c.deref.result.now c.args.scripts.items c.args.options.boards c.in_ok-works.field-0
+    (record { works = c.works.inside.works.items; watch = c.works.inside.watch }) c.deref.ensures.value c.works.view_is c.in_ok-works.ensures in
+    let scripts = c.args.scripts.items in
+    let boards = c.args.options.boards in
+    let looks = c.in_ok-shares.looks.items in
+    let lines = lines_told 1 scripts c.in_ok-own.own.items c.in_ok-own.transcripts.items c.in_ok-own.ensures in
+    let many : length looks ≡ boards =
+    ap length c.in_ok-shares.ensures.looks ∙ as_many_looks (start g.S.StoreId.id.setting) (length scripts) boards c.works.inside.watch played.1 in
+    is_run g.S.StoreId.id.setting scripts boards looks c.conclude.result many
+    (subst (λ ls. IfOk c.conclude.result (IsOutcomeOf g.S.StoreId.id.setting ls)) lines
+    (subst (λ s. IfOk c.conclude.result (IsOutcomeOf s (lines_of c.in_ok-own.transcripts.items))) c.in-Ok.ensures.setting c.conclude.ensures.outcome))
+    c.conclude.ensures.looks c.conclude.ensures.fault

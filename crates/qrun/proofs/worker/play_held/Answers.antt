@@ -1,0 +1,37 @@
+use Rattle.std.proofs.Common.{length, arith, refl, sym, ◌∙◌}
+use Rattle.qrun.proofs.Working.{next_line, one_more_held, room_left, same_worker, seen_more}
+use Rattle.qrun.proofs.worker.play_held.Goals as goal
+
+pub loop-init : goal.loop-init
+loop-init g c = (
+  seen_more c.args.seat.now.worker c.args.lines.now c.args.seat.now.tally.calls c.args.seat.now.seen c.args.held.journal c.args.answers.now.items
+      c.requires.answered c.requires.held.begins,
+  omega arith,
+  refl,
+  omega (arith, c.requires.held.room),
+  refl,
+  sym c.requires.held.by,
+)
+
+pub loop-preserved : goal.loop-preserved
+loop-preserved g c =
+    let so_far = c.loop.invariant in
+    let applied = c.apply-answer.ensures in
+    let pushed = c.push_reserved.ensures in
+    let lines = c.args.lines.now in
+    let line = c.index-lines-len.result in
+    let answer = c.apply-answer.result in
+    let old = c.loop.held in
+    let new = c.apply-answer.new.self in
+    let seat = c.apply-answer.new.seat in
+    let answers = c.loop.answers in (
+      one_more_held g.S.StoreId.id.setting lines old new c.loop.seat seat answers.items c.push_reserved.new.self.items line answer so_far.0
+          (next_line lines c.len.result (length answers.items) line line c.index-lines-len.is
+          (omega (arith, c.len.ensures, so_far.1, c.loop-test.true, c.requires.room.0)) (sym (c.len.ensures ∙ answers.ok.0)))
+          applied.ok applied.stays applied.err applied.full pushed.items,
+      omega (arith, pushed.len, so_far.1),
+      pushed.capacity ∙ so_far.2,
+      room_left old new c.loop.seat seat line answer c.args.many c.loop.counter applied.ok applied.err so_far.3,
+      same_worker old new c.loop.seat seat line answer applied.ok applied.err ∙ so_far.4,
+      applied.stays.by ∙ so_far.5,
+    )

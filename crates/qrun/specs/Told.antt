@@ -1,0 +1,46 @@
+-- What workers have done, told as transcripts. No public clause cites this module.
+use Rattle.std.specs.Prelude.{◌≡◌, ℕ, ◌+◌, ◌<◌, ◌≤◌, List, [], ◌∷◌, length, map, All}
+use mathlib.Core.List.{IsPrefix}
+use Rattle.qplain.specs.declared.entry.Entry.{Entry}
+use Rattle.qplain.specs.declared.line.Line.{Line}
+use Rattle.qplain.specs.declared.transcript.Transcript.{Transcript}
+use Rattle.qshare_history.specs.Shares.{HandedIn}
+use Rattle.qaudit_checks.specs.Gathered.{IsGathered}
+use Rattle.qshare.specs.declared.opening.TheConstants.{MAX_SEATS}
+use Rattle.qrun.specs.Work.{IsWork}
+
+-- a worker's transcript: its script, and the answers that its share stands beside
+pub record IsTold (worker : ℕ) (lines : List Line) (share : HandedIn) (t : Transcript) : Type 0 where
+  pub worker_is : t.worker ≡ worker
+  pub lines_are : t.lines ≡ lines
+  pub work : IsWork worker lines (record { share = share; answers = t.answers })
+
+-- worker by worker, from this number on
+unfoldable pub AreToldFrom : ℕ → List (List Line) → List HandedIn → List Transcript → Type 0
+AreToldFrom worker [] [] [] = Unit {0}
+AreToldFrom worker (lines ∷ scripts) (share ∷ shares) (t ∷ ts) =
+    IsTold worker lines share t × AreToldFrom (worker + 1) scripts shares ts
+AreToldFrom worker [] (share ∷ shares) ts = ⊥
+AreToldFrom worker [] [] (t ∷ ts) = ⊥
+AreToldFrom worker (lines ∷ scripts) [] ts = ⊥
+AreToldFrom worker (lines ∷ scripts) (share ∷ shares) [] = ⊥
+
+-- the workers of all scripts, from 1
+abbrev pub AreTold : List (List Line) → List HandedIn → List Transcript → Type 0
+AreTold = AreToldFrom 1
+
+-- the scripts that transcripts tell of
+abbrev pub lines_of : List Transcript → List (List Line)
+lines_of ts = map (λ t. t.lines) ts
+
+-- the transcripts of workers, each of whom has seen a beginning of this journal
+pub record AreToldOf (journal : List Entry) (ts : List Transcript) : Type 0 where
+  pub shares : List HandedIn
+  pub told : AreTold (lines_of ts) shares ts
+  pub seen : All (λ s. IsPrefix s.seen journal) shares
+
+-- so they are of as many workers as a run may have, and tell of all the journal's entries, each of its own
+pub record AreAllTold (journal : List Entry) (ts : List Transcript) : Type 0 where
+  pub workers : (0 < length ts) × (length ts ≤ MAX_SEATS)
+  pub told : AreToldOf journal ts
+  pub gathered : IsGathered journal ts

@@ -1,0 +1,61 @@
+-- What workers have done when their scripts are played. No public clause cites this module.
+use Rattle.std.specs.Prelude.{◌≡◌, ℕ, ◌+◌, ◌<◌, ◌≤◌, ◌⊎◌, List, [], ◌∷◌, length, All, Result, slice_index_or}
+use Rattle.qplain.specs.declared.call_fault.CallFault.{CallFault}
+use Rattle.qplain.specs.declared.entry.Entry.{Entry}
+use Rattle.qplain.specs.declared.line.Line.{Line}
+use Rattle.qplain.specs.declared.receipt.Receipt.{Receipt}
+use Rattle.qplain.specs.Journal.{entries_of}
+use Rattle.qplain.specs.Transcripts.{journaled_lines}
+use Rattle.qplain.specs.declared.bounds.TheConstants.{MAX_ENTRIES}
+use mathlib.Core.List.{IsPrefix}
+use Rattle.qshare_history.specs.Shares.{HandedIn}
+use Rattle.qshare.specs.Holds.{Holding}
+use Rattle.qshare.specs.Seats.{Seated}
+use Rattle.qrun_replay.specs.Runs.{FullIsToldFirst, IsFullBehind}
+
+-- a worker's share, and its answers
+pub record Done : Type 0 where
+  pub share : HandedIn
+  pub answers : List (Result Receipt CallFault)
+
+-- who is told of a full journal has seen one
+abbrev pub HasSeenFull : List Entry → Result Receipt CallFault → Type 0
+HasSeenFull seen answer = IsFullBehind answer → MAX_ENTRIES ≤ length seen
+
+-- these stand among those, in their order
+unfoldable pub IsSubsequence : {X : Type 0} → List X → List X → Type 0
+IsSubsequence [] ys = Unit {0}
+IsSubsequence (x ∷ xs) [] = ⊥
+IsSubsequence (x ∷ xs) (y ∷ ys) = ((x ≡ y) × IsSubsequence xs ys) ⊎ IsSubsequence (x ∷ xs) ys
+
+-- the answers to the first lines of a worker who has seen this much: once the journal is full, each further one is told
+-- so; the receipts are entries of its own, in their order, and as many calls were counted
+pub record AreAnswers (worker : ℕ) (lines : List Line) (seen : List Entry) (calls : ℕ)
+    (answers : List (Result Receipt CallFault)) : Type 0 where
+  pub few : length answers ≤ length lines
+  pub full : All (HasSeenFull seen) answers
+  pub first : FullIsToldFirst answers
+  pub own : IsSubsequence (journaled_lines worker lines answers) (entries_of seen worker)
+  pub counted : calls ≡ length (journaled_lines worker lines answers)
+
+-- the answers to the first lines of the worker who has this seat
+abbrev pub HasAnswers : List Line → Seated → List (Result Receipt CallFault) → Type 0
+HasAnswers lines seat answers = AreAnswers seat.worker lines seat.seen seat.tally.calls answers
+
+-- the worker who has this seat holds the lock, may make N calls under it, and has seen a prefix of the journal
+pub record MayMake (many : ℕ) (held : Holding) (seat : Seated) : Type 0 where
+  pub by : seat.worker ≡ held.by
+  pub room : many ≤ held.room
+  pub begins : IsPrefix seat.seen held.journal
+
+-- the share of the worker who has played this script, and an answer to each line
+pub record IsWork (worker : ℕ) (lines : List Line) (d : Done) : Type 0 where
+  pub worker_is : d.share.worker ≡ worker
+  pub each : length d.answers ≡ length lines
+  pub are : AreAnswers worker lines d.share.seen d.share.tally.calls d.answers
+
+-- each worker, from 1, has played its script
+pub record AreWorks (scripts : List (List Line)) (works : List Done) : Type 0 where
+  pub many : length works ≡ length scripts
+  pub each : (k : ℕ) (d : Done) (lines : List Line) → k < length scripts
+      → IsWork (k + 1) (slice_index_or scripts k lines) (slice_index_or works k d)

@@ -1,0 +1,63 @@
+//! The outcome of a run whose threads have done their work.
+ghost use Rattle.std.specs.Prelude.{◌≡◌, IfErr, IfOk};
+ghost use Rattle.qplain.specs.State.{start};
+ghost use Rattle.qaudit_checks.specs.LawfulBoards.{AreLawful, boards_in};
+ghost use Rattle.qrun_replay.specs.Runs.{IsOutcomeOf};
+ghost use Rattle.qrun.specs.RunFaults.{IsFaultOf};
+ghost use Rattle.qrun.specs.Told.{AreAllTold, lines_of};
+
+use crate::run_fault::RunFault;
+use crate::watcher::Look;
+use qaudit_checks::{BoardFault, check_looks};
+use qplain::Transcript;
+use qrules::Items;
+use qrun_replay::{Outcome, outcome_of};
+use qshare::JournaledStore;
+use std::alloc::Global;
+
+/// Checks what looks were given against the journal, whose own boards they are. Where there was none, nothing is played
+/// again.
+fn check_own(
+    alloc: Global,
+    store: &JournaledStore,
+    looks: &[Look],
+    seed: u64,
+) -> Result<(), RunFault>
+    requires lawful { AreLawful (start store.now.setting) store.now.journal (boards_in looks.now) }
+    ensures fault { IfErr result (IsFaultOf 0) }
+{
+    if looks.is_empty() {
+        return Ok(());
+    }
+    match check_looks(alloc, store.setup(), store.entries(), looks, seed) {
+        Ok(()) => Ok(()),
+        Err(BoardFault::Memory) => Err(RunFault::Memory),
+        Err(BoardFault::Board(_)) => Err(RunFault::Mismatch(0)),
+    }
+}
+
+/// Checks the looks against the journal, and makes the outcome with these transcripts.
+pub(crate) fn conclude(
+    alloc: Global,
+    store: JournaledStore,
+    transcripts: Vec<Transcript>,
+    looks: Vec<Look>,
+    seed: u64,
+) -> Result<Outcome, RunFault>
+    requires told { AreAllTold store.journal transcripts.items }
+    requires lawful { AreLawful (start store.setting) store.journal (boards_in looks.items) }
+    ensures outcome { IfOk result (IsOutcomeOf store.setting (lines_of transcripts.items)) }
+    ensures looks { IfOk result (λ o. o.boards ≡ looks.items) }
+    ensures fault { IfErr result (IsFaultOf 0) }
+{
+    check_own(alloc, &store, &looks, seed)?;
+    let workers = transcripts.len() as u64;
+    let outcome = outcome_of(
+        alloc,
+        store,
+        workers,
+        Items::new(transcripts),
+        Items::new(looks),
+    )?;
+    Ok(outcome)
+}

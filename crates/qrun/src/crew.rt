@@ -1,0 +1,96 @@
+//! All threads of a run: one for each worker, and one that looks at the boards.
+ghost use Rattle.std.specs.Prelude.{◌≡◌, ◌<◌, List, length, slice_index_or};
+ghost use denote.Param.Send.{IsSend, IsSync};
+ghost use Rattle.qplain.specs.declared.line.Line.{Line};
+ghost use Rattle.qrun.specs.Crews.{ArePlayed, IsCrew};
+
+use crate::gate::Gate;
+use crate::options::Options;
+use crate::run_fault::RunFault;
+use crate::watcher::{Watch, watch_all};
+use crate::worker::{Plays, Work, play, worker_of};
+use qplain::{Line, Script};
+use qshare::{Boards, Seat, Shared};
+use qshare_boards::Viewer;
+use qshare_history::StoreId;
+use std::alloc::Global;
+use std::marker::Model;
+use std::sync::Wait;
+use std::thread;
+use std::thread::Threads;
+
+/// What the threads of a run have done.
+#[derive(Drop)]
+pub(crate) struct Played<S: StoreId> {
+    pub(crate) works: Vec<Work<S>>,
+    pub(crate) watch: Option<Watch<S>>,
+}
+
+impl<S: StoreId> Model for Played<S> {
+    ghost use Rattle.qrun.specs.Crews.{Performed};
+
+    ghost Value = { Performed };
+
+    ghost view = { λ p. record { works = p.works.items; watch = p.watch } };
+}
+
+/// The lines of the script of this index, which there is.
+fn script_at(scripts: &[Script], index: usize) -> &[Line]
+    requires { index < length scripts.now }
+    ensures { (default : List Line) → result.now ≡ slice_index_or scripts.now index default }
+{
+    scripts[index].lines()
+}
+
+/// Plays each script in a thread of its own; once all are started the watcher looks, in its own, and all are joined.
+///
+/// Where a start is refused, no later one is made, and those before are waited for; the worker is named.
+pub(crate) fn play_all<S, B, V, G, R>(
+    rt: &R,
+    alloc: Global,
+    shared: &Shared<S, B>,
+    gate: &G,
+    options: Options,
+    seats: Vec<Seat<S, V>>,
+    watcher: Option<Seat<S, Viewer<S>>>,
+    scripts: &[Script],
+) -> Result<Played<S>, RunFault>
+where
+    S: StoreId + Send + Sync + 'static,
+    B: Boards<S> + Send,
+    V: Drop + Send,
+    G: Gate + Sync,
+    R: Threads + Wait + Sync,
+    requires { IsCrew (length scripts.now) options seats.items watcher }
+    ensures { ArePlayed S.id.setting scripts.now options.boards result }
+{
+    thread::scope(
+        thread::scope_env(),
+        rt,
+        |scope| -> Result<Played<S>, RunFault>
+            requires marks { IsSync R.row × IsSync G.row × IsSend S.row × IsSync S.row × IsSend B.row × IsSend V.row }
+            requires crew { IsCrew (length scripts.now) (record { batch = options.batch; boards = options.boards })
+                seats.items watcher }
+            ensures { ArePlayed S.id.setting scripts.entry.now options.boards result }
+        {
+            let mut running = Vec::with_capacity(alloc, seats.len())?;
+            for seat in seats {
+                let lines = script_at(scripts, running.len());
+                let worker = worker_of(alloc, rt, shared, gate, lines, options.batch, seat)?;
+                let plays = Plays {
+                    worker: worker.seat.worker(),
+                    lines,
+                };
+                match scope.spawn_with(plays, move || play(worker)) {
+                    Ok(handle) => running.push_reserved(handle),
+                    Err(_) => return Err(RunFault::NotStarted(plays.worker)),
+                }
+            }
+            let watch = watch_all(rt, alloc, watcher, options.boards)?;
+            match thread::join_promised(rt, running) {
+                Ok(works) => Ok(Played { works, watch }),
+                Err(_) => Err(RunFault::Memory),
+            }
+        },
+    )
+}

@@ -1,0 +1,128 @@
+//! Who looks at the boards of a run: a seat, and the thread in which it looks.
+ghost use Rattle.std.specs.Prelude.{◌≡◌, ◌+◌, ◌<◌, ◌≤◌, ℕ, Some, vec_len, vec_capacity, IfErr, IfOk, IfSome};
+ghost use Rattle.qplain.specs.Journal.{no_tally};
+ghost use Rattle.qplain.specs.State.{start};
+ghost use Rattle.qshare.specs.Seats.{new_seat, seats_of};
+ghost use Rattle.qrun.specs.RunFaults.{IsFaultOf};
+ghost use Rattle.qrun.specs.Watching.{IsWatch, IsWatchOf};
+
+use crate::run_fault::RunFault;
+use qplain::{Board, LookFault};
+use qshare::Seat;
+use qshare_boards::Viewer;
+use qshare_history::{Share, StoreId};
+use std::alloc::Global;
+use std::marker::{Model, PhantomData};
+use std::thread;
+use std::thread::{Promise, Threads};
+
+/// What a look at the boards was given.
+pub(crate) type Look = Result<Board, LookFault>;
+
+/// What a watcher has done: its share, and what each of its looks was given.
+#[derive(Drop)]
+pub(crate) struct Watch<S: StoreId> {
+    pub(crate) share: Share<S>,
+    pub(crate) looks: Vec<Look>,
+}
+
+impl<S: StoreId> Model for Watch<S> {
+    ghost use Rattle.qrun.specs.Watching.{Watched};
+
+    ghost Value = { Watched };
+
+    ghost view = { λ w. record { share = w.share; looks = w.looks.items } };
+}
+
+/// That this watcher looks N times.
+#[derive(Drop)]
+pub(crate) struct Watches<S> {
+    worker: u64,
+    boards: u64,
+    store: PhantomData<S>,
+}
+
+impl<S: StoreId> Promise<Watch<S>> for Watches<S> {
+    ghost use Rattle.qplain.specs.State.{start};
+    ghost use Rattle.qrun.specs.Watching.{IsWatch};
+
+    ghost kept_by = { λ p w. IsWatch (start S.id.setting) p.worker p.boards w };
+}
+
+/// The seats of the workers of N scripts, and that of who looks at the boards, which is the last.
+pub(crate) fn part_watcher<S: StoreId>(
+    seats: Vec<Seat<S, Viewer<S>>>,
+    scripts: usize,
+) -> (Vec<Seat<S, Viewer<S>>>, Option<Seat<S, Viewer<S>>>)
+    requires { seats.items ≡ seats_of (scripts + 1) }
+    ensures workers { result.0.items ≡ seats_of scripts }
+    ensures watcher { result.1 ≡ Some (new_seat (scripts + 1)) }
+{
+    let mut seats = seats;
+    let watcher = seats.pop();
+    (seats, watcher)
+}
+
+/// Looks N times, one after the other. No look waits.
+fn look_on<S: StoreId>(seat: Seat<S, Viewer<S>>, looks: Vec<Look>, boards: u64) -> Watch<S>
+    requires seat { seat.tally ≡ no_tally }
+    requires room { (vec_len looks ≡ 0) × (boards ≤ vec_capacity looks) }
+    ensures { IsWatch (start S.id.setting) seat.worker boards result }
+{
+    let mut seat = seat;
+    let mut looks = looks;
+    for _ in 0..boards {
+        looks.push_reserved(seat.board());
+    }
+    Watch {
+        share: seat.finish(),
+        looks,
+    }
+}
+
+/// Looks N times in a thread of its own, and waits until it has done so.
+fn look_beside<S, R>(
+    rt: &R,
+    alloc: Global,
+    seat: Seat<S, Viewer<S>>,
+    boards: u64,
+) -> Result<Watch<S>, RunFault>
+where
+    S: StoreId + Send + Sync + 'static,
+    R: Threads,
+    requires seat { seat.tally ≡ no_tally }
+    ensures watch { IfOk result (IsWatch (start S.id.setting) seat.worker boards) }
+    ensures fault { (n : ℕ) → 0 < seat.worker → seat.worker ≤ n → IfErr result (IsFaultOf n) }
+{
+    let looks = Vec::with_capacity(alloc, boards as usize)?;
+    let worker = seat.worker();
+    let watches: Watches<S> = Watches {
+        worker,
+        boards,
+        store: PhantomData,
+    };
+    match thread::spawn_with(rt, watches, move || look_on(seat, looks, boards)) {
+        Ok(handle) => Ok(handle.join(rt)),
+        Err(_) => Err(RunFault::NotStarted(worker)),
+    }
+}
+
+/// The same for a seat that may be none.
+pub(crate) fn watch_all<S, R>(
+    rt: &R,
+    alloc: Global,
+    watcher: Option<Seat<S, Viewer<S>>>,
+    boards: u64,
+) -> Result<Option<Watch<S>>, RunFault>
+where
+    S: StoreId + Send + Sync + 'static,
+    R: Threads,
+    requires seat { IfSome watcher (λ s. s.tally ≡ no_tally) }
+    ensures watch { IfOk result (IsWatchOf (start S.id.setting) boards watcher) }
+    ensures fault { (n : ℕ) → IfSome watcher (λ s. (0 < s.worker) × (s.worker ≤ n)) → IfErr result (IsFaultOf n) }
+{
+    match watcher {
+        Some(seat) => Ok(Some(look_beside(rt, alloc, seat, boards)?)),
+        None => Ok(None),
+    }
+}

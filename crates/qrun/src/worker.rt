@@ -1,0 +1,215 @@
+//! One worker: a seat, a script, and the thread in which it is played.
+ghost use Rattle.std.specs.Prelude.{◌≡◌, ◌+◌, ◌<◌, ◌≤◌, length, vec_len, vec_capacity, IfOk};
+ghost use Rattle.qplain.specs.Journal.{no_tally};
+ghost use Rattle.qshare.specs.declared.held.TheConstants.{MAX_BATCH};
+ghost use Rattle.qrun.specs.Work.{HasAnswers, IsWork, MayMake};
+
+use crate::gate::Gate;
+use qplain::{CallFault, Line, NoMemory, Receipt};
+use qshare::{Boards, Held, Seat, Shared};
+use qshare_history::{Share, StoreId};
+use std::alloc::Global;
+use std::marker::Model;
+use std::sync::Wait;
+use std::thread::Promise;
+
+/// What a worker was answered to a line.
+pub(crate) type Answer = Result<Receipt, CallFault>;
+
+/// What a worker has done: its share, and an answer to each of its lines.
+#[derive(Drop)]
+pub(crate) struct Work<S: StoreId> {
+    pub(crate) share: Share<S>,
+    pub(crate) answers: Vec<Answer>,
+}
+
+impl<S: StoreId> Model for Work<S> {
+    ghost use Rattle.qrun.specs.Work.{Done};
+
+    ghost Value = { Done };
+
+    ghost view = { λ w. record { share = w.share; answers = w.answers.items } };
+}
+
+/// That this worker plays these lines.
+#[derive(Clone, Copy)]
+pub(crate) struct Plays<'a> {
+    pub(crate) worker: u64,
+    pub(crate) lines: &'a [Line],
+}
+
+impl<'a, S: StoreId> Promise<Work<S>> for Plays<'a> {
+    ghost use Rattle.qrun.specs.Work.{IsWork};
+
+    ghost kept_by = { λ p w. IsWork p.worker p.lines.now w };
+}
+
+/// All that a worker takes with it: its seat, its script, which is the caller's, for how many lines at a time it takes
+/// the lock, and room for the answers.
+#[derive(Drop)]
+pub(crate) struct Worker<'a, 'b, 'c, 'd, S: StoreId, B: Boards<S>, V: Drop, G: Gate, R: Wait> {
+    pub(crate) rt: &'a R,
+    pub(crate) shared: &'b Shared<S, B>,
+    pub(crate) gate: &'c G,
+    pub(crate) lines: &'d [Line],
+    pub(crate) batch: usize,
+    pub(crate) seat: Seat<S, V>,
+    pub(crate) answers: Vec<Answer>,
+}
+
+/// A worker with a new seat, and with room for an answer to each of its lines.
+pub(crate) fn worker_of<'a, 'b, 'c, 'd, S: StoreId, B: Boards<S>, V: Drop, G: Gate, R: Wait>(
+    alloc: Global,
+    rt: &'a R,
+    shared: &'b Shared<S, B>,
+    gate: &'c G,
+    lines: &'d [Line],
+    batch: u64,
+    seat: Seat<S, V>,
+) -> Result<Worker<'a, 'b, 'c, 'd, S, B, V, G, R>, NoMemory>
+    requires seat { seat.tally ≡ no_tally }
+    ensures seat { IfOk result (λ w. (w.seat.worker ≡ seat.worker) × (w.seat.tally ≡ no_tally)) }
+    ensures lines { IfOk result (λ w. w.lines.now ≡ lines.now) }
+    ensures batch { IfOk result (λ w. w.batch ≡ batch) }
+    ensures room { IfOk result (λ w. (vec_len w.answers ≡ 0) × (length lines.now ≤ vec_capacity w.answers)) }
+{
+    Ok(Worker {
+        rt,
+        shared,
+        gate,
+        lines,
+        batch: batch as usize,
+        seat,
+        answers: Vec::with_capacity(alloc, lines.len())?,
+    })
+}
+
+/// Makes the calls of a script one after the other, and goes on after any answer.
+fn play_each<S: StoreId, B: Boards<S>, V: Drop, G: Gate, R: Wait>(
+    rt: &R,
+    shared: &Shared<S, B>,
+    gate: &G,
+    lines: &[Line],
+    mut seat: Seat<S, V>,
+    mut answers: Vec<Answer>,
+) -> Work<S>
+    requires seat { seat.tally ≡ no_tally }
+    requires room { (vec_len answers ≡ 0) × (length lines.now ≤ vec_capacity answers) }
+    ensures { IsWork seat.worker lines.now result }
+{
+    let worker = seat.worker();
+    for before in 0..lines.len() {
+        let line = &lines[before];
+        gate.before(worker, before + 1);
+        let answer = shared.call(rt, &mut seat, &line.cred, line.moment, &line.call);
+        gate.after(worker, before + 1);
+        answers.push_reserved(answer);
+    }
+    Work {
+        share: seat.finish(),
+        answers,
+    }
+}
+
+/// Makes the next calls of a script, of which there are at most 64, under a lock that is held, and then gives it back.
+fn play_held<S: StoreId, B: Boards<S>, V: Drop, R: Wait>(
+    rt: &R,
+    held: Held<'_, S, B>,
+    lines: &[Line],
+    many: usize,
+    seat: &mut Seat<S, V>,
+    answers: &mut Vec<Answer>,
+)
+    requires held { MayMake many held seat.old }
+    requires room { (vec_len answers.old + many ≤ length lines.now) × (length lines.now ≤ vec_capacity answers.old) }
+    requires answered { HasAnswers lines.now seat.old answers.old.items }
+    ensures answered { HasAnswers lines.now seat.new answers.new.items }
+    ensures many { (vec_len answers.new ≡ vec_len answers.old + many)
+        × (vec_capacity answers.new ≡ vec_capacity answers.old) }
+    ensures worker { seat.new.worker ≡ seat.old.worker }
+{
+    let mut held = held;
+    for _ in 0..many {
+        let line = &lines[answers.len()];
+        let answer = held.apply(rt, seat, &line.cred, line.moment, &line.call);
+        answers.push_reserved(answer);
+    }
+    held.release(rt, seat);
+}
+
+/// Makes the next calls of a script under one taking of the lock, and waits at the gate before the first and after the
+/// last of them.
+fn play_batch<S: StoreId, B: Boards<S>, V: Drop, G: Gate, R: Wait>(
+    rt: &R,
+    shared: &Shared<S, B>,
+    gate: &G,
+    lines: &[Line],
+    many: usize,
+    seat: &mut Seat<S, V>,
+    answers: &mut Vec<Answer>,
+)
+    requires room { (many ≤ MAX_BATCH) × (vec_len answers.old + many ≤ length lines.now)
+        × (length lines.now ≤ vec_capacity answers.old) }
+    requires answered { HasAnswers lines.now seat.old answers.old.items }
+    ensures answered { HasAnswers lines.now seat.new answers.new.items }
+    ensures many { (vec_len answers.new ≡ vec_len answers.old + many)
+        × (vec_capacity answers.new ≡ vec_capacity answers.old) }
+    ensures worker { seat.new.worker ≡ seat.old.worker }
+{
+    let worker = seat.worker();
+    let first = answers.len() + 1;
+    gate.before(worker, first);
+    let held = shared.hold(rt, seat);
+    play_held(rt, held, lines, many, seat, answers);
+    gate.after(worker, answers.len());
+}
+
+/// Makes the calls of a script, so many at a time under one taking of the lock.
+fn play_batches<S: StoreId, B: Boards<S>, V: Drop, G: Gate, R: Wait>(
+    rt: &R,
+    shared: &Shared<S, B>,
+    gate: &G,
+    lines: &[Line],
+    batch: usize,
+    mut seat: Seat<S, V>,
+    mut answers: Vec<Answer>,
+) -> Work<S>
+    requires batch { (0 < batch) × (batch ≤ MAX_BATCH) }
+    requires seat { seat.tally ≡ no_tally }
+    requires room { (vec_len answers ≡ 0) × (length lines.now ≤ vec_capacity answers) }
+    ensures { IsWork seat.worker lines.now result }
+{
+    while answers.len() < lines.len() {
+        let many = (lines.len() - answers.len()).min(batch);
+        play_batch(rt, shared, gate, lines, many, &mut seat, &mut answers);
+    }
+    Work {
+        share: seat.finish(),
+        answers,
+    }
+}
+
+/// Plays a worker's script.
+pub(crate) fn play<S: StoreId, B: Boards<S>, V: Drop, G: Gate, R: Wait>(
+    worker: Worker<'_, '_, '_, '_, S, B, V, G, R>,
+) -> Work<S>
+    requires batch { (0 < worker.batch) × (worker.batch ≤ MAX_BATCH) }
+    requires seat { worker.seat.tally ≡ no_tally }
+    requires room { (vec_len worker.answers ≡ 0) × (length worker.lines.now ≤ vec_capacity worker.answers) }
+    ensures { IsWork worker.entry.seat.worker worker.entry.lines.now result }
+{
+    let Worker {
+        rt,
+        shared,
+        gate,
+        lines,
+        batch,
+        seat,
+        answers,
+    } = worker;
+    if batch == 1 {
+        play_each(rt, shared, gate, lines, seat, answers)
+    } else {
+        play_batches(rt, shared, gate, lines, batch, seat, answers)
+    }
+}

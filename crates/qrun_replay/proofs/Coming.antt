@@ -1,0 +1,78 @@
+-- What a run of one worker comes to, put together of its parts.
+use Rattle.std.proofs.Common.{◌≡◌, ℕ, ◌≤◌, List, [], length, All, Result, Ok, Err, IfOk, sym, ap, refl, ◌∙◌}
+use Rattle.qplain.specs.declared.board.Board.{Board}
+use Rattle.qplain.specs.declared.line.Line.{Line}
+use Rattle.qplain.specs.declared.look_fault.LookFault.{LookFault}
+use Rattle.qplain.specs.Setups.{Setting}
+use Rattle.qrun_replay.specs.declared.outcome.Outcome.{Outcome}
+use Rattle.qplain.specs.declared.transcript.Transcript.{Transcript}
+use Rattle.qplain.specs.Journals.{IsJournal, IsWorkers, Written}
+use Rattle.qrun_replay.specs.Left.{IsLeftOf, IsOneOf}
+use Rattle.qrun_replay.specs.Replays.{IsReplayOf, transcripts_in}
+use Rattle.qplain.specs.Transcripts.{Belongs}
+use Rattle.qrun_replay.specs.Runs.{AreTranscriptsOf, IsOutcomeOf}
+use Rattle.qplain.specs.State.{start}
+use Rattle.qplain.specs.Journal.{IsLegal}
+use Rattle.qplain.specs.declared.entry.Entry.{Entry}
+use Rattle.qplain_laws.specs.Laws.{IsLawful}
+use Rattle.qplain.specs.declared.bounds.TheConstants.{MAX_ENTRIES}
+use Rattle.qaudit_checks.specs.LawfulBoards.{AreLawful, boards_in}
+use Rattle.qrun_replay.proofs.Stats.{legal-fair}
+
+-- the journal of a store that was played on by N workers is one
+pub journal_left : (setting : Setting) (journal : List Entry) (workers : ℕ) → IsLawful (start setting) → IsLegal (start setting) journal
+    → length journal ≤ MAX_ENTRIES → IsWorkers workers → All (IsOneOf workers) journal
+    → IsJournal (record { workers = workers; entries = journal })
+journal_left setting journal workers lawful legal few are each = record {
+  workers = are;
+  few = few;
+  each = λ k d less.
+      let one = each k d less in
+      (one.0, one.1, legal-fair (start setting) journal lawful legal k d less);
+}
+
+-- what is left of a store that was played on by the workers of scripts
+pub alone : (setting : Setting) (scripts : List (List Line)) (journal : List Entry) (workers : ℕ) (transcripts : List Transcript)
+    (boards : List (Result Board LookFault)) (o : Outcome) → IsLeftOf setting journal workers transcripts boards o
+    → workers ≡ length scripts → AreTranscriptsOf 1 scripts journal transcripts → All (Belongs transcripts) journal
+    → AreLawful (start setting) journal (boards_in boards) → IsOutcomeOf setting scripts o
+alone setting scripts journal workers transcripts boards o left each told belong lawful = record {
+  setup = left.setup;
+  legal = rw left.journal_is left.legal;
+  workers = ap (λ j. j.workers) left.journal_is ∙ each;
+  few = rw left.journal_is left.few;
+  tallies = rw left.journal_is left.tallies;
+  store = rw left.journal_is left.store;
+  transcripts = rw (left.transcripts_are, left.journal_is) told;
+  belong = rw (left.transcripts_are, left.journal_is) belong;
+  boards = rw (left.boards_are, left.journal_is) lawful;
+  records = left.records;
+  differences = left.differences;
+  agree = left.agree;
+}
+
+-- the same, if anything is left
+pub left_alone : {E : Type 0} (setting : Setting) (scripts : List (List Line)) (journal : List Entry) (workers : ℕ)
+    (transcripts : List Transcript) (boards : List (Result Board LookFault)) (r : Result Outcome E)
+    → IfOk r (IsLeftOf setting journal workers transcripts boards) → workers ≡ length scripts
+    → AreTranscriptsOf 1 scripts journal transcripts → All (Belongs transcripts) journal
+    → AreLawful (start setting) journal (boards_in boards) → IfOk r (IsOutcomeOf setting scripts)
+left_alone setting scripts journal workers transcripts boards (Ok o) left each told belong lawful =
+    alone setting scripts journal workers transcripts boards o left each told belong lawful
+left_alone setting scripts journal workers transcripts boards (Err fault) left each told belong lawful = tt
+
+-- what is left of a store on which a journal was played again
+pub again : (setting : Setting) (written : Written) (o : Outcome)
+    → IsLeftOf setting written.entries written.workers (transcripts_in written) [] o → IsReplayOf setting written o
+again setting written o left = record {
+  setup = left.setup;
+  legal = left.legal;
+  journal = left.journal_is;
+  tallies = rw left.journal_is left.tallies;
+  store = left.store;
+  transcripts = left.transcripts_are;
+  boards = left.boards_are;
+  records = left.records;
+  differences = left.differences;
+  agree = left.agree;
+}

@@ -1,0 +1,96 @@
+-- What a run has left, played again: it is legal, so no entry is a mismatch, and each worker's own entries are its lines that did not fail.
+use Rattle.std.proofs.Common.{◌≡◌, ℕ, ◌+◌, List, [], ◌∷◌, ◌++◌, length, map, filter, Result, Ok, Err, IfOk, refl, sym, ap, ◌∙◌, arith}
+use Rattle.std.specs.Result.{is_ok}
+use Rattle.std.specs.List.{range_with_len}
+use Rattle.qplain.specs.declared.call_fault.CallFault.{CallFault}
+use Rattle.qplain.specs.declared.entry.Entry.{Entry}
+use Rattle.qplain.specs.declared.line.Line.{Line}
+use Rattle.qplain.specs.declared.receipt.Receipt.{Receipt}
+use Rattle.qplain.specs.declared.transcript.Transcript.{Transcript}
+use Rattle.qplain.specs.Setups.{Setting}
+use Rattle.qplain.specs.State.{State, start}
+use Rattle.qplain.specs.Journal.{IsLegal, play, played, tally_of}
+use Rattle.qstore.specs.Rows.{record_row_of}
+use Rattle.qaudit_checks.specs.OwnRows.{differences_in}
+use Rattle.qrun_replay.specs.declared.outcome.Outcome.{Outcome}
+use Rattle.qrun_replay.specs.declared.replay_fault.ReplayFault.{ReplayFault}
+use Rattle.qrun_replay.specs.declared.replay_fault.ReplayFault.TheVariants.{Memory, Mismatch}
+use Rattle.qplain.specs.Transcripts.{journaled_lines}
+use Rattle.qrun_replay.specs.Runs.{AreTranscriptsOf, IsOutcomeOf, IsTranscriptOf}
+use Rattle.qrun_replay.specs.Replays.{GivesBack, IsAsBefore, IsFirstMismatch, IsReplayOf, answer_of, granted_lines, line_of_entry, transcript_in, without_failed}
+
+-- in a legal journal each reply is the plain machine's
+legal-at : (S : State) (before : List Entry) (e : Entry) (after : List Entry) → IsLegal S (before ++ e ∷ after)
+    → e.reply ≡ (played (play S before) e).1
+legal-at S [] e after legal = legal.0
+legal-at S (x ∷ before) e after legal = legal-at (played S x).0 before e after legal.1
+
+-- so none of its entries is a mismatch
+no_mismatch : (S : State) (journal : List Entry) (place : ℕ) → IsLegal S journal → IsFirstMismatch S journal place → ⊥
+no_mismatch S journal place legal is =
+    is.here.other (legal-at S is.before is.entry is.after (rw is.parts at legal))
+
+-- the lines of the entries that a worker's receipts stand for
+lines_again : (worker : ℕ) (lines : List Line) (answers : List (Result Receipt CallFault))
+    → map (λ x. line_of_entry x.1) (journaled_lines worker lines answers) ≡ granted_lines lines answers
+unfolding journaled_lines granted_lines
+lines_again worker (line ∷ lines) (Ok receipt ∷ answers) = ap (λ rest. line ∷ rest) (lines_again worker lines answers)
+lines_again worker (line ∷ lines) (Err fault ∷ answers) = lines_again worker lines answers
+lines_again worker [] answers = refl
+lines_again worker (line ∷ lines) [] = refl
+
+-- and their answers
+answers_again : (worker : ℕ) (lines : List Line) (answers : List (Result Receipt CallFault)) → length answers ≡ length lines
+    → map answer_of (journaled_lines worker lines answers) ≡ filter is_ok answers
+unfolding journaled_lines
+answers_again worker (line ∷ lines) (Ok receipt ∷ answers) each =
+    ap (λ rest. Ok receipt ∷ rest) (answers_again worker lines answers (omega arith))
+answers_again worker (line ∷ lines) (Err fault ∷ answers) each = answers_again worker lines answers (omega arith)
+answers_again worker [] [] each = refl
+answers_again worker [] (answer ∷ answers) each = absurd (cc)
+answers_again worker (line ∷ lines) [] each = refl
+
+-- a worker's own entries are its lines that did not fail
+transcript_again : (worker : ℕ) (lines : List Line) (journal : List Entry) (t : Transcript) → IsTranscriptOf worker lines journal t
+    → transcript_in journal worker ≡ without_failed t
+transcript_again worker lines journal t is =
+    let own_lines = lines_again worker lines t.answers in
+    let own_answers = answers_again worker lines t.answers is.each in
+    rw (sym is.own, own_lines, own_answers, is.worker_is, is.lines_are) refl
+
+-- worker by worker
+transcripts_again : (worker : ℕ) (scripts : List (List Line)) (journal : List Entry) (ts : List Transcript)
+    → AreTranscriptsOf worker scripts journal ts
+    → map (transcript_in journal) (range_with_len worker (length scripts)) ≡ map without_failed ts
+unfolding AreTranscriptsOf
+transcripts_again worker [] journal [] are = refl
+transcripts_again worker (lines ∷ scripts) journal (t ∷ ts) are =
+    ap (λ first. first ∷ map (transcript_in journal) (range_with_len (worker + 1) (length scripts)))
+    (transcript_again worker lines journal t are.0)
+    ∙ ap (λ rest. without_failed t ∷ rest) (transcripts_again (worker + 1) scripts journal ts are.1)
+transcripts_again worker [] journal (t ∷ ts) are = absurd are
+transcripts_again worker (lines ∷ scripts) journal [] are = absurd are
+
+-- what a replay of a run's journal leaves is what the run has left, but for its failed lines
+as_before : (setting : Setting) (scripts : List (List Line)) (old new : Outcome) → IsOutcomeOf setting scripts old
+    → IsReplayOf setting old.journal new → IsAsBefore old new
+as_before setting scripts old new run replay =
+    let store : new.store.state ≡ old.store.state = replay.store ∙ sym run.store in
+    record {
+      tallies = replay.tallies ∙ ap (λ journal. tally_of journal.entries) replay.journal ∙ sym run.tallies;
+      store = store;
+      transcripts = replay.transcripts
+          ∙ ap (λ n. map (transcript_in old.journal.entries) (range_with_len 1 n)) run.workers
+          ∙ transcripts_again 1 scripts old.journal.entries old.transcripts run.transcripts;
+      records = replay.records ∙ ap (λ S. map (record_row_of S) S.holders) store ∙ sym run.records;
+      differences = replay.differences ∙ ap differences_in store ∙ sym run.differences;
+    }
+
+-- and it meets no mismatch
+pub gives_back : (setting : Setting) (scripts : List (List Line)) (old : Outcome) (r : Result Outcome ReplayFault)
+    → IsOutcomeOf setting scripts old → IfOk r (IsReplayOf setting old.journal)
+    → ((place : ℕ) → r ≡ Err (Mismatch place) → IsFirstMismatch (start setting) old.journal.entries place) → GivesBack old r
+gives_back setting scripts old (Ok new) run replay mismatch = as_before setting scripts old new run replay
+gives_back setting scripts old (Err Memory) run replay mismatch = tt
+gives_back setting scripts old (Err (Mismatch place)) run replay mismatch =
+    no_mismatch (start setting) old.journal.entries place run.legal (mismatch place refl)

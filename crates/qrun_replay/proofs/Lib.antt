@@ -1,0 +1,6 @@
+-- What a journal tells of directories, what a run comes to, a journal played
+-- again, and that of a run.
+pub mod Stats
+pub mod Coming
+pub mod Replaying
+pub mod GivingBack

@@ -1,0 +1,16 @@
+use Rattle.qrun_replay.proofs.Coming.{again}
+use Rattle.qrun_replay.proofs.replays.play_again.Goals as goal
+
+pub returns-clause-replay : goal.returns-clause-replay
+returns-clause-replay c =
+    again c.args.setup c.args.journal.now c.in_ok-outcome_of.field-0
+    (rw (
+      c.in_ok-replay_all.ensures.setting,
+      c.in_ok-store.ensures.setting,
+      c.in_ok-replay_all.ensures.ok,
+      c.entries.ensures.entries,
+      c.in_ok-transcripts.ensures,
+      c.workers.ensures,
+      c.new-no_boards.ensures,
+      c.new-2.ensures.items,
+    ) at c.in_ok-outcome_of.ensures)

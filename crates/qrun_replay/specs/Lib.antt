@@ -1,0 +1,6 @@
+-- In reading order: what a run leaves, what a replay leaves, and the numbers of their faults. A module that no public
+-- clause cites says so.
+pub mod Runs
+pub mod Replays
+pub mod ReplayFaults
+pub mod Left

@@ -1,0 +1,148 @@
+//! Replays: journals played again on a store of their own.
+ghost use Rattle.std.specs.Prelude.{◌≡◌, ◌<◌, ◌≤◌, ◌++◌, ◌∷◌, [], ℕ, List, Err, IfOk, OnOk, length};
+ghost use Rattle.std.specs.Bool.{Decides};
+ghost use Rattle.qplain.specs.declared.bounds.TheConstants.{MAX_ENTRIES};
+ghost use Rattle.qplain.specs.declared.line.Line.{Line};
+ghost use Rattle.qplain.specs.State.{start};
+ghost use Rattle.qrun_replay.specs.declared.outcome.Outcome.{Outcome};
+ghost use Rattle.qrun_replay.specs.declared.replay_fault.ReplayFault.TheVariants.{Mismatch};
+ghost use Rattle.qrun_replay.specs.Runs.{IsOutcomeOf};
+ghost use Rattle.qrun_replay.specs.Replays.{GivesBack, IsFirstMismatch, IsMismatchAfter, IsReplayOf, line_of_entry, transcript_in, transcripts_in};
+
+use crate::outcome::outcome_of;
+use crate::{Outcome, ReplayFault};
+use qplain::{Entry, Journal, Line, NoMemory, Receipt, Reply, Setup, Transcript};
+use qrules::Items;
+use qstore_journaled::JournaledStore;
+use std::alloc::Global;
+
+/// Whether the two replies are the same.
+fn are_same(one: &Reply, other: &Reply) -> bool
+    ensures { Decides result (one.now ≡ other.now) }
+{
+    one == other
+}
+
+/// Makes the call of an entry again and journals it. Where the reply would be another than the entry's, that is reported by
+/// its place, and nothing is done.
+fn replay_entry(store: &mut JournaledStore, entry: &Entry) -> Result<(), ReplayFault>
+    requires few { length store.old.journal < MAX_ENTRIES }
+    ensures setting { store.new.setting ≡ store.old.setting }
+    ensures ok { OnOk result (store.new.journal ≡ store.old.journal ++ entry.now ∷ []) }
+    ensures mismatch { (place : ℕ) → result ≡ Err (Mismatch place)
+        → IsMismatchAfter (start store.old.setting) store.old.journal entry.now place }
+{
+    // What is ready is large: a `?` would move it once more.
+    let Ok(next) = store.ready(entry.worker, &entry.cred, entry.moment, &entry.call) else {
+        return Err(ReplayFault::Memory);
+    };
+    if !are_same(&next.entry().reply, &entry.reply) {
+        return Err(ReplayFault::Mismatch(store.entries().len() as u64 + 1));
+    }
+    let _receipt = store.commit(next);
+    Ok(())
+}
+
+/// Plays the entries again, one after the other, on a store that has just begun, up to the first whose reply is another
+/// than the store's.
+fn replay_all(store: &mut JournaledStore, entries: &[Entry]) -> Result<(), ReplayFault>
+    requires fresh { store.old.journal ≡ [] }
+    requires few { length entries.now ≤ MAX_ENTRIES }
+    ensures setting { store.new.setting ≡ store.old.setting }
+    ensures ok { OnOk result (store.new.journal ≡ entries.now) }
+    ensures mismatch { (place : ℕ) → result ≡ Err (Mismatch place)
+        → IsFirstMismatch (start store.old.setting) entries.now place }
+{
+    for entry in entries {
+        replay_entry(store, entry)?;
+    }
+    Ok(())
+}
+
+/// The line of an entry, which shares what its call has.
+fn line_of_entry(entry: &Entry) -> Result<Line, NoMemory>
+    ensures { IfOk result (λ line. line ≡ line_of_entry entry.now) }
+{
+    Ok(Line {
+        cred: entry.cred.copy()?,
+        moment: entry.moment,
+        call: entry.call.copy()?,
+    })
+}
+
+/// The transcript of a worker: its own entries, of which nothing is copied, and no others.
+fn transcript_of(alloc: Global, worker: u64, entries: &[Entry]) -> Result<Transcript, NoMemory>
+    requires few { length entries.now ≤ MAX_ENTRIES }
+    ensures { IfOk result (λ transcript. transcript ≡ transcript_in entries.now worker) }
+{
+    let mut lines = Vec::new(alloc);
+    let mut answers = Vec::new(alloc);
+    let mut place = 0u64;
+    for entry in entries {
+        place += 1;
+        if entry.worker == worker {
+            let reply = entry.reply.copy()?;
+            lines.push(line_of_entry(entry)?)?;
+            answers.push(Ok(Receipt { place, reply }))?;
+        }
+    }
+    Ok(Transcript {
+        worker,
+        lines: Items::new(lines),
+        answers: Items::new(answers),
+    })
+}
+
+/// The transcripts of all workers, from worker 1 on.
+fn transcripts_of(alloc: Global, journal: &Journal) -> Result<Items<Transcript>, NoMemory>
+    ensures { IfOk result (λ transcripts. transcripts ≡ transcripts_in journal.now) }
+{
+    let workers = journal.workers();
+    let entries = journal.entries();
+    let mut transcripts = Vec::new(alloc);
+    for before in 0..workers {
+        transcripts.push(transcript_of(alloc, before + 1, entries)?)?;
+    }
+    Ok(Items::new(transcripts))
+}
+
+/// Plays a journal again on a new store of the setup.
+fn play_again(
+    alloc: Global,
+    setup: Setup,
+    journal: &Journal,
+    seed: u64,
+) -> Result<Outcome, ReplayFault>
+    ensures replay { IfOk result (IsReplayOf setup journal.now) }
+    ensures mismatch { (place : ℕ) → result ≡ Err (Mismatch place)
+        → IsFirstMismatch (start setup) journal.now.entries place }
+{
+    let mut store = JournaledStore::new(alloc, setup, seed)?;
+    replay_all(&mut store, journal.entries())?;
+    let transcripts = transcripts_of(alloc, journal)?;
+    let no_boards = Items::new(Vec::new(alloc));
+    Ok(outcome_of(alloc, store, journal.workers(), transcripts, no_boards)?)
+}
+
+/// Plays a journal again on a new store of the setup, one entry after the other, whoever's they are.
+///
+/// Where the store answers each entry as the journal does, this is what is left: the journal as it was, and for each
+/// worker, in order, its own entries as a transcript. Else the place of the first entry with another reply is told. The
+/// hashes of names begin at `seed`, which may be any number; nothing of the outcome depends on it. O(entries), and what
+/// each call takes; no data are copied. After an Err the store is given up.
+pub fn replay(
+    alloc: Global,
+    setup: Setup,
+    journal: &Journal,
+    seed: u64,
+) -> Result<Outcome, ReplayFault>
+    ensures replay { IfOk result (IsReplayOf setup journal.now) }
+    ensures mismatch { (place : ℕ) → result ≡ Err (Mismatch place)
+        → IsFirstMismatch (start setup) journal.now.entries place }
+
+    // The journal of a run under this setup gives back what the run has left, but for the lines that failed.
+    ensures of_a_run { (scripts : List (List Line)) (run : Outcome) → IsOutcomeOf setup scripts run
+        → journal.now ≡ run.journal → GivesBack run result }
+{
+    play_again(alloc, setup, journal, seed)
+}

@@ -1,0 +1,83 @@
+-- The board of whatever is played is whole.
+use Rattle.std.proofs.Common.{◌≡◌, ℕ, Bool, true, false, cond, List, [], ◌∷◌, map, filter, sum_by, Result, Ok, Err, IfOk, refl, sym, ap, ◌∙◌, subst, arith}
+use Rattle.std.proofs.lemmas.List.Sums.{sum_by-cons}
+use Rattle.std.proofs.lemmas.List.Elements.{All-map}
+use Rattle.qrules.specs.declared.board_row.BoardRow.{BoardRow}
+use Rattle.qrules.specs.declared.kind.Kind.{Kind}
+use Rattle.qrules.specs.declared.kind.Kind.TheVariants.{User, Group}
+use Rattle.qrules.specs.Sort.{Sort, Inodes, Blocks}
+use Rattle.qrules.specs.Account.{HasEnds, count_in}
+use Rattle.qplain.specs.declared.board.Board.{Board}
+use Rattle.qplain.specs.declared.entry.Entry.{Entry}
+use Rattle.qplain.specs.declared.look_fault.LookFault.{LookFault}
+use Rattle.qplain.specs.Arguments.{is_same_kind}
+use Rattle.qplain.specs.Setups.{IsLawfulSetup, Setting}
+use Rattle.qplain.specs.State.{Holder, State, start}
+use Rattle.qplain.specs.Use.{total_of, use_of}
+use Rattle.qplain.specs.Journal.{play, row_of}
+use Rattle.qplain_laws.specs.Laws.{IsLawful, uses_of}
+use Rattle.qplain_laws.proofs.Balance.{uses_add_up}
+use Rattle.qplain_laws.proofs.Tallying.{journals_stay_lawful, size-played}
+use Rattle.qshare_boards.specs.Boards.{shown_of}
+use Rattle.qshare_boards.specs.Laws.{BoardsAreWhole}
+use Rattle.qshare_boards.specs.Looks.{IsBoardAnswer}
+use Rattle.qshare_boards.specs.Whole.{IsWhole, account_in, sum_in}
+
+same_kind : (k l : Kind) → is_same_kind k l ≡ true → k ≡ l
+same_kind User User h = refl
+same_kind User Group h = cc
+same_kind Group User h = cc
+same_kind Group Group h = refl
+
+abbrev told : Sort → BoardRow → ℕ
+told sort r = count_in sort (account_in r)
+
+abbrev used : State → Kind → Sort → Holder → ℕ
+used S kind sort h = use_of S kind h.id sort
+
+-- a holder's row tells its use
+tells : (S : State) (sort : Sort) (h : Holder) → told sort (row_of S h) ≡ use_of S h.kind h.id sort
+tells S Inodes h = refl
+tells S Blocks h = refl
+
+-- one holder more adds the same to both sums
+one_more : (S : State) (kind : Kind) (sort : Sort) (h : Holder) (rows : List BoardRow) (hs : List Holder) (b : Bool)
+    → is_same_kind kind h.kind ≡ b → sum_by (told sort) rows ≡ sum_by (used S kind sort) hs
+    → sum_by (told sort) (cond b (row_of S h ∷ rows) rows) ≡ sum_by (used S kind sort) (cond b (h ∷ hs) hs)
+one_more S kind sort h rows hs true is rest =
+    let here : told sort (row_of S h) ≡ used S kind sort h =
+    tells S sort h ∙ ap (λ k. use_of S k h.id sort) (sym (same_kind kind h.kind is)) in
+    omega (arith, here, rest, sum_by-cons (told sort) (row_of S h) rows, sum_by-cons (used S kind sort) h hs)
+one_more S kind sort h rows hs false is rest = rest
+
+-- the rows of a kind add up to what its holders use
+rows_add_up : (S : State) (kind : Kind) (sort : Sort) (hs : List Holder)
+    → sum_by (told sort) (filter (λ r. is_same_kind kind r.kind) (map (row_of S) hs))
+    ≡ sum_by (used S kind sort) (filter (λ h. is_same_kind kind h.kind) hs)
+rows_add_up S kind sort [] = refl
+rows_add_up S kind sort (h ∷ hs) =
+    one_more S kind sort h (filter (λ r. is_same_kind kind r.kind) (map (row_of S) hs)) (filter (λ g. is_same_kind kind g.kind) hs)
+    (is_same_kind kind h.kind) refl (rows_add_up S kind sort hs)
+
+pub boards_are_whole : BoardsAreWhole
+boards_are_whole s history setup =
+    let S : State = play (start s) history in
+    let lawful : IsLawful S = journals_stay_lawful s history setup in
+    let sizes = size-played (start s) history in
+    let sums : (kind : Kind) (sort : Sort) → sum_in (shown_of (start s) history) kind sort ≡ total_of S sort =
+    λ kind sort. rows_add_up S kind sort S.holders ∙ uses_add_up S kind sort lawful in
+    record {
+      user_blocks = sums User Blocks;
+      group_blocks = sums Group Blocks;
+      user_inodes = sums User Inodes;
+      group_inodes = sums Group Inodes;
+      blocks_fit = omega (arith, lawful.blocks_fit, sizes.0);
+      inodes_fit = omega (arith, lawful.inodes_fit, sizes.1);
+      ends_stand = All-map (λ (r : BoardRow). HasEnds (account_in r)) (row_of S) S.holders lawful.ends_stand;
+    }
+
+-- so is what a look was shown
+pub shown_whole : (s : Setting) (history : List Entry) (look : Result Board LookFault) → IsLawfulSetup s
+    → IsBoardAnswer (start s) history look → IfOk look (IsWhole s)
+shown_whole s history (Ok b) setup is = subst (IsWhole s) (sym is) (boards_are_whole s history setup)
+shown_whole s history (Err fault) setup is = tt

@@ -1,8 +1,0 @@
-use Rattle.std.proofs.Common.{append_assoc, codes, ◌∷◌, ◌++◌}
-use Rattle.qline.specs.Spelling.{owner_text}
-use Rattle.qspell.proofs.Behind.{refused}
-use Rattle.qspell.proofs.call_text.put_chown.Goals as goal
-
-pub returns-in_err-put_path-clause-passes : goal.returns-in_err-put_path-clause-passes
-returns-in_err-put_path-clause-passes g c = rw (append_assoc (codes "chown " ++ c.args.path.now) (32 ∷ owner_text c.args.uid) (32 ∷ owner_text c.args.gid))
-    (refused _ _ _ c.args.line.now _ _ _ c.from_residual.ensures.0 c.in_err-put_path.ensures.passes)

@@ -1,5 +1,0 @@
-use Rattle.qspell.proofs.Behind.{refused}
-use Rattle.qspell.proofs.call_text.put_read.Goals as goal
-
-pub returns-in_err-put_at-clause-passes : goal.returns-in_err-put_at-clause-passes
-returns-in_err-put_at-clause-passes g c = refused _ _ _ c.args.line.now _ _ _ c.from_residual.ensures.0 c.in_err-put_at.ensures.passes

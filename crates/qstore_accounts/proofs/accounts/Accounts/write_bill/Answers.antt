@@ -1,0 +1,69 @@
+use Rattle.std.proofs.Common.{◌≡◌, ℕ, ◌+◌, ◌-◌, List, Option, sym, subst, ◌∙◌}
+use Rattle.qrules.specs.declared.kind.Kind.{Kind}
+use Rattle.qrules.specs.declared.kind.Kind.TheVariants.{User, Group}
+use Rattle.qrules.specs.Sort.{Inodes, Blocks}
+use Rattle.qplain.specs.State.{State}
+use Rattle.qstore_accounts.specs.declared.bill.Postings.{Postings}
+use Rattle.qstore_accounts.specs.declared.claim.OwnerClaim.{OwnerClaim}
+use Rattle.qstore_accounts.specs.declared.kept_holder.KeptHolder.{KeptHolder}
+use Rattle.qstore_accounts.specs.Books.{Books}
+use Rattle.qstore_accounts.specs.Kept.{books_of}
+use Rattle.qstore_accounts.specs.Replacements.{IsReplacement}
+use Rattle.qstore_accounts.specs.Ledgers.{ArePosted}
+use Rattle.qstore_accounts.proofs.Booked.{groups-replaced, total-then, users-replaced}
+use Rattle.qstore_accounts.proofs.accounts.Accounts.write_bill.Goals as goal
+
+pub write_postings-requires-clause-replacement : goal.write_postings-requires-clause-replacement
+write_postings-requires-clause-replacement c =
+    let x = c.args in
+    let r = c.requires.replacement in
+    let inside = subst (λ (b : Books). IsReplacement b x.from x.to r.0 r.1 r.2 r.3) (sym c.self.view_is) r.4 in (
+      User,
+      r.0,
+      r.1,
+      r.2,
+      r.3,
+      rw (c.share_of-user.ensures, c.share_of-next_user.ensures)
+          (users-replaced (books_of c.self.inside) x.from x.to r.0 r.1 r.2 r.3 c.self.invariant inside),
+    )
+
+pub write_postings-requires-2-clause-replacement : goal.write_postings-requires-2-clause-replacement
+write_postings-requires-2-clause-replacement c =
+    let x = c.args in
+    let r = c.requires.replacement in
+    let inside = subst (λ (b : Books). IsReplacement b x.from x.to r.0 r.1 r.2 r.3) (sym c.self.view_is) r.4 in (
+      Group,
+      r.0,
+      r.1,
+      r.2,
+      r.3,
+      rw (c.share_of-group.ensures, c.share_of-next_group.ensures)
+          (groups-replaced (books_of c.self.inside) x.from x.to r.0 r.1 r.2 r.3 c.self.invariant inside),
+    )
+
+pub returns-clause-in_range : goal.returns-clause-in_range
+returns-clause-in_range c = rw (← c.self.view_is) c.self.invariant
+
+-- postings for the shares are postings for what equals them
+posted-shares : (os : List KeptHolder) (kind : Kind) (S1 : State) (moment : ℕ) (p : Postings) {f f1 t t1 : Option OwnerClaim}
+    → f ≡ f1 → t ≡ t1 → ArePosted os kind S1 moment f t p → ArePosted os kind S1 moment f1 t1 p
+posted-shares os kind S1 moment p {f} {f1} {t} {t1} from to done = subst (λ s. ArePosted os kind S1 moment s t1 p) from
+    (subst (λ s. ArePosted os kind S1 moment f s p) to done)
+
+-- the records of both kinds and the totals are those of the new state
+pub returns-clause-bill : goal.returns-clause-bill
+returns-clause-bill c = rw (← c.self.view_is) (λ S S1 f t r.
+    let x = c.args in
+    let b = books_of c.self.inside in
+    let users = users-replaced b x.from x.to S S1 f t c.self.invariant r in
+    let groups = groups-replaced b x.from x.to S S1 f t c.self.invariant r in
+    let gained = c.weight_of-gained.ensures in
+    let lost = c.weight_of-lost.ensures in
+    record {
+      users = posted-shares b.users User S1 x.moment c.write_postings.new.postings c.share_of-user.ensures c.share_of-next_user.ensures
+          (c.write_postings.ensures User S S1 f t (rw (c.share_of-user.ensures, c.share_of-next_user.ensures) users) (sym r.books.graces));
+      groups = posted-shares b.groups Group S1 x.moment c.write_postings-2.new.postings c.share_of-group.ensures c.share_of-next_group.ensures
+          (c.write_postings-2.ensures Group S S1 f t (rw (c.share_of-group.ensures, c.share_of-next_group.ensures) groups) (sym r.books.graces));
+      blocks = (λ i. r.books.blocks i + (gained i).blocks - (lost i).blocks) ∙ total-then b x.from x.to S S1 f t r Blocks;
+      inodes = (λ i. r.books.inodes i + (gained i).inodes - (lost i).inodes) ∙ total-then b x.from x.to S S1 f t r Inodes;
+    })

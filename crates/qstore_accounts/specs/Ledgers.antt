@@ -1,0 +1,93 @@
+-- What a ledger makes of the records of one kind. No public clause cites this module.
+use Rattle.std.specs.Prelude.{◌≡◌, ℕ, ◌+◌, ◌≤◌, ◌==◌, if◌then◌else◌, List, All, Option, Some, None, IfSome}
+use Rattle.std.specs.Option.{option_and_then, option_map}
+use Rattle.std.specs.List.{slice_get}
+use Rattle.qrules.specs.declared.kind.Kind.{Kind}
+use Rattle.qrules.specs.declared.graces.Graces.{Graces}
+use Rattle.qrules.specs.declared.record.TheConstants.{MAX_USE}
+use Rattle.qrules.specs.declared.record_row.RecordRow.{RecordRow}
+use Rattle.qrules.specs.Sort.{Sort}
+use Rattle.qrules.specs.Account.{Account, HasEnds}
+use Rattle.qrules.specs.Charge.{first_fault}
+use Rattle.qrules.specs.Grace.{unused, with_ends}
+use Rattle.qplain.specs.declared.principal.Principal.{Principal}
+use Rattle.qplain.specs.declared.refusal.Refusal.{Refusal}
+use Rattle.qplain.specs.declared.refusal.Refusal.TheVariants.{EDQUOT}
+use Rattle.qplain.specs.State.{Inode, State}
+use Rattle.qplain.specs.Use.{account_of, total_of}
+use Rattle.qplain_laws.specs.Replaces.{Replaces, weight_of}
+use Rattle.qstore_accounts.specs.declared.bill.Posting.{Posting}
+use Rattle.qstore_accounts.specs.declared.bill.Postings.{Postings}
+use Rattle.qstore_accounts.specs.declared.claim.OwnerClaim.{OwnerClaim}
+use Rattle.qstore_accounts.specs.declared.kept_holder.KeptHolder.{KeptHolder}
+use Rattle.qstore_accounts.specs.Claims.{IsShareOf}
+use Rattle.qstore_accounts.specs.KeptHolders.{IsCountedIn, IsSlotOf, holder_in}
+
+-- a declared principal in a new store: id 0 has the root directory, and any other uses nothing
+abbrev pub new_holder : Graces → Principal → KeptHolder
+new_holder graces p = record {
+  id = p.id;
+  name = p.name;
+  account =
+      if 0 == p.id then with_ends (record (unused p.limits) { inodes = 1 }) graces 0
+      else unused p.limits;
+}
+
+-- this is the kept holder of this id, and stands at this slot
+pub record IsHolderAt (holders : List KeptHolder) (slot id : ℕ) (o : KeptHolder) : Type 0 where
+  pub there : slice_get holders slot ≡ Some o
+  pub same : o.id ≡ id
+
+-- for the records of one kind: they are counted in the old state, and the shares are what the two inodes take of them
+pub record IsLedgerReplacement (holders : List KeptHolder) (kind : Kind) (from to : Option OwnerClaim)
+    (S S1 : State) (f t : Option Inode) : Type 0 where
+  pub counted : All (IsCountedIn S kind) holders
+  pub ends : All (λ o. HasEnds o.account) holders
+  pub replaces : Replaces S S1 f t
+  pub lost : IsShareOf holders kind from f
+  pub gained : IsShareOf holders kind to t
+  pub few : (sort : Sort) → total_of S1 sort + weight_of sort f ≤ MAX_USE
+
+-- the record of a kept holder in the new state, with the ends that then stand
+abbrev pub record_after : State → ℕ → Kind → KeptHolder → Account
+record_after S1 moment kind o = with_ends (account_of S1 (holder_in kind o)) S1.graces moment
+
+-- the posting has the record of its principal as the new state has it
+pub record IsFinal (holders : List KeptHolder) (kind : Kind) (S1 : State) (moment : ℕ) (p : Posting) : Type 0 where
+  pub slot : IsSlotOf holders p.slot p.id
+  pub account : (o : KeptHolder) → slice_get holders p.slot ≡ Some o → p.account ≡ record_after S1 moment kind o
+
+-- the share that is given up, unless the other is taken of the same record
+abbrev pub apart : Option OwnerClaim → Option OwnerClaim → Option Share
+apart None to = None
+apart (Some lost) None = Some lost
+apart (Some lost) (Some gained) = if lost.slot == gained.slot then None else Some lost
+
+-- the postings of one kind are final, one for each record that a share is of
+pub record ArePosted (holders : List KeptHolder) (kind : Kind) (S1 : State) (moment : ℕ)
+    (from to : Option OwnerClaim) (p : Postings) : Type 0 where
+  pub from_there : option_map (λ q. q.slot) p.from ≡ option_map (λ share. share.slot) (apart from to)
+  pub to_there : option_map (λ q. q.slot) p.to ≡ option_map (λ share. share.slot) to
+  pub from_final : IfSome p.from (IsFinal holders kind S1 moment)
+  pub to_final : IfSome p.to (IsFinal holders kind S1 moment)
+
+-- why the record at a posting's slot may not become the posted one
+abbrev pub refusal_of : List KeptHolder → Kind → ℕ → Option Posting → Option Refusal
+refusal_of holders kind moment None = None
+refusal_of holders kind moment (Some p) =
+    option_and_then
+    (λ o. option_map (λ over. EDQUOT kind over) (first_fault o.account moment p.account.blocks p.account.inodes))
+    (slice_get holders p.slot)
+
+-- the row of a kept holder's record
+abbrev pub holder_row : Kind → KeptHolder → RecordRow
+holder_row kind o = record {
+  kind = kind;
+  id = o.id;
+  name = o.name;
+  blocks = o.account.blocks;
+  inodes = o.account.inodes;
+  limits = o.account.limits;
+  block_end = o.account.block_end;
+  inode_end = o.account.inode_end;
+}

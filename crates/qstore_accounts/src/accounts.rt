@@ -1,0 +1,272 @@
+//! The accounts of a store: its records, its totals, its bounds and its graces.
+ghost use Rattle.std.specs.Prelude.{◌≡◌, ℕ, ◌+◌, ◌≤◌, ◌||◌, nat_lt, map, None, Some, Option, IfOk, IfErr, OnOk, IfSome, is_some, option_copied, true};
+ghost use Rattle.std.specs.Option.{option_map, option_or};
+ghost use Rattle.std.specs.List.{AllPairs, find};
+ghost use Rattle.qrules.specs.declared.kind.Kind.TheVariants.{User, Group};
+ghost use Rattle.qrules.specs.Range.{are_graces_in_range};
+ghost use Rattle.qplain.specs.State.{Inode, State, start};
+ghost use Rattle.qplain.specs.Arguments.{is_declared, is_holder};
+ghost use Rattle.qplain.specs.Quotas.{with_limits_of};
+ghost use Rattle.qplain.specs.Decision.{ends_after, refusal_between};
+ghost use Rattle.qplain_laws.specs.Laws.{IsLawful};
+ghost use Rattle.qstore_accounts.specs.KeptHolders.{IsCountedIn, IsSlotOf, holder_in};
+ghost use Rattle.qstore_accounts.specs.Claims.{share_in};
+ghost use Rattle.qstore_accounts.specs.Books.{AreBooksOf, AreInRange, ledger_in};
+ghost use Rattle.qstore_accounts.specs.Bills.{IsBillFor, settled};
+ghost use Rattle.qstore_accounts.specs.Replacements.{IsReplacement};
+ghost use Rattle.qstore_accounts.specs.Ledgers.{refusal_of};
+ghost use Rattle.qstore_accounts.specs.Decisions.{bill_refusal, IsBillOf};
+ghost use Rattle.qstore_accounts.specs.Rows.{StandsBefore, record_row_of};
+
+use crate::bill::{Bill, Postings};
+use crate::claim::{Claim, share_of, weight_of};
+use crate::kept_holder::KeptHolder;
+use crate::ledger::Ledger;
+use qplain::{Cred, MAX_NUMBER, NoMemory, Refusal, Setup};
+use qrules::{Graces, Kind, Limits, MAX_MOMENT, RecordRow};
+use std::alloc::Global;
+use std::marker::Model;
+
+mod boards;
+
+/// The quota records of users and groups, the totals, the bounds and the graces. Contracts see them as books.
+///
+/// Blocks are of 4096 bytes. Nothing is recounted: what a call makes of the records and the totals is its bill, which
+/// is asked for first and settled then.
+#[derive(Drop)]
+pub struct Accounts {
+    size: u64,
+    most_inodes: u64,
+    graces: Graces,
+    users: Ledger,
+    groups: Ledger,
+    blocks: u64,
+    inodes: u64,
+}
+
+impl Model for Accounts {
+    ghost use Rattle.qstore_accounts.specs.Books.{Books};
+
+    ghost Value = { Books };
+
+    ghost use Rattle.qstore_accounts.specs.Kept.{books_of};
+
+    ghost view = { books_of };
+
+    ghost use Rattle.qstore_accounts.specs.Books.{AreInRange};
+
+    ghost invariant = { λ a. AreInRange (books_of a) };
+}
+
+impl Accounts {
+    /// The accounts of a new store, in which user 0 and group 0 have the root directory. An Err leaves nothing made.
+    pub fn new(alloc: Global, setup: &Setup) -> Result<Accounts, NoMemory>
+        ensures books { IfOk result (AreBooksOf (start setup.now)) }
+        ensures in_range { IfOk result AreInRange }
+    {
+        let graces = setup.graces();
+        let users = Ledger::new(alloc, setup.users(), graces)?;
+        let groups = Ledger::new(alloc, setup.groups(), graces)?;
+        Ok(Accounts {
+            size: setup.blocks(),
+            most_inodes: setup.inodes(),
+            graces,
+            users,
+            groups,
+            blocks: 0,
+            inodes: 1,
+        })
+    }
+
+    /// The allocated blocks. O(1).
+    pub fn blocks(&self) -> u64
+        ensures { result ≡ self.now.blocks }
+    {
+        self.blocks
+    }
+
+    /// The inodes, the root among them. O(1).
+    pub fn inodes(&self) -> u64
+        ensures { result ≡ self.now.inodes }
+    {
+        self.inodes
+    }
+
+    /// The records of a kind.
+    fn ledger(&self, kind: Kind) -> &Ledger
+        ensures { result.now ≡ ledger_in kind self.now }
+    {
+        match kind {
+            Kind::User => &self.users,
+            Kind::Group => &self.groups,
+        }
+    }
+
+    /// Where the record of this kind and id stands, if it is declared. O(log n), as many as are declared.
+    pub fn slot(&self, kind: Kind, id: u32) -> Option<usize>
+        ensures declared { (S : State) → AreBooksOf S self.now → is_some result ≡ is_declared S kind id }
+        ensures slot { IfSome result (λ slot. IsSlotOf (ledger_in kind self.now) slot id) }
+    {
+        self.ledger(kind).slot(id)
+    }
+
+    /// The kept holder of this kind and id, if it is declared. O(log n), as many as are declared.
+    pub fn find(&self, kind: Kind, id: u32) -> Option<&KeptHolder>
+        ensures found { (S : State) → AreBooksOf S self.now
+            → option_map (holder_in kind) (option_copied result) ≡ find (is_holder kind id) S.holders }
+        ensures counted { (S : State) → AreBooksOf S self.now → IfSome result (λ o. IsCountedIn S kind o.now) }
+    {
+        self.ledger(kind).find(id)
+    }
+
+    /// Writes the bill of a call by which the inode of one claim comes to stand in the place of the other's, or tells
+    /// why the call is refused: space comes before quota, and the superuser passes every quota. `next` is the number
+    /// that would be given next after it.
+    pub fn bill(
+        &self,
+        cred: &Cred,
+        moment: u64,
+        next: u64,
+        from: Option<Claim>,
+        to: Option<Claim>,
+        bill: &mut Bill,
+    ) -> Result<(), Refusal>
+        requires moment { moment ≤ MAX_MOMENT }
+        requires replacement { (S : State) × (S1 : State) × (f : Option Inode) × (t : Option Inode)
+            × IsReplacement self.now from to S S1 f t }
+        ensures granted { OnOk result ((S S1 : State) (f t : Option Inode)
+            → IsReplacement self.now from to S S1 f t → S1.next ≡ next
+            → (refusal_between S S1 cred.now moment ≡ None)
+            × AreBooksOf (ends_after S1 moment) (settled bill.new self.now)) }
+        ensures placed { OnOk result (IsBillFor self.now bill.new) }
+        ensures refused { IfErr result (λ refusal. (S S1 : State) (f t : Option Inode)
+            → IsReplacement self.now from to S S1 f t → S1.next ≡ next
+            → refusal_between S S1 cred.now moment ≡ Some refusal) }
+    {
+        self.write_bill(moment, from, to, bill);
+        match self.refusal(cred, moment, next, bill) {
+            Some(refusal) => Err(refusal),
+            None => Ok(()),
+        }
+    }
+
+    /// Writes the records and totals as they will be. It tests nothing.
+    fn write_bill(&self, moment: u64, from: Option<Claim>, to: Option<Claim>, bill: &mut Bill)
+        requires moment { moment ≤ MAX_MOMENT }
+        requires replacement { (S : State) × (S1 : State) × (f : Option Inode) × (t : Option Inode)
+            × IsReplacement self.now from to S S1 f t }
+        ensures bill { (S S1 : State) (f t : Option Inode)
+            → IsReplacement self.now from to S S1 f t → IsBillOf self.now from to S S1 moment bill.new }
+        ensures in_range { AreInRange self.now }
+    {
+        let (lost, gained) = (weight_of(from), weight_of(to));
+        let graces = self.graces;
+        let (user, next_user) = (share_of(Kind::User, from), share_of(Kind::User, to));
+        let (group, next_group) = (share_of(Kind::Group, from), share_of(Kind::Group, to));
+        self.users
+            .write_postings(user, next_user, graces, moment, &mut bill.users);
+        self.groups
+            .write_postings(group, next_group, graces, moment, &mut bill.groups);
+        bill.blocks = self.blocks + gained.blocks - lost.blocks;
+        bill.inodes = self.inodes + gained.inodes - lost.inodes;
+    }
+
+    /// Whether the bill is past the bounds, or past the last number.
+    fn is_full(&self, next: u64, bill: &Bill) -> bool
+        ensures { result ≡ (nat_lt self.now.size bill.now.blocks || nat_lt self.now.most_inodes bill.now.inodes
+            || nat_lt (MAX_NUMBER + 1) next) }
+    {
+        bill.blocks > self.size || bill.inodes > self.most_inodes || next > MAX_NUMBER + 1
+    }
+
+    /// The first limit in the way of a bill: the user's, or else the group's.
+    fn fault(&self, moment: u64, bill: &Bill) -> Option<Refusal>
+        requires placed { IsBillFor self.now bill.now }
+        ensures { result ≡ option_or (refusal_of self.now.users User moment bill.now.users.to)
+            (refusal_of self.now.groups Group moment bill.now.groups.to) }
+    {
+        match self.users.refusal(Kind::User, moment, bill.users.to) {
+            Some(refusal) => Some(refusal),
+            None => self.groups.refusal(Kind::Group, moment, bill.groups.to),
+        }
+    }
+
+    /// Why a bill is refused, if it is.
+    fn refusal(&self, cred: &Cred, moment: u64, next: u64, bill: &Bill) -> Option<Refusal>
+        requires placed { IsBillFor self.now bill.now }
+        ensures { result ≡ bill_refusal self.now cred.now moment next bill.now }
+    {
+        if self.is_full(next, bill) {
+            return Some(Refusal::ENOSPC);
+        }
+        if cred.uid() == 0 {
+            return None;
+        }
+        self.fault(moment, bill)
+    }
+
+    /// The bill of new limits for the record at this slot. It is granted always, and leaves the totals.
+    pub fn bill_of_limits(&self, kind: Kind, slot: usize, limits: Limits, moment: u64) -> Bill
+        requires slot { (id : ℕ) × IsSlotOf (ledger_in kind self.now) slot id }
+        requires moment { moment ≤ MAX_MOMENT }
+        ensures books { (S : State) (id : ℕ) → IsSlotOf (ledger_in kind self.now) slot id
+            → IsLawful S → AreBooksOf S self.now
+            → AreBooksOf (ends_after (with_limits_of S kind id limits) moment) (settled result self.now) }
+        ensures placed { IsBillFor self.now result }
+    {
+        match kind {
+            Kind::User => {
+                let posting = self.users.relimited(slot, limits, self.graces, moment);
+                self.bill_with(Postings::only(posting), Postings::none())
+            }
+            Kind::Group => {
+                let posting = self.groups.relimited(slot, limits, self.graces, moment);
+                self.bill_with(Postings::none(), Postings::only(posting))
+            }
+        }
+    }
+
+    /// A bill that leaves the totals.
+    fn bill_with(&self, users: Postings, groups: Postings) -> Bill
+        ensures { result
+            ≡ record { users = users; groups = groups; blocks = self.now.blocks; inodes = self.now.inodes } }
+    {
+        Bill {
+            users,
+            groups,
+            blocks: self.blocks,
+            inodes: self.inodes,
+        }
+    }
+
+    /// Puts the records and totals of a bill in their places. It takes no memory and always succeeds.
+    pub fn settle(&mut self, bill: &Bill)
+        requires { IsBillFor self.old bill.now }
+        ensures { self.new ≡ settled bill.now self.old }
+    {
+        self.users.settle(&bill.users);
+        self.groups.settle(&bill.groups);
+        self.blocks = bill.blocks;
+        self.inodes = bill.inodes;
+    }
+
+    /// Sets the graces. No end that stands moves.
+    pub fn set_graces(&mut self, graces: Graces)
+        requires { are_graces_in_range graces ≡ true }
+        ensures { self.new ≡ record self.old { graces = graces } }
+    {
+        self.graces = graces;
+    }
+
+    /// The rows of the records: users by id, then groups by id. O(n), as many as are declared.
+    pub fn rows(&self, alloc: Global) -> Result<Vec<RecordRow>, NoMemory>
+        ensures rows { IfOk result (λ rows. (S : State) → AreBooksOf S self.now
+            → rows.items ≡ map (record_row_of S) S.holders) }
+        ensures by_id { OnOk result ((S : State) → AreBooksOf S self.now → AllPairs StandsBefore S.holders) }
+    {
+        let mut rows = Vec::new(alloc);
+        self.users.push_rows(alloc, Kind::User, &mut rows)?;
+        self.groups.push_rows(alloc, Kind::Group, &mut rows)?;
+        Ok(rows)
+    }
+}

@@ -1,0 +1,94 @@
+//! What a granted call makes of the accounts.
+ghost use Rattle.std.specs.Prelude.{◌≡◌, ◌+◌, ◌++◌, ◌<◌, ◌≤◌, ◌^◌, None, Some, IfSome, vec_len, vec_capacity};
+ghost use Rattle.std.specs.Option.{option_map};
+ghost use Rattle.qstore_accounts.specs.Bills.{no_bill};
+ghost use Rattle.qstore_accounts.specs.Boards.{placed_row};
+ghost use Rattle.qstore_accounts.specs.Pushed.{placed_in};
+
+use crate::kept_holder::board_row;
+use qplain::PlacedRow;
+use qrules::{Kind, Record};
+
+/// A record as it will be, and where it stands.
+#[derive(Clone, Copy)]
+pub struct Posting {
+    pub(crate) slot: usize,
+    pub(crate) id: u32,
+    pub(crate) account: Record,
+}
+
+/// What becomes of the records of one kind: that of the owner who gives an inode up, if it is another's, and that of
+/// the one who has it then.
+#[derive(Clone, Copy)]
+pub struct Postings {
+    pub(crate) from: Option<Posting>,
+    pub(crate) to: Option<Posting>,
+}
+
+/// The records and the totals as a granted call will leave them. It is for `settle` of the accounts that granted it,
+/// before any other change of them.
+#[derive(Clone, Copy)]
+pub struct Bill {
+    pub(crate) users: Postings,
+    pub(crate) groups: Postings,
+    pub(crate) blocks: u64,
+    pub(crate) inodes: u64,
+}
+
+impl Bill {
+    /// A bill of nothing, where one is to be put that is granted.
+    pub fn empty() -> Bill
+        ensures { result ≡ no_bill }
+    {
+        Bill {
+            users: Postings::none(),
+            groups: Postings::none(),
+            blocks: 0,
+            inodes: 0,
+        }
+    }
+}
+
+impl Postings {
+    /// No record changes.
+    pub(crate) fn none() -> Postings
+        ensures { result ≡ record { from = None; to = None } }
+    {
+        Postings {
+            from: None,
+            to: None,
+        }
+    }
+
+    /// One record changes.
+    pub(crate) fn only(posting: Posting) -> Postings
+        ensures { result ≡ record { from = None; to = Some posting } }
+    {
+        Postings {
+            from: None,
+            to: Some(posting),
+        }
+    }
+}
+
+/// Puts the row of a posting's record in its place, after N rows of others, after these rows, if there is a
+/// posting.
+pub(crate) fn push_placed(
+    rows: &mut Vec<PlacedRow>,
+    kind: Kind,
+    before: usize,
+    posting: &Option<Posting>,
+)
+    requires room { vec_len rows.old < vec_capacity rows.old }
+    requires place { IfSome posting.now (λ p. before + p.slot < 2 ^ 64) }
+    ensures rows { rows.new.items ≡ rows.old.items ++ placed_in (option_map (placed_row kind before) posting.now) }
+    ensures few { vec_len rows.new ≤ vec_len rows.old + 1 }
+    ensures room { vec_capacity rows.new ≡ vec_capacity rows.old }
+{
+    if let Some(posting) = posting {
+        rows.push_reserved(PlacedRow {
+            place: before + posting.slot,
+            row: board_row(kind, posting.id, &posting.account),
+        });
+    }
+}

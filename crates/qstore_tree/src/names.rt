@@ -1,0 +1,100 @@
+//! The names in one directory.
+ghost use Rattle.std.specs.Prelude.{◌≡◌, ◌<◌, ◌≤◌, ◌==◌, ◌++◌, [], length, map, string_bytes, None, IsPermutation, OnOk};
+ghost use Rattle.std.specs.Ordering.{nat_cmp};
+ghost use Rattle.std.specs.Cmp.Lexicographic.{slice_cmp};
+ghost use Rattle.std.specs.BTreeMap.{insert_entry, is_at};
+ghost use Rattle.std.specs.List.Sorted.{IsStrictlySortedBy};
+ghost use Rattle.std.specs.Map.{keys_of, lookup};
+ghost use Rattle.qstore_tree.specs.Names.{LosesName, name_row};
+
+use crate::name_hasher::NameHasher;
+use qplain::NoMemory;
+use qrules::NameRow;
+use std::alloc::Global;
+use std::collections::HashMap;
+use std::marker::Model;
+
+/// The names in a directory, each with the number of the inode that it leads to.
+///
+/// Contracts see them in the order of their bytes, and beside them how many more there is room for.
+#[derive(Drop)]
+pub struct Names {
+    table: HashMap<String, u64, NameHasher>,
+}
+
+impl Model for Names {
+    ghost use Rattle.qstore_tree.specs.Names.{RoomyNames};
+
+    ghost Value = { RoomyNames };
+
+    ghost use Rattle.std.specs.HashMap.{spare};
+    ghost use Rattle.qstore_tree.specs.Names.{names_of};
+
+    ghost view = { λ n. record { entries = names_of n.table.entries; room = spare n.table } };
+}
+
+impl Names {
+    /// No names. It takes no memory. The hashes of names begin at the seed, on which no answer depends.
+    pub(crate) fn new(alloc: Global, seed: u64) -> Names
+        ensures { result.entries ≡ [] }
+    {
+        Names {
+            table: HashMap::with_hasher(alloc, NameHasher::new(seed)),
+        }
+    }
+
+    /// The inode that a name leads to.
+    pub fn get(&self, name: &str) -> Option<u64>
+        ensures { result ≡ lookup (is_at (slice_cmp nat_cmp name.now)) self.now.entries }
+    {
+        self.table.get(name).copied()
+    }
+
+    /// No name is here. O(1).
+    pub(crate) fn is_empty(&self) -> bool
+        ensures { result ≡ (length self.now.entries == 0) }
+    {
+        self.table.is_empty()
+    }
+
+    /// Makes room for one more name.
+    pub(crate) fn make_room(&mut self) -> Result<(), NoMemory>
+        ensures same { self.new.entries ≡ self.old.entries }
+        ensures room { OnOk result (0 < self.new.room) }
+    {
+        self.table.reserve(1)
+    }
+
+    /// Puts a new name, for which there is room. It takes no memory and always succeeds.
+    pub(crate) fn put(&mut self, name: String, number: u64)
+        requires room { 0 < self.old.room }
+        requires absent { lookup (is_at (slice_cmp nat_cmp (string_bytes name))) self.old.entries ≡ None }
+        ensures { self.new.entries ≡ insert_entry (slice_cmp nat_cmp) self.old.entries (string_bytes name) number }
+    {
+        match self.table.insert(name, number) {
+            Ok(_) => {}
+            Err(_) => unreachable!(),
+        }
+    }
+
+    /// Takes this name out, if it is there. There is no less room then.
+    pub(crate) fn take(&mut self, name: &str)
+        ensures names { LosesName name.now self.old.entries self.new.entries }
+        ensures room { self.old.room ≤ self.new.room }
+    {
+        self.table.remove(name);
+    }
+
+    /// Appends a row for each of these names, which are in this directory, in any order. O(n), and for audits alone.
+    pub(crate) fn push_rows(&self, dir: u64, rows: &mut Vec<NameRow>) -> Result<(), NoMemory>
+        ensures rows { OnOk result
+            (IsPermutation (rows.old.items ++ map (name_row dir) self.now.entries) rows.new.items) }
+        ensures in_order { OnOk result
+            (IsStrictlySortedBy (slice_cmp nat_cmp) (keys_of self.now.entries)) }
+    {
+        for ino in self.table.values() {
+            rows.push(NameRow { dir, ino: *ino })?;
+        }
+        Ok(())
+    }
+}

@@ -1,0 +1,40 @@
+//! The rows of a tree, for audits.
+ghost use Rattle.std.specs.Prelude.{◌≡◌, ◌<◌, ◌^◌, length, map, All, IfOk, IsPermutation, OnOk};
+ghost use Rattle.std.specs.Ordering.{nat_cmp};
+ghost use Rattle.std.specs.List.Sorted.{IsStrictlySortedBy};
+ghost use Rattle.std.specs.Map.{keys_of};
+ghost use Rattle.qplain.specs.State.{name_key_cmp};
+ghost use Rattle.qstore_tree.specs.Tree.{kept_row, name_row_of};
+
+use crate::tree::Tree;
+use qplain::NoMemory;
+use qrules::{InodeRow, NameRow};
+use std::alloc::Global;
+
+impl Tree {
+    /// A row for each inode, by number. O(n log n), O(n) where none was taken out, and for audits alone.
+    pub fn inode_rows(&self, alloc: Global) -> Result<Vec<InodeRow>, NoMemory>
+        requires { All (λ e. length e.1.file.allocated < 2 ^ 32) self.now.inodes }
+        ensures rows { IfOk result (λ rows. rows.items ≡ map (kept_row self.now.links) self.now.inodes) }
+        ensures by_number { OnOk result (IsStrictlySortedBy nat_cmp (keys_of self.now.inodes)) }
+    {
+        let mut rows = Vec::with_capacity(alloc, self.nodes.len())?;
+        for (number, node) in self.nodes.iter() {
+            rows.push(node.row(*number))?;
+        }
+        rows.sort_unstable_by_key(|row| row.ino);
+        Ok(rows)
+    }
+
+    /// A row for each name, in any order. O(n), and for audits alone.
+    pub fn name_rows(&self, alloc: Global) -> Result<Vec<NameRow>, NoMemory>
+        ensures rows { IfOk result (λ rows. IsPermutation (map name_row_of self.now.names) rows.items) }
+        ensures each_once { OnOk result (IsStrictlySortedBy name_key_cmp (keys_of self.now.names)) }
+    {
+        let mut rows = Vec::new(alloc);
+        for (number, node) in self.nodes.iter() {
+            node.push_names(*number, &mut rows)?;
+        }
+        Ok(rows)
+    }
+}

@@ -1,0 +1,42 @@
+//! What is wrong with the paths of a call.
+ghost use Rattle.std.specs.Prelude.{◌≡◌, ◌∷◌, []};
+ghost use Rattle.qplain.specs.Arguments.{paths_of};
+ghost use Rattle.qstore_walk.specs.Paths.{paths_fault};
+
+use crate::path::fault_of;
+use qplain::{Call, Refusal};
+
+/// What is wrong with two paths: EINVAL of either comes before ENAMETOOLONG of either.
+fn fault_of_both(from: &str, to: &str) -> Option<Refusal>
+    ensures { result ≡ paths_fault (from.now ∷ to.now ∷ []) }
+{
+    let first = fault_of(from);
+    if first == Some(Refusal::EINVAL) {
+        return first;
+    }
+    match fault_of(to) {
+        Some(second) => Some(second),
+        None => first,
+    }
+}
+
+/// What is wrong with the paths of a call, where it has any: EINVAL of each comes before ENAMETOOLONG of each. O(bytes).
+pub fn paths_fault(call: &Call) -> Option<Refusal>
+    ensures { result ≡ paths_fault (paths_of call.now) }
+{
+    match call {
+        Call::Create { path }
+        | Call::Mkdir { path }
+        | Call::Write { path, .. }
+        | Call::Truncate { path, .. }
+        | Call::Read { path, .. }
+        | Call::Stat { path }
+        | Call::Unlink { path }
+        | Call::Rmdir { path }
+        | Call::Chown { path, .. } => fault_of(path.text()),
+        Call::Link { from, to } | Call::Rename { from, to } => {
+            fault_of_both(from.text(), to.text())
+        }
+        Call::SetQuota { .. } | Call::SetGrace { .. } | Call::Quota { .. } => None,
+    }
+}

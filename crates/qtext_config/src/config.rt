@@ -1,0 +1,71 @@
+//! Configurations: what a store is made of, written as TOML.
+
+ghost use Rattle.std.specs.Prelude.{◌≡◌};
+ghost use Rattle.toml.specs.Parse.{parse_document};
+ghost use Rattle.toml.specs.View.{table_view};
+ghost use Rattle.qtext_config.specs.ConfigFaults.{GivesBy};
+ghost use Rattle.qtext_config.specs.Configs.{document_of};
+
+use crate::ConfigFault;
+use keys::known_keys;
+use qplain::Setup;
+use setting::setup_of;
+use std::alloc::Global;
+use toml::Table;
+use written::fields_of;
+
+mod field;
+mod keys;
+mod principal;
+mod setting;
+mod size;
+mod tables;
+mod written;
+
+/// A configuration.
+#[derive(Debug, PartialEq, Eq, Drop)]
+pub struct Config {
+    pub setup: Setup,
+}
+
+impl Config {
+    ghost use Rattle.qtext_config.specs.Configs.{ReadsSetup, setting_in};
+
+    /// ReadsSetup a configuration, a TOML document: see setquota(8) and tmpfs(5) for the words.
+    ///
+    /// `size` is a text, in bytes: 1 to 10 digits, the first not 0, then nothing, `k`, `m` or `g` for
+    /// 2^10, 2^20 or 2^30. It is rounded up to whole blocks of 4096 bytes. `nr_inodes` is an integer,
+    /// and so are `block_grace` and `inode_grace`, in seconds. `user` and `group` are lists of tables,
+    /// each with `id`, `name` and optionally `block_soft` and `block_hard`, in KiB, and `inode_soft` and
+    /// `inode_hard`, 0 where absent, which is no limit.
+    ///
+    /// In range are a size of 1 to 2^20 blocks, 1 to 65,536 inodes, graces of 1 to 2^32 - 1, limits of 0 to 2^40, ids
+    /// of 0 to 2^32 - 1, and 1 to 64 users and groups each, id 0 among them. A name is 1 to 16 bytes of `a` to `z`,
+    /// `0` to `9`, `_` and `-`, the first a letter.
+    ///
+    /// The first fault counts: that of the text; the first field that is missing, of another kind or of
+    /// another form, in the order above; the least unknown key, of the document and then of all its
+    /// tables; range, duplicate and no zero, as for a `Setup`. An integer past 64 bits or a key given
+    /// twice is no TOML.
+    #[tactic(auto, unfolding(crate::specs::Configs::setting_in))]
+    pub fn read(alloc: Global, text: &str) -> Result<Self, ConfigFault>
+        ensures exact { ReadsSetup (λ config. config.setup) result (setting_in text.now) }
+    {
+        let document = document_of(alloc, text)?;
+        let written = fields_of(alloc, &document)?;
+        known_keys(alloc, &document)?;
+        Ok(Config {
+            setup: setup_of(alloc, written)?,
+        })
+    }
+}
+
+fn document_of(alloc: Global, text: &str) -> Result<Table, ConfigFault>
+    ensures { GivesBy (λ document. table_view document) result (document_of (parse_document text.now)) }
+{
+    match toml::table_from_str(alloc, text) {
+        Ok(document) => Ok(document),
+        Err(error) if error.is_memory() => Err(ConfigFault::Memory),
+        Err(_) => Err(ConfigFault::Text),
+    }
+}

@@ -1,0 +1,22 @@
+use Rattle.std.proofs.Common.{codes, sym, ap, ◌∙◌}
+use Rattle.clap.specs.Words.{found_of, rows_of, subcommand_rows_of}
+use Rattle.qtext_job.proofs.JobLaws.{job_at, map_first, no_job_at, some_text}
+use Rattle.qtext_job.proofs.job.job_of.Goals as goal
+
+pub returns-in-Some-run-default-clause-ok : goal.returns-in-Some-run-default-clause-ok
+returns-in-Some-run-default-clause-ok c =
+    job_at (subcommand_rows_of c.args.matches.now) (codes "run") (rows_of (found_of c.in-Some-run-default.matches.now)) c.run.result
+    (map_first _ _ _ ∙ sym (rw c.in-Some-run-default.is at c.subcommand.ensures.name) ∙ ap some_text c.in-Some-run-default.is-run)
+    (sym (rw c.in-Some-run-default.is at c.subcommand.ensures.rows)) c.run.ensures.ok
+
+pub returns-in-Some-run-default-clause-err : goal.returns-in-Some-run-default-clause-err
+returns-in-Some-run-default-clause-err c =
+    no_job_at (subcommand_rows_of c.args.matches.now) (codes "run") (rows_of (found_of c.in-Some-run-default.matches.now)) c.run.result
+    (map_first _ _ _ ∙ sym (rw c.in-Some-run-default.is at c.subcommand.ensures.name) ∙ ap some_text c.in-Some-run-default.is-run)
+    (sym (rw c.in-Some-run-default.is at c.subcommand.ensures.rows)) c.run.ensures.err
+
+pub returns-in-Some-replay-default-clause-err : goal.returns-in-Some-replay-default-clause-err
+returns-in-Some-replay-default-clause-err c =
+    no_job_at (subcommand_rows_of c.args.matches.now) (codes "replay") (rows_of (found_of c.in-Some-replay-default.matches.now)) c.replay.result
+    (map_first _ _ _ ∙ sym (rw c.in-Some-replay-default.is at c.subcommand.ensures.name) ∙ ap some_text c.in-Some-replay-default.is-replay)
+    (sym (rw c.in-Some-replay-default.is at c.subcommand.ensures.rows)) c.replay.ensures.err

@@ -1,0 +1,80 @@
+-- What a job names, as `clap`'s matches give it, and why words are none.
+use Rattle.std.specs.Prelude.{◌≡◌, ◌⊎◌, ◌<◌, ◌≤◌, ◌^◌, ℕ, Bool, true, false, List, [], map, Option, Some, None, ⊤, codes, length, string_bytes, option_map}
+use Rattle.std.specs.Str.Parse.{IsNumeral, digits_value, without_leading_plus}
+use Rattle.clap.specs.Words.{IsAmong, Kinds, Row, Text, all_of, fault_of, first_of, one_of, subcommand_of}
+use Rattle.clap.specs.declared.error.kind.ErrorKind.{ErrorKind}
+use Rattle.clap.specs.declared.error.kind.ErrorKind.TheVariants.{DisplayHelp, DisplayVersion}
+use Rattle.qtext_job.specs.declared.job.Job.{Job}
+use Rattle.qtext_job.specs.declared.job.Job.TheVariants.{Run, Replay}
+use Rattle.qtext_job.specs.declared.line_fault.LineFault.{LineFault}
+use Rattle.qtext_job.specs.declared.line_fault.LineFault.TheVariants.{Line, Memory}
+use Rattle.qtext_job.specs.Commands.{quotafs}
+
+-- the number that a text spells in decimal digits, after a plus or none
+abbrev pub Spells : Text → ℕ → Type 0
+Spells text n = IsNumeral 10 (without_leading_plus text) × (n ≡ digits_value 10 (without_leading_plus text))
+
+-- the number that the word at this option spells, from the least to the most
+abbrev pub IsNumberAt : Text → ℕ → ℕ → List Row → ℕ → Type 0
+IsNumberAt option least most rows n =
+    (text : Text) × (one_of option rows ≡ Some text) × Spells text n × (least ≤ n) × (n ≤ most)
+
+-- the moment is the number at `--at`, at most 2^40
+abbrev pub IsMomentIn : List Row → ℕ → Type 0
+IsMomentIn rows at = IsNumberAt (codes "at") 0 (2 ^ 40) rows at
+
+-- how many boards are taken is the number at `--boards`, at most 1000
+abbrev pub AreBoardsIn : List Row → ℕ → Type 0
+AreBoardsIn rows boards = IsNumberAt (codes "boards") 0 1000 rows boards
+
+-- how many lines go under one lock is the number at `--batch`, from 1 to 64
+abbrev pub IsBatchIn : List Row → ℕ → Type 0
+IsBatchIn rows batch = IsNumberAt (codes "batch") 1 64 rows batch
+
+-- the scripts are those that are named, at least one
+abbrev pub AreScriptsIn : List Row → List Text → Type 0
+AreScriptsIn rows scripts = (all_of (codes "scripts") rows ≡ Some scripts) × (0 < length scripts)
+
+-- the job of a subcommand of this name with these matches
+abbrev pub IsNamedBy : Text → List Row → Job → Type 0
+IsNamedBy name rows (Run config at journal boards batch scripts) = (name ≡ codes "run")
+    × (first_of (codes "config") rows ≡ Some (string_bytes config))
+    × IsMomentIn rows at
+    × (first_of (codes "journal") rows ≡ option_map (λ s. string_bytes s) journal)
+    × AreBoardsIn rows boards
+    × IsBatchIn rows batch
+    × AreScriptsIn rows (map (λ s. string_bytes s) scripts.items)
+IsNamedBy name rows (Replay config journal) = (name ≡ codes "replay")
+    × (first_of (codes "config") rows ≡ Some (string_bytes config))
+    × (first_of (codes "journal") rows ≡ Some (string_bytes journal))
+
+-- the job of a subcommand's name and its matches
+abbrev pub IsJobOf : Option (Text × List Row) → Job → Type 0
+IsJobOf None job = ⊥
+IsJobOf (Some p) job = IsNamedBy p.0 p.1 job
+
+-- whether an error of `clap` is a text that was asked for
+abbrev pub is_shown : ErrorKind → Bool
+is_shown DisplayHelp = true
+is_shown DisplayVersion = true
+is_shown kind = false
+
+-- out of memory, or what `clap` tells under one of these kinds
+abbrev pub IsToldBy : Kinds → LineFault → Type 0
+IsToldBy kinds Memory = ⊤
+IsToldBy kinds (Line help text) = (kind : ErrorKind) × IsAmong kind kinds × (help ≡ is_shown kind)
+
+-- out of memory, or a mistake, where this does not hold
+abbrev pub FailsUnless : Type 0 → LineFault → Type 0
+FailsUnless P Memory = ⊤
+FailsUnless P (Line help text) = (help ≡ false) × (P → ⊥)
+
+-- `clap` takes the words, and this is the job that its matches name
+abbrev pub IsAskedBy : List Text → Job → Type 0
+IsAskedBy words job = (fault_of quotafs words ≡ []) × IsJobOf (subcommand_of quotafs words) job
+
+-- memory ran out, or `clap` refuses the words, or it takes them and its matches name no job
+abbrev pub IsRefusalOf : List Text → LineFault → Type 0
+IsRefusalOf words fault =
+    IsToldBy (fault_of quotafs words) fault
+    ⊎ ((fault_of quotafs words ≡ []) × FailsUnless ((job : Job) × IsJobOf (subcommand_of quotafs words) job) fault)

@@ -1,0 +1,192 @@
+//! What a command line asks for.
+ghost use Rattle.std.specs.Prelude.{◌≡◌, ◌∷◌, [], ℕ, IfOk, IfErr, Some, List, map, option_map, codes, string_bytes};
+ghost use Rattle.clap.specs.Words.{first_of, found_of, kind_of, rows_of, subcommand_rows_of};
+ghost use Rattle.clap.specs.declared.error.kind.ErrorKind.TheVariants.{OutOfMemory};
+ghost use Rattle.qtext_job.specs.declared.line_fault.LineFault.TheVariants.{Memory};
+ghost use Rattle.qtext_job.specs.Jobs.{AreScriptsIn, FailsUnless, IsAskedBy, IsJobOf, IsNamedBy, IsNumberAt, IsRefusalOf, IsToldBy};
+
+use crate::LineFault;
+use clap::error::ErrorKind;
+use clap::{ArgMatches, Error};
+use command::command;
+use qrules::MAX_MOMENT;
+use std::alloc::{AllocError, Global};
+
+mod command;
+
+/// As many boards are taken at most.
+const MAX_BOARDS: u64 = 1000;
+
+/// As many lines go under one lock at most.
+const MAX_BATCH: u64 = 64;
+
+/// What the program is asked to do. Files are named as they stand on the command line.
+#[derive(Debug, Drop)]
+pub enum Job {
+    /// To run the scripts on a store of the configuration, each up to N lines at a time, while N boards are
+    /// taken, to report at the moment, in seconds, and to write the journal of the run where a file is named for it.
+    Run {
+        config: String,
+        at: u64,
+        journal: Option<String>,
+        boards: u64,
+        batch: u64,
+        scripts: Vec<String>,
+    },
+    /// To play the journal on a store of the configuration, and to report at moment 0.
+    Replay {
+        config: String,
+        journal: String,
+    },
+}
+
+/// What an error of `clap` is reported as.
+fn fault(alloc: Global, error: &Error) -> LineFault
+    ensures memory { kind_of error.now ≡ OutOfMemory → result ≡ Memory }
+    ensures told { IsToldBy (kind_of error.now ∷ []) result }
+{
+    if matches!(error.kind(), ErrorKind::OutOfMemory) {
+        return LineFault::Memory;
+    }
+    match error.to_string(alloc) {
+        Ok(text) => LineFault::Line {
+            help: !error.use_stderr(),
+            text,
+        },
+        Err(_) => LineFault::Memory,
+    }
+}
+
+/// For what no clause of `clap` rules out, and what it never answers: matches that name no job.
+fn missing(alloc: Global) -> LineFault
+    ensures { FailsUnless ⊥ result }
+{
+    match String::from_str(alloc, "error: missing argument\n") {
+        Ok(text) => LineFault::Line { help: false, text },
+        Err(_) => LineFault::Memory,
+    }
+}
+
+fn named(alloc: Global, matches: &ArgMatches<'_>, id: &str) -> Result<String, LineFault>
+    ensures ok { IfOk result (λ s. first_of id.now (rows_of (found_of matches.now)) ≡ Some (string_bytes s)) }
+    ensures err { IfErr result (FailsUnless
+        ((t : List ℕ) × (first_of id.now (rows_of (found_of matches.now)) ≡ Some t))) }
+{
+    match matches.get_str(id) {
+        Some(text) => Ok(String::from_str(alloc, text)?),
+        None => Err(missing(alloc)),
+    }
+}
+
+/// The first value of what may be left out.
+fn optional(alloc: Global, matches: &ArgMatches<'_>, id: &str) -> Result<Option<String>, AllocError>
+    ensures { IfOk result (λ o. first_of id.now (rows_of (found_of matches.now))
+        ≡ option_map (λ s. string_bytes s) o) }
+{
+    match matches.get_str(id) {
+        Some(text) => Ok(Some(String::from_str(alloc, text)?)),
+        None => Ok(None),
+    }
+}
+
+fn copies(alloc: Global, names: &[&str]) -> Result<Vec<String>, AllocError>
+    ensures { IfOk result (λ v. map (λ s. string_bytes s) v.items ≡ map (λ s. s.now) names.now) }
+{
+    let mut copies = Vec::new(alloc);
+    for name in names {
+        copies.push(String::from_str(alloc, name)?)?;
+    }
+    Ok(copies)
+}
+
+fn scripts(alloc: Global, matches: &ArgMatches<'_>) -> Result<Vec<String>, LineFault>
+    ensures ok { IfOk result (λ v. AreScriptsIn (rows_of (found_of matches.now))
+        (map (λ s. string_bytes s) v.items)) }
+    ensures err { IfErr result (FailsUnless
+        ((ts : List (List ℕ)) × AreScriptsIn (rows_of (found_of matches.now)) ts)) }
+{
+    match matches.get_strs("scripts") {
+        Some(names) if !names.is_empty() => Ok(copies(alloc, names)?),
+        _ => Err(missing(alloc)),
+    }
+}
+
+/// The number at an option that is given, or has a default, within these bounds.
+fn number(
+    alloc: Global,
+    matches: &ArgMatches<'_>,
+    id: &str,
+    least: u64,
+    most: u64,
+) -> Result<u64, LineFault>
+    ensures ok { IfOk result (IsNumberAt id.now least most (rows_of (found_of matches.now))) }
+    ensures err { IfErr result (FailsUnless
+        ((n : ℕ) × IsNumberAt id.now least most (rows_of (found_of matches.now)) n)) }
+{
+    match matches.get_one::<u64>(id) {
+        Some(number) if least <= number && number <= most => Ok(number),
+        _ => Err(missing(alloc)),
+    }
+}
+
+fn run(alloc: Global, matches: &ArgMatches<'_>) -> Result<Job, LineFault>
+    ensures ok { IfOk result (IsNamedBy (codes "run") (rows_of (found_of matches.now))) }
+    ensures err { IfErr result (FailsUnless
+        ((job : Job) × IsNamedBy (codes "run") (rows_of (found_of matches.now)) job)) }
+{
+    let config = named(alloc, matches, "config")?;
+    let at = number(alloc, matches, "at", 0, MAX_MOMENT)?;
+    let journal = optional(alloc, matches, "journal")?;
+    let boards = number(alloc, matches, "boards", 0, MAX_BOARDS)?;
+    let batch = number(alloc, matches, "batch", 1, MAX_BATCH)?;
+    let scripts = scripts(alloc, matches)?;
+    Ok(Job::Run {
+        config,
+        at,
+        journal,
+        boards,
+        batch,
+        scripts,
+    })
+}
+
+fn replay(alloc: Global, matches: &ArgMatches<'_>) -> Result<Job, LineFault>
+    ensures ok { IfOk result (IsNamedBy (codes "replay") (rows_of (found_of matches.now))) }
+    ensures err { IfErr result (FailsUnless
+        ((job : Job) × IsNamedBy (codes "replay") (rows_of (found_of matches.now)) job)) }
+{
+    Ok(Job::Replay {
+        config: named(alloc, matches, "config")?,
+        journal: named(alloc, matches, "journal")?,
+    })
+}
+
+fn job_of(alloc: Global, matches: &ArgMatches<'_>) -> Result<Job, LineFault>
+    ensures ok { IfOk result (IsJobOf (subcommand_rows_of matches.now)) }
+    ensures err { IfErr result (FailsUnless ((job : Job) × IsJobOf (subcommand_rows_of matches.now) job)) }
+{
+    match matches.subcommand() {
+        Some(("run", matches)) => run(alloc, matches),
+        Some(("replay", matches)) => replay(alloc, matches),
+        _ => Err(missing(alloc)),
+    }
+}
+
+impl Job {
+    /// Reads the program's words, its own name the first of them, by one `clap` command: the job that its matches name,
+    /// with the moment that the word at `--at` spells, in seconds from 0 to 2^40, and 0 where there is none, the boards
+    /// at `--boards`, from 0 to 1000, and 0 where there is none, and the lines at `--batch`, from 1 to 64, and 1 where
+    /// there is none.
+    ///
+    /// A request for help or for the version is a fault, too, whose text is for the output. Out of memory may come in place of any answer.
+    pub fn read(alloc: Global, words: &[String]) -> Result<Job, LineFault>
+        ensures job { IfOk result (IsAskedBy (map (λ w. string_bytes w) words.now)) }
+        ensures refused { IfErr result (IsRefusalOf (map (λ w. string_bytes w) words.now)) }
+    {
+        let command = command(alloc)?;
+        match command.try_get_matches_from(words) {
+            Err(error) => Err(fault(alloc, &error)),
+            Ok(matches) => job_of(alloc, &matches),
+        }
+    }
+}

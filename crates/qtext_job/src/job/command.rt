@@ -1,0 +1,175 @@
+//! The command line, as `clap` is told it.
+ghost use Rattle.std.specs.Prelude.{◌≡◌, IfOk, false, true};
+ghost use Rattle.clap.specs.Words.{app_of, rule_of, shape_of, with_rule, with_subcommand};
+ghost use Rattle.clap.specs.declared.builder.command.Command.TheViews.{out-Command};
+ghost use Rattle.qtext_job.specs.Commands as line;
+
+use after_help::AFTER_HELP;
+use clap::{Arg, ArgAction, Command, value_parser};
+use std::alloc::{AllocError, Global};
+
+mod after_help;
+
+fn config<'a>(alloc: Global) -> Arg<'a>
+    ensures rule { rule_of result ≡ line.config }
+    ensures local { result.global ≡ false }
+{
+    Arg::new(alloc, "config")
+        .long("config")
+        .value_name("FILE")
+        .help("The configuration: bounds, graces, users and groups, in TOML")
+        .required(true)
+        .action(ArgAction::Set)
+}
+
+fn at<'a>(alloc: Global) -> Arg<'a>
+    ensures rule { rule_of result ≡ line.at }
+    ensures local { result.global ≡ false }
+{
+    Arg::new(alloc, "at")
+        .long("at")
+        .value_name("MOMENT")
+        .help("The moment of the report, in seconds, from which graces are told")
+        .value_parser(value_parser!(u64).range(0..=1_099_511_627_776))
+        .default_value("0")
+        .action(ArgAction::Set)
+}
+
+fn journal<'a>(alloc: Global) -> Arg<'a>
+    ensures rule { rule_of result ≡ line.journal }
+    ensures local { result.global ≡ false }
+{
+    Arg::new(alloc, "journal")
+        .long("journal")
+        .value_name("FILE")
+        .help("The file that the journal of the run is written to, after what is printed")
+        .action(ArgAction::Set)
+}
+
+fn boards<'a>(alloc: Global) -> Arg<'a>
+    ensures rule { rule_of result ≡ line.boards }
+    ensures local { result.global ≡ false }
+{
+    Arg::new(alloc, "boards")
+        .long("boards")
+        .value_name("N")
+        .help("The boards that one more thread takes while the scripts run, at most 1000")
+        .value_parser(value_parser!(u64).range(0..=1000))
+        .default_value("0")
+        .action(ArgAction::Set)
+}
+
+fn batch<'a>(alloc: Global) -> Arg<'a>
+    ensures rule { rule_of result ≡ line.batch }
+    ensures local { result.global ≡ false }
+{
+    Arg::new(alloc, "batch")
+        .long("batch")
+        .value_name("N")
+        .help("The lines for which a worker takes the lock at a time, from 1 to 64")
+        .value_parser(value_parser!(u64).range(1..=64))
+        .default_value("1")
+        .action(ArgAction::Set)
+}
+
+fn scripts<'a>(alloc: Global) -> Arg<'a>
+    ensures rule { rule_of result ≡ line.scripts }
+    ensures local { result.global ≡ false }
+{
+    Arg::new(alloc, "scripts")
+        .value_name("SCRIPT")
+        .help("The scripts, one a worker: a line is MOMENT UID:GID[,GROUP..] CALL")
+        .required(true)
+        .num_args(1..)
+        .action(ArgAction::Append)
+}
+
+fn played<'a>(alloc: Global) -> Arg<'a>
+    ensures rule { rule_of result ≡ line.played }
+    ensures local { result.global ≡ false }
+{
+    Arg::new(alloc, "journal")
+        .value_name("JOURNAL")
+        .help("The journal, as a run has written it")
+        .required(true)
+        .action(ArgAction::Set)
+}
+
+/// The command with one more argument.
+fn with_arg<'a>(command: Command<'a>, arg: Arg<'a>) -> Result<Command<'a>, AllocError>
+    requires { arg.global ≡ false }
+    ensures app { IfOk result (λ c. app_of c ≡ with_rule (app_of command.entry) (rule_of arg.entry)) }
+    ensures local { (out-Command command.entry).has_globals ≡ false
+        → IfOk result (λ c. (out-Command c).has_globals ≡ false) }
+{
+    command.arg(arg)
+}
+
+/// The command with one more subcommand.
+fn with_command<'a>(command: Command<'a>, sub: Command<'a>) -> Result<Command<'a>, AllocError>
+    requires { (out-Command sub).has_globals ≡ false }
+    ensures { IfOk result (λ c. app_of c ≡ with_subcommand (app_of command.entry) (shape_of sub.entry)) }
+{
+    command.subcommand(sub)
+}
+
+/// A command of this name that does this.
+fn named<'a>(alloc: Global, name: &'a str, about: &'a str) -> Command<'a>
+    ensures app { app_of result ≡ line.new_app name.now }
+    ensures local { (out-Command result).has_globals ≡ false }
+{
+    Command::new(alloc, name)
+        .about(about)
+        .after_help(AFTER_HELP)
+}
+
+/// The command with the options of how its store is shared.
+fn with_sharing<'a>(alloc: Global, command: Command<'a>) -> Result<Command<'a>, AllocError>
+    ensures app { IfOk result (λ c. app_of c ≡ line.with_sharing (app_of command.entry)) }
+    ensures local { (out-Command command.entry).has_globals ≡ false
+        → IfOk result (λ c. (out-Command c).has_globals ≡ false) }
+{
+    let command = with_arg(command, boards(alloc))?;
+    with_arg(command, batch(alloc))
+}
+
+fn run<'a>(alloc: Global) -> Result<Command<'a>, AllocError>
+    ensures app { IfOk result (λ c. app_of c ≡ line.run) }
+    ensures local { IfOk result (λ c. (out-Command c).has_globals ≡ false) }
+{
+    let command = named(
+        alloc,
+        "run",
+        "Runs scripts on a new store and prints what came of it",
+    );
+    let command = with_arg(command, config(alloc))?;
+    let command = with_arg(command, at(alloc))?;
+    let command = with_arg(command, journal(alloc))?;
+    let command = with_sharing(alloc, command)?;
+    with_arg(command, scripts(alloc))
+}
+
+fn replay<'a>(alloc: Global) -> Result<Command<'a>, AllocError>
+    ensures app { IfOk result (λ c. app_of c ≡ line.replay) }
+    ensures local { IfOk result (λ c. (out-Command c).has_globals ≡ false) }
+{
+    let command = named(
+        alloc,
+        "replay",
+        "Plays a journal on a new store and prints what came of it",
+    );
+    let command = with_arg(command, config(alloc))?;
+    with_arg(command, played(alloc))
+}
+
+/// The whole command line.
+pub(crate) fn command<'a>(alloc: Global) -> Result<Command<'a>, AllocError>
+    ensures { IfOk result (λ c. app_of c ≡ line.quotafs) }
+{
+    let about = "A shared store of files in memory, with user and group disk quotas";
+    let command = named(alloc, "quotafs", about)
+        .version("0.1.0")
+        .subcommand_required(true);
+    let command = with_command(command, run(alloc)?)?;
+    with_command(command, replay(alloc)?)
+}

@@ -1,0 +1,25 @@
+use Rattle.qaudit.specs.Reports.{report_text}
+use Rattle.qtext.proofs.Fronts.{appends_then, front_of_first, front_of_second, refused_first, writes_then}
+use Rattle.qtext_outcome.specs.Outcomes.{moment_text, told_text, totals_text}
+use Rattle.qtext_outcome.proofs.outcome_text.put_run.Goals as goal
+
+pub returns-in_err-put_moment : goal.returns-in_err-put_moment
+returns-in_err-put_moment g c =
+    refused_first _ _ _ _ (totals_text c.args.outcome.now) c.from_residual-in_err-put_moment.ensures.0
+    (front_of_first _ _ _ (report_text c.args.outcome.now.records c.args.moment)
+    (front_of_second _ _ _ (told_text c.args.outcome.now) (moment_text c.args.moment) c.in_ok-put_told.ensures
+    c.in_err-put_moment.ensures))
+
+pub returns-in_err-put_report : goal.returns-in_err-put_report
+returns-in_err-put_report g c =
+    refused_first _ _ _ _ (totals_text c.args.outcome.now) c.from_residual-in_err-put_report.ensures.0
+    (front_of_second _ _ _ _ (report_text c.args.outcome.now.records c.args.moment)
+    (appends_then _ _ _ (told_text c.args.outcome.now) (moment_text c.args.moment) c.in_ok-put_told.ensures
+    c.in_ok-put_moment.ensures) (rw c.as_slice.ensures at c.in_err-put_report.ensures))
+
+pub returns : goal.returns
+returns g c =
+    writes_then _ _ _ _ _ (totals_text c.args.outcome.now)
+    (appends_then _ _ _ _ (report_text c.args.outcome.now.records c.args.moment)
+    (appends_then _ _ _ (told_text c.args.outcome.now) (moment_text c.args.moment) c.in_ok-put_told.ensures
+    c.in_ok-put_moment.ensures) (rw c.as_slice.ensures at c.in_ok-put_report.ensures)) c.put_totals.ensures

@@ -1,0 +1,66 @@
+-- Transcripts and outcomes as text (profile).
+use Rattle.std.specs.Prelude.{ℕ, List, [], ◌∷◌, ◌++◌, codes, decimal, Result, Ok, Err}
+use Rattle.std.specs.List.{concat, flat_map}
+use Rattle.qrules.specs.Sort.{Inodes, Blocks}
+use Rattle.qplain.specs.Use.{total_of}
+use Rattle.qaudit.specs.Audits.{audit_text}
+use Rattle.qaudit.specs.Reports.{report_text}
+use Rattle.qplain.specs.declared.call_fault.CallFault.{CallFault}
+use Rattle.qplain.specs.declared.call_fault.CallFault.TheVariants.{JournalFull, OutOfMemory}
+use Rattle.qplain.specs.declared.receipt.Receipt.{Receipt}
+use Rattle.qplain.specs.declared.tallies.Tallies.{Tallies}
+use Rattle.qplain.specs.declared.transcript.Transcript.{Transcript}
+use Rattle.qrun_replay.specs.declared.outcome.Outcome.{Outcome}
+use Rattle.qtext_read.specs.Replies.{reply_text}
+use Rattle.qtext_outcome.specs.Boards.{boards_text}
+
+-- the word of a call that is not journaled
+abbrev pub call_fault_text : CallFault → List ℕ
+call_fault_text JournalFull = codes "JournalFull"
+call_fault_text OutOfMemory = codes "OutOfMemory"
+
+-- the place that a line of a transcript begins with
+abbrev pub place_text : ℕ → List ℕ
+place_text place = concat (decimal place ∷ codes " " ∷ [])
+
+-- the line over a transcript
+abbrev pub worker_text : ℕ → List ℕ
+worker_text worker = concat (codes "worker " ∷ decimal worker ∷ codes "\n" ∷ [])
+
+-- a line of a transcript: the place and the reply, or a dash and why the call is not journaled
+abbrev pub line_text : Result Receipt CallFault → List ℕ
+line_text (Ok receipt) = place_text receipt.place ++ reply_text receipt.reply ++ codes "\n"
+line_text (Err fault) = concat (codes "- failed " ∷ call_fault_text fault ∷ codes "\n" ∷ [])
+
+-- a worker's number, and the lines of its transcript
+abbrev pub transcript_text : Transcript → List ℕ
+transcript_text t = worker_text t.worker ++ flat_map line_text t.answers
+
+-- the totals, each beside its bound
+abbrev pub totals_text : Outcome → List ℕ
+totals_text o = concat (codes "totals blocks " ∷ decimal (total_of o.store.state Blocks) ∷ codes " of "
+    ∷ decimal o.setup.blocks
+    ∷ codes " inodes " ∷ decimal (total_of o.store.state Inodes) ∷ codes " of " ∷ decimal o.setup.inodes
+    ∷ codes "\n" ∷ [])
+
+-- the line over a report
+abbrev pub moment_text : ℕ → List ℕ
+moment_text moment = concat (codes "quota at " ∷ decimal moment ∷ codes "\n" ∷ [])
+
+-- what the workers were answered, and then what the looks at the boards were given
+abbrev pub told_text : Outcome → List ℕ
+told_text o = flat_map transcript_text o.transcripts ++ boards_text o.boards
+
+-- what was told while it ran, the quota report as of a moment, and the totals
+abbrev pub run_text : Outcome → ℕ → List ℕ
+run_text o moment = told_text o ++ moment_text moment ++ report_text o.records moment ++ totals_text o
+
+-- the tallies: by how much the totals rose and fell over the whole journal, and how many calls it has
+abbrev pub tally_text : Tallies → List ℕ
+tally_text t = concat (codes "tally blocks +" ∷ decimal t.blocks_charged ∷ codes " -" ∷ decimal t.blocks_released
+    ∷ codes " inodes +" ∷ decimal t.inodes_charged ∷ codes " -" ∷ decimal t.inodes_released
+    ∷ codes " calls " ∷ decimal t.calls ∷ codes "\n" ∷ [])
+
+-- the outcome of a run: what it left as of a moment, the tallies of its journal, and what an audit of it found
+abbrev pub outcome_text : Outcome → ℕ → List ℕ
+outcome_text o moment = run_text o moment ++ tally_text o.tallies ++ audit_text o.differences

@@ -1,0 +1,63 @@
+//! The arguments that more than one call takes.
+ghost use Rattle.std.specs.Prelude.{◌≡◌};
+ghost use Rattle.std.specs.Char.{is_ascii_uppercase};
+ghost use Rattle.std.specs.List.{list_any};
+ghost use Rattle.qtext.specs.Gives.{Gives};
+ghost use Rattle.qtext.specs.Data.{data_of};
+ghost use Rattle.qtext_read.specs.Arguments.{path_of, kind_of, owner_of};
+
+use qplain::{Data, Path, SharedItems};
+use qrules::Kind;
+use qtext::{ReadFault, TextKind, data_of as bytes_of, id_of};
+use std::alloc::Global;
+
+/// A path: whether it leads anywhere is for the store to say.
+pub(crate) fn path_of(alloc: Global, word: &[u8]) -> Result<Path, ReadFault>
+    ensures { Gives result (path_of word.now) }
+{
+    match Path::new(alloc, word)? {
+        Some(path) => Ok(path),
+        None => Err(ReadFault::Fault(TextKind::BadWord)),
+    }
+}
+
+/// The bytes of a write, which calls share from here on.
+pub(crate) fn data_of(alloc: Global, word: &[u8]) -> Result<Data, ReadFault>
+    ensures { Gives result (data_of word.now) }
+{
+    let bytes = bytes_of(alloc, word)?;
+    Ok(Data::new(SharedItems::new(bytes.into_vec())?))
+}
+
+/// `user` or `group`.
+#[tactic(auto, unfolding(crate::specs::Arguments::kind_of))]
+pub(crate) fn kind_of(word: &[u8]) -> Result<Kind, ReadFault>
+    ensures { Gives result (kind_of word.now) }
+{
+    if word == b"user".as_slice() {
+        return Ok(Kind::User);
+    }
+    if word == b"group".as_slice() {
+        return Ok(Kind::Group);
+    }
+    Err(ReadFault::Fault(TextKind::BadWord))
+}
+
+/// The id of an owner, or a dash for the present one.
+#[tactic(auto, unfolding(crate::specs::Arguments::owner_of))]
+pub(crate) fn owner_of(word: &[u8]) -> Result<Option<u32>, ReadFault>
+    ensures { Gives result (owner_of word.now) }
+{
+    if word == b"-".as_slice() {
+        return Ok(None);
+    }
+    let id = id_of(TextKind::BadNumber, word)?;
+    Ok(Some(id))
+}
+
+/// Whether a letter of the word is in upper case.
+pub(crate) fn has_upper_case(digits: &[u8]) -> bool
+    ensures { result ≡ list_any is_ascii_uppercase digits.now }
+{
+    digits.iter().any(|digit| digit.is_ascii_uppercase())
+}

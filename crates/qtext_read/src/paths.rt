@@ -1,0 +1,170 @@
+//! Paths as words of a text, whose bytes they share page by page.
+ghost use Rattle.std.specs.Prelude.{◌≡◌, ◌≤◌, ◌↔◌, ◌+◌, length, Ok, IfOk, IfSome, IsTrue};
+ghost use Rattle.qtext.specs.Gives.{Gives};
+ghost use Rattle.qtext_read.specs.Arguments.{path_of};
+
+use crate::argument::path_of;
+use qplain::{NoMemory, Path, SharedItems};
+use qtext::ReadFault;
+use std::alloc::Global;
+use std::marker::Model;
+
+/// How many bytes a page has, but for the last of a text, and for one that begins with a longer path.
+const PAGE_BYTES: usize = 4096;
+
+/// A part of a text, whose bytes the paths that stand in it share.
+#[derive(Drop)]
+struct Page {
+    bytes: SharedItems<u8>,
+    /// How many bytes of the text are left where it begins.
+    left: usize,
+}
+
+impl Page {
+    /// The path that this word spells, if the word stands on the page where N bytes of the text are left.
+    fn path_at(&self, left: usize, word: &[u8]) -> Result<Option<Path>, NoMemory>
+        ensures { IfOk result (λ path. IfSome path (λ p. path_of word.now ≡ Ok p)) }
+    {
+        let bytes = self.bytes.as_slice();
+        let from = self.left.saturating_sub(left);
+        if from > bytes.len() || word.len() > bytes.len() - from {
+            return Ok(None);
+        }
+        let to = from + word.len();
+        let part = &bytes[from..to];
+        if part == word {
+            return Path::within(&self.bytes, from, to);
+        }
+        Ok(None)
+    }
+}
+
+/// The path that was read last, beside its word.
+#[derive(Drop)]
+struct KeptPath<'a> {
+    word: &'a [u8],
+    path: Path,
+    ghost same: { path_of word.now ≡ Ok path },
+}
+
+/// Whether two words are the same. Names of files in a row mostly differ at their ends, so that is looked at first.
+fn is_same(word: &[u8], other: &[u8]) -> bool
+    ensures { IsTrue result ↔ (word.now ≡ other.now) }
+{
+    word.len() == other.len() && word.last() == other.last() && word == other
+}
+
+/// How many bytes these words take, with a space before each.
+fn bytes_of(words: &[&[u8]]) -> usize {
+    let mut bytes = 0usize;
+    for word in words {
+        bytes = bytes.saturating_add(word.len()).saturating_add(1);
+    }
+    bytes
+}
+
+/// Reads the paths of a text one after the other. Each shares the bytes of a page of the text with the others that
+/// stand there, so that most take no memory; one that is spelled as the one before is that one. Contracts see how many
+/// bytes of the text are left after the words of the next call.
+///
+/// Where a word stands is told from the end of its line. It is looked up, so that a path is the one that its word
+/// spells whatever was told: of a word that stands elsewhere the bytes are copied.
+#[derive(Drop)]
+pub struct Paths<'a> {
+    text: &'a [u8],
+    page: Option<Page>,
+    last: Option<KeptPath<'a>>,
+    /// How many bytes of the text are left after the words of the next call.
+    left: usize,
+}
+
+impl<'a> Model for Paths<'a> {
+    ghost use Rattle.std.specs.Prelude.{ℕ};
+
+    ghost Value = { ℕ };
+
+    ghost view = { λ p. p.left };
+}
+
+impl<'a> Paths<'a> {
+    /// Those of a text, before its first line.
+    pub fn of(text: &'a [u8]) -> Self
+        ensures { result ≡ length text.now }
+    {
+        Paths {
+            text,
+            page: None,
+            last: None,
+            left: text.len(),
+        }
+    }
+
+    /// Goes to a line, after whose line end these bytes are left.
+    pub fn begin_line(&mut self, after: &[u8])
+        ensures { self.new ≡ length after.now + 1 }
+    {
+        self.left = after.len() + 1;
+    }
+
+    /// Goes back past the words of a line that stand after its call.
+    pub(crate) fn go_before(&mut self, words: &[&[u8]])
+        ensures { self.old ≤ self.new }
+    {
+        self.left = self.left.saturating_add(bytes_of(words));
+    }
+
+    /// Takes the part of the text that begins where N bytes are left for the page.
+    fn turn_page(&mut self, alloc: Global, left: usize, least: usize) -> Result<(), NoMemory> {
+        let text = &self.text[self.text.len().saturating_sub(left)..];
+        let many = text.len().min(least.max(PAGE_BYTES));
+        let bytes = SharedItems::new(Vec::from_slice(alloc, &text[..many])?)?;
+        self.page = Some(Page { bytes, left });
+        Ok(())
+    }
+
+    /// The path that this word spells, if the word stands on the page where N bytes of the text are left.
+    fn path_at(&self, left: usize, word: &[u8]) -> Result<Option<Path>, NoMemory>
+        ensures { IfOk result (λ path. IfSome path (λ p. path_of word.now ≡ Ok p)) }
+    {
+        match &self.page {
+            Some(page) => page.path_at(left, word),
+            None => Ok(None),
+        }
+    }
+
+    /// The path that this word spells, after which N bytes of the text are left.
+    fn look_up(&mut self, alloc: Global, word: &[u8], behind: usize) -> Result<Path, ReadFault>
+        ensures { Gives result (path_of word.now) }
+    {
+        let left = behind.saturating_add(word.len());
+        if let Some(path) = self.path_at(left, word)? {
+            return Ok(path);
+        }
+        self.turn_page(alloc, left, word.len())?;
+        match self.path_at(left, word)? {
+            Some(path) => Ok(path),
+            None => path_of(alloc, word),
+        }
+    }
+
+    /// The path that this word spells, after which these words of the call stand: whether it leads anywhere is for the
+    /// store to say.
+    pub(crate) fn read(
+        &mut self,
+        alloc: Global,
+        word: &'a [u8],
+        behind: &[&[u8]],
+    ) -> Result<Path, ReadFault>
+        ensures { Gives result (path_of word.now) }
+    {
+        if let Some(last) = &self.last {
+            if is_same(last.word, word) {
+                return Ok(last.path.copy()?);
+            }
+        }
+        let path = self.look_up(alloc, word, self.left.saturating_add(bytes_of(behind)))?;
+        let kept = path.copy()?;
+        self.last = Some(KeptPath { word, path: kept });
+        Ok(path)
+    }
+}

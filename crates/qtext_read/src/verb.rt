@@ -1,0 +1,77 @@
+ghost use Rattle.qtext.specs.Gives.{Gives};
+ghost use Rattle.qtext_read.specs.Verbs.{verb_of};
+
+use qtext::{ReadFault, TextKind};
+
+/// The first word of a call.
+#[derive(Clone, Copy, Debug, PartialEq, Eq)]
+pub(crate) enum Verb {
+    Create,
+    Mkdir,
+    Write,
+    Fill,
+    Truncate,
+    Read,
+    Stat,
+    Link,
+    Unlink,
+    Rmdir,
+    Rename,
+    Chown,
+    SetQuota,
+    SetGrace,
+    Quota,
+}
+
+/// The verb that is spelled so. What most lines ask for is looked at first.
+#[tactic(auto, unfolding(crate::specs::Verbs::verb_of))]
+pub(crate) fn verb_of(word: &[u8]) -> Result<Verb, ReadFault>
+    ensures { Gives result (verb_of word.now) }
+{
+    if word == b"write".as_slice() {
+        return Ok(Verb::Write);
+    }
+    if word == b"stat".as_slice() {
+        return Ok(Verb::Stat);
+    }
+    if word == b"read".as_slice() {
+        return Ok(Verb::Read);
+    }
+    if word == b"create".as_slice() {
+        return Ok(Verb::Create);
+    }
+    if word == b"mkdir".as_slice() {
+        return Ok(Verb::Mkdir);
+    }
+    if word == b"fill".as_slice() {
+        return Ok(Verb::Fill);
+    }
+    if word == b"truncate".as_slice() {
+        return Ok(Verb::Truncate);
+    }
+    if word == b"link".as_slice() {
+        return Ok(Verb::Link);
+    }
+    if word == b"unlink".as_slice() {
+        return Ok(Verb::Unlink);
+    }
+    if word == b"rmdir".as_slice() {
+        return Ok(Verb::Rmdir);
+    }
+    if word == b"rename".as_slice() {
+        return Ok(Verb::Rename);
+    }
+    if word == b"chown".as_slice() {
+        return Ok(Verb::Chown);
+    }
+    if word == b"setquota".as_slice() {
+        return Ok(Verb::SetQuota);
+    }
+    if word == b"setgrace".as_slice() {
+        return Ok(Verb::SetGrace);
+    }
+    if word == b"quota".as_slice() {
+        return Ok(Verb::Quota);
+    }
+    Err(ReadFault::Fault(TextKind::BadVerb))
+}

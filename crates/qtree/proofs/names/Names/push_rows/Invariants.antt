@@ -1,8 +1,0 @@
-use Rattle.std.proofs.Common.{◌++◌, map, IsPermutation}
-use Rattle.qtree.specs.Names.{name_row}
-use Rattle.qtree.proofs.Rows.{row_to}
-use Rattle.qtree.proofs.names.Names.push_rows.Given as goal
-
-abbrev pub invariant-loop-ino : goal.invariant-loop-ino
-invariant-loop-ino l =
-    IsPermutation (l.initial.rows.items ++ map (name_row l.dir) l.self.entries) (l.rows.items ++ map (row_to l.dir) l.ino-iterator)

@@ -1,7 +1,0 @@
--- In reading order: the numbers of faults, what workers and the watcher have done, who plays and what they have done
--- together, and the workers' transcripts.
-pub mod RunFaults
-pub mod Work
-pub mod Watching
-pub mod Crews
-pub mod Told

@@ -1,7 +1,0 @@
-use Rattle.std.proofs.Common.{◌∙◌}
-use Rattle.run_tests.proofs.Alone.{one_apart}
-use Rattle.run_tests.proofs.gathers.told.Goals as goal
-
-pub gather-requires-clause-apart : goal.gather-requires-clause-apart
-gather-requires-clause-apart c =
-    one_apart c.deref-2.result.now c.in_ok-transcript.transcript (c.deref-2.ensures.value ∙ c.in_ok-transcripts.ensures.items)

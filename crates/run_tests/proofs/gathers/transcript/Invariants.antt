@@ -1,5 +1,0 @@
-use Rattle.std.specs.Prelude.{◌≡◌, vec_len}
-use Rattle.run_tests.proofs.gathers.transcript.Given as goal
-
-abbrev pub invariant-loop-before : goal.invariant-loop-before
-invariant-loop-before l = vec_len l.answers ≡ l.before

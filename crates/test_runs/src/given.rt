@@ -1,0 +1,54 @@
+//! What the tests begin with.
+use qplain::{Line, Script, Setup};
+use qrules::Items;
+use qtext_config::Config;
+use qtext_files::FromText;
+use std::alloc::Global;
+use std::test::Fail;
+
+/// Ten blocks and six inodes, and nobody has a limit.
+const CONFIG: &str = "size = '40k'
+nr_inodes = 6
+block_grace = 100
+inode_grace = 100
+user = [{ id = 0, name = 'root' }, { id = 1001, name = 'bob' }]
+group = [{ id = 0, name = 'root' }]
+";
+
+/// The setup of a small store.
+pub(crate) fn setup(alloc: Global) -> Result<Setup, Fail> {
+    match Config::read(alloc, CONFIG) {
+        Ok(config) => Ok(config.setup),
+        Err(_) => Err(Fail::from("the configuration")),
+    }
+}
+
+/// A script.
+pub(crate) fn script(alloc: Global, text: &[u8]) -> Result<Script, Fail> {
+    match Script::read(alloc, text) {
+        Ok(script) => Ok(script),
+        Err(_) => Err(Fail::from("the script")),
+    }
+}
+
+/// The lines of a script.
+pub(crate) fn lines(alloc: Global, text: &[u8]) -> Result<Items<Line>, Fail> {
+    Ok(script(alloc, text)?.into_lines())
+}
+
+/// The line of a script of one line.
+pub(crate) fn line(alloc: Global, text: &[u8]) -> Result<Line, Fail> {
+    let mut lines = lines(alloc, text)?.into_vec();
+    match lines.pop() {
+        Some(line) => Ok(line),
+        None => Err(Fail::from("a line")),
+    }
+}
+
+/// The script that makes the first three files.
+pub(crate) const FIRST_FILES: &[u8] =
+    b"0 1001:0 create /a\n0 1001:0 create /b\n0 1001:0 create /c\n";
+
+/// The script that makes three others.
+pub(crate) const OTHER_FILES: &[u8] =
+    b"0 1001:0 create /d\n0 1001:0 create /e\n0 1001:0 create /f\n";
