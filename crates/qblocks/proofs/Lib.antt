@@ -1,5 +1,6 @@
 pub mod Bytes
 mod Examples
+pub mod Fields
 pub mod Freed
 pub mod Indexes
 pub mod Past
@@ -10,4 +11,3 @@ pub mod Table
 pub mod Touched
 pub mod Used
 pub mod View
-pub mod Whole

@@ -22,8 +22,8 @@ abbrev pub is_reached : ℕ → Result ℕ Refusal → Bool
 is_reached number (Err r) = false
 is_reached number (Ok n) = n == number
 
--- the walk to the parent of these names comes past the inode of this number, or ends there: some walk along the first of
--- them, all but the last at most, ends there
+-- the walk to the parent of these names comes past the inode of this number, or ends there: some walk along the first
+-- of them, all but the last at most, ends there
 abbrev pub meets : State → List (List ℕ) → ℕ → Bool
 meets S names number = list_any (λ n. is_reached number (walk S (take n names))) (range_with_len 0 (length names))
 

@@ -8,9 +8,10 @@ use Rattle.qplain.specs.Step.{step}
 use Rattle.qplain_laws.proofs.Settling.{IsLawful-from_step, KeepsSetup-from_step}
 use Rattle.qstore.specs.Stored.{IsStorable}
 
--- a step of a sound state leaves a sound state
-pub IsSound-from_step : (S T : State) (cred : Caller) (moment : ℕ) (call : Call) (reply : Reply) → IsStorable S → (T, reply) ≡ step S cred moment call → IsStorable T
-IsSound-from_step S T cred moment call reply sound is = record {
+-- a step of a storable state leaves a storable state
+pub IsStorable-from_step : (S T : State) (cred : Caller) (moment : ℕ) (call : Call) (reply : Reply)
+    → IsStorable S → (T, reply) ≡ step S cred moment call → IsStorable T
+IsStorable-from_step S T cred moment call reply sound is = record {
   lawful = IsLawful-from_step S cred moment call T reply sound.lawful (sym is);
   file_bound =
       let same = (KeepsSetup-from_step S cred moment call T reply (sym is)).file_limit in

@@ -18,7 +18,7 @@ use Rattle.qstore.specs.declared.ready.Ready.{Ready}
 use Rattle.qstore.specs.Ready.{CanCarryOut, committed}
 use Rattle.qstore.specs.Stored.{IsStorable, Stored}
 
--- the state is sound, and the books are its own
+-- the state is storable, and the books are its own
 pub record IsConsistent (s : Stored) : Type 0 where
   pub sound : IsStorable s.state
   pub books : AreBooksOf s.state s.books

@@ -28,7 +28,7 @@ state_of a = record {
 abbrev pub stored_of : Inside → Stored
 stored_of a = record { state = state_of a; room = a.tree.room; books = a.accounts; bill = a.bill }
 
--- the state is sound, and what is kept beside it is what it counts to: the books, and each inode's links in order
+-- the state is storable, and what is kept beside it is what it counts to: the books, and each inode's links in order
 pub record IsCounted (S : State) (b : Books) (kept : List (ℕ × ℕ)) : Type 0 where
   pub sound : IsStorable S
   pub books : AreBooksOf S b

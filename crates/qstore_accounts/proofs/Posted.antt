@@ -98,8 +98,8 @@ module _ (S1 : State) (moment : ℕ) (kind : Kind) where
             ∙ post-first p.to to ∙ cond-false (matches p.to o) (holder_after o) o f ∙ stays e f
 
 -- an inode is not the principal's where the posting for its share has not the principal's id
-not-owner : (os : List KeptHolder) (kind : Kind) (S1 : State) (moment : ℕ) (share : Option OwnerClaim) (inode : Option Inode) (q : Option Posting) (o : KeptHolder)
-    → IsShareOf os kind share inode → option_map (λ p. p.slot) q ≡ option_map (λ s. s.slot) share → IfSome q (IsFinal os kind S1 moment)
+not-owner : (os : List KeptHolder) (kind : Kind) (S1 : State) (moment : ℕ) (share : Option OwnerClaim) (inode : Option Inode) (q : Option Posting)
+    (o : KeptHolder) → IsShareOf os kind share inode → option_map (λ p. p.slot) q ≡ option_map (λ s. s.slot) share → IfSome q (IsFinal os kind S1 moment)
     → matches q o ≡ false → is_owned kind o.id inode ≡ false
 not-owner os kind S1 moment None None q o is slots final other = refl
 not-owner os kind S1 moment None (Some inode) q o is slots final other = cc

@@ -6,7 +6,7 @@ use Rattle.qblocks.specs.Rows.{is_used, filled}
 use Rattle.qblocks.proofs.Spans.{or_no}
 use Rattle.qblocks.proofs.Used.{in_no_room}
 use Rattle.qblocks.proofs.View.{file_of-same}
-use Rattle.qblocks.proofs.Whole.{IsWhole-same, rows_forgotten}
+use Rattle.qblocks.proofs.Fields.{FieldsFit-same, rows_forgotten}
 use Rattle.qblocks.proofs.file.BlockFile.forget_room.Goals as goal
 
 pub invariant_of-self : goal.invariant_of-self
@@ -18,7 +18,7 @@ invariant_of-self c =
     let first = c.self.inside.room_off / ROW_SIZE in
     let used = rows_forgotten old new e.same first c.span_end-end.result e.used e.others (λ r out.
     c.self.invariant.rows r ∙ sym (or_no (is_used (filled old) r) _ (ap (λ (end : ℕ). in_span first end r) (sym c.span_end-end.ensures.end) ∙ out))) in
-    IsWhole-same old new c.self.inside.size c.self.inside.count room no_room e.same (λ r. used r
+    FieldsFit-same old new c.self.inside.size c.self.inside.count room no_room e.same (λ r. used r
     ∙ or_no (is_used (filled new) r) _ (in_no_room r)) (omega arith) c.self.invariant
 
 pub returns-clause-same : goal.returns-clause-same

@@ -7,7 +7,7 @@ use Rattle.qblocks.specs.Rows.{is_used, in_room, filled}
 use Rattle.qblocks.proofs.Spans.{or_no, in_span_none}
 use Rattle.qblocks.proofs.Used.{in_no_room, used-touched}
 use Rattle.qblocks.proofs.View.{file_of-same, missing_blocks}
-use Rattle.qblocks.proofs.Whole.{IsWhole-same, rows_forgotten, rows_made, rows_used, used-same}
+use Rattle.qblocks.proofs.Fields.{FieldsFit-same, rows_forgotten, rows_made, rows_used, used-same}
 use Rattle.qblocks.proofs.file.BlockFile.make_room.Goals as goal
 use Rattle.qblocks.proofs.file.BlockFile.make_room.Goals.{then-missing-eq0, else-missing-eq0}
 
@@ -23,7 +23,7 @@ invariant_of-self c =
     let f = c.forget_rows.ensures in
     let used = rows_forgotten made new f.same (c.args.off / ROW_SIZE) c.if-missing-eq0.end f.used f.others
     (λ r out. e.others r out ∙ was r ∙ sym (used-same old made e.same r)) in
-    IsWhole-same old new c.self.inside.size c.self.inside.count room room
+    FieldsFit-same old new c.self.inside.size c.self.inside.count room room
     (record { slots = λ k. f.same.slots k ∙ e.same.slots k }) (λ r. used r
     ∙ or_no (is_used (filled new) r) _ (ap (λ x. in_room x r) none ∙ in_no_room r))
     c.self.invariant.room_bounded c.self.invariant
@@ -47,7 +47,7 @@ invariant_of-self-2 c =
       | else-missing-eq0 w ↦
           ap (λ (end : ℕ). is_used (filled old) r || in_span first end r) (w.end-is ∙ w.span_end-end.ensures.end)
     ] in
-    IsWhole-same old new c.self.inside.size c.self.inside.count _ room e.same
+    FieldsFit-same old new c.self.inside.size c.self.inside.count _ room e.same
     (rows_made old new e.same room first c.if-missing-eq0.end covers e.made e.others was) (omega arith)
     c.self.invariant
 

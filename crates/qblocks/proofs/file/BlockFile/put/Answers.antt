@@ -5,7 +5,7 @@ use Rattle.qblocks.specs.File.{after_write, is_allocated}
 use Rattle.qblocks.specs.WriteRoom.{no_room}
 use Rattle.qblocks.specs.Rows.{FieldsFit, file_of}
 use Rattle.qblocks.proofs.Touched.{after_write_none, is_allocated-after_write}
-use Rattle.qblocks.proofs.Whole.{put_whole, ready_whole}
+use Rattle.qblocks.proofs.Fields.{put_whole, ready_whole}
 use Rattle.qblocks.proofs.file.BlockFile.put.Goals as goal
 
 pub returns-then-is_empty-clause-file : goal.returns-then-is_empty-clause-file

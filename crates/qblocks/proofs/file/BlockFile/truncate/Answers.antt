@@ -1,12 +1,12 @@
 use Rattle.std.proofs.Common.{ap, arith, ◌∙◌, length}
 use Rattle.qblocks.specs.File.{after_truncate}
 use Rattle.qblocks.proofs.View.{file_of-grown, file_of-cut}
-use Rattle.qblocks.proofs.Whole.{IsWhole-grown, IsWhole-cut, row_below, rows_used}
+use Rattle.qblocks.proofs.Fields.{FieldsFit-grown, FieldsFit-cut, row_below, rows_used}
 use Rattle.qblocks.proofs.file.BlockFile.truncate.Goals as goal
 
 pub invariant_of-self : goal.invariant_of-self
 invariant_of-self c =
-    IsWhole-grown c.self.inside.rows c.self.inside.size c.self.inside.count c.args.size _ (omega arith) (omega arith) c.self.invariant
+    FieldsFit-grown c.self.inside.rows c.self.inside.size c.self.inside.count c.args.size _ (omega arith) (omega arith) c.self.invariant
 
 pub returns-then-size-self-clause-file : goal.returns-then-size-self-clause-file
 returns-then-size-self-clause-file c =
@@ -15,7 +15,7 @@ returns-then-size-self-clause-file c =
 
 pub returns-then-size-self-clause-count : goal.returns-then-size-self-clause-count
 returns-then-size-self-clause-count c =
-    let grown = IsWhole-grown c.self.inside.rows c.self.inside.size c.self.inside.count c.args.size _ (omega arith) (omega arith) c.self.invariant in
+    let grown = FieldsFit-grown c.self.inside.rows c.self.inside.size c.self.inside.count c.args.size _ (omega arith) (omega arith) c.self.invariant in
     let seen = ap (λ file. length file.allocated) (ap (λ f. f.file) c.self.view_is ∙ c.forget_room.ensures.same) in
     omega (arith, grown.counted, c.self.invariant.counted, seen)
 
@@ -32,13 +32,13 @@ pub overflow_sub-self : goal.overflow_sub-self
 overflow_sub-self c =
     let none = ap (λ f. f.room) c.self.view_is ∙ c.forget_room.ensures.room in
     let e = c.cut-freed.ensures in
-    (IsWhole-cut _ _ _ _ c.args.size _ _ none c.self.invariant (omega arith) e.tail e.filled e.used e.frees).0
+    (FieldsFit-cut _ _ _ _ c.args.size _ _ none c.self.invariant (omega arith) e.tail e.filled e.used e.frees).0
 
 pub invariant_of-self-2 : goal.invariant_of-self-2
 invariant_of-self-2 c =
     let none = ap (λ f. f.room) c.self.view_is ∙ c.forget_room.ensures.room in
     let e = c.cut-freed.ensures in
-    (IsWhole-cut _ _ _ _ c.args.size _ _ none c.self.invariant (omega arith) e.tail e.filled e.used e.frees).1
+    (FieldsFit-cut _ _ _ _ c.args.size _ _ none c.self.invariant (omega arith) e.tail e.filled e.used e.frees).1
 
 pub returns-clause-file : goal.returns-clause-file
 returns-clause-file c =
@@ -51,6 +51,6 @@ pub returns-clause-count : goal.returns-clause-count
 returns-clause-count c =
     let none = ap (λ f. f.room) c.self.view_is ∙ c.forget_room.ensures.room in
     let e = c.cut-freed.ensures in
-    let cut = IsWhole-cut _ _ _ _ c.args.size _ _ none c.self.invariant (omega arith) e.tail e.filled e.used e.frees in
+    let cut = FieldsFit-cut _ _ _ _ c.args.size _ _ none c.self.invariant (omega arith) e.tail e.filled e.used e.frees in
     let seen = ap (λ file. length file.allocated) (ap (λ f. f.file) c.self.view_is ∙ c.forget_room.ensures.same) in
     omega (arith, cut.0, cut.1.counted, c.self.invariant.counted, seen)

@@ -6,15 +6,15 @@ use Rattle.qplain.specs.Step.{step}
 use Rattle.qstore.specs.declared.ready.Ready.{Ready}
 use Rattle.qstore.specs.Ready.{CanCarryOut, IsReady, committed, effect}
 use Rattle.qstore.specs.Stored.{IsStorable, Stored}
-use Rattle.qstore.proofs.Steps.{IsSound-from_step}
+use Rattle.qstore.proofs.Steps.{IsStorable-from_step}
 use Rattle.qstore.proofs.store.Store.ready.Goals as goal
 
--- what is decided leaves a sound state, as a step of the plain machine does
+-- what is decided leaves a storable state, as a step of the plain machine does
 is-ready : {E : Type 0} (S : State) (s : Stored) (cred : Caller) (moment : ℕ) (call : Call) → IsStorable S → (result : Result Ready E)
     → IfOk result (λ r. committed s r ≡ step S cred moment call) → IfOk result (λ r. CanCarryOut s r.plan) → IfOk result (IsReady s)
 is-ready S s cred moment call sound (Ok r) told can = record {
   can = can;
-  sound = IsSound-from_step S (effect s r.plan) cred moment call r.reply sound told;
+  sound = IsStorable-from_step S (effect s r.plan) cred moment call r.reply sound told;
 }
 is-ready S s cred moment call sound (Err fault) told can = tt
 

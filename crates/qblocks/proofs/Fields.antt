@@ -16,11 +16,11 @@ use Rattle.qblocks.proofs.Used.{Below, used_below, in_no_room, used-written}
 use Rattle.qblocks.proofs.View.{length-allocated_of, allocated_le, file_of-same, missing_blocks, file_of-written, allocated_of-grown, file_of-empty}
 
 module _ {Z : Type 0} where
-  -- the fields stay whole where the blocks do, with other rows and another room
-  pub IsWhole-same : (m n : Table Z) (size count : ℕ) (old new : WriteRoom) → SameBlocks m n
+  -- the fields still fit where the blocks do, with other rows and another room
+  pub FieldsFit-same : (m n : Table Z) (size count : ℕ) (old new : WriteRoom) → SameBlocks m n
       → ((r : ℕ) → has_row n r ≡ (is_used (filled n) r || in_room new r))
       → new.off + new.len ≤ 2 ^ 40 → FieldsFit m size count old → FieldsFit n size count new
-  IsWhole-same m n size count old new same rows bound whole = record {
+  FieldsFit-same m n size count old new same rows bound whole = record {
     counted = whole.counted ∙ sym (ap (λ file. length file.allocated) (file_of-same m n size same));
     bounded = whole.bounded;
     room_bounded = bound;
@@ -30,9 +30,9 @@ module _ {Z : Type 0} where
   }
 
   -- the fields of a file that is made longer
-  pub IsWhole-grown : (m : Table Z) (size count to : ℕ) (room : WriteRoom) → size ≤ to → to ≤ 2 ^ 40
+  pub FieldsFit-grown : (m : Table Z) (size count to : ℕ) (room : WriteRoom) → size ≤ to → to ≤ 2 ^ 40
       → FieldsFit m size count room → FieldsFit m to count room
-  IsWhole-grown m size count to room more bound whole = record {
+  FieldsFit-grown m size count to room more bound whole = record {
     counted = whole.counted ∙ sym (ap length (allocated_of-grown m size to more whole.below));
     bounded = bound;
     room_bounded = whole.room_bounded;
@@ -48,12 +48,12 @@ module _ {Z : Type 0} where
       used_below (filled m) size r whole.below (or_no (is_used (filled m) r) _ (ap (λ x. in_room x r) none ∙ in_no_room r) ∙ sym (whole.rows r) ∙ there)
 
   -- the fields of a file that is cut off
-  pub IsWhole-cut : (m n : Table Z) (size count to freed : ℕ) (room : WriteRoom) → room ≡ no_room
+  pub FieldsFit-cut : (m n : Table Z) (size count to freed : ℕ) (room : WriteRoom) → room ≡ no_room
       → FieldsFit m size count room → to < size → ((o : ℕ) → to ≤ o → byte_at n o ≡ 0)
       → ((k : ℕ) → filled n k ≡ (filled m k && nat_lt (k * BLOCK_SIZE) to))
       → ((r : ℕ) → has_row n r ≡ is_used (filled n) r) → Frees m n freed
       → (freed ≤ count) × FieldsFit n to (count - freed) room
-  IsWhole-cut m n size count to freed room none whole less tail kept used frees =
+  FieldsFit-cut m n size count to freed room none whole less tail kept used frees =
       let below' : Below (filled n) to = λ k yes. ltb-true (k * BLOCK_SIZE) to (and_parts (filled m k) _ (sym (kept k) ∙ yes)).1 in
       let bound = size * ROW_BLOCKS in
       let before = length-allocated_of m size bound whole.below (omega arith) in
@@ -71,12 +71,12 @@ module _ {Z : Type 0} where
       )
 
   -- the fields after a write, and the file that they stand for
-  pub IsWhole-written : (m n : Table Z) (size count a b off : ℕ) (input : List ℕ) (to : ℕ)
+  pub FieldsFit-written : (m n : Table Z) (size count a b off : ℕ) (input : List ℕ) (to : ℕ)
       → FieldsFit m size count (record { off = off; len = length input })
       → Puts (byte_at m) (byte_at n) (filled m) (filled n) a b off input → 0 < length input
       → to ≡ max size (off + length input) → ((r : ℕ) → has_row n r ≡ has_row m r)
       → FieldsFit n to (count + gaps_in (filled m) off (length input)) no_room × (file_of n to ≡ after_write (file_of m size) off input)
-  IsWhole-written m n size count a b off input to whole puts some ends rows =
+  FieldsFit-written m n size count a b off input to whole puts some ends rows =
       let in_reach : (k : ℕ) → in_pieces BLOCK_SIZE off (length input) k ≡ true → k * BLOCK_SIZE < to = λ k in'.
       let end = span_end_some BLOCK_SIZE off (length input) some in
       let parts = and_parts (nat_le (off / BLOCK_SIZE) k) (nat_lt k (span_end BLOCK_SIZE off (length input))) in' in
@@ -105,8 +105,8 @@ module _ {Z : Type 0} where
   no_row m r e = rw e refl
 
   -- the fields of an empty file
-  pub IsWhole-empty : (m : Table Z) → m.entries ≡ [] → FieldsFit m 0 0 no_room
-  IsWhole-empty m e =
+  pub FieldsFit-empty : (m : Table Z) → m.entries ≡ [] → FieldsFit m 0 0 no_room
+  FieldsFit-empty m e =
       let slot_none : (k : ℕ) → slot_in m k ≡ None = λ k. ap (λ row. slot_at (slots_of row) (k % ROW_BLOCKS)) (no_row m (k / ROW_BLOCKS) e) in
       record {
         counted = sym (ap (λ file. length file.allocated) (file_of-empty m));
@@ -175,7 +175,7 @@ module _ {Z : Type 0} where
       → (count + spare ≤ to) × FieldsFit n to (count + spare) no_room × (file_of n to ≡ after_write f.file off input)
   put_whole m n size count room f off input spare a b to view ready whole puts some ends rows =
       let is = ready_whole m size count room f off (length input) spare view ready whole in
-      let after = IsWhole-written m n size count a b off input to is.0 puts some ends rows in
+      let after = FieldsFit-written m n size count a b off input to is.0 puts some ends rows in
       let sum : count + gaps_in (filled m) off (length input) ≡ count + spare = omega (arith, is.1) in
       let Whole : ℕ → Type 0 = λ x. FieldsFit n to x no_room in
       let whole' = subst Whole sum after.0 in
