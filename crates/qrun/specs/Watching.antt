@@ -1,5 +1,6 @@
 -- What looks at the boards of a run are, beside its workers. Public clauses cite `seats_for` alone.
 use Rattle.std.specs.Prelude.{◌≡◌, ℕ, ◌+◌, ◌==◌, List, [], ◌∷◌, length, if◌then◌else◌, Option, Some, None, Result}
+use mathlib.Core.List.{IsPrefix}
 use Rattle.qplain.specs.declared.board.Board.{Board}
 use Rattle.qplain.specs.declared.look_fault.LookFault.{LookFault}
 use Rattle.qplain.specs.State.{State}
@@ -11,6 +12,12 @@ use Rattle.qshare.specs.Seats.{Seated, new_seat}
 pub record Watched : Type 0 where
   pub share : HandedIn
   pub looks : List (Result Board LookFault)
+
+-- before a look the seat may have seen more of the history, and no more has come of it
+pub record HasWaited (old new : Seated) : Type 0 where
+  pub worker : new.worker ≡ old.worker
+  pub tally : new.tally ≡ old.tally
+  pub begins : IsPrefix old.seen new.seen
 
 -- the share of this watcher, who has made no call, and N looks: the boards are lawful, from this state on, over
 -- the history that it has seen

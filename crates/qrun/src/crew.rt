@@ -42,6 +42,15 @@ fn script_at(scripts: &[Script], index: usize) -> &[Line]
     scripts[index].lines()
 }
 
+/// How many lines the scripts have together. It says when looks are due, and stands in no clause.
+fn lines_in(scripts: &[Script]) -> u64 {
+    let mut lines = 0u64;
+    for script in scripts {
+        lines = lines.saturating_add(script.lines().len() as u64);
+    }
+    lines
+}
+
 /// Plays each script in a thread of its own; once all are started the watcher looks, in its own, and all are joined.
 ///
 /// Where a start is refused, no later one is made, and those before are waited for; the worker is named.
@@ -86,7 +95,7 @@ where
                     Err(_) => return Err(RunFault::NotStarted(plays.worker)),
                 }
             }
-            let watch = watch_all(rt, alloc, watcher, options.boards)?;
+            let watch = watch_all(rt, alloc, watcher, lines_in(scripts), options.boards)?;
             match thread::join_promised(rt, running) {
                 Ok(works) => Ok(Played { works, watch }),
                 Err(_) => Err(RunFault::Memory),

@@ -10,6 +10,7 @@ mod concluding;
 mod crew;
 mod gate;
 mod options;
+mod pace;
 mod run_fault;
 mod runs;
 mod telling;

@@ -6,6 +6,7 @@ ghost use Rattle.qshare.specs.Seats.{new_seat, seats_of};
 ghost use Rattle.qrun.specs.RunFaults.{IsFaultOf};
 ghost use Rattle.qrun.specs.Watching.{IsWatch, IsWatchOf};
 
+use crate::pace::Pace;
 use crate::run_fault::RunFault;
 use qplain::{Board, LookFault};
 use qshare::Seat;
@@ -63,15 +64,22 @@ pub(crate) fn part_watcher<S: StoreId>(
     (seats, watcher)
 }
 
-/// Looks N times, one after the other. No look waits.
-fn look_on<S: StoreId>(seat: Seat<S, Viewer<S>>, looks: Vec<Look>, boards: u64) -> Watch<S>
+/// Looks N times, one after the other, spread over the calls of a run. No look waits for anybody.
+fn look_on<S: StoreId>(
+    seat: Seat<S, Viewer<S>>,
+    looks: Vec<Look>,
+    calls: u64,
+    boards: u64,
+) -> Watch<S>
     requires seat { seat.tally ≡ no_tally }
     requires room { (vec_len looks ≡ 0) × (boards ≤ vec_capacity looks) }
     ensures { IsWatch (start S.id.setting) seat.worker boards result }
 {
     let mut seat = seat;
     let mut looks = looks;
-    for _ in 0..boards {
+    let mut pace = Pace::new(calls, boards);
+    for look in 0..boards {
+        pace.wait(&mut seat, look);
         looks.push_reserved(seat.board());
     }
     Watch {
@@ -80,11 +88,12 @@ fn look_on<S: StoreId>(seat: Seat<S, Viewer<S>>, looks: Vec<Look>, boards: u64) 
     }
 }
 
-/// Looks N times in a thread of its own, and waits until it has done so.
+/// Looks N times beside this many calls, in a thread of its own, and waits until it has done so.
 fn look_beside<S, R>(
     rt: &R,
     alloc: Global,
     seat: Seat<S, Viewer<S>>,
+    calls: u64,
     boards: u64,
 ) -> Result<Watch<S>, RunFault>
 where
@@ -101,7 +110,7 @@ where
         boards,
         store: PhantomData,
     };
-    match thread::spawn_with(rt, watches, move || look_on(seat, looks, boards)) {
+    match thread::spawn_with(rt, watches, move || look_on(seat, looks, calls, boards)) {
         Ok(handle) => Ok(handle.join(rt)),
         Err(_) => Err(RunFault::NotStarted(worker)),
     }
@@ -112,6 +121,7 @@ pub(crate) fn watch_all<S, R>(
     rt: &R,
     alloc: Global,
     watcher: Option<Seat<S, Viewer<S>>>,
+    calls: u64,
     boards: u64,
 ) -> Result<Option<Watch<S>>, RunFault>
 where
@@ -122,7 +132,7 @@ where
     ensures fault { (n : ℕ) → IfSome watcher (λ s. (0 < s.worker) × (s.worker ≤ n)) → IfErr result (IsFaultOf n) }
 {
     match watcher {
-        Some(seat) => Ok(Some(look_beside(rt, alloc, seat, boards)?)),
+        Some(seat) => Ok(Some(look_beside(rt, alloc, seat, calls, boards)?)),
         None => Ok(None),
     }
 }

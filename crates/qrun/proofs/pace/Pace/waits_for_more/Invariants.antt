@@ -1,0 +1,6 @@
+use Rattle.std.proofs.Common.{◌≡◌}
+use Rattle.qrun.specs.Watching.{HasWaited}
+use Rattle.qrun.proofs.pace.Pace.waits_for_more.Given as goal
+
+abbrev pub invariant-loop : goal.invariant-loop
+invariant-loop g l = HasWaited l.fn.seat.old l.seat
