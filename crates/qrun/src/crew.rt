@@ -1,15 +1,19 @@
 //! All threads of a run: one for each worker, and one that looks at the boards.
-ghost use Rattle.std.specs.Prelude.{◌≡◌, ◌<◌, List, length, slice_index_or};
+ghost use Rattle.std.specs.Prelude.{◌≡◌, ◌<◌, ◌≤◌, List, length, slice_index_or, vec_capacity, vec_len, IfOk};
 ghost use denote.Param.Send.{IsSend, IsSync};
 ghost use Rattle.qplain.specs.declared.line.Line.{Line};
+ghost use Rattle.qshare.specs.declared.held.TheConstants.{MAX_BATCH};
+ghost use Rattle.qshare.specs.Seats.{seats_of};
 ghost use Rattle.qrun.specs.Crews.{ArePlayed, IsCrew};
+ghost use Rattle.qrun.specs.Watching.{watcher_for};
+ghost use Rattle.qrun.specs.Work.{ArePrepared};
 
 use crate::gate::Gate;
 use crate::options::Options;
 use crate::run_fault::RunFault;
 use crate::watcher::{Watch, watch_all};
-use crate::worker::{Plays, Work, play, worker_of};
-use qplain::{Line, Script};
+use crate::worker::{Plays, Work, Worker, play, worker_of};
+use qplain::{Line, NoMemory, Script};
 use qshare::{Boards, Seat, Shared};
 use qshare_boards::Viewer;
 use qshare_history::StoreId;
@@ -51,7 +55,31 @@ fn lines_in(scripts: &[Script]) -> u64 {
     lines
 }
 
+/// A worker for each script, each with room for its answers.
+fn crew_of<'a, S: StoreId, B: Boards<S>, V: Drop, G: Gate, R: Wait>(
+    alloc: Global,
+    rt: &'a R,
+    shared: &'a Shared<S, B>,
+    gate: &'a G,
+    scripts: &'a [Script],
+    batch: u64,
+    seats: Vec<Seat<S, V>>,
+) -> Result<Vec<Worker<'a, 'a, 'a, 'a, S, B, V, G, R>>, NoMemory>
+    requires seats { seats.items ≡ seats_of (length scripts.now) }
+    requires batch { (0 < batch) × (batch ≤ MAX_BATCH) }
+    ensures { IfOk result (λ workers. ArePrepared scripts.now workers.items) }
+{
+    let mut workers = Vec::with_capacity(alloc, seats.len())?;
+    for seat in seats {
+        let lines = script_at(scripts, workers.len());
+        let worker = worker_of(alloc, rt, shared, gate, lines, batch, seat)?;
+        workers.push_reserved(worker);
+    }
+    Ok(workers)
+}
+
 /// Plays each script in a thread of its own; once all are started the watcher looks, in its own, and all are joined.
+/// All room for answers and looks is made before the first start.
 ///
 /// Where a start is refused, no later one is made, and those before are waited for; the worker is named.
 pub(crate) fn play_all<S, B, V, G, R>(
@@ -73,29 +101,31 @@ where
     requires { IsCrew (length scripts.now) options seats.items watcher }
     ensures { ArePlayed S.id.setting scripts.now options.boards result }
 {
+    let lines = lines_in(scripts);
+    let looks = Vec::with_capacity(alloc, options.boards as usize)?;
+    let workers = crew_of(alloc, rt, shared, gate, scripts, options.batch, seats)?;
     thread::scope(
         thread::scope_env(),
         rt,
         |scope| -> Result<Played<S>, RunFault>
             requires marks { IsSync R.row × IsSync G.row × IsSend S.row × IsSync S.row × IsSend B.row × IsSend V.row }
-            requires crew { IsCrew (length scripts.now) (record { batch = options.batch; boards = options.boards })
-                seats.items watcher }
+            requires prepared { ArePrepared scripts.now workers.items }
+            requires watcher { watcher ≡ watcher_for (length scripts.now) options.boards }
+            requires looks { (vec_len looks ≡ 0) × (options.boards ≤ vec_capacity looks) }
             ensures { ArePlayed S.id.setting scripts.entry.now options.boards result }
         {
-            let mut running = Vec::with_capacity(alloc, seats.len())?;
-            for seat in seats {
-                let lines = script_at(scripts, running.len());
-                let worker = worker_of(alloc, rt, shared, gate, lines, options.batch, seat)?;
+            let mut running = Vec::with_capacity(alloc, workers.len())?;
+            for worker in workers {
                 let plays = Plays {
                     worker: worker.seat.worker(),
-                    lines,
+                    lines: worker.lines,
                 };
                 match scope.spawn_with(plays, move || play(worker)) {
                     Ok(handle) => running.push_reserved(handle),
                     Err(_) => return Err(RunFault::NotStarted(plays.worker)),
                 }
             }
-            let watch = watch_all(rt, alloc, watcher, lines_in(scripts), options.boards)?;
+            let watch = watch_all(rt, watcher, looks, lines, options.boards)?;
             match thread::join_promised(rt, running) {
                 Ok(works) => Ok(Played { works, watch }),
                 Err(_) => Err(RunFault::Memory),

@@ -12,7 +12,6 @@ use qplain::{Board, LookFault};
 use qshare::Seat;
 use qshare_boards::Viewer;
 use qshare_history::{Share, StoreId};
-use std::alloc::Global;
 use std::marker::{Model, PhantomData};
 use std::thread;
 use std::thread::{Promise, Threads};
@@ -91,8 +90,8 @@ fn look_on<S: StoreId>(
 /// Looks N times beside this many calls, in a thread of its own, and waits until it has done so.
 fn look_beside<S, R>(
     rt: &R,
-    alloc: Global,
     seat: Seat<S, Viewer<S>>,
+    looks: Vec<Look>,
     calls: u64,
     boards: u64,
 ) -> Result<Watch<S>, RunFault>
@@ -100,10 +99,10 @@ where
     S: StoreId + Send + Sync + 'static,
     R: Threads,
     requires seat { seat.tally ≡ no_tally }
+    requires room { (vec_len looks ≡ 0) × (boards ≤ vec_capacity looks) }
     ensures watch { IfOk result (IsWatch (start S.id.setting) seat.worker boards) }
     ensures fault { (n : ℕ) → 0 < seat.worker → seat.worker ≤ n → IfErr result (IsFaultOf n) }
 {
-    let looks = Vec::with_capacity(alloc, boards as usize)?;
     let worker = seat.worker();
     let watches: Watches<S> = Watches {
         worker,
@@ -119,8 +118,8 @@ where
 /// The same for a seat that may be none.
 pub(crate) fn watch_all<S, R>(
     rt: &R,
-    alloc: Global,
     watcher: Option<Seat<S, Viewer<S>>>,
+    looks: Vec<Look>,
     calls: u64,
     boards: u64,
 ) -> Result<Option<Watch<S>>, RunFault>
@@ -128,11 +127,12 @@ where
     S: StoreId + Send + Sync + 'static,
     R: Threads,
     requires seat { IfSome watcher (λ s. s.tally ≡ no_tally) }
+    requires room { (vec_len looks ≡ 0) × (boards ≤ vec_capacity looks) }
     ensures watch { IfOk result (IsWatchOf (start S.id.setting) boards watcher) }
     ensures fault { (n : ℕ) → IfSome watcher (λ s. (0 < s.worker) × (s.worker ≤ n)) → IfErr result (IsFaultOf n) }
 {
     match watcher {
-        Some(seat) => Ok(Some(look_beside(rt, alloc, seat, calls, boards)?)),
+        Some(seat) => Ok(Some(look_beside(rt, seat, looks, calls, boards)?)),
         None => Ok(None),
     }
 }

@@ -2,7 +2,7 @@
 ghost use Rattle.std.specs.Prelude.{◌≡◌, ◌+◌, ◌<◌, ◌≤◌, length, vec_len, vec_capacity, IfOk};
 ghost use Rattle.qplain.specs.Journal.{no_tally};
 ghost use Rattle.qshare.specs.declared.held.TheConstants.{MAX_BATCH};
-ghost use Rattle.qrun.specs.Work.{HasAnswers, IsWork, MayMake};
+ghost use Rattle.qrun.specs.Work.{HasAnswers, IsPrepared, IsWork, MayMake};
 
 use crate::gate::Gate;
 use qplain::{CallFault, Line, NoMemory, Receipt};
@@ -44,8 +44,8 @@ impl<'a, S: StoreId> Promise<Work<S>> for Plays<'a> {
     ghost kept_by = { λ p w. IsWork p.worker p.lines.now w };
 }
 
-/// All that a worker takes with it: its seat, its script, which is the caller's, for how many lines at a time it takes
-/// the lock, and room for the answers.
+/// A worker that is ready to start, with all that it takes along: its seat, its script, which is the caller's, for how
+/// many lines at a time it takes the lock, and room for the answers.
 #[derive(Drop)]
 pub(crate) struct Worker<'a, 'b, 'c, 'd, S: StoreId, B: Boards<S>, V: Drop, G: Gate, R: Wait> {
     pub(crate) rt: &'a R,
@@ -55,6 +55,23 @@ pub(crate) struct Worker<'a, 'b, 'c, 'd, S: StoreId, B: Boards<S>, V: Drop, G: G
     pub(crate) batch: usize,
     pub(crate) seat: Seat<S, V>,
     pub(crate) answers: Vec<Answer>,
+}
+
+impl<'a, 'b, 'c, 'd, S: StoreId, B: Boards<S>, V: Drop, G: Gate, R: Wait> Model
+    for Worker<'a, 'b, 'c, 'd, S, B, V, G, R>
+{
+    ghost use Rattle.std.specs.Prelude.{vec_capacity, vec_len};
+    ghost use Rattle.qrun.specs.Work.{Prepared};
+
+    ghost Value = { Prepared };
+
+    ghost view = { λ w. record {
+      seat = w.seat;
+      lines = w.lines.now;
+      batch = w.batch;
+      answered = vec_len w.answers;
+      room = vec_capacity w.answers;
+    } };
 }
 
 /// A worker with a new seat, and with room for an answer to each of its lines.
@@ -68,10 +85,8 @@ pub(crate) fn worker_of<'a, 'b, 'c, 'd, S: StoreId, B: Boards<S>, V: Drop, G: Ga
     seat: Seat<S, V>,
 ) -> Result<Worker<'a, 'b, 'c, 'd, S, B, V, G, R>, NoMemory>
     requires seat { seat.tally ≡ no_tally }
-    ensures seat { IfOk result (λ w. (w.seat.worker ≡ seat.worker) × (w.seat.tally ≡ no_tally)) }
-    ensures lines { IfOk result (λ w. w.lines.now ≡ lines.now) }
-    ensures batch { IfOk result (λ w. w.batch ≡ batch) }
-    ensures room { IfOk result (λ w. (vec_len w.answers ≡ 0) × (length lines.now ≤ vec_capacity w.answers)) }
+    requires batch { (0 < batch) × (batch ≤ MAX_BATCH) }
+    ensures { IfOk result (IsPrepared seat.worker lines.now) }
 {
     Ok(Worker {
         rt,
@@ -193,10 +208,8 @@ fn play_batches<S: StoreId, B: Boards<S>, V: Drop, G: Gate, R: Wait>(
 pub(crate) fn play<S: StoreId, B: Boards<S>, V: Drop, G: Gate, R: Wait>(
     worker: Worker<'_, '_, '_, '_, S, B, V, G, R>,
 ) -> Work<S>
-    requires batch { (0 < worker.batch) × (worker.batch ≤ MAX_BATCH) }
-    requires seat { worker.seat.tally ≡ no_tally }
-    requires room { (vec_len worker.answers ≡ 0) × (length worker.lines.now ≤ vec_capacity worker.answers) }
-    ensures { IsWork worker.entry.seat.worker worker.entry.lines.now result }
+    requires { IsPrepared worker.seat.worker worker.lines worker }
+    ensures { IsWork worker.entry.seat.worker worker.entry.lines result }
 {
     let Worker {
         rt,

@@ -15,6 +15,7 @@ use Rattle.qplain.specs.State.{start}
 use Rattle.qplain.specs.Journal.{IsLegal}
 use Rattle.qplain.specs.declared.entry.Entry.{Entry}
 use Rattle.qplain_laws.specs.Laws.{IsLawful}
+use Rattle.qplain_laws.proofs.Tallying.{tallies_balance}
 use Rattle.qplain.specs.declared.bounds.TheConstants.{MAX_ENTRIES}
 use Rattle.qaudit_checks.specs.LawfulBoards.{AreLawful, boards_in}
 use Rattle.qrun_replay.proofs.Stats.{legal-fair}
@@ -42,6 +43,7 @@ alone setting scripts journal workers transcripts boards o left each told belong
   workers = ap (λ j. j.workers) left.journal_is ∙ each;
   few = rw left.journal_is left.few;
   tallies = rw left.journal_is left.tallies;
+  balanced = rw (left.store, left.tallies) (tallies_balance setting journal left.legal);
   store = rw left.journal_is left.store;
   transcripts = rw (left.transcripts_are, left.journal_is) told;
   belong = rw (left.transcripts_are, left.journal_is) belong;

@@ -6,6 +6,7 @@ use Rattle.qplain.specs.Setups.{Setting}
 use Rattle.qplain.specs.State.{start}
 use Rattle.qplain.specs.Journal.{IsLegal, entries_of, play, tally_of}
 use Rattle.qplain.specs.Transcripts.{Belongs, journaled_lines}
+use Rattle.qplain_laws.specs.Journals.{IsBalanced}
 use Rattle.qaudit_checks.specs.LawfulBoards.{AreLawful, boards_in}
 use Rattle.qstore.specs.Rows.{record_row_of}
 use Rattle.qaudit_checks.specs.OwnRows.{differences_in}
@@ -51,7 +52,7 @@ AreTranscriptsOf worker [] journal (t ∷ ts) = ⊥
 AreTranscriptsOf worker (lines ∷ scripts) journal [] = ⊥
 
 -- what a run of these scripts leaves, from this setup on; the journal has a worker for each and is no longer than it
--- may be, the tallies are its own, no entry belongs to anyone else, the boards that were shown are its own and never
+-- may be, the tallies are its own and balance with the store's totals, no entry belongs to anyone else, the boards that were shown are its own and never
 -- fall, and the differences are those of the store's own rows, of which there are none
 pub record IsOutcomeOf (setting : Setting) (scripts : List (List Line)) (o : Outcome) : Type 0 where
   pub setup : o.setup ≡ setting
@@ -59,6 +60,7 @@ pub record IsOutcomeOf (setting : Setting) (scripts : List (List Line)) (o : Out
   pub workers : o.journal.workers ≡ length scripts
   pub few : length o.journal.entries ≤ MAX_ENTRIES
   pub tallies : o.tallies ≡ tally_of o.journal.entries
+  pub balanced : IsBalanced o.store.state o.tallies
   pub store : o.store.state ≡ play (start setting) o.journal.entries
   pub transcripts : AreTranscriptsOf 1 scripts o.journal.entries o.transcripts
   pub belong : All (Belongs o.transcripts) o.journal.entries

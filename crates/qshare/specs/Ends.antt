@@ -2,12 +2,14 @@
 use Rattle.std.specs.Prelude.{◌≡◌, ℕ, List, All}
 use mathlib.Core.List.{IsPrefix}
 use Rattle.qplain.specs.Journal.{tally_of}
+use Rattle.qplain_laws.specs.Journals.{IsBalanced}
 use Rattle.qshare_history.specs.Shares.{HandedIn, tally_of_shares}
 use Rattle.qstore_journaled.specs.Journaled.{IsPlayed, Journaled}
 
--- a store that is what its journal leaves; what the shares have counted is the journal's tally, and each has seen a
--- prefix of it
+-- a store that is what its journal leaves; what the shares have counted is the journal's tally and balances with the
+-- store's totals, and each has seen a prefix of the journal
 pub record IsEndOf (shares : List HandedIn) (j : Journaled) : Type 0 where
   pub played : IsPlayed j
   pub tally : tally_of_shares shares ≡ tally_of j.journal
+  pub balanced : IsBalanced j.stored.state (tally_of_shares shares)
   pub seen : All (λ s. IsPrefix s.seen j.journal) shares

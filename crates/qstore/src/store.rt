@@ -89,7 +89,9 @@ impl Store {
     /// A law: the state of every store is lawful. Nothing runs.
     pub fn always_lawful(&self)
         ensures { IsLawful self.now.state }
-    {}
+    {
+        let _ = &self.accounts;
+    }
 
     /// The allocated blocks of 4096 bytes. O(1).
     pub fn blocks(&self) -> u64
@@ -121,7 +123,6 @@ impl Store {
         ensures refused_first { IsRefused (step self.old.state cred.now moment call.now).1 → IsOk result }
         ensures answered { wants_no_memory call.now ≡ true → IsOk result }
     {
-        // What is ready is large: a `match` would move it once more.
         let callers = match self.check(cred, moment, call) {
             Ok(callers) => callers,
             Err(refusal) => return Ok(Ready::refused(refusal)),
@@ -233,7 +234,6 @@ impl Store {
         ensures limits { OnOk result (is_superuser cred.now ≡ false
             → All (PassesNoLimit self.old.state self.new.state moment) self.old.state.holders) }
     {
-        // What is ready is large: a `?` would move it once more.
         let Ok(ready) = self.ready(cred, moment, call) else {
             return Err(NoMemory);
         };

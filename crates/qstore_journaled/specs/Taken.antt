@@ -9,7 +9,7 @@ use Rattle.qstore_journaled.specs.declared.ended.Ended.{Ended}
 
 -- the setup, this journal, which is legal from its start and no longer than it may be, the store that it leaves, and
 -- its tally
-pub record IsEndOf (setting : Setting) (journal : List Entry) (e : Ended) : Type 0 where
+pub record AreItsParts (setting : Setting) (journal : List Entry) (e : Ended) : Type 0 where
   pub setup : e.setup ≡ setting
   pub journal_is : e.journal.items ≡ journal
   pub legal : IsLegal (start setting) journal

@@ -8,7 +8,7 @@ ghost use Rattle.qstore.specs.Ready.{committed};
 ghost use Rattle.qstore_journaled.specs.Journaled.{IsPlayed, IsSameJournaled};
 ghost use Rattle.qstore_journaled.specs.Lines.{line_of};
 ghost use Rattle.qstore_journaled.specs.Next.{CanFollow, IsEntryFor, IsReceiptOf};
-ghost use Rattle.qstore_journaled.specs.Taken.{IsEndOf};
+ghost use Rattle.qstore_journaled.specs.Taken.{AreItsParts};
 
 use crate::ended::Ended;
 use crate::next::{Next, entry_for};
@@ -168,7 +168,7 @@ impl JournaledStore {
 
     /// The setup, the store, the journal and its tally.
     pub fn into_parts(self) -> Ended
-        ensures { IsEndOf self.setting self.journal result }
+        ensures { AreItsParts self.setting self.journal result }
     {
         Ended {
             setup: self.setup,
