@@ -1,8 +1,10 @@
--- Seats by their places.
-use Rattle.std.proofs.Common.{◌≡◌, ℕ, zero, suc, ◌+◌, ◌-◌, ◌<◌, add-one, take, List, [], ◌∷◌, ◌++◌, length, slice_index_or, below_more, refl, sym, ap, ◌∙◌, length-append, arith}
+-- Seats, and workers that are ready, by their places.
+use Rattle.std.proofs.Common.{◌≡◌, ℕ, zero, suc, ◌+◌, ◌-◌, ◌<◌, add-one, subst, take, List, [], ◌∷◌, ◌++◌, length, slice_index_or, below_more, refl, sym, ap, ◌∙◌, length-append, arith}
 use Rattle.std.proofs.Math.Seq.{take-append_seam}
 use Rattle.std.proofs.lemmas.List.{get_or_append_left, get_or_at, get_or_push}
+use Rattle.qplain.specs.declared.line.Line.{Line}
 use Rattle.qshare.specs.Seats.{Seated, new_seat, seats_of}
+use Rattle.qrun.specs.Work.{ArePrepared, IsPrepared, Prepared}
 
 pub seats_many : (n : ℕ) → length (seats_of n) ≡ n
 seats_many zero = refl
@@ -44,3 +46,21 @@ last_seat n len all d is many =
 -- no seat is left
 pub seats_ended : (n : ℕ) (before rest : List Seated) → before ++ rest ≡ seats_of n → length rest ≡ 0 → length before ≡ n
 seats_ended n before rest parts none = omega (arith, length-append before rest, ap length parts, seats_many n, none)
+
+-- the worker after these is ready to play the next script
+pub prepared_next : (scripts : List (List Line)) (all before rest : List Prepared) (w : Prepared) → ArePrepared scripts all
+    → before ++ w ∷ rest ≡ all → (length before < length scripts)
+    × ((lines : List Line) → IsPrepared (length before + 1) (slice_index_or scripts (length before) lines) w)
+prepared_next scripts all before rest w are parts =
+    let long : length (before ++ w ∷ rest) ≡ length before + suc (length rest) = length-append before (w ∷ rest) in
+    let low : length before < length scripts = omega (arith, long, ap length parts, are.many) in
+    let here : slice_index_or all (length before) w ≡ w =
+    ap (λ xs. slice_index_or xs (length before) w) (sym parts) ∙ get_or_at before w rest w (length before) refl in
+    (low, λ lines. subst (IsPrepared (length before + 1) (slice_index_or scripts (length before) lines)) here
+    (are.each (length before) w lines low))
+
+-- no worker is left
+pub prepared_ended : (scripts : List (List Line)) (all before rest : List Prepared) → ArePrepared scripts all
+    → before ++ rest ≡ all → length rest ≡ 0 → length before ≡ length scripts
+prepared_ended scripts all before rest are parts none =
+    omega (arith, length-append before rest, ap length parts, are.many, none)
