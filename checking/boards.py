@@ -1,8 +1,10 @@
 """Boards that a run shows, and lines that a worker takes together: what holds of them in every schedule.
 
-The boards are held against the journal here, too: each has the totals that the replies of as many entries make."""
+The boards are checked against the journal here, too: each has the totals that the replies of as many entries make."""
+import os
 import re
 import subprocess
+from contextlib import contextmanager
 
 from rows import CHECKING, EMPTY, EXAMPLE, ROOT, Case, played
 from workers import SIX_FILES, SIX_REPLIES, Workers, comes_again, replies_of, run
@@ -122,6 +124,17 @@ def busy(worker, times):
     return b"".join(b"%d 1001:0,100 %s\n" % (at, call % worker) for at in range(times) for call in calls)
 
 
+@contextmanager
+def one_processor():
+    """Runs that begin meanwhile have one processor for all of their threads."""
+    allowed = os.sched_getaffinity(0)
+    os.sched_setaffinity(0, {min(allowed)})
+    try:
+        yield
+    finally:
+        os.sched_setaffinity(0, allowed)
+
+
 def crowd(work, *options):
     """A run of 15 busy workers and 1000 boards: whether all holds of it, and the versions that were shown."""
     scripts = [busy(worker, 1_024) for worker in range(1, 16)]
@@ -153,7 +166,7 @@ def example():
     versions = [version for _, version, _, _ in boards]
     fit = all(blocks % 2 == 0 and blocks <= 2 * (inodes - 1) <= 30 for _, _, blocks, inodes in boards)
     rise = versions == sorted(set(versions)) and versions[-1] <= 15 * 600
-    return fit and rise and sum(times for times, *_ in boards) == 1_000
+    return fit and rise and len(versions) > 1 and sum(times for times, *_ in boards) == 1_000
 
 
 def checks(work):
@@ -161,7 +174,11 @@ def checks(work):
     yield "two workers, six files, batches of 64, 50 runs", all(holds_files(work) for _ in range(50)), True
     runs = [crowd(work, *options) for options in [(), (), ("--batch", "64"), ("--batch", "7")]]
     yield "15 workers and 1000 boards", all(right for right, _ in runs), True
-    yield "15 workers and 1000 boards: other versions", any(len(versions) > 1 for _, versions in runs), True
+    with one_processor():
+        runs.append(crowd(work))
+        yield "examples/boards on one processor", example(), True
+    yield "15 workers and 1000 boards, one processor", runs[-1][0], True
+    yield "15 workers and 1000 boards: the course of use", all(len(versions) > 1 for _, versions in runs), True
     yield "examples/boards", example(), True
     for batch in [1, 2, 63, 64]:
         yield f"batches of {batch}", in_batches(work, batch), True

@@ -31,7 +31,7 @@ pub struct Config {
 impl Config {
     ghost use Rattle.qtext_config.specs.Configs.{ReadsSetup, setting_in};
 
-    /// ReadsSetup a configuration, a TOML document: see setquota(8) and tmpfs(5) for the words.
+    /// Reads a configuration, a TOML document: see setquota(8) and tmpfs(5) for the words.
     ///
     /// `size` is a text, in bytes: 1 to 10 digits, the first not 0, then nothing, `k`, `m` or `g` for
     /// 2^10, 2^20 or 2^30. It is rounded up to whole blocks of 4096 bytes. `nr_inodes` is an integer,

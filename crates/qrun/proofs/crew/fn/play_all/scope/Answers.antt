@@ -6,40 +6,26 @@ use Rattle.qrun.specs.Watching.{IsWatchOf, seats_for}
 use Rattle.qrun.specs.Work.{IsWork}
 use Rattle.qrun.proofs.Naming.{names_seat, scripts_fit, watcher_fits}
 use Rattle.qrun.proofs.Running.{not_played}
-use Rattle.qrun.proofs.Seating.{seat_next, seats_ended}
+use Rattle.qrun.proofs.Seating.{prepared_ended, prepared_next}
 use Rattle.qrun.proofs.crew.fn.play_all.scope.Goals as goal
 
-pub script_at-lines-requires : goal.script_at-lines-requires
-script_at-lines-requires g c =
-    let seated = c.loop-seat.invariant.0 in
-    let next = seat_next (length c.captures.scripts.now) seated.0 (into_iter_items c.next.new.self) c.in-Some.seat
-    (ap (λ xs. seated.0 ++ xs) (sym c.in-Some.ensures.steps.0) ∙ seated.1) in
-    omega (arith, next.1, seated.2, c.len-in-loop-seat.ensures)
-
-pub worker_of-requires : goal.worker_of-requires
-worker_of-requires g c =
-    let seated = c.loop-seat.invariant.0 in
-    let next = seat_next (length c.captures.scripts.now) seated.0 (into_iter_items c.next.new.self) c.in-Some.seat
-    (ap (λ xs. seated.0 ++ xs) (sym c.in-Some.ensures.steps.0) ∙ seated.1) in
-    record { seat = ap (λ s. s.tally) next.0 }
-
-pub loop-seat-preserved : goal.loop-seat-preserved
-loop-seat-preserved g c =
-    let seated = c.loop-seat.invariant.0 in
-    let running = c.loop-seat.running in
+pub loop-worker-preserved : goal.loop-worker-preserved
+loop-worker-preserved g c =
+    let ready = c.loop-worker.invariant.0 in
+    let running = c.loop-worker.running in
     let handle = c.in-Ok.handle in
     let scripts = c.captures.scripts.now in
     let pushed = c.push_reserved.ensures in
-    let parts = ap (λ xs. seated.0 ++ xs) (sym c.in-Some.ensures.steps.0) ∙ seated.1 in
-    let next = seat_next (length scripts) seated.0 (into_iter_items c.next.new.self) c.in-Some.seat parts in
-    let own = ap (λ s. s.worker) next.0 in (
+    let parts = ap (λ xs. ready.0 ++ xs) (sym c.in-Some.ensures.steps.0) ∙ ready.1 in
+    let next = prepared_next scripts c.captures.workers.items ready.0 (into_iter_items c.next.new.self) c.in-Some.worker c.requires.prepared parts in (
       (
-        seated.0 ++ c.in-Some.seat ∷ [],
-        append_assoc seated.0 (c.in-Some.seat ∷ []) (into_iter_items c.next.new.self) ∙ parts,
-        omega (arith, length-append seated.0 (c.in-Some.seat ∷ []), pushed.len, seated.2),
+        ready.0 ++ c.in-Some.worker ∷ [],
+        append_assoc ready.0 (c.in-Some.worker ∷ []) (into_iter_items c.next.new.self) ∙ parts,
+        omega (arith, length-append ready.0 (c.in-Some.worker ∷ []), pushed.len, ready.2),
       ),
-      omega (arith, pushed.capacity, pushed.len, c.in-Some.ensures.steps.1, c.loop-seat.invariant.1),
+      omega (arith, pushed.capacity, pushed.len, c.in-Some.ensures.steps.1, c.loop-worker.invariant.1),
       λ k d lines less.
+          let own = next.1 lines in
           subst (λ hs. ((slice_index_or hs k d).promise.worker ≡ k + 1)
           × ((slice_index_or hs k d).promise.lines.now ≡ slice_index_or scripts k lines)) (sym pushed.items)
           (below_more
@@ -47,56 +33,57 @@ loop-seat-preserved g c =
           × ((slice_index_or (running.items ++ handle ∷ []) i d).promise.lines.now ≡ slice_index_or scripts i lines))
           (length running.items)
           (λ i low. subst (λ h. (h.promise.worker ≡ i + 1) × (h.promise.lines.now ≡ slice_index_or scripts i lines))
-          (sym (get_or_append_left running.items (handle ∷ []) d i low)) (c.loop-seat.invariant.2 i d lines (omega (arith, low, running.ok.0))))
+          (sym (get_or_append_left running.items (handle ∷ []) d i low)) (c.loop-worker.invariant.2 i d lines (omega (arith, low, running.ok.0))))
           (subst (λ h. (h.promise.worker ≡ length running.items + 1) × (h.promise.lines.now ≡ slice_index_or scripts (length running.items) lines))
           (sym (get_or_push running.items handle d (length running.items) refl)) (
-            omega (arith, ap (λ p. p.worker) c.in-Ok.ensures.ok, c.worker.ensures, c.in_ok-worker.ensures.seat.0, own, seated.2, running.ok.0),
-            ap (λ p. p.lines.now) c.in-Ok.ensures.ok ∙ c.script_at-lines.ensures lines
-                ∙ ap (λ i. slice_index_or scripts i lines) (c.len-in-loop-seat.ensures ∙ running.ok.0),
+            omega (arith, ap (λ p. p.worker) c.in-Ok.ensures.ok, c.worker.ensures, own.worker_is, ready.2, running.ok.0),
+            ap (λ p. p.lines.now) c.in-Ok.ensures.ok ∙ own.lines_are ∙ ap (λ i. slice_index_or scripts i lines) (ready.2 ∙ running.ok.0),
           ))
           k (omega (arith, less, pushed.len, running.ok.0))),
-      c.loop-seat.invariant.3,
+      c.loop-worker.invariant.3,
     )
 
 pub returns-in-Ok-join_promised : goal.returns-in-Ok-join_promised
 returns-in-Ok-join_promised g c =
-    let seated = c.loop-seat.invariant.0 in
+    let ready = c.loop-worker.invariant.0 in
     let scripts = c.captures.scripts.now in
     let boards = c.captures.options-boards in
-    let left : length (into_iter_items c.loop-seat.seat-iterator) ≡ 0 = sym c.loop-seat.seat-iterator.rest.ok.0 ∙ c.in-None.ensures.steps.0 in
-    let all : length seated.0 ≡ length scripts = seats_ended (length scripts) seated.0 (into_iter_items c.loop-seat.seat-iterator) seated.1 left in
+    let left : length (into_iter_items c.loop-worker.worker-iterator) ≡ 0 = sym c.loop-worker.worker-iterator.rest.ok.0 ∙ c.in-None.ensures.steps.0 in
+    let all : length ready.0 ≡ length scripts =
+    prepared_ended scripts c.captures.workers.items ready.0 (into_iter_items c.loop-worker.worker-iterator) c.requires.prepared ready.1 left in
     let works = c.in-Ok-join_promised.works in
-    let looked = subst (λ w. IsWatchOf (start g.S.StoreId.id.setting) boards w c.in_ok-watch.watch) c.loop-seat.invariant.3 c.in_ok-watch.ensures.watch in (
+    let looked = subst (λ w. IsWatchOf (start g.S.StoreId.id.setting) boards w c.in_ok-watch.watch) c.loop-worker.invariant.3.0 c.in_ok-watch.ensures.watch in (
       record {
-        many = omega (arith, works.ok.0, c.in-Ok-join_promised.ensures.len, seated.2, all);
+        many = omega (arith, works.ok.0, c.in-Ok-join_promised.ensures.len, ready.2, all);
         each = λ k d lines less.
-            let low : k < c.loop-seat.running.len = omega (arith, less, all, seated.2) in
+            let low : k < c.loop-worker.running.len = omega (arith, less, all, ready.2) in
             let at = c.in-Ok-join_promised.ensures.each k d low in
             let h = at.1.handle in
-            let inv = c.loop-seat.invariant.2 k h lines low in
+            let inv = c.loop-worker.invariant.2 k h lines low in
             let worker : h.promise.worker ≡ k + 1 = ap (λ x. x.promise.worker) at.1.handle_is ∙ inv.0 in
             let script : h.promise.lines.now ≡ slice_index_or scripts k lines = ap (λ x. x.promise.lines.now) at.1.handle_is ∙ inv.1 in
             subst (λ ls. IsWork (k + 1) ls (slice_index_or works.items k d)) script
             (subst (λ m. IsWork m h.promise.lines.now (slice_index_or works.items k d)) worker at.1.kept);
       },
-      subst (λ w. IsWatchOf (start g.S.StoreId.id.setting) boards w c.in_ok-watch.watch) c.requires.crew.watcher_is looked,
+      subst (λ w. IsWatchOf (start g.S.StoreId.id.setting) boards w c.in_ok-watch.watch) c.requires.watcher looked,
     )
 
 pub returns-in-Err : goal.returns-in-Err
 returns-in-Err g c =
-    let seated = c.loop-seat.invariant.0 in
-    let n = length c.captures.scripts.now in
-    let next = seat_next n seated.0 (into_iter_items c.next.new.self) c.in-Some.seat
-    (ap (λ xs. seated.0 ++ xs) (sym c.in-Some.ensures.steps.0) ∙ seated.1) in
-    let own = c.worker.ensures ∙ c.in_ok-worker.ensures.seat.0 ∙ ap (λ s. s.worker) next.0 in
-    names_seat (seats_for n c.captures.options-boards) n (length seated.0) c.worker.result own next.1 (scripts_fit n c.captures.options-boards)
+    let ready = c.loop-worker.invariant.0 in
+    let scripts = c.captures.scripts.now in
+    let n = length scripts in
+    let parts = ap (λ xs. ready.0 ++ xs) (sym c.in-Some.ensures.steps.0) ∙ ready.1 in
+    let next = prepared_next scripts c.captures.workers.items ready.0 (into_iter_items c.next.new.self) c.in-Some.worker c.requires.prepared parts in
+    names_seat (seats_for n c.captures.options-boards) n (length ready.0) c.worker.result (c.worker.ensures ∙ (next.1 []).worker_is) next.0
+    (scripts_fit n c.captures.options-boards)
 
 pub returns-in_err-watch : goal.returns-in_err-watch
 returns-in_err-watch g c =
     let scripts = c.captures.scripts.now in
     let boards = c.captures.options-boards in
     let seats = seats_for (length scripts) boards in
-    let there = subst (λ w. IfSome w (λ s. (0 < s.worker) × (s.worker ≤ seats))) (sym (c.loop-seat.invariant.3 ∙ c.requires.crew.watcher_is))
+    let there = subst (λ w. IfSome w (λ s. (0 < s.worker) × (s.worker ≤ seats))) (sym (c.loop-worker.invariant.3.0 ∙ c.requires.watcher))
     (watcher_fits (length scripts) boards) in
     not_played g.S.StoreId.id.setting scripts boards c.from_residual-in_err-watch.result c.in_err-watch.field-0.0
     c.from_residual-in_err-watch.ensures.1 (c.in_err-watch.ensures.fault seats there)
