@@ -12,7 +12,7 @@ use Rattle.qrun.specs.declared.options.Options.{Options}
 use Rattle.qrun.specs.declared.run_fault.RunFault.{RunFault}
 use Rattle.qrun.specs.RunFaults.{IsFaultOf}
 use Rattle.qrun.specs.Watching.{IsWatchOf, Watched, seats_for, watcher_for}
-use Rattle.qrun.specs.Work.{AreWorks, Done}
+use Rattle.qrun.specs.Work.{ArePrepared, AreWorks, Done, Prepared}
 
 -- a new seat for each of N scripts, and the next for who looks at the boards, where somebody does; and for how
 -- many lines at a time the lock is taken
@@ -20,6 +20,14 @@ pub record IsCrew (scripts : ℕ) (options : Options) (seats : List Seated) (wat
   pub seats_are : seats ≡ seats_of scripts
   pub watcher_is : watcher ≡ watcher_for scripts options.boards
   pub batch : (0 < options.batch) × (options.batch ≤ MAX_BATCH)
+
+-- all who start are ready: a worker for each script, and who looks at the boards, where somebody does, of whom no look
+-- was answered yet and who has room for each
+pub record AreReady (scripts : List (List Line)) (boards : ℕ) (workers : List Prepared) (watcher : Option Seated)
+    (answered room : ℕ) : Type 0 where
+  pub workers_are : ArePrepared scripts workers
+  pub watcher_is : watcher ≡ watcher_for (length scripts) boards
+  pub room_is : (answered ≡ 0) × (boards ≤ room)
 
 -- what each worker has done, and who looks
 pub record Performed : Type 0 where

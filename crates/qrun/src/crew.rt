@@ -4,8 +4,7 @@ ghost use denote.Param.Send.{IsSend, IsSync};
 ghost use Rattle.qplain.specs.declared.line.Line.{Line};
 ghost use Rattle.qshare.specs.declared.held.TheConstants.{MAX_BATCH};
 ghost use Rattle.qshare.specs.Seats.{seats_of};
-ghost use Rattle.qrun.specs.Crews.{ArePlayed, IsCrew};
-ghost use Rattle.qrun.specs.Watching.{watcher_for};
+ghost use Rattle.qrun.specs.Crews.{ArePlayed, AreReady, IsCrew};
 ghost use Rattle.qrun.specs.Work.{ArePrepared};
 
 use crate::gate::Gate;
@@ -109,9 +108,8 @@ where
         rt,
         |scope| -> Result<Played<S>, RunFault>
             requires marks { IsSync R.row × IsSync G.row × IsSend S.row × IsSync S.row × IsSend B.row × IsSend V.row }
-            requires prepared { ArePrepared scripts.now workers.items }
-            requires watcher { watcher ≡ watcher_for (length scripts.now) options.boards }
-            requires looks { (vec_len looks ≡ 0) × (options.boards ≤ vec_capacity looks) }
+            requires ready { AreReady scripts.now options.boards workers.items watcher (vec_len looks)
+                (vec_capacity looks) }
             ensures { ArePlayed S.id.setting scripts.entry.now options.boards result }
         {
             let mut running = Vec::with_capacity(alloc, workers.len())?;

@@ -1,5 +1,5 @@
 //! The store: its parts, and one call from its decision to its commit.
-ghost use Rattle.std.specs.Prelude.{◌≡◌, ◌≤◌, true, false, [], All, IfOk, OnOk, OnErr};
+ghost use Rattle.std.specs.Prelude.{◌≡◌, ◌<◌, ◌≤◌, ◌^◌, true, false, [], All, IfOk, OnOk, OnErr};
 ghost use Rattle.std.specs.Result.{IsOk};
 ghost use Rattle.qrules.specs.Sort.{Blocks, Inodes};
 ghost use Rattle.qplain.specs.State.{State, start};
@@ -86,11 +86,12 @@ impl Store {
         })
     }
 
-    /// A law: the state of every store is lawful. Nothing runs.
+    /// Laws: the state of every store is lawful, and its blocks fit 64 bits.
     pub fn always_lawful(&self)
-        ensures { IsLawful self.now.state }
+        ensures lawful { IsLawful self.now.state }
+        ensures fits { total_of self.now.state Blocks < 2 ^ 64 }
     {
-        let _ = &self.accounts;
+        let _blocks = self.accounts.blocks();
     }
 
     /// The allocated blocks of 4096 bytes. O(1).
@@ -107,7 +108,6 @@ impl Store {
         self.accounts.inodes()
     }
 
-    /// The inodes and names.
     fn tree(&self) -> &Tree
         ensures { IsTreeOf self.now.state result.now }
     {

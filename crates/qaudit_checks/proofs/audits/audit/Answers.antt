@@ -20,4 +20,4 @@ returns-clause-differences c =
 pub returns-clause-none : goal.returns-clause-none
 returns-clause-none c =
     subst (λ (all : List Difference). IfOk c.compare.result (λ found. found.items ≡ all))
-    (nothing_found c.args.store.now.state c.blocks-blocks.ensures.lawful) (returns-clause-differences c)
+    (nothing_found c.args.store.now.state c.always_lawful.ensures.lawful) (returns-clause-differences c)

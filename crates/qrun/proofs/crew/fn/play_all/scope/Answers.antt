@@ -17,7 +17,7 @@ loop-worker-preserved g c =
     let scripts = c.captures.scripts.now in
     let pushed = c.push_reserved.ensures in
     let parts = ap (λ xs. ready.0 ++ xs) (sym c.in-Some.ensures.steps.0) ∙ ready.1 in
-    let next = prepared_next scripts c.captures.workers.items ready.0 (into_iter_items c.next.new.self) c.in-Some.worker c.requires.prepared parts in (
+    let next = prepared_next scripts c.captures.workers.items ready.0 (into_iter_items c.next.new.self) c.in-Some.worker c.requires.ready.workers_are parts in (
       (
         ready.0 ++ c.in-Some.worker ∷ [],
         append_assoc ready.0 (c.in-Some.worker ∷ []) (into_iter_items c.next.new.self) ∙ parts,
@@ -50,7 +50,7 @@ returns-in-Ok-join_promised g c =
     let boards = c.captures.options-boards in
     let left : length (into_iter_items c.loop-worker.worker-iterator) ≡ 0 = sym c.loop-worker.worker-iterator.rest.ok.0 ∙ c.in-None.ensures.steps.0 in
     let all : length ready.0 ≡ length scripts =
-    prepared_ended scripts c.captures.workers.items ready.0 (into_iter_items c.loop-worker.worker-iterator) c.requires.prepared ready.1 left in
+    prepared_ended scripts c.captures.workers.items ready.0 (into_iter_items c.loop-worker.worker-iterator) c.requires.ready.workers_are ready.1 left in
     let works = c.in-Ok-join_promised.works in
     let looked = subst (λ w. IsWatchOf (start g.S.StoreId.id.setting) boards w c.in_ok-watch.watch) c.loop-worker.invariant.3.0 c.in_ok-watch.ensures.watch in (
       record {
@@ -65,7 +65,7 @@ returns-in-Ok-join_promised g c =
             subst (λ ls. IsWork (k + 1) ls (slice_index_or works.items k d)) script
             (subst (λ m. IsWork m h.promise.lines.now (slice_index_or works.items k d)) worker at.1.kept);
       },
-      subst (λ w. IsWatchOf (start g.S.StoreId.id.setting) boards w c.in_ok-watch.watch) c.requires.watcher looked,
+      subst (λ w. IsWatchOf (start g.S.StoreId.id.setting) boards w c.in_ok-watch.watch) c.requires.ready.watcher_is looked,
     )
 
 pub returns-in-Err : goal.returns-in-Err
@@ -74,7 +74,7 @@ returns-in-Err g c =
     let scripts = c.captures.scripts.now in
     let n = length scripts in
     let parts = ap (λ xs. ready.0 ++ xs) (sym c.in-Some.ensures.steps.0) ∙ ready.1 in
-    let next = prepared_next scripts c.captures.workers.items ready.0 (into_iter_items c.next.new.self) c.in-Some.worker c.requires.prepared parts in
+    let next = prepared_next scripts c.captures.workers.items ready.0 (into_iter_items c.next.new.self) c.in-Some.worker c.requires.ready.workers_are parts in
     names_seat (seats_for n c.captures.options-boards) n (length ready.0) c.worker.result (c.worker.ensures ∙ (next.1 []).worker_is) next.0
     (scripts_fit n c.captures.options-boards)
 
@@ -83,7 +83,7 @@ returns-in_err-watch g c =
     let scripts = c.captures.scripts.now in
     let boards = c.captures.options-boards in
     let seats = seats_for (length scripts) boards in
-    let there = subst (λ w. IfSome w (λ s. (0 < s.worker) × (s.worker ≤ seats))) (sym (c.loop-worker.invariant.3.0 ∙ c.requires.watcher))
+    let there = subst (λ w. IfSome w (λ s. (0 < s.worker) × (s.worker ≤ seats))) (sym (c.loop-worker.invariant.3.0 ∙ c.requires.ready.watcher_is))
     (watcher_fits (length scripts) boards) in
     not_played g.S.StoreId.id.setting scripts boards c.from_residual-in_err-watch.result c.in_err-watch.field-0.0
     c.from_residual-in_err-watch.ensures.1 (c.in_err-watch.ensures.fault seats there)
