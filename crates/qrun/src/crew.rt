@@ -100,7 +100,6 @@ where
     requires { IsCrew (length scripts.now) options seats.items watcher }
     ensures { ArePlayed S.id.setting scripts.now options.boards result }
 {
-    let lines = lines_in(scripts);
     let looks = Vec::with_capacity(alloc, options.boards as usize)?;
     let workers = crew_of(alloc, rt, shared, gate, scripts, options.batch, seats)?;
     thread::scope(
@@ -123,7 +122,7 @@ where
                     Err(_) => return Err(RunFault::NotStarted(plays.worker)),
                 }
             }
-            let watch = watch_all(rt, watcher, looks, lines, options.boards)?;
+            let watch = watch_all(rt, watcher, looks, lines_in(scripts), options.boards)?;
             match thread::join_promised(rt, running) {
                 Ok(works) => Ok(Played { works, watch }),
                 Err(_) => Err(RunFault::Memory),

@@ -1,7 +1,7 @@
-use Rattle.std.proofs.Common.{◌≡◌, ◌+◌, ◌<◌, [], ◌∷◌, ◌++◌, length, slice_index_or, below_more, refl, sym, ap, subst, ◌∙◌, append_assoc, length-append, arith}
+use Rattle.std.proofs.Common.{◌≡◌, ℕ, ◌+◌, ◌<◌, [], ◌∷◌, ◌++◌, length, slice_index_or, below_more, refl, sym, ap, subst, ◌∙◌, append_assoc, length-append, arith}
 use Rattle.std.proofs.lemmas.List.{get_or_append_left, get_or_push}
 use Rattle.std.specs.Vec.Iter.{into_iter_items}
-use Rattle.qrun.specs.Work.{IsPrepared}
+use Rattle.qrun.specs.Work.{IsPrepared, Prepared}
 use Rattle.qrun.proofs.Seating.{seat_next, seats_ended}
 use Rattle.qrun.proofs.crew.crew_of.Goals as goal
 
@@ -36,7 +36,7 @@ loop-seat-preserved g c =
       ),
       omega (arith, pushed.capacity, pushed.len, c.in-Some.ensures.steps.1, c.loop-seat.invariant.1),
       λ k p lines less.
-          let Ready = λ i w. IsPrepared (i + 1) (slice_index_or scripts i lines) w in
+          let Ready : ℕ → Prepared → Type 0 = λ i w. IsPrepared (i + 1) (slice_index_or scripts i lines) w in
           let own : IsPrepared (c.in-Some.seat.worker) (c.script_at-lines.result.now) worker = c.in_ok-worker.ensures in
           let here : IsPrepared (length workers.items + 1) (slice_index_or scripts (length workers.items) lines) worker =
           subst (λ m. IsPrepared m (slice_index_or scripts (length workers.items) lines) worker) (ap (λ s. s.worker) next.0 ∙ ap (λ i. i + 1) many)
@@ -48,8 +48,8 @@ loop-seat-preserved g c =
           k (omega (arith, less, pushed.len, workers.ok.0))),
     )
 
-pub returns-in_ok : goal.returns-in_ok
-returns-in_ok g c =
+pub returns : goal.returns
+returns g c =
     let seated = c.loop-seat.invariant.0 in
     let left : length (into_iter_items c.loop-seat.seat-iterator) ≡ 0 = sym c.loop-seat.seat-iterator.rest.ok.0 ∙ c.in-None.ensures.steps.0 in
     let all = seats_ended (length c.args.scripts.now) seated.0 (into_iter_items c.loop-seat.seat-iterator) seated.1 left in
