@@ -4,12 +4,11 @@ use Rattle.qplain.specs.declared.call_fault.CallFault.{CallFault}
 use Rattle.qplain.specs.declared.entry.Entry.{Entry}
 use Rattle.qplain.specs.declared.line.Line.{Line}
 use Rattle.qplain.specs.declared.receipt.Receipt.{Receipt}
-use Rattle.qplain.specs.Journal.{entries_of, no_tally}
+use Rattle.qplain.specs.Journal.{entries_of}
 use Rattle.qplain.specs.Transcripts.{journaled_lines}
 use Rattle.qplain.specs.declared.bounds.TheConstants.{MAX_ENTRIES}
 use mathlib.Core.List.{IsPrefix}
 use Rattle.qshare_history.specs.Shares.{HandedIn}
-use Rattle.qshare.specs.declared.held.TheConstants.{MAX_BATCH}
 use Rattle.qshare.specs.Holds.{Holding}
 use Rattle.qshare.specs.Seats.{Seated}
 use Rattle.qrun_replay.specs.Runs.{FullIsToldFirst, IsFullBehind}
@@ -19,23 +18,15 @@ pub record Done : Type 0 where
   pub share : HandedIn
   pub answers : List (Result Receipt CallFault)
 
--- a worker that is ready to start: its seat, its script, for how many lines at a time it takes the lock, how many lines
--- it was answered, and for how many answers it has room
+-- a worker that is ready to start: its number, and its script
 pub record Prepared : Type 0 where
-  pub seat : Seated
+  pub worker : ℕ
   pub lines : List Line
-  pub batch : ℕ
-  pub answered : ℕ
-  pub room : ℕ
 
--- so is the worker of this number for these lines: its seat is new, it takes the lock for 1 to 64 of them at a time, and
--- it has room for an answer to each
+-- so is the worker of this number for these lines
 pub record IsPrepared (worker : ℕ) (lines : List Line) (p : Prepared) : Type 0 where
-  pub worker_is : p.seat.worker ≡ worker
-  pub idle : p.seat.tally ≡ no_tally
+  pub worker_is : p.worker ≡ worker
   pub lines_are : p.lines ≡ lines
-  pub batch_is : (0 < p.batch) × (p.batch ≤ MAX_BATCH)
-  pub room_is : (p.answered ≡ 0) × (length lines ≤ p.room)
 
 -- each worker, from 1, is ready to play its script
 pub record ArePrepared (scripts : List (List Line)) (workers : List Prepared) : Type 0 where

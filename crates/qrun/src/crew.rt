@@ -11,7 +11,7 @@ use crate::gate::Gate;
 use crate::options::Options;
 use crate::run_fault::RunFault;
 use crate::watcher::{Watch, watch_all};
-use crate::worker::{Plays, Work, Worker, play, worker_of};
+use crate::worker::{Work, Worker, play, worker_of};
 use qplain::{Line, NoMemory, Script};
 use qshare::{Boards, Seat, Shared};
 use qshare_boards::Viewer;
@@ -81,6 +81,7 @@ fn crew_of<'a, S: StoreId, B: Boards<S>, V: Drop, G: Gate, R: Wait>(
 /// All room for answers and looks is made before the first start.
 ///
 /// Where a start is refused, no later one is made, and those before are waited for; the worker is named.
+#[tactic(auto, using(crate::proofs::Seating::all_ready))]
 pub(crate) fn play_all<S, B, V, G, R>(
     rt: &R,
     alloc: Global,
@@ -113,10 +114,7 @@ where
         {
             let mut running = Vec::with_capacity(alloc, workers.len())?;
             for worker in workers {
-                let plays = Plays {
-                    worker: worker.seat.worker(),
-                    lines: worker.lines,
-                };
+                let plays = worker.plays();
                 match scope.spawn_with(plays, move || play(worker)) {
                     Ok(handle) => running.push_reserved(handle),
                     Err(_) => return Err(RunFault::NotStarted(plays.worker)),

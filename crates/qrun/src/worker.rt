@@ -44,34 +44,48 @@ impl<'a, S: StoreId> Promise<Work<S>> for Plays<'a> {
     ghost kept_by = { λ p w. IsWork p.worker p.lines.now w };
 }
 
-/// A worker that is ready to start, with all that it takes along: its seat, its script, which is the caller's, for how
-/// many lines at a time it takes the lock, and room for the answers.
+/// A worker that is ready to start, with all that it takes along: its seat, which is new, its script, which is the
+/// caller's, for how many lines at a time it takes the lock, and room for an answer to each. Contracts see its number and
+/// its script.
 #[derive(Drop)]
 pub(crate) struct Worker<'a, 'b, 'c, 'd, S: StoreId, B: Boards<S>, V: Drop, G: Gate, R: Wait> {
-    pub(crate) rt: &'a R,
-    pub(crate) shared: &'b Shared<S, B>,
-    pub(crate) gate: &'c G,
-    pub(crate) lines: &'d [Line],
-    pub(crate) batch: usize,
-    pub(crate) seat: Seat<S, V>,
-    pub(crate) answers: Vec<Answer>,
+    rt: &'a R,
+    shared: &'b Shared<S, B>,
+    gate: &'c G,
+    lines: &'d [Line],
+    batch: usize,
+    seat: Seat<S, V>,
+    answers: Vec<Answer>,
 }
 
 impl<'a, 'b, 'c, 'd, S: StoreId, B: Boards<S>, V: Drop, G: Gate, R: Wait> Model
     for Worker<'a, 'b, 'c, 'd, S, B, V, G, R>
 {
-    ghost use Rattle.std.specs.Prelude.{vec_capacity, vec_len};
+    ghost use Rattle.std.specs.Prelude.{◌≡◌, ◌<◌, ◌≤◌, length, vec_capacity, vec_len};
+    ghost use Rattle.qplain.specs.Journal.{no_tally};
+    ghost use Rattle.qshare.specs.declared.held.TheConstants.{MAX_BATCH};
     ghost use Rattle.qrun.specs.Work.{Prepared};
 
     ghost Value = { Prepared };
 
-    ghost view = { λ w. record {
-      seat = w.seat;
-      lines = w.lines.now;
-      batch = w.batch;
-      answered = vec_len w.answers;
-      room = vec_capacity w.answers;
-    } };
+    ghost view = { λ w. record { worker = w.seat.worker; lines = w.lines.now } };
+
+    ghost invariant = { λ w. (0 < w.batch) × (w.batch ≤ MAX_BATCH) × (w.seat.tally ≡ no_tally)
+        × (vec_len w.answers ≡ 0) × (length w.lines.now ≤ vec_capacity w.answers) };
+}
+
+impl<'a, 'b, 'c, 'd, S: StoreId, B: Boards<S>, V: Drop, G: Gate, R: Wait>
+    Worker<'a, 'b, 'c, 'd, S, B, V, G, R>
+{
+    /// What its thread promises.
+    pub(crate) fn plays(&self) -> Plays<'d>
+        ensures { (result.worker ≡ self.now.worker) × (result.lines.now ≡ self.now.lines) }
+    {
+        Plays {
+            worker: self.seat.worker(),
+            lines: self.lines,
+        }
+    }
 }
 
 /// A worker with a new seat, and with room for an answer to each of its lines.
@@ -208,8 +222,7 @@ fn play_batches<S: StoreId, B: Boards<S>, V: Drop, G: Gate, R: Wait>(
 pub(crate) fn play<S: StoreId, B: Boards<S>, V: Drop, G: Gate, R: Wait>(
     worker: Worker<'_, '_, '_, '_, S, B, V, G, R>,
 ) -> Work<S>
-    requires { IsPrepared worker.seat.worker worker.lines worker }
-    ensures { IsWork worker.entry.seat.worker worker.entry.lines result }
+    ensures { IsWork worker.entry.worker worker.entry.lines result }
 {
     let Worker {
         rt,

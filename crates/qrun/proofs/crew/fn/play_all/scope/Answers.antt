@@ -6,23 +6,32 @@ use Rattle.qrun.specs.Watching.{IsWatchOf, seats_for}
 use Rattle.qrun.specs.Work.{IsWork}
 use Rattle.qrun.proofs.Naming.{names_seat, scripts_fit, watcher_fits}
 use Rattle.qrun.proofs.Running.{not_played}
-use Rattle.qrun.proofs.Seating.{prepared_ended, prepared_next}
+use Rattle.qrun.proofs.Seating.{ready_after, ready_first, ready_here, ready_next}
 use Rattle.qrun.proofs.crew.fn.play_all.scope.Goals as goal
+
+pub loop-worker-init : goal.loop-worker-init
+loop-worker-init g c =
+    let room = c.in_ok-running.ensures in
+    let all = c.into_iter-worker-iterator.ensures.into_iter_gives in (
+      ready_first c.captures.scripts.now c.in_ok-running.running.len (into_iter_items c.into_iter-worker-iterator.result)
+          c.captures.workers.items room.len all.0 c.requires.ready.workers_are,
+      omega (arith, room.len, room.capacity, all.1, c.len.ensures, c.captures.workers.ok.0),
+      λ k d lines less. absurd (omega (arith, less, room.len)),
+      refl,
+      c.requires.ready.room_is.0,
+      c.requires.ready.room_is.1,
+    )
 
 pub loop-worker-preserved : goal.loop-worker-preserved
 loop-worker-preserved g c =
-    let ready = c.loop-worker.invariant.0 in
     let running = c.loop-worker.running in
     let handle = c.in-Ok.handle in
     let scripts = c.captures.scripts.now in
     let pushed = c.push_reserved.ensures in
-    let parts = ap (λ xs. ready.0 ++ xs) (sym c.in-Some.ensures.steps.0) ∙ ready.1 in
-    let next = prepared_next scripts c.captures.workers.items ready.0 (into_iter_items c.next.new.self) c.in-Some.worker c.requires.ready.workers_are parts in (
-      (
-        ready.0 ++ c.in-Some.worker ∷ [],
-        append_assoc ready.0 (c.in-Some.worker ∷ []) (into_iter_items c.next.new.self) ∙ parts,
-        omega (arith, length-append ready.0 (c.in-Some.worker ∷ []), pushed.len, ready.2),
-      ),
+    let ready = ready_here scripts running.len (into_iter_items c.loop-worker.worker-iterator) c.in-Some.worker (into_iter_items c.next.new.self)
+    c.in-Some.ensures.steps.0 c.loop-worker.invariant.0 in
+    let next = ready_next scripts running.len c.in-Some.worker (into_iter_items c.next.new.self) ready in (
+      ready_after scripts running.len c.push_reserved.new.self.len c.in-Some.worker (into_iter_items c.next.new.self) pushed.len ready,
       omega (arith, pushed.capacity, pushed.len, c.in-Some.ensures.steps.1, c.loop-worker.invariant.1),
       λ k d lines less.
           let own = next.1 lines in
@@ -36,27 +45,27 @@ loop-worker-preserved g c =
           (sym (get_or_append_left running.items (handle ∷ []) d i low)) (c.loop-worker.invariant.2 i d lines (omega (arith, low, running.ok.0))))
           (subst (λ h. (h.promise.worker ≡ length running.items + 1) × (h.promise.lines.now ≡ slice_index_or scripts (length running.items) lines))
           (sym (get_or_push running.items handle d (length running.items) refl)) (
-            omega (arith, ap (λ p. p.worker) c.in-Ok.ensures.ok, c.worker.ensures, own.worker_is, ready.2, running.ok.0),
-            ap (λ p. p.lines.now) c.in-Ok.ensures.ok ∙ own.lines_are ∙ ap (λ i. slice_index_or scripts i lines) (ready.2 ∙ running.ok.0),
+            omega (arith, ap (λ p. p.worker) c.in-Ok.ensures.ok, c.plays-plays.ensures.0, own.worker_is, running.ok.0),
+            ap (λ p. p.lines.now) c.in-Ok.ensures.ok ∙ c.plays-plays.ensures.1 ∙ own.lines_are ∙ ap (λ i. slice_index_or scripts i lines) running.ok.0,
           ))
           k (omega (arith, less, pushed.len, running.ok.0))),
       c.loop-worker.invariant.3,
+      c.loop-worker.invariant.4,
+      c.loop-worker.invariant.5,
     )
 
 pub returns-in-Ok-join_promised : goal.returns-in-Ok-join_promised
 returns-in-Ok-join_promised g c =
-    let ready = c.loop-worker.invariant.0 in
     let scripts = c.captures.scripts.now in
     let boards = c.captures.options-boards in
     let left : length (into_iter_items c.loop-worker.worker-iterator) ≡ 0 = sym c.loop-worker.worker-iterator.rest.ok.0 ∙ c.in-None.ensures.steps.0 in
-    let all : length ready.0 ≡ length scripts =
-    prepared_ended scripts c.captures.workers.items ready.0 (into_iter_items c.loop-worker.worker-iterator) c.requires.ready.workers_are ready.1 left in
+    let all : c.loop-worker.running.len ≡ length scripts = omega (arith, left, c.loop-worker.invariant.0.many) in
     let works = c.in-Ok-join_promised.works in
-    let looked = subst (λ w. IsWatchOf (start g.S.StoreId.id.setting) boards w c.in_ok-watch.watch) c.loop-worker.invariant.3.0 c.in_ok-watch.ensures.watch in (
+    let looked = subst (λ w. IsWatchOf (start g.S.StoreId.id.setting) boards w c.in_ok-watch.watch) c.loop-worker.invariant.3 c.in_ok-watch.ensures.watch in (
       record {
-        many = omega (arith, works.ok.0, c.in-Ok-join_promised.ensures.len, ready.2, all);
+        many = omega (arith, works.ok.0, c.in-Ok-join_promised.ensures.len, all);
         each = λ k d lines less.
-            let low : k < c.loop-worker.running.len = omega (arith, less, all, ready.2) in
+            let low : k < c.loop-worker.running.len = omega (arith, less, all) in
             let at = c.in-Ok-join_promised.ensures.each k d low in
             let h = at.1.handle in
             let inv = c.loop-worker.invariant.2 k h lines low in
@@ -70,12 +79,13 @@ returns-in-Ok-join_promised g c =
 
 pub returns-in-Err : goal.returns-in-Err
 returns-in-Err g c =
-    let ready = c.loop-worker.invariant.0 in
     let scripts = c.captures.scripts.now in
+    let running = c.loop-worker.running in
     let n = length scripts in
-    let parts = ap (λ xs. ready.0 ++ xs) (sym c.in-Some.ensures.steps.0) ∙ ready.1 in
-    let next = prepared_next scripts c.captures.workers.items ready.0 (into_iter_items c.next.new.self) c.in-Some.worker c.requires.ready.workers_are parts in
-    names_seat (seats_for n c.captures.options-boards) n (length ready.0) c.worker.result (c.worker.ensures ∙ (next.1 []).worker_is) next.0
+    let ready = ready_here scripts running.len (into_iter_items c.loop-worker.worker-iterator) c.in-Some.worker (into_iter_items c.next.new.self)
+    c.in-Some.ensures.steps.0 c.loop-worker.invariant.0 in
+    let next = ready_next scripts running.len c.in-Some.worker (into_iter_items c.next.new.self) ready in
+    names_seat (seats_for n c.captures.options-boards) n running.len c.plays-plays.result.worker (c.plays-plays.ensures.0 ∙ (next.1 []).worker_is) next.0
     (scripts_fit n c.captures.options-boards)
 
 pub returns-in_err-watch : goal.returns-in_err-watch
@@ -83,7 +93,7 @@ returns-in_err-watch g c =
     let scripts = c.captures.scripts.now in
     let boards = c.captures.options-boards in
     let seats = seats_for (length scripts) boards in
-    let there = subst (λ w. IfSome w (λ s. (0 < s.worker) × (s.worker ≤ seats))) (sym (c.loop-worker.invariant.3.0 ∙ c.requires.ready.watcher_is))
+    let there = subst (λ w. IfSome w (λ s. (0 < s.worker) × (s.worker ≤ seats))) (sym (c.loop-worker.invariant.3 ∙ c.requires.ready.watcher_is))
     (watcher_fits (length scripts) boards) in
     not_played g.S.StoreId.id.setting scripts boards c.from_residual-in_err-watch.result c.in_err-watch.field-0.0
     c.from_residual-in_err-watch.ensures.1 (c.in_err-watch.ensures.fault seats there)

@@ -1,13 +1,13 @@
-use Rattle.std.proofs.Common.{◌≡◌, ℕ, ◌+◌, ◌<◌, ◌≤◌, ◌++◌, List, length, slice_index_or}
+use Rattle.std.proofs.Common.{◌≡◌, ℕ, ◌+◌, ◌<◌, ◌≤◌, List, slice_index_or}
 use Rattle.std.specs.Vec.{vec_capacity, vec_len}
 use Rattle.std.specs.Vec.Iter.{into_iter_items, into_iter_len}
 use Rattle.qplain.specs.declared.line.Line.{Line}
-use Rattle.qrun.specs.Work.{Prepared}
+use Rattle.qrun.proofs.Seating.{AreReadyFrom}
 use Rattle.qrun.proofs.crew.fn.play_all.scope.Given as goal
 
 abbrev pub invariant-loop-worker : goal.invariant-loop-worker
 invariant-loop-worker g l =
-    ((before : List Prepared) × (before ++ into_iter_items l.worker-iterator ≡ l.initial.workers.items) × (length before ≡ vec_len l.running))
+    AreReadyFrom l.scripts (vec_len l.running) (into_iter_items l.worker-iterator)
     × (vec_len l.running + into_iter_len l.worker-iterator ≤ vec_capacity l.running)
     × ((k : ℕ) (d : _) (lines : List Line) → k < vec_len l.running
     → ((slice_index_or l.running.items k d).promise.worker ≡ k + 1)
