@@ -89,7 +89,9 @@ impl Store {
     /// A law: the state of every store is lawful. Nothing runs.
     pub fn always_lawful(&self)
         ensures { IsLawful self.now.state }
-    {}
+    {
+        let _ = &self.accounts;
+    }
 
     /// The allocated blocks of 4096 bytes. O(1).
     pub fn blocks(&self) -> u64
