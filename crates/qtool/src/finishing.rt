@@ -45,11 +45,7 @@ fn finish_journal<W: Write>(journal: &Journal, out: &mut W) -> Result<(), Refuse
 }
 
 /// Makes a file of that name, and writes the journal to it.
-fn keep_journal<F: Files>(
-    journal: &Journal,
-    files: &mut F,
-    name: &str,
-) -> Result<(), RefusedWrite>
+fn keep_journal<F: Files>(journal: &Journal, files: &mut F, name: &str) -> Result<(), RefusedWrite>
     ensures { IfOk result (λ _. CanBeRead journal.now) }
 {
     match files.create(name) {
@@ -76,7 +72,7 @@ pub fn write_run<F: Files, O: Write>(
     ensures beginning { result ≡ Err Output
         → AppendsFront (O.contents out.old) (O.contents out.new) (outcome_text outcome.now at) }
     ensures no_file { result ≡ Err Output → files.new ≡ files.old }
-    ensures again { IfOk result (λ _. IsSome journal → CanBeRead outcome.now.journal) }
+    ensures again { IfOk result (λ _. IsSome journal.entry → CanBeRead outcome.now.journal) }
 {
     if finish_outcome(outcome, at, out).is_err() {
         return Err(Refuser::Output);
