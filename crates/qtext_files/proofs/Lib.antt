@@ -1,4 +1,4 @@
--- The lines of a text; that scripts and journals that are spelled out are read again; what those are that were read.
+-- The lines of a text; that scripts and journals that are spelled out are read again; what those are that were read, or were written.
 pub mod RawLines
 pub mod LinesAgain
 pub mod ScriptsAgain
@@ -7,4 +7,5 @@ pub mod Entries
 pub mod JournalsAgain
 pub mod EntriesFound
 pub mod JournalsFound
+pub mod JournalsWritten
 mod EntriesJoined

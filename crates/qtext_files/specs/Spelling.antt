@@ -1,11 +1,12 @@
 -- How scripts and journals are spelled out, each in its one spelling.
-use Rattle.std.specs.Prelude.{ℕ, List, [], ◌∷◌, ◌++◌, codes, decimal}
+use Rattle.std.specs.Prelude.{◌≡◌, ℕ, List, [], ◌∷◌, ◌++◌, codes, decimal, Ok}
 use Rattle.std.specs.List.{flat_map, join_with_byte}
 use Rattle.qplain.specs.Journals.{Written}
 use Rattle.qplain.specs.declared.entry.Entry.{Entry}
 use Rattle.qplain.specs.declared.line.Line.{Line}
 use Rattle.qtext_read.specs.RepliesSpelled.{reply_words}
 use Rattle.qtext_read.specs.Spelling.{call_words, caller_text}
+use Rattle.qtext_files.specs.Journals.{journal_of}
 
 -- MOMENT CALLER CALL
 abbrev pub line_words : Line → List (List ℕ)
@@ -40,3 +41,7 @@ head_text workers = join_with_byte 0x20 (head_words workers) ++ 10 ∷ []
 -- a journal, spelled out
 abbrev pub journal_spelling : Written → List ℕ
 journal_spelling j = head_text j.workers ++ flat_map entry_text j.entries
+
+-- what is spelled out of the journal says that journal
+abbrev pub CanBeRead : Written → Type 0
+CanBeRead j = journal_of (journal_spelling j) ≡ Ok j

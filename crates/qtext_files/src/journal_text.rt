@@ -1,8 +1,9 @@
 //! Journals as text.
-ghost use Rattle.std.specs.Prelude.{◌≡◌};
-ghost use Rattle.std.specs.List.{flat_map};
+ghost use Rattle.std.specs.Prelude.{◌≡◌, IfOk};
+ghost use Rattle.std.specs.List.{AllByRecursion, flat_map};
+ghost use Rattle.qplain.specs.Held.{HasLawfulStat, IsHeld};
 ghost use Rattle.qtext.specs.Written.{Writes};
-ghost use Rattle.qtext_files.specs.Spelling.{entry_text, head_text, journal_spelling};
+ghost use Rattle.qtext_files.specs.Spelling.{CanBeRead, entry_text, head_text, journal_spelling};
 
 use qplain::{Entry, Journal};
 use qtext::{RefusedWrite, TextLine};
@@ -21,7 +22,8 @@ fn put_head<W: Write>(out: &mut W, line: &mut TextLine, workers: u64) -> Result<
 
 /// `WORKER MOMENT CALLER CALL => REPLY`.
 fn put_entry<W: Write>(out: &mut W, line: &mut TextLine, entry: &Entry) -> Result<(), RefusedWrite>
-    ensures { Writes (W.contents out.old) (W.contents out.new) result (entry_text entry.now) }
+    ensures writes { Writes (W.contents out.old) (W.contents out.new) result (entry_text entry.now) }
+    ensures held { IfOk result (λ _. HasLawfulStat entry.now.reply → IsHeld entry.now) }
 {
     line.clear();
     line.number(entry.worker);
@@ -39,7 +41,8 @@ fn put_entries<W: Write>(
     line: &mut TextLine,
     entries: &[Entry],
 ) -> Result<(), RefusedWrite>
-    ensures { Writes (W.contents out.old) (W.contents out.new) result (flat_map entry_text entries.now) }
+    ensures writes { Writes (W.contents out.old) (W.contents out.new) result (flat_map entry_text entries.now) }
+    ensures held { IfOk result (λ _. AllByRecursion (λ e. HasLawfulStat e.reply → IsHeld e) entries.now) }
 {
     for entry in entries {
         put_entry(out, line, entry)?;
@@ -52,7 +55,10 @@ fn put_entries<W: Write>(
 ///
 /// After an Err some beginning of the text went out.
 pub fn put_journal<W: Write>(out: &mut W, journal: &Journal) -> Result<(), RefusedWrite>
-    ensures { Writes (W.contents out.old) (W.contents out.new) result (journal_spelling journal.now) }
+    ensures writes { Writes (W.contents out.old) (W.contents out.new) result (journal_spelling journal.now) }
+
+    // What was written whole is read again as that journal: whoever spelled each part knows that its type can hold it.
+    ensures again { IfOk result (λ _. CanBeRead journal.now) }
 {
     let mut line = TextLine::new();
     put_head(out, &mut line, journal.workers())?;
@@ -61,7 +67,10 @@ pub fn put_journal<W: Write>(out: &mut W, journal: &Journal) -> Result<(), Refus
 
 /// The journal, of which a refusal has its number.
 pub fn write_journal<W: Write>(journal: &Journal, out: &mut W) -> Result<(), WriteFault>
-    ensures { Writes (W.contents out.old) (W.contents out.new) result (journal_spelling journal.now) }
+    ensures writes { Writes (W.contents out.old) (W.contents out.new) result (journal_spelling journal.now) }
+
+    // What was written whole is read again as that journal: whoever spelled each part knows that its type can hold it.
+    ensures again { IfOk result (λ _. CanBeRead journal.now) }
 {
     match put_journal(out, journal) {
         Ok(()) => Ok(()),

@@ -1,6 +1,8 @@
 //! Calls as text.
-ghost use Rattle.std.specs.Prelude.{◌≡◌, ◌≤◌, ◌<◌, ◌+◌, ◌∷◌, ◌++◌, codes, decimal, length, IfOk};
+ghost use Rattle.std.specs.Prelude.{◌≡◌, ◌≤◌, ◌<◌, ◌+◌, ◌^◌, ◌∷◌, ◌++◌, codes, decimal, length, IfOk};
 ghost use Rattle.std.specs.List.{join_with_byte};
+ghost use Rattle.qplain.specs.Held.{AreBytes, AreLimits, IsCall, IsOwner};
+ghost use Rattle.qplain.specs.Paths.{ArePathBytes};
 ghost use Rattle.qtext.specs.Pieces.{data_text};
 ghost use Rattle.qtext.specs.RuleWords.{kind_text};
 ghost use Rattle.qtext.specs.Written.{Passes};
@@ -29,6 +31,7 @@ fn put_path<W: Write>(
     ensures passes { Passes (W.contents out.old) (W.contents out.new) result
         (line.old ++ (verb.now ++ path.now)) line.new }
     ensures short { IfOk result (λ _. length line.new ≤ WORD_ROOM) }
+    ensures held { ArePathBytes path.now }
 {
     line.text(verb);
     line.put_word(out, path.bytes())
@@ -46,6 +49,7 @@ fn put_paths<W: Write>(
     ensures passes { Passes (W.contents out.old) (W.contents out.new) result
         (line.old ++ ((verb.now ++ from.now) ++ 32 ∷ to.now)) line.new }
     ensures short { IfOk result (λ _. length line.new ≤ WORD_ROOM) }
+    ensures held { IfOk result (λ _. ArePathBytes from.now × ArePathBytes to.now) }
 {
     put_path(out, line, verb, from)?;
     put_path(out, line, b" ", to)
@@ -63,6 +67,7 @@ fn put_at<W: Write>(
     ensures passes { Passes (W.contents out.old) (W.contents out.new) result
         (line.old ++ ((verb.now ++ path.now) ++ 32 ∷ decimal number)) line.new }
     ensures short { IfOk result (λ _. length line.new ≤ WORD_ROOM + 21) }
+    ensures held { ArePathBytes path.now }
 {
     put_path(out, line, verb, path)?;
     line.field(number);
@@ -81,6 +86,7 @@ fn put_write<W: Write>(
     ensures passes { Passes (W.contents out.old) (W.contents out.new) result
         (line.old ++ (((codes "write " ++ path.now) ++ 32 ∷ decimal off) ++ 32 ∷ data_text bytes.now)) line.new }
     ensures short { IfOk result (λ _. length line.new ≤ WORD_ROOM) }
+    ensures held { IfOk result (λ _. ArePathBytes path.now × AreBytes bytes.now) }
 {
     put_at(out, line, b"write ", path, off)?;
     line.byte(b' ');
@@ -100,6 +106,7 @@ fn put_read<W: Write>(
     ensures passes { Passes (W.contents out.old) (W.contents out.new) result
         (line.old ++ (((codes "read " ++ path.now) ++ 32 ∷ decimal off) ++ 32 ∷ decimal len)) line.new }
     ensures short { IfOk result (λ _. length line.new ≤ CALL_ROOM) }
+    ensures held { ArePathBytes path.now }
 {
     put_at(out, line, b"read ", path, off)?;
     line.field(len);
@@ -111,6 +118,7 @@ fn put_owner(line: &mut TextLine, owner: Option<u32>)
     requires { length line.old + 21 ≤ LINE_ROOM }
     ensures text { line.new ≡ line.old ++ 32 ∷ owner_text owner }
     ensures short { length line.new ≤ length line.old + 21 }
+    ensures held { IsOwner owner }
 {
     match owner {
         None => line.text(b" -"),
@@ -130,6 +138,7 @@ fn put_chown<W: Write>(
     ensures passes { Passes (W.contents out.old) (W.contents out.new) result
         (line.old ++ (((codes "chown " ++ path.now) ++ 32 ∷ owner_text uid) ++ 32 ∷ owner_text gid)) line.new }
     ensures short { IfOk result (λ _. length line.new ≤ CALL_ROOM) }
+    ensures held { IfOk result (λ _. ArePathBytes path.now × IsOwner uid × IsOwner gid) }
 {
     put_path(out, line, b"chown ", path)?;
     put_owner(line, uid);
@@ -154,6 +163,7 @@ fn put_setquota(line: &mut TextLine, kind: Kind, id: u32, limits: &Limits)
     ensures text { line.new ≡ line.old ++ join_with_byte 32 (codes "setquota" ∷ kind_text kind ∷ decimal id
         ∷ limits_words limits.now) }
     ensures short { length line.new ≤ CALL_ROOM }
+    ensures held { AreLimits limits.now }
 {
     put_owned(line, b"setquota ", kind, id);
     line.field(limits.block_soft);
@@ -168,6 +178,7 @@ fn put_setgrace(line: &mut TextLine, graces: &Graces)
     ensures text { line.new ≡ line.old ++ (codes "setgrace" ++ (32 ∷ decimal graces.now.block
         ++ 32 ∷ decimal graces.now.inode)) }
     ensures short { length line.new ≤ CALL_ROOM }
+    ensures held { (graces.now.block < 2 ^ 64) × (graces.now.inode < 2 ^ 64) }
 {
     line.text(b"setgrace");
     line.field(graces.block);
@@ -180,6 +191,7 @@ pub fn put_call<W: Write>(out: &mut W, line: &mut TextLine, call: &Call) -> Resu
     ensures passes { Passes (W.contents out.old) (W.contents out.new) result
         (line.old ++ join_with_byte 32 (call_words call.now)) line.new }
     ensures short { IfOk result (λ _. length line.new ≤ CALL_ROOM) }
+    ensures held { IfOk result (λ _. IsCall call.now) }
 {
     match call {
         Call::Create { path } => put_path(out, line, b"create ", path),

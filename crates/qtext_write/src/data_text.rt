@@ -2,6 +2,7 @@
 ghost use Rattle.std.specs.Prelude.{◌≡◌, ◌≤◌, ◌<◌, ◌++◌, length, replicate, IfOk};
 ghost use Rattle.hex.specs.Hex.{encode_lower};
 ghost use Rattle.qblocks.specs.Input.{input_bytes};
+ghost use Rattle.qplain.specs.Held.{AreBytes};
 ghost use Rattle.qtext.specs.Pieces.{data_text};
 ghost use Rattle.qtext.specs.Written.{Passes};
 
@@ -36,6 +37,21 @@ fn put_equal<W: Write>(
     Ok(())
 }
 
+/// Puts bytes that are laid out after what is there. What there is no room for is written.
+fn put_laid_out<W: Write>(
+    out: &mut W,
+    line: &mut TextLine,
+    bytes: &[u8],
+) -> Result<(), RefusedWrite>
+    requires { length line.old ≤ HEAD_ROOM }
+    ensures passes { Passes (W.contents out.old) (W.contents out.new) result
+        (line.old ++ data_text bytes.now) line.new }
+    ensures room { IfOk result (λ _. length line.new < LINE_ROOM) }
+    ensures held { AreBytes bytes.now }
+{
+    line.put_data(out, bytes)
+}
+
 /// Puts the bytes of a write after what is there. What there is no room for is written.
 pub(crate) fn put_input<W: Write>(
     out: &mut W,
@@ -46,9 +62,10 @@ pub(crate) fn put_input<W: Write>(
     ensures passes { Passes (W.contents out.old) (W.contents out.new) result
         (line.old ++ data_text (input_bytes bytes.entry)) line.new }
     ensures room { IfOk result (λ _. length line.new < LINE_ROOM) }
+    ensures held { AreBytes (input_bytes bytes.entry) }
 {
     match bytes {
-        Input::Bytes(bytes) => line.put_data(out, bytes),
+        Input::Bytes(bytes) => put_laid_out(out, line, bytes),
         Input::Fill { count: 0, .. } => line.put_data(out, &[]),
         Input::Fill { count, byte } => put_equal(out, line, count, byte),
     }

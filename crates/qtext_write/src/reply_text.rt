@@ -1,5 +1,15 @@
 //! Replies as text.
 ghost use Rattle.std.specs.Prelude.{◌≡◌, ◌≤◌, ◌<◌, ◌+◌, ◌∷◌, ◌++◌, length, codes};
+ghost use Rattle.qplain.specs.Held.{
+  AreBytes,
+  HasLawfulStat,
+  IsChange,
+  IsEmptyDirectory,
+  IsEnd,
+  IsQuota,
+  IsReply,
+  IsStat,
+};
 ghost use Rattle.qtext.specs.Pieces.{data_text};
 ghost use Rattle.qtext.specs.Written.{Writes};
 ghost use Rattle.qtext_read.specs.Replies.{done_text, end_text, quota_text, refusal_text, reply_text, stat_text};
@@ -17,6 +27,7 @@ fn put_end(line: &mut TextLine, end: Option<u64>)
     requires { length line.old + 21 ≤ LINE_ROOM }
     ensures text { line.new ≡ line.old ++ 32 ∷ end_text end }
     ensures short { length line.new ≤ length line.old + 21 }
+    ensures held { IsEnd end }
 {
     match end {
         None => line.text(b" -"),
@@ -64,6 +75,7 @@ fn put_done(line: &mut TextLine, number: u64, change: &Change)
     requires { length line.old ≤ HEAD_ROOM }
     ensures text { line.new ≡ line.old ++ done_text number change.now }
     ensures short { length line.new < LINE_ROOM }
+    ensures held { IsChange change.now }
 {
     line.text(b"done");
     line.field(number);
@@ -81,6 +93,7 @@ fn put_stat(line: &mut TextLine, stat: &Stat)
     requires { length line.old ≤ HEAD_ROOM }
     ensures text { line.new ≡ line.old ++ stat_text stat.now }
     ensures short { length line.new < LINE_ROOM }
+    ensures held { IsEmptyDirectory stat.now → IsStat stat.now }
 {
     let dir: &[u8] = if stat.dir { b" dir" } else { b" file" };
     line.text(b"stat");
@@ -97,6 +110,7 @@ fn put_quota(line: &mut TextLine, quota: &Quota)
     requires { length line.old ≤ HEAD_ROOM }
     ensures text { line.new ≡ line.old ++ quota_text quota.now }
     ensures short { length line.new < LINE_ROOM }
+    ensures held { IsQuota quota.now }
 {
     line.text(b"quota");
     line.field(quota.blocks);
@@ -112,8 +126,9 @@ fn put_quota(line: &mut TextLine, quota: &Quota)
 /// Writes what the line holds, the bytes that were read, and a line end.
 fn put_bytes<W: Write>(out: &mut W, line: &mut TextLine, bytes: &[u8]) -> Result<(), RefusedWrite>
     requires { length line.old ≤ REPLY_PLACE }
-    ensures { Writes (W.contents out.old) (W.contents out.new) result
+    ensures writes { Writes (W.contents out.old) (W.contents out.new) result
         (line.old ++ ((codes "bytes " ++ data_text bytes.now) ++ codes "\n")) }
+    ensures held { AreBytes bytes.now }
 {
     line.text(b"bytes ");
     line.put_data(out, bytes)?;
@@ -128,8 +143,9 @@ pub fn put_reply<W: Write>(
     reply: &Reply,
 ) -> Result<(), RefusedWrite>
     requires { length line.old ≤ REPLY_PLACE }
-    ensures { Writes (W.contents out.old) (W.contents out.new) result
+    ensures writes { Writes (W.contents out.old) (W.contents out.new) result
         (line.old ++ reply_text reply.now ++ codes "\n") }
+    ensures held { HasLawfulStat reply.now → IsReply reply.now }
 {
     match reply {
         Reply::Done(number, change) => put_done(line, *number, change),

@@ -1,9 +1,9 @@
 //! What came of a run, written out: its outcome, and then its journal.
-ghost use Rattle.std.specs.Prelude.{◌≡◌, Err, IfOk, IfErr};
+ghost use Rattle.std.specs.Prelude.{◌≡◌, Err, IfOk, IfErr, IsSome};
 ghost use Rattle.std.specs.Io.KnownBytes.{Appends};
 ghost use Rattle.qtext.specs.Written.{AppendsFront, Writes};
 ghost use Rattle.qtext_outcome.specs.Outcomes.{outcome_text};
-ghost use Rattle.qtext_files.specs.Spelling.{journal_spelling};
+ghost use Rattle.qtext_files.specs.Spelling.{CanBeRead, journal_spelling};
 ghost use Rattle.qtool.specs.declared.finishing.Refuser.TheVariants.{Output};
 
 use crate::{Files, Journal, Outcome};
@@ -35,7 +35,8 @@ fn finish_outcome<W: Write>(outcome: &Outcome, at: u64, out: &mut W) -> Result<(
 /// Writes the journal, and flushes it.
 #[tactic(auto, using(crate::proofs::Flushes::refused_at_the_flush, qtext::proofs::Fronts::keeps_appends))]
 fn finish_journal<W: Write>(journal: &Journal, out: &mut W) -> Result<(), RefusedWrite>
-    ensures { Writes (W.contents out.old) (W.contents out.new) result (journal_spelling journal.now) }
+    ensures writes { Writes (W.contents out.old) (W.contents out.new) result (journal_spelling journal.now) }
+    ensures again { IfOk result (λ _. CanBeRead journal.now) }
 {
     if put_journal(out, journal).is_err() || out.flush().is_err() {
         return Err(RefusedWrite);
@@ -44,11 +45,9 @@ fn finish_journal<W: Write>(journal: &Journal, out: &mut W) -> Result<(), Refuse
 }
 
 /// Makes a file of that name, and writes the journal to it.
-fn keep_journal<F: Files>(
-    journal: &Journal,
-    files: &mut F,
-    name: &str,
-) -> Result<(), RefusedWrite> {
+fn keep_journal<F: Files>(journal: &Journal, files: &mut F, name: &str) -> Result<(), RefusedWrite>
+    ensures { IfOk result (λ _. CanBeRead journal.now) }
+{
     match files.create(name) {
         Ok(mut file) => finish_journal(journal, &mut file),
         Err(_) => Err(RefusedWrite),
@@ -73,6 +72,7 @@ pub fn write_run<F: Files, O: Write>(
     ensures beginning { result ≡ Err Output
         → AppendsFront (O.contents out.old) (O.contents out.new) (outcome_text outcome.now at) }
     ensures no_file { result ≡ Err Output → files.new ≡ files.old }
+    ensures again { IfOk result (λ _. IsSome journal.entry → CanBeRead outcome.now.journal) }
 {
     if finish_outcome(outcome, at, out).is_err() {
         return Err(Refuser::Output);

@@ -19,9 +19,11 @@ pub use qtext_files::{FromText, write_journal};
 pub use qtext_job::{Job, LineFault};
 pub use qtext_outcome::{WriteFault, write_outcome};
 pub use runs::{replay, run, run_with};
+pub use text_replay::{TextReplayFault, replay_text};
 
 mod ending;
 mod files;
 mod finishing;
 mod program;
 mod runs;
+mod text_replay;

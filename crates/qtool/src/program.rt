@@ -7,8 +7,8 @@ ghost use Rattle.qtool.specs.declared.ending.Ending.TheVariants.{Output, TooMany
 
 use crate::ending::Ending;
 use crate::{
-    Config, ConfigFault, FileFault, Files, FromText, Job, Journal, LineFault, NoGate, Options,
-    Outcome, Refuser, ReplayFault, RunFault, Script, TextFault, TextKind, replay, run_with,
+    Config, ConfigFault, FileFault, Files, FromText, Job, LineFault, NoGate, Options, Outcome,
+    Refuser, RunFault, Script, TextFault, TextKind, TextReplayFault, replay_text, run_with,
     write_run,
 };
 use qplain::MAX_WORKERS;
@@ -67,26 +67,12 @@ fn script<F: Files>(
     }
 }
 
-/// Reads the journal that is to be played.
-fn read_journal<F: Files>(alloc: Global, files: &mut F, name: &str) -> Result<Journal, Ending> {
-    let bytes = load(alloc, files, name)?;
-    match Journal::read(alloc, &bytes) {
-        Ok(journal) => Ok(journal),
-        Err(
-            TextFault {
-                kind: TextKind::Memory,
-                ..
-            },
-        ) => Err(Ending::Memory),
-        Err(fault) => Err(Ending::Journal(fault)),
-    }
-}
-
 /// The ending of a replay that has no outcome.
-fn ending_of_replay(fault: ReplayFault) -> Ending {
+fn ending_of_replay(fault: TextReplayFault) -> Ending {
     match fault {
-        ReplayFault::Memory => Ending::Memory,
-        ReplayFault::Mismatch(place) => Ending::Mismatch(place),
+        TextReplayFault::Memory => Ending::Memory,
+        TextReplayFault::Text(fault) => Ending::Journal(fault),
+        TextReplayFault::Mismatch(place) => Ending::Mismatch(place),
     }
 }
 
@@ -154,7 +140,7 @@ fn run_of<F: Files, R: Threads + Wait + Sync>(
     run_with(rt, alloc, config, scripts, options, seed, &NoGate).map_err(ending_of_run)
 }
 
-/// Reads the configuration and the journal, and plays it. The journal's memory is left to the system, too.
+/// Reads the configuration and the journal, and plays it.
 fn replay_of<F: Files>(
     alloc: Global,
     seed: u64,
@@ -163,10 +149,8 @@ fn replay_of<F: Files>(
     files: &mut F,
 ) -> Result<Outcome, Ending> {
     let config = configuration(alloc, files, config)?;
-    let journal = read_journal(alloc, files, journal)?;
-    let played = replay(alloc, config, &journal, seed).map_err(ending_of_replay);
-    mem::forget(journal);
-    played
+    let text = load(alloc, files, journal)?;
+    replay_text(alloc, config, text, seed).map_err(ending_of_replay)
 }
 
 /// Writes what came of a run. Its memory is left to the system: to give back each piece takes as long as a call.

@@ -5,8 +5,8 @@ use Rattle.qtext_write.proofs.Behind.{behind, refused_whole}
 use Rattle.qtext_files.proofs.EntriesJoined.{entry_parts, head_of_entry}
 use Rattle.qtext_files.proofs.journal_text.put_entry.Goals as goal
 
-pub returns-in_err-put_call : goal.returns-in_err-put_call
-returns-in_err-put_call g c = rw (entry_parts c.args.entry.now)
+pub returns-in_err-put_call-clause-writes : goal.returns-in_err-put_call-clause-writes
+returns-in_err-put_call-clause-writes g c = rw (entry_parts c.args.entry.now)
     (refused_whole _ _ _ (head_of_entry c.args.entry.now) _ _ c.from_residual.ensures.0
     (rw (
       c.byte-2.ensures.byte,
@@ -17,8 +17,8 @@ returns-in_err-put_call g c = rw (entry_parts c.args.entry.now)
       c.clear.ensures,
     ) at c.in_err-put_call.ensures.passes))
 
-pub returns : goal.returns
-returns g c = rw (entry_parts c.args.entry.now)
+pub returns-clause-writes : goal.returns-clause-writes
+returns-clause-writes g c = rw (entry_parts c.args.entry.now)
     (partly_last _ _ _ _ _ _
     (behind _ _ (head_of_entry c.args.entry.now) _ _ _
     (rw (
@@ -33,4 +33,4 @@ returns g c = rw (entry_parts c.args.entry.now)
       c.text.ensures.text,
       append_assoc (c.put_call.new.line ++ codes " => ") (reply_text c.args.entry.now.reply) (codes "\n"),
       append_assoc c.put_call.new.line (codes " => ") (reply_text c.args.entry.now.reply ++ codes "\n"),
-    ) at c.put_reply.ensures))
+    ) at c.put_reply.ensures.writes))

@@ -14,3 +14,11 @@ returns-clause-text c = rw (
   c.number.ensures.text,
   c.uid.ensures,
 ) (simp append_assoc)
+
+pub returns-clause-held : goal.returns-clause-held
+returns-clause-held c = record {
+  uid = rw c.uid.ensures at c.uid.type_inv;
+  gid = rw c.gid.ensures at c.gid.type_inv;
+  few = rw c.more.ensures.groups at c.more.ensures.few;
+  more = rw c.more.ensures.groups at c.put_groups.ensures.held;
+}
