@@ -30,6 +30,7 @@ pub mod Reached
 pub mod Replacing
 pub mod Losing
 pub mod Removing
+pub mod WalkFaults
 pub mod GivingBack
 pub mod FreeNames
 pub mod Linking
@@ -38,4 +39,6 @@ pub mod Bounding
 pub mod Walking
 pub mod Playing
 pub mod Answering
+pub mod Looking
+pub mod Running
 pub mod Tallying

@@ -1,0 +1,83 @@
+-- What one call changes, and what it leaves as it was.
+use Rattle.std.specs.Prelude.{◌≡◌, ◌≢◌, ℕ, ◌+◌, Bool, true, false, ◌&&◌, ◌==◌, Option, Some, None}
+use Rattle.std.specs.List.{find}
+use Rattle.std.specs.Option.{option_map}
+use Rattle.qrules.specs.declared.kind.Kind.{Kind}
+use Rattle.qrules.specs.declared.over.Over.{Over}
+use Rattle.qrules.specs.Sort.{Sort, Inodes, Blocks, grace_of}
+use Rattle.qrules.specs.Account.{Account}
+use Rattle.qplain.specs.declared.call.Call.{Call}
+use Rattle.qplain.specs.declared.call.Call.TheVariants.{Read, Stat, SetQuota, Quota}
+use Rattle.qplain.specs.declared.refusal.Refusal.TheVariants.{EDQUOT}
+use Rattle.qplain.specs.declared.reply.Reply.TheVariants.{Refused}
+use Rattle.qplain.specs.Caller.{Caller, is_superuser}
+use Rattle.qplain.specs.State.{Holder, State, inode_at}
+use Rattle.qplain.specs.Use.{account_of}
+use Rattle.qplain.specs.Arguments.{is_holder, is_same_kind}
+use Rattle.qplain.specs.Step.{step}
+use Rattle.qplain_laws.specs.Laws.{IsLawful}
+use Rattle.qplain_laws.specs.Replaces.{is_owned}
+
+-- the call only looks: read, stat or quota
+abbrev pub is_look : Call → Bool
+is_look (Read path off len) = true
+is_look (Stat path) = true
+is_look (Quota kind id) = true
+is_look call = false
+
+-- a look leaves the state as it is
+abbrev pub LooksChangeNothing : Type 0
+LooksChangeNothing = (S : State) (cred : Caller) (moment : ℕ) (call : Call) → is_look call ≡ true
+    → (step S cred moment call).0 ≡ S
+
+-- no quota is in the superuser's way
+abbrev pub SuperuserMeetsNoQuota : Type 0
+SuperuserMeetsNoQuota =
+    (S : State) (cred : Caller) (moment : ℕ) (call : Call) (kind : Kind) (over : Over) → is_superuser cred ≡ true
+    → (step S cred moment call).1 ≢ Refused (EDQUOT kind over)
+
+-- the grace end of this sort that stands in a holder, if there is one
+abbrev pub end_of : Sort → Option Holder → Option ℕ
+end_of sort None = None
+end_of Inodes (Some h) = h.inode_end
+end_of Blocks (Some h) = h.block_end
+
+-- the moment at which the principal's grace of this sort ends, where one runs
+abbrev pub end_at : State → Kind → ℕ → Sort → Option ℕ
+end_at S kind id sort = end_of sort (find (is_holder kind id) S.holders)
+
+-- the call sets this principal's limits
+abbrev pub sets_limits_of : Kind → ℕ → Call → Bool
+sets_limits_of kind id (SetQuota other number limits) = is_same_kind other kind && number == id
+sets_limits_of kind id call = false
+
+-- a grace that runs before and after ends when it would have, and one that begins ends at this moment
+pub record RunsOn (before after : Option ℕ) (begun : ℕ) : Type 0 where
+  pub same : (end later : ℕ) → before ≡ Some end → after ≡ Some later → later ≡ end
+  pub begins : (end : ℕ) → before ≡ None → after ≡ Some end → end ≡ begun
+
+-- no call prolongs a grace that runs, but one that sets the principal's limits; a grace that begins ends at the call's
+-- moment and the grace that is then set
+abbrev pub GracesRunOn : Type 0
+GracesRunOn =
+    (S : State) (cred : Caller) (moment : ℕ) (call : Call) (kind : Kind) (id : ℕ) (sort : Sort)
+    → sets_limits_of kind id call ≡ false
+    → RunsOn (end_at S kind id sort) (end_at (step S cred moment call).0 kind id sort)
+    (moment + grace_of sort (step S cred moment call).0.graces)
+
+-- the quota record of a principal, if there is such a principal
+abbrev pub record_at : State → Kind → ℕ → Option Account
+record_at S kind id = option_map (account_of S) (find (is_holder kind id) S.holders)
+
+-- the inode of this number alone is changed, made or gone, and only its owners, before and after, come to other
+-- records, and those whose limits the call sets
+pub record TouchesOnly (old new : State) (call : Call) (number : ℕ) : Type 0 where
+  pub inodes : (other : ℕ) → other ≢ number → inode_at new other ≡ inode_at old other
+  pub records : (kind : Kind) (id : ℕ) → sets_limits_of kind id call ≡ false
+      → is_owned kind id (inode_at old number) ≡ false → is_owned kind id (inode_at new number) ≡ false
+      → record_at new kind id ≡ record_at old kind id
+
+-- from a lawful state a call touches one inode, if any, and the records of that one's owners
+abbrev pub OneInodeIsTouched : Type 0
+OneInodeIsTouched = (S : State) (cred : Caller) (moment : ℕ) (call : Call) → IsLawful S
+    → (number : ℕ) × TouchesOnly S (step S cred moment call).0 call number

@@ -1,0 +1,18 @@
+//! What one call changes and what it leaves, each law the contract of a function that does nothing when it runs.
+ghost use Rattle.qplain_laws.specs.Changes.{GracesRunOn, LooksChangeNothing, SuperuserMeetsNoQuota};
+
+/// Read, stat and quota leave the state as it is.
+pub fn looks_change_nothing()
+    ensures { LooksChangeNothing }
+{}
+
+/// No step of the superuser is refused for a quota.
+pub fn superuser_meets_no_quota()
+    ensures { SuperuserMeetsNoQuota }
+{}
+
+/// A grace that runs is never prolonged: a grace end that stands before and after a call that does not set the
+/// principal's limits is the same, and a new one is the call's moment and the grace that is then set.
+pub fn graces_run_on()
+    ensures { GracesRunOn }
+{}
