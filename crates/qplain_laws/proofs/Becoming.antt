@@ -250,7 +250,7 @@ module _ (P : State → Type 0) (S : State) (cred : Caller) (holds : HoldsOfResu
   attempt_of-becomes (AskQuota kind id) known good = ask_quota-becomes kind id
 
   -- what holds of the plain result of every call, holds of the attempt
-  attempt-becomes : (moment : ℕ) (call : Call) → OnBecomes P (attempt S cred moment call)
+  pub attempt-becomes : (moment : ℕ) (call : Call) → OnBecomes P (attempt S cred moment call)
   attempt-becomes moment call =
       unless-becomes P (refusal_of_arguments S cred moment call) (attempt_of S cred call)
       (λ lawful.

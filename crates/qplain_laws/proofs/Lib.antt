@@ -41,4 +41,5 @@ pub mod Playing
 pub mod Answering
 pub mod Looking
 pub mod Running
+pub mod Touching
 pub mod Tallying

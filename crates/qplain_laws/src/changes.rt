@@ -1,5 +1,5 @@
 //! What one call changes and what it leaves, each law the contract of a function that does nothing when it runs.
-ghost use Rattle.qplain_laws.specs.Changes.{GracesRunOn, LooksChangeNothing, SuperuserMeetsNoQuota};
+ghost use Rattle.qplain_laws.specs.Changes.{GracesRunOn, LooksChangeNothing, OneInodeIsTouched, SuperuserMeetsNoQuota};
 
 /// Read, stat and quota leave the state as it is.
 pub fn looks_change_nothing()
@@ -15,4 +15,10 @@ pub fn superuser_meets_no_quota()
 /// principal's limits is the same, and a new one is the call's moment and the grace that is then set.
 pub fn graces_run_on()
     ensures { GracesRunOn }
+{}
+
+/// From a lawful state a call touches one inode, if any: every other number has what it had, and no record but those of
+/// that inode's owners, before and after, is another than it was, save that of a principal whose limits the call sets.
+pub fn one_inode_is_touched()
+    ensures { OneInodeIsTouched }
 {}

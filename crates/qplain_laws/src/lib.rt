@@ -1,7 +1,9 @@
 //! The laws of the plain machine, proved over every call, and worked examples of it, over `qplain`.
 #![tactic(auto)]
 
-pub use changes::{graces_run_on, looks_change_nothing, superuser_meets_no_quota};
+pub use changes::{
+    graces_run_on, looks_change_nothing, one_inode_is_touched, superuser_meets_no_quota,
+};
 pub use examples::{more_worked_examples, worked_examples, worked_examples_of_names};
 pub use journals::{changes_are_small, journals_stay_lawful, tallies_add_up};
 pub use laws::{
