@@ -26,6 +26,7 @@ pub mod Rights
 pub mod Giving
 pub mod Finding
 pub mod Reaching
+pub mod Leaving
 pub mod Reached
 pub mod Replacing
 pub mod Losing
@@ -42,4 +43,9 @@ pub mod Answering
 pub mod Looking
 pub mod Running
 pub mod Touching
+pub mod TouchedRecords
+pub mod Doing
+pub mod Making
+pub mod Unnaming
+pub mod DoneSteps
 pub mod Tallying

@@ -167,8 +167,7 @@ module _ (S S1 : State) (from to : Option Inode) (replaces : Replaces S S1 from 
 
   -- ---- the holders after
 
-  -- who owns neither inode uses as much
-  pub use-same : (kind : Kind) (id : ℕ) (sort : Sort) → is_owned kind id from ≡ false → is_owned kind id to ≡ false → use_of S1 kind id sort ≡ use_of S kind id sort
+  use-same : (kind : Kind) (id : ℕ) (sort : Sort) → is_owned kind id from ≡ false → is_owned kind id to ≡ false → use_of S1 kind id sort ≡ use_of S kind id sort
   use-same kind id sort not_from not_to =
       let sum = replaces.uses kind id sort in
       let none = charge-other kind id sort to not_to in

@@ -1,5 +1,5 @@
 -- No call prolongs a grace that runs.
-use Rattle.std.proofs.Common.{◌≡◌, ℕ, ◌+◌, Bool, true, false, not, ◌&&◌, ◌==◌, cond, List, [], ◌∷◌, map, Option, Some, None, refl, sym, ap, subst, ◌∙◌, tests, arith}
+use Rattle.std.proofs.Common.{◌≡◌, ℕ, ◌+◌, Bool, true, false, ◌&&◌, ◌==◌, cond, List, [], ◌∷◌, map, Option, Some, None, refl, sym, ap, subst, ◌∙◌, tests, arith}
 use Rattle.std.specs.List.{find}
 use Rattle.std.specs.Option.{option_map}
 use Rattle.qrules.specs.declared.kind.Kind.{Kind}
@@ -17,7 +17,7 @@ use Rattle.qplain.specs.Use.{account_of}
 use Rattle.qplain.specs.Arguments.{is_holder, is_same_kind}
 use Rattle.qplain.specs.Decision.{ends_after, refusal_between, with_ends_of}
 use Rattle.qplain.specs.Attempt.{Attempt, Refuse, Answer, Becomes}
-use Rattle.qplain.specs.Quotas.{relimited, with_limits_of}
+use Rattle.qplain.specs.Quotas.{relimited}
 use Rattle.qplain.specs.Calls.{attempt}
 use Rattle.qplain.specs.Step.{settle, settled}
 use Rattle.qplain_laws.specs.Changes.{GracesRunOn, RunsOn, end_at, end_of, sets_limits_of}

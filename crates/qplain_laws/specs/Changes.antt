@@ -12,11 +12,11 @@ use Rattle.qplain.specs.declared.refusal.Refusal.TheVariants.{EDQUOT}
 use Rattle.qplain.specs.declared.reply.Reply.TheVariants.{Refused}
 use Rattle.qplain.specs.Caller.{Caller, is_superuser}
 use Rattle.qplain.specs.State.{Holder, State, inode_at}
-use Rattle.qplain.specs.Use.{account_of}
+use Rattle.qplain.specs.Use.{account_of, use_of}
 use Rattle.qplain.specs.Arguments.{is_holder, is_same_kind}
 use Rattle.qplain.specs.Step.{step}
 use Rattle.qplain_laws.specs.Laws.{IsLawful}
-use Rattle.qplain_laws.specs.Replaces.{is_owned}
+use Rattle.qplain_laws.specs.Replaces.{charge_of}
 
 -- the call only looks: read, stat or quota
 abbrev pub is_look : Call → Bool
@@ -69,15 +69,18 @@ GracesRunOn =
 abbrev pub record_at : State → Kind → ℕ → Option Account
 record_at S kind id = option_map (account_of S) (find (is_holder kind id) S.holders)
 
--- the inode of this number alone is changed, made or gone, and only its owners, before and after, come to other
--- records, and those whose limits the call sets
+-- the inode of this number alone is changed, made or gone; each use rises by what it takes then, and falls by what it
+-- took; and whom it charges as before has the record that it had, unless the call sets that one's limits
 pub record TouchesOnly (old new : State) (call : Call) (number : ℕ) : Type 0 where
   pub inodes : (other : ℕ) → other ≢ number → inode_at new other ≡ inode_at old other
+  pub uses : (kind : Kind) (id : ℕ) (sort : Sort)
+      → use_of new kind id sort + charge_of kind id sort (inode_at old number)
+      ≡ use_of old kind id sort + charge_of kind id sort (inode_at new number)
   pub records : (kind : Kind) (id : ℕ) → sets_limits_of kind id call ≡ false
-      → is_owned kind id (inode_at old number) ≡ false → is_owned kind id (inode_at new number) ≡ false
+      → ((sort : Sort) → charge_of kind id sort (inode_at new number) ≡ charge_of kind id sort (inode_at old number))
       → record_at new kind id ≡ record_at old kind id
 
--- from a lawful state a call touches one inode, if any, and the records of that one's owners
+-- from a lawful state a call touches one inode, if any, and the records of those whom that one charges
 abbrev pub OneInodeIsTouched : Type 0
 OneInodeIsTouched = (S : State) (cred : Caller) (moment : ℕ) (call : Call) → IsLawful S
     → (number : ℕ) × TouchesOnly S (step S cred moment call).0 call number

@@ -1,6 +1,7 @@
 -- The laws, and worked examples. A module that no public clause cites says so.
 pub mod Laws
 pub mod Changes
+pub mod Done
 pub mod Journals
 pub mod Examples
 pub mod MoreExamples

@@ -1,4 +1,5 @@
 //! What one call changes and what it leaves, each law the contract of a function that does nothing when it runs.
+ghost use Rattle.qplain_laws.specs.Done.{DoneIsDone};
 ghost use Rattle.qplain_laws.specs.Changes.{GracesRunOn, LooksChangeNothing, OneInodeIsTouched, SuperuserMeetsNoQuota};
 
 /// Read, stat and quota leave the state as it is.
@@ -17,8 +18,14 @@ pub fn graces_run_on()
     ensures { GracesRunOn }
 {}
 
-/// From a lawful state a call touches one inode, if any: every other number has what it had, and no record but those of
-/// that inode's owners, before and after, is another than it was, save that of a principal whose limits the call sets.
+/// From a lawful state a call touches one inode, if any: every other number has what it had, each use rises and falls by
+/// what that one takes and took, and whom it charges as before has the record that it had, unless the call sets limits.
 pub fn one_inode_is_touched()
     ensures { OneInodeIsTouched }
+{}
+
+/// From a lawful state a call that is answered `Done` has done what it is named for, told in look-ups alone: where its
+/// paths lead before and after, and what stands there.
+pub fn done_is_done()
+    ensures { DoneIsDone }
 {}

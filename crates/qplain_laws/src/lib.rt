@@ -2,7 +2,8 @@
 #![tactic(auto)]
 
 pub use changes::{
-    graces_run_on, looks_change_nothing, one_inode_is_touched, superuser_meets_no_quota,
+    done_is_done, graces_run_on, looks_change_nothing, one_inode_is_touched,
+    superuser_meets_no_quota,
 };
 pub use examples::{more_worked_examples, worked_examples, worked_examples_of_names};
 pub use journals::{changes_are_small, journals_stay_lawful, tallies_add_up};
