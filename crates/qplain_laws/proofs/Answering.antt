@@ -38,7 +38,7 @@ pub record KeepsSettings (S T : State) : Type 0 where
   pub holders : T.holders ≡ S.holders
   pub graces : T.graces ≡ S.graces
 
--- what is known of the plain result of a call: looks have none, two calls change settings, and the others keep them
+-- what is known of the plain result of a call: calls that only ask have none, two change settings, and the others keep them
 abbrev pub MayBecome : State → Call → State → Type 0
 MayBecome S (Read path off len) T = ⊥
 MayBecome S (AskStat path) T = ⊥

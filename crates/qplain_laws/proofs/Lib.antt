@@ -8,6 +8,7 @@ pub mod Becoming
 pub mod Tables
 pub mod Orders
 pub mod Filtering
+pub mod RightSized
 pub mod Sound
 pub mod FewLinks
 pub mod Fitting
@@ -40,7 +41,7 @@ pub mod Bounding
 pub mod Walking
 pub mod Playing
 pub mod Answering
-pub mod Looking
+pub mod Asking
 pub mod Running
 pub mod Touching
 pub mod TouchedRecords
@@ -48,4 +49,5 @@ pub mod Doing
 pub mod Making
 pub mod Unnaming
 pub mod DoneSteps
+pub mod Sizing
 pub mod Tallying

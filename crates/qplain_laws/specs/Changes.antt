@@ -18,16 +18,16 @@ use Rattle.qplain.specs.Step.{step}
 use Rattle.qplain_laws.specs.Laws.{IsLawful}
 use Rattle.qplain_laws.specs.Replaces.{charge_of}
 
--- the call only looks: read, stat or quota
-abbrev pub is_look : Call → Bool
-is_look (Read path off len) = true
-is_look (Stat path) = true
-is_look (Quota kind id) = true
-is_look call = false
+-- the call only asks: read, stat or quota
+abbrev pub only_asks : Call → Bool
+only_asks (Read path off len) = true
+only_asks (Stat path) = true
+only_asks (Quota kind id) = true
+only_asks call = false
 
--- a look leaves the state as it is
-abbrev pub LooksChangeNothing : Type 0
-LooksChangeNothing = (S : State) (cred : Caller) (moment : ℕ) (call : Call) → is_look call ≡ true
+-- a call that only asks leaves the state as it is
+abbrev pub AskingChangesNothing : Type 0
+AskingChangesNothing = (S : State) (cred : Caller) (moment : ℕ) (call : Call) → only_asks call ≡ true
     → (step S cred moment call).0 ≡ S
 
 -- no quota is in the superuser's way

@@ -36,7 +36,7 @@ IsChanged old new path number change =
     × (inode_at new number ≡ Some (change inode))
 
 -- what a caller's call has done that was answered `Done` with this number: a rename of a path to another that led to the
--- same inode leaves both, and a look is never done
+-- same inode leaves both, and a call that only asks is never done
 abbrev pub HasDone : Caller → State → Call → ℕ → State → Type 0
 HasDone cred old (Create path) number new =
     LeadsTo new path number × (inode_at new number ≡ Some (new_file cred.uid cred.gid))

@@ -2,6 +2,7 @@
 pub mod Laws
 pub mod Changes
 pub mod Done
+pub mod Sizes
 pub mod Journals
 pub mod Examples
 pub mod MoreExamples

@@ -1,10 +1,11 @@
 //! What one call changes and what it leaves, each law the contract of a function that does nothing when it runs.
 ghost use Rattle.qplain_laws.specs.Done.{DoneIsDone};
-ghost use Rattle.qplain_laws.specs.Changes.{GracesRunOn, LooksChangeNothing, OneInodeIsTouched, SuperuserMeetsNoQuota};
+ghost use Rattle.qplain_laws.specs.Sizes.{FilesStayRightSized, StartIsRightSized};
+ghost use Rattle.qplain_laws.specs.Changes.{GracesRunOn, AskingChangesNothing, OneInodeIsTouched, SuperuserMeetsNoQuota};
 
-/// Read, stat and quota leave the state as it is.
-pub fn looks_change_nothing()
-    ensures { LooksChangeNothing }
+/// Read, stat and quota, which only ask, leave the state as it is.
+pub fn asking_changes_nothing()
+    ensures { AskingChangesNothing }
 {}
 
 /// No step of the superuser is refused for a quota.
@@ -28,4 +29,11 @@ pub fn one_inode_is_touched()
 /// paths lead before and after, and what stands there.
 pub fn done_is_done()
     ensures { DoneIsDone }
+{}
+
+/// No file is larger than the file limit, and each block of a file begins below its size: in a new store, and after
+/// every step of a state in which it is so.
+pub fn files_stay_right_sized()
+    ensures start { StartIsRightSized }
+    ensures steps { FilesStayRightSized }
 {}

@@ -1,4 +1,4 @@
-use Rattle.qplain_laws.proofs.Looking.{superuser_meets_no_quota}
+use Rattle.qplain_laws.proofs.Asking.{superuser_meets_no_quota}
 use Rattle.qplain_laws.proofs.changes.superuser_meets_no_quota.Goals as goal
 
 pub returns : goal.returns

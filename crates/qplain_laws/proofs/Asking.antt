@@ -1,4 +1,4 @@
--- A look leaves the state, and no quota is in the superuser's way.
+-- A call that only asks leaves the state, and no quota is in the superuser's way.
 use Rattle.std.proofs.Common.{◌≡◌, ◌≢◌, ℕ, Bool, true, false, cond, Some, None, refl, sym, ap, ◌∙◌}
 use Rattle.qrules.specs.declared.kind.Kind.{Kind}
 use Rattle.qrules.specs.declared.over.Over.{Over}
@@ -14,38 +14,38 @@ use Rattle.qplain.specs.Decision.{fault_of_holder, first_refusal, is_too_full, r
 use Rattle.qplain.specs.Attempt.{Attempt, Refuse, Answer, Becomes}
 use Rattle.qplain.specs.Calls.{attempt}
 use Rattle.qplain.specs.Step.{settle, settled}
-use Rattle.qplain_laws.specs.Changes.{LooksChangeNothing, SuperuserMeetsNoQuota, is_look}
+use Rattle.qplain_laws.specs.Changes.{AskingChangesNothing, SuperuserMeetsNoQuota, only_asks}
 use Rattle.qplain_laws.specs.Laws.{is_for_limits}
 use Rattle.qplain_laws.proofs.Answering.{MayBecome, TellsNone, attempt-none, is_refused}
 
--- ---- looks
+-- ---- calls that ask
 
--- no look has a plain result
-no-result : (S T : State) (call : Call) → is_look call ≡ true → MayBecome S call T → ⊥
-no-result S T (Read path off len) look may = may
-no-result S T (AskStat path) look may = may
-no-result S T (AskQuota kind id) look may = may
-no-result S T (Create path) look may = cc
-no-result S T (Mkdir path) look may = cc
-no-result S T (Write path off bytes) look may = cc
-no-result S T (Truncate path size) look may = cc
-no-result S T (Link from to) look may = cc
-no-result S T (Unlink path) look may = cc
-no-result S T (Rmdir path) look may = cc
-no-result S T (Rename from to) look may = cc
-no-result S T (Chown path uid gid) look may = cc
-no-result S T (SetQuota kind id limits) look may = cc
-no-result S T (SetGrace graces) look may = cc
+-- no call that only asks has a plain result
+no-result : (S T : State) (call : Call) → only_asks call ≡ true → MayBecome S call T → ⊥
+no-result S T (Read path off len) asks may = may
+no-result S T (AskStat path) asks may = may
+no-result S T (AskQuota kind id) asks may = may
+no-result S T (Create path) asks may = cc
+no-result S T (Mkdir path) asks may = cc
+no-result S T (Write path off bytes) asks may = cc
+no-result S T (Truncate path size) asks may = cc
+no-result S T (Link from to) asks may = cc
+no-result S T (Unlink path) asks may = cc
+no-result S T (Rmdir path) asks may = cc
+no-result S T (Rename from to) asks may = cc
+no-result S T (Chown path uid gid) asks may = cc
+no-result S T (SetQuota kind id limits) asks may = cc
+no-result S T (SetGrace graces) asks may = cc
 
-settle-looked : (S : State) (cred : Caller) (moment : ℕ) (call : Call) → is_look call ≡ true → (a : Attempt) → TellsNone (MayBecome S call) a
+settle-asked : (S : State) (cred : Caller) (moment : ℕ) (call : Call) → only_asks call ≡ true → (a : Attempt) → TellsNone (MayBecome S call) a
     → (settle S cred moment a).0 ≡ S
-settle-looked S cred moment call look (Refuse r) tells = refl
-settle-looked S cred moment call look (Answer reply) tells = refl
-settle-looked S cred moment call look (Becomes T number) tells = absurd (no-result S T call look tells.none)
+settle-asked S cred moment call asks (Refuse r) tells = refl
+settle-asked S cred moment call asks (Answer reply) tells = refl
+settle-asked S cred moment call asks (Becomes T number) tells = absurd (no-result S T call asks tells.none)
 
-pub looks_change_nothing : LooksChangeNothing
-looks_change_nothing S cred moment call look =
-    settle-looked S cred moment call look (attempt S cred moment call) (attempt-none S cred moment call)
+pub asking_changes_nothing : AskingChangesNothing
+asking_changes_nothing S cred moment call asks =
+    settle-asked S cred moment call asks (attempt S cred moment call) (attempt-none S cred moment call)
 
 -- ---- the superuser
 
