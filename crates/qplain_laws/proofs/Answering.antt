@@ -1,6 +1,6 @@
 -- What the tests of each call leave: a refusal for no limit, an answer that tells of no change, or a plain result that
 -- keeps what the call does not change.
-use Rattle.std.proofs.Common.{◌≡◌, ℕ, ◌+◌, ◌==◌, Bool, true, false, not, ◌&&◌, ◌||◌, nat_lt, cond, List, length, Option, Some, None, is_some, Result, Ok, Err, refl}
+use Rattle.std.proofs.Common.{◌≡◌, ℕ, ◌+◌, ◌==◌, Bool, true, false, not, ◌&&◌, ◌||◌, nat_lt, cond, List, length, Option, Some, None, is_some, Result, Ok, Err, refl, filter, arith}
 use Rattle.std.specs.List.{find, list_any}
 use Rattle.std.specs.Option.{unwrap_or}
 use Rattle.qblocks.specs.File.{read_at}
@@ -12,16 +12,19 @@ use Rattle.qplain.specs.declared.refusal.Refusal.TheVariants.{EBUSY, EINVAL, ENA
 use Rattle.qplain.specs.declared.reply.Reply.{Reply}
 use Rattle.qplain.specs.declared.reply.Reply.TheVariants.{Done, Bytes, Stat as StatReply, Quota as QuotaReply, Refused}
 use Rattle.qplain.specs.Caller.{Caller, is_superuser}
-use Rattle.qplain.specs.State.{Holder, Inode, State, inode_at, is_directory, named, new_directory}
-use Rattle.qplain.specs.Use.{has_too_many_links, is_empty}
+use Rattle.qplain.specs.State.{Holder, Inode, State, inode_at, is_directory, named, new_directory, NameKey}
+use Rattle.qplain.specs.Use.{has_too_many_links, is_empty, has_name, total_of}
 use Rattle.qplain.specs.Walk.{components, is_too_long, last_name, led_to, parent, walk}
 use Rattle.qplain.specs.Arguments.{is_declared, is_holder, is_invalid, paths_of}
 use Rattle.qplain.specs.Attempt.{Attempt, Refuse, Answer, Becomes, at_inode, at_name, at_path, at_reached, in_parent, in_reached, no_change, under}
 use Rattle.qplain.specs.Rights.{is_own, may_give, may_remove, may_write}
-use Rattle.qplain.specs.Names.{create_as, created, link_as, link_to, mkdir_as, rmdir_as, rmdir_at, unless_too_many_links, unlink_as, unlink_at, with_name}
+use Rattle.qplain.specs.Names.{create_as, created, link_as, link_to, mkdir_as, rmdir_as, rmdir_at, unless_too_many_links, unlink_as, unlink_at, with_name, swept, without_name}
 use Rattle.qplain.specs.Renames.{meets, passes, rename_as, rename_from, rename_over, rename_to, renamed}
-use Rattle.qplain.specs.Files.{read_from, stat_at, stat_of, truncate_at, write_into}
-use Rattle.qplain.specs.Owners.{chown_at}
+use Rattle.qplain_laws.specs.Replaces.{Replaces}
+use Rattle.qplain_laws.proofs.Replacing.{Replaces-changed}
+use Rattle.qrules.specs.Sort.{Sort, Inodes, Blocks}
+use Rattle.qplain.specs.Files.{read_from, with_inode, stat_at, stat_of, truncate_at, write_into}
+use Rattle.qplain.specs.Owners.{chown_at, with_owners}
 use Rattle.qplain.specs.Quotas.{quota_from, quota_of, with_limits_of}
 use Rattle.qplain.specs.Calls.{attempt, attempt_of, unless}
 use Rattle.qplain.specs.Journal.{change_of}
@@ -38,6 +41,33 @@ pub record KeepsSettings (S T : State) : Type 0 where
   pub holders : T.holders ≡ S.holders
   pub graces : T.graces ≡ S.graces
 
+-- the settings are the same, and so are all inodes that pass some test; the others are gone
+pub record Sweeps (S T : State) : Type 0 where
+  pub settings : KeepsSettings S T
+  pub test : ℕ → Bool
+  pub inodes : T.inodes ≡ filter (λ e. test e.0) S.inodes
+
+-- a sweep is one
+sweeps : (S : State) (names : List (NameKey × ℕ)) → Sweeps S (swept (record S { names = names }))
+sweeps S names = record {
+  settings = record { holders = refl; graces = refl };
+  test = has_name (record S { names = names });
+  inodes = refl;
+}
+
+-- other owners leave the totals
+given : (S : State) (number : ℕ) (inode : Inode) (uid gid : ℕ) → inode_at S number ≡ Some inode
+    → KeepsSettings S (with_inode S number (with_owners inode uid gid))
+    × ((sort : Sort) → total_of (with_inode S number (with_owners inode uid gid)) sort ≡ total_of S sort)
+given S number inode uid gid there = (record { holders = refl; graces = refl }, (λ sort. by sort))
+  where
+    replaces : Replaces S (with_inode S number (with_owners inode uid gid)) (Some inode) (Some (with_owners inode uid gid))
+    replaces = Replaces-changed S number inode (with_owners inode uid gid) there
+
+    by : (sort : Sort) → total_of (with_inode S number (with_owners inode uid gid)) sort ≡ total_of S sort
+    by Inodes = let sum = replaces.totals Inodes in omega (arith, sum)
+    by Blocks = let sum = replaces.totals Blocks in omega (arith, sum)
+
 -- what is known of the plain result of a call: calls that only ask have none, two change settings, and the others keep them
 abbrev pub MayBecome : State → Call → State → Type 0
 MayBecome S (Read path off len) T = ⊥
@@ -46,6 +76,10 @@ MayBecome S (AskQuota kind id) T = ⊥
 MayBecome S (SetQuota kind id limits) T = T ≡ with_limits_of S kind id limits
 MayBecome S (SetGrace graces) T = T ≡ record S { graces = graces }
 MayBecome S (Link from to) T = T ≡ record S { names = T.names }
+MayBecome S (Unlink path) T = Sweeps S T
+MayBecome S (Rmdir path) T = Sweeps S T
+MayBecome S (Rename from to) T = Sweeps S T
+MayBecome S (Chown path uid gid) T = (KeepsSettings S T) × ((sort : Sort) → total_of T sort ≡ total_of S sort)
 MayBecome S call T = KeepsSettings S T
 
 -- a refusal is for no limit, an answer is no refusal and tells of no change, and the fact holds of a plain result
@@ -83,13 +117,13 @@ module _ {P : State → Type 0} where
   unless-none false true a none = refuses ENAMETOOLONG refl
   unless-none false false a none = none
 
-  at_inode-none : (try : ℕ → Inode → Attempt) (number : ℕ) (o : Option Inode) → ((inode : Inode) → TellsNone P (try number inode))
+  at_inode-none : (try : ℕ → Inode → Attempt) (number : ℕ) (o : Option Inode) → ((inode : Inode) → o ≡ Some inode → TellsNone P (try number inode))
       → TellsNone P (at_inode try number o)
   at_inode-none try number None each = refuses ENOENT refl
-  at_inode-none try number (Some inode) each = each inode
+  at_inode-none try number (Some inode) each = each inode refl
 
   at_reached-none : (S : State) (try : ℕ → Inode → Attempt) (r : Result ℕ Refusal) → Plain r
-      → ((number : ℕ) (inode : Inode) → TellsNone P (try number inode)) → TellsNone P (at_reached S try r)
+      → ((number : ℕ) (inode : Inode) → inode_at S number ≡ Some inode → TellsNone P (try number inode)) → TellsNone P (at_reached S try r)
   at_reached-none S try (Err e) plain each = refuses e plain
   at_reached-none S try (Ok number) plain each = at_inode-none try number (inode_at S number) (each number)
 
@@ -103,11 +137,11 @@ module _ {P : State → Type 0} where
   under-none S of_root try names None plain each = refuses of_root plain
   under-none S of_root try names (Some name) plain each = in_reached-none try name (parent S names) (parent-plain S names) (λ dir. each dir name)
 
-  at_path-none : (S : State) (try : ℕ → Inode → Attempt) (path : List ℕ) → ((number : ℕ) (inode : Inode) → TellsNone P (try number inode))
+  at_path-none : (S : State) (try : ℕ → Inode → Attempt) (path : List ℕ) → ((number : ℕ) (inode : Inode) → inode_at S number ≡ Some inode → TellsNone P (try number inode))
       → TellsNone P (at_path S try path)
   at_path-none S try path each = at_reached-none S try (walk S (components path)) (walk-plain S (Ok ROOT) (components path) tt) each
 
-  at_name-none : (S : State) (try : ℕ → Inode → Attempt) (dir : ℕ) (name : List ℕ) → ((number : ℕ) (inode : Inode) → TellsNone P (try number inode))
+  at_name-none : (S : State) (try : ℕ → Inode → Attempt) (dir : ℕ) (name : List ℕ) → ((number : ℕ) (inode : Inode) → inode_at S number ≡ Some inode → TellsNone P (try number inode))
       → TellsNone P (at_name S try dir name)
   at_name-none S try dir name each = at_reached-none S try (led_to (named S dir name)) (led_to-plain (named S dir name)) each
 
@@ -144,38 +178,40 @@ attempt_of-none S cred (Mkdir path) =
     or (is_some (named S dir name)) EEXIST _ refl
     (few_links-none (created S (new_directory cred.uid cred.gid) dir name) S.next (record { holders = refl; graces = refl })))
 attempt_of-none S cred (Write path off bytes) =
-    at_path-none S (write_into S cred off bytes) path (λ number inode.
+    at_path-none S (write_into S cred off bytes) path (λ number inode there.
     or inode.dir EISDIR _ refl (or (not (may_write cred inode)) EACCES _ refl
     (either (length bytes == 0) _ _ (answers (Done number no_change) refl refl)
     (or (nat_lt S.file_limit (off + length bytes)) EFBIG _ refl (becomes _ _ (record { holders = refl; graces = refl }))))))
 attempt_of-none S cred (Truncate path size) =
-    at_path-none S (truncate_at S cred size) path (λ number inode.
+    at_path-none S (truncate_at S cred size) path (λ number inode there.
     or inode.dir EISDIR _ refl (or (not (may_write cred inode)) EACCES _ refl
     (or (nat_lt S.file_limit size) EFBIG _ refl (becomes _ _ (record { holders = refl; graces = refl })))))
 attempt_of-none S cred (Read path off len) =
-    at_path-none S (read_from off len) path (λ number inode. or inode.dir EISDIR _ refl (answers (Bytes (read_at inode.file off len)) refl refl))
-attempt_of-none S cred (AskStat path) = at_path-none S (stat_at S) path (λ number inode. answers (StatReply (stat_of S number inode)) refl refl)
+    at_path-none S (read_from off len) path (λ number inode there. or inode.dir EISDIR _ refl (answers (Bytes (read_at inode.file off len)) refl refl))
+attempt_of-none S cred (AskStat path) = at_path-none S (stat_at S) path (λ number inode there. answers (StatReply (stat_of S number inode)) refl refl)
 attempt_of-none S cred (Link from to) =
-    at_path-none S (link_to S to) from (λ number inode.
+    at_path-none S (link_to S to) from (λ number inode there.
     in_parent-none S EEXIST (link_as S number inode) to refl (λ dir name.
     or inode.dir EPERM _ refl (or (is_some (named S dir name)) EEXIST _ refl (few_links-none (with_name S dir name number) number refl))))
 attempt_of-none S cred (Unlink path) =
     in_parent-none S EISDIR (unlink_as S cred) path refl (λ dir name.
-    at_name-none S (unlink_at S cred dir name) dir name (λ number inode.
-    or inode.dir EISDIR _ refl (or (not (may_remove S cred dir number)) EPERM _ refl (becomes _ _ (record { holders = refl; graces = refl })))))
+    at_name-none S (unlink_at S cred dir name) dir name (λ number inode there.
+    or inode.dir EISDIR _ refl (or (not (may_remove S cred dir number)) EPERM _ refl (becomes _ _ (sweeps S (without_name S dir name).names)))))
 attempt_of-none S cred (Rmdir path) =
     in_parent-none S EBUSY (rmdir_as S cred) path refl (λ dir name.
-    at_name-none S (rmdir_at S cred dir name) dir name (λ number inode.
+    at_name-none S (rmdir_at S cred dir name) dir name (λ number inode there.
     or (not inode.dir) ENOTDIR _ refl (or (not (may_remove S cred dir number)) EPERM _ refl
-    (or (not (is_empty S number)) ENOTEMPTY _ refl (becomes _ _ (record { holders = refl; graces = refl }))))))
+    (or (not (is_empty S number)) ENOTEMPTY _ refl (becomes _ _ (sweeps S (without_name S dir name).names))))))
 attempt_of-none S cred (Rename from to) =
     in_parent-none S EBUSY (rename_from S cred to) from refl (λ dir name.
-    at_name-none S (rename_to S cred to dir name) dir name (λ number inode.
+    at_name-none S (rename_to S cred to dir name) dir name (λ number inode there.
     in_parent-none S EBUSY (rename_as S cred to dir name number inode) to refl (λ to_dir to_name.
-    rename_over-none S cred (components to) dir name number inode to_dir to_name (named S to_dir to_name) (record { holders = refl; graces = refl }))))
+    rename_over-none S cred (components to) dir name number inode to_dir to_name (named S to_dir to_name)
+    (sweeps S (with_name (without_name (without_name S dir name) to_dir to_name) to_dir to_name number).names))))
 attempt_of-none S cred (Chown path uid gid) =
-    at_path-none S (chown_at S cred uid gid) path (λ number inode.
-    or (not (may_give cred inode (unwrap_or uid inode.uid) (unwrap_or gid inode.gid))) EPERM _ refl (becomes _ _ (record { holders = refl; graces = refl })))
+    at_path-none S (chown_at S cred uid gid) path (λ number inode there.
+    or (not (may_give cred inode (unwrap_or uid inode.uid) (unwrap_or gid inode.gid))) EPERM _ refl
+    (becomes _ _ (given S number inode (unwrap_or uid inode.uid) (unwrap_or gid inode.gid) there)))
 attempt_of-none S cred (SetQuota kind id limits) =
     or (not (is_superuser cred)) EPERM _ refl (or (not (is_declared S kind id)) ESRCH _ refl (becomes _ _ refl))
 attempt_of-none S cred (SetGrace graces) = or (not (is_superuser cred)) EPERM _ refl (becomes _ _ refl)

@@ -50,4 +50,5 @@ pub mod Making
 pub mod Unnaming
 pub mod DoneSteps
 pub mod Sizing
+pub mod Costless
 pub mod Tallying

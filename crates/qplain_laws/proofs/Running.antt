@@ -92,10 +92,10 @@ same-holder kind id S T (Truncate path size) other may = kept-settings kind id S
 same-holder kind id S T (Read path off len) other may = absurd may
 same-holder kind id S T (AskStat path) other may = absurd may
 same-holder kind id S T (Link from to) other may = ap (λ (U : State). find (is_holder kind id) U.holders) may
-same-holder kind id S T (Unlink path) other may = kept-settings kind id S T may
-same-holder kind id S T (Rmdir path) other may = kept-settings kind id S T may
-same-holder kind id S T (Rename from to) other may = kept-settings kind id S T may
-same-holder kind id S T (Chown path uid gid) other may = kept-settings kind id S T may
+same-holder kind id S T (Unlink path) other may = kept-settings kind id S T may.settings
+same-holder kind id S T (Rmdir path) other may = kept-settings kind id S T may.settings
+same-holder kind id S T (Rename from to) other may = kept-settings kind id S T may.settings
+same-holder kind id S T (Chown path uid gid) other may = kept-settings kind id S T may.0
 same-holder kind id S T (SetQuota k n limits) other may =
     ap (λ (U : State). find (is_holder kind id) U.holders) may ∙ kept-limits kind k id n limits other S.holders
 same-holder kind id S T (SetGrace graces) other may = ap (λ (U : State). find (is_holder kind id) U.holders) may

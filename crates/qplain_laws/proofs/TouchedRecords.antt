@@ -71,7 +71,7 @@ module _ (S T : State) (moment : ℕ) (lawful : IsLawful S) (kind : Kind) (id : 
       (λ i. Some (account_of T (ends i))) ∙ ap (λ a. Some a) same
 
   -- a principal whose uses stay, and whose limits are not set, has the record that it had
-  record-same : find (is_holder kind id) T.holders ≡ find (is_holder kind id) S.holders → record_at (ends_after T moment) kind id ≡ record_at S kind id
+  pub record-same : find (is_holder kind id) T.holders ≡ find (is_holder kind id) S.holders → record_at (ends_after T moment) kind id ≡ record_at S kind id
   record-same same =
       ap (option_map (account_of T)) (find-map (is_holder kind id) (with_ends_of T moment) (λ h. refl) T.holders ∙ ap (option_map (with_ends_of T moment)) same)
       ∙ record-of (find (is_holder kind id) S.holders) refl

@@ -1,5 +1,5 @@
 -- What one call changes, and what it leaves as it was.
-use Rattle.std.specs.Prelude.{◌≡◌, ◌≢◌, ℕ, ◌+◌, Bool, true, false, ◌&&◌, ◌==◌, Option, Some, None}
+use Rattle.std.specs.Prelude.{◌≡◌, ◌≢◌, ℕ, ◌+◌, Bool, true, false, ◌&&◌, ◌==◌, List, Option, Some, None}
 use Rattle.std.specs.List.{find}
 use Rattle.std.specs.Option.{option_map}
 use Rattle.qrules.specs.declared.kind.Kind.{Kind}
@@ -7,13 +7,15 @@ use Rattle.qrules.specs.declared.over.Over.{Over}
 use Rattle.qrules.specs.Sort.{Sort, Inodes, Blocks, grace_of}
 use Rattle.qrules.specs.Account.{Account}
 use Rattle.qplain.specs.declared.call.Call.{Call}
-use Rattle.qplain.specs.declared.call.Call.TheVariants.{Read, Stat, SetQuota, Quota}
+use Rattle.qplain.specs.declared.call.Call.TheVariants.{Read, Stat, Link, Unlink, Rmdir, Rename, Chown, SetQuota, Quota}
 use Rattle.qplain.specs.declared.refusal.Refusal.TheVariants.{EDQUOT}
 use Rattle.qplain.specs.declared.reply.Reply.TheVariants.{Refused}
 use Rattle.qplain.specs.Caller.{Caller, is_superuser}
 use Rattle.qplain.specs.State.{Holder, State, inode_at}
 use Rattle.qplain.specs.Use.{account_of, use_of}
 use Rattle.qplain.specs.Arguments.{is_holder, is_same_kind}
+use Rattle.qplain.specs.Attempt.{no_change}
+use Rattle.qplain.specs.Journal.{change_of}
 use Rattle.qplain.specs.Step.{step}
 use Rattle.qplain_laws.specs.Laws.{IsLawful}
 use Rattle.qplain_laws.specs.Replaces.{charge_of}
@@ -84,3 +86,28 @@ pub record TouchesOnly (old new : State) (call : Call) (number : ℕ) : Type 0 w
 abbrev pub OneInodeIsTouched : Type 0
 OneInodeIsTouched = (S : State) (cred : Caller) (moment : ℕ) (call : Call) → IsLawful S
     → (number : ℕ) × TouchesOnly S (step S cred moment call).0 call number
+
+-- the call only gives, moves or takes names: link, unlink, rmdir or rename
+abbrev pub is_of_names : Call → Bool
+is_of_names (Link from to) = true
+is_of_names (Unlink path) = true
+is_of_names (Rmdir path) = true
+is_of_names (Rename from to) = true
+is_of_names call = false
+
+-- every inode and every quota record is as it was
+pub record KeepsInodes (old new : State) : Type 0 where
+  pub inodes : new.inodes ≡ old.inodes
+  pub records : (kind : Kind) (id : ℕ) → record_at new kind id ≡ record_at old kind id
+
+-- names cost nothing: from a lawful state, a call on names that is told of no change changes neither inodes nor records
+abbrev pub NamesCostNothing : Type 0
+NamesCostNothing = (S : State) (cred : Caller) (moment : ℕ) (call : Call) → IsLawful S → is_of_names call ≡ true
+    → change_of (step S cred moment call).1 ≡ no_change → KeepsInodes S (step S cred moment call).0
+
+-- a link is told of no change, and neither is a chown, which moves what an inode takes and adds nothing
+abbrev pub TotalsAreMoved : Type 0
+TotalsAreMoved =
+    (S : State) (cred : Caller) (moment : ℕ)
+    → ((from to : List ℕ) → change_of (step S cred moment (Link from to)).1 ≡ no_change)
+    × ((path : List ℕ) (uid gid : Option ℕ) → change_of (step S cred moment (Chown path uid gid)).1 ≡ no_change)

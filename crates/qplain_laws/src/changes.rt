@@ -1,7 +1,7 @@
 //! What one call changes and what it leaves, each law the contract of a function that does nothing when it runs.
 ghost use Rattle.qplain_laws.specs.Done.{DoneIsDone};
 ghost use Rattle.qplain_laws.specs.Sizes.{FilesStayRightSized, StartIsRightSized};
-ghost use Rattle.qplain_laws.specs.Changes.{GracesRunOn, AskingChangesNothing, OneInodeIsTouched, SuperuserMeetsNoQuota};
+ghost use Rattle.qplain_laws.specs.Changes.{AskingChangesNothing, GracesRunOn, NamesCostNothing, OneInodeIsTouched, SuperuserMeetsNoQuota, TotalsAreMoved};
 
 /// Read, stat and quota, which only ask, leave the state as it is.
 pub fn asking_changes_nothing()
@@ -36,4 +36,11 @@ pub fn done_is_done()
 pub fn files_stay_right_sized()
     ensures start { StartIsRightSized }
     ensures steps { FilesStayRightSized }
+{}
+
+/// Names cost nothing: from a lawful state a link, an unlink, a rmdir or a rename that is told of no change leaves every
+/// inode and every record. A link and a chown are never told of one.
+pub fn names_cost_nothing()
+    ensures inodes { NamesCostNothing }
+    ensures told { TotalsAreMoved }
 {}
