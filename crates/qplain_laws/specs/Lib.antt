@@ -7,4 +7,5 @@ pub mod Journals
 pub mod Examples
 pub mod MoreExamples
 pub mod NameExamples
+pub mod EdgeExamples
 pub mod Replaces

@@ -5,7 +5,9 @@ pub use changes::{
     asking_changes_nothing, done_is_done, files_stay_right_sized, graces_run_on,
     names_cost_nothing, one_inode_is_touched, superuser_meets_no_quota,
 };
-pub use examples::{more_worked_examples, worked_examples, worked_examples_of_names};
+pub use examples::{
+    more_worked_examples, worked_examples, worked_examples_at_edges, worked_examples_of_names,
+};
 pub use journals::{changes_are_small, journals_stay_lawful, tallies_add_up};
 pub use laws::{
     ends_stay, giving_back_is_granted, holders_keep_the_rules, inodes_stay_reached, limits_hold,
