@@ -51,4 +51,5 @@ pub mod Unnaming
 pub mod DoneSteps
 pub mod Sizing
 pub mod Costless
+pub mod LinksFirst
 pub mod Tallying
