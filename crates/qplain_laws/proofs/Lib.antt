@@ -52,4 +52,6 @@ pub mod DoneSteps
 pub mod Sizing
 pub mod Costless
 pub mod LinksFirst
+pub mod NamesApart
+pub mod OtherNames
 pub mod Tallying

@@ -46,7 +46,7 @@ remove-absent es k q sorted none =
     either false = refl
 
 -- nor is the key's own
-remove-itself : (es : List (NameKey × ℕ)) (k : NameKey) → IsStrictlySortedBy name_key_cmp (keys_of es)
+pub remove-itself : (es : List (NameKey × ℕ)) (k : NameKey) → IsStrictlySortedBy name_key_cmp (keys_of es)
     → lookup (is_at (name_key_cmp k)) (remove_entry (is_at (name_key_cmp k)) es) ≡ None
 remove-itself es k sorted =
     lookup-remove_entry name-laws (is_at (name_key_cmp k)) (λ x y e. name-laws.congr k x y e) k es (IsDistinct-from_sorted name_key_cmp (keys_of es) sorted)

@@ -1,5 +1,5 @@
 -- What one call changes, and what it leaves as it was.
-use Rattle.std.specs.Prelude.{◌≡◌, ◌≢◌, ℕ, ◌+◌, Bool, true, false, ◌&&◌, ◌==◌, List, Option, Some, None}
+use Rattle.std.specs.Prelude.{◌≡◌, ◌≢◌, ℕ, ◌+◌, Bool, true, false, ◌&&◌, ◌==◌, List, [], ◌∷◌, All, Option, Some, None, Ok}
 use Rattle.std.specs.List.{find}
 use Rattle.std.specs.Option.{option_map}
 use Rattle.qrules.specs.declared.kind.Kind.{Kind}
@@ -7,12 +7,13 @@ use Rattle.qrules.specs.declared.over.Over.{Over}
 use Rattle.qrules.specs.Sort.{Sort, Inodes, Blocks, grace_of}
 use Rattle.qrules.specs.Account.{Account}
 use Rattle.qplain.specs.declared.call.Call.{Call}
-use Rattle.qplain.specs.declared.call.Call.TheVariants.{Read, Stat, Link, Unlink, Rmdir, Rename, Chown, SetQuota, Quota}
+use Rattle.qplain.specs.declared.call.Call.TheVariants.{Create, Mkdir, Read, Stat, Link, Unlink, Rmdir, Rename, Chown, SetQuota, Quota}
 use Rattle.qplain.specs.declared.refusal.Refusal.TheVariants.{EDQUOT}
 use Rattle.qplain.specs.declared.reply.Reply.TheVariants.{Refused}
 use Rattle.qplain.specs.Caller.{Caller, is_superuser}
-use Rattle.qplain.specs.State.{Holder, State, inode_at}
+use Rattle.qplain.specs.State.{Holder, State, inode_at, named}
 use Rattle.qplain.specs.Use.{account_of, use_of}
+use Rattle.qplain.specs.Walk.{components, last_name, parent}
 use Rattle.qplain.specs.Arguments.{is_holder, is_same_kind}
 use Rattle.qplain.specs.Attempt.{no_change}
 use Rattle.qplain.specs.Journal.{change_of}
@@ -111,3 +112,24 @@ TotalsAreMoved =
     (S : State) (cred : Caller) (moment : ℕ)
     → ((from to : List ℕ) → change_of (step S cred moment (Link from to)).1 ≡ no_change)
     × ((path : List ℕ) (uid gid : Option ℕ) → change_of (step S cred moment (Chown path uid gid)).1 ≡ no_change)
+
+-- the paths whose last names a call gives or takes
+abbrev pub changed_paths : Call → List (List ℕ)
+changed_paths (Create path) = path ∷ []
+changed_paths (Mkdir path) = path ∷ []
+changed_paths (Link from to) = to ∷ []
+changed_paths (Unlink path) = path ∷ []
+changed_paths (Rmdir path) = path ∷ []
+changed_paths (Rename from to) = from ∷ to ∷ []
+changed_paths call = []
+
+-- the path's last name is this one, and its parent this directory
+abbrev pub IsPlaceOf : State → List ℕ → ℕ → List ℕ → Type 0
+IsPlaceOf S path dir name = (parent S (components path) ≡ Ok dir) × (last_name (components path) ≡ Some name)
+
+-- from a lawful state every name leads where it led, but the last names of the paths that the call changes
+abbrev pub OtherNamesStay : Type 0
+OtherNamesStay =
+    (S : State) (cred : Caller) (moment : ℕ) (call : Call) (dir : ℕ) (name : List ℕ) → IsLawful S
+    → All (λ path. IsPlaceOf S path dir name → ⊥) (changed_paths call)
+    → named (step S cred moment call).0 dir name ≡ named S dir name

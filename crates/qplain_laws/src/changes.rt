@@ -1,7 +1,7 @@
 //! What one call changes and what it leaves, each law the contract of a function that does nothing when it runs.
 ghost use Rattle.qplain_laws.specs.Done.{DoneIsDone};
 ghost use Rattle.qplain_laws.specs.Sizes.{FilesStayRightSized, StartIsRightSized};
-ghost use Rattle.qplain_laws.specs.Changes.{AskingChangesNothing, GracesRunOn, NamesCostNothing, OneInodeIsTouched, SuperuserMeetsNoQuota, TotalsAreMoved};
+ghost use Rattle.qplain_laws.specs.Changes.{AskingChangesNothing, GracesRunOn, NamesCostNothing, OneInodeIsTouched, OtherNamesStay, SuperuserMeetsNoQuota, TotalsAreMoved};
 
 /// Read, stat and quota, which only ask, leave the state as it is.
 pub fn asking_changes_nothing()
@@ -23,6 +23,12 @@ pub fn graces_run_on()
 /// what that one takes and took, and whom it charges as before has the record that it had, unless the call sets limits.
 pub fn one_inode_is_touched()
     ensures { OneInodeIsTouched }
+{}
+
+/// From a lawful state every name leads where it led, but the last names of the paths that a call changes: of a create,
+/// a mkdir, an unlink or a rmdir its path, of a link the second, of a rename both.
+pub fn other_names_stay()
+    ensures { OtherNamesStay }
 {}
 
 /// From a lawful state a call that is answered `Done` has done what it is named for, told in look-ups alone: where its
