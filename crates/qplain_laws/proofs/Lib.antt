@@ -52,6 +52,7 @@ pub mod DoneSteps
 pub mod Sizing
 pub mod Costless
 pub mod LinksFirst
+pub mod Overwriting
 pub mod NamesApart
 pub mod OtherNames
 pub mod Tallying

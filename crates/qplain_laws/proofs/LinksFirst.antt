@@ -1,5 +1,5 @@
 -- A mkdir meets EMLINK before want of space or of quota.
-use Rattle.std.proofs.Common.{◌≡◌, ℕ, ◌+◌, ◌<◌, Bool, true, false, nat_lt, cond, List, Option, Some, None, is_some, Result, Ok, refl, sym, ap, subst, ◌∙◌, All, tests, arith}
+use Rattle.std.proofs.Common.{◌≡◌, ℕ, ◌+◌, ◌<◌, true, false, nat_lt, List, Option, Some, None, is_some, Result, Ok, refl, sym, ap, subst, ◌∙◌, All, tests, arith}
 use Rattle.qplain.specs.declared.bounds.TheConstants.{MAX_LINKS}
 use Rattle.qplain.specs.declared.call.Call.TheVariants.{Mkdir}
 use Rattle.qplain.specs.declared.refusal.Refusal.{Refusal}

@@ -9,6 +9,7 @@ use Rattle.qrules.specs.declared.kind.Kind.{Kind}
 use Rattle.qrules.specs.declared.limits.Limits.{Limits}
 use Rattle.qrules.specs.declared.graces.Graces.{Graces}
 use Rattle.qblocks.specs.File.{File, after_truncate, after_write, read_at}
+use Rattle.qblocks.proofs.Touched.{after_write_none}
 use Rattle.qplain.specs.declared.call.Call.{Call}
 use Rattle.qplain.specs.declared.call.Call.TheVariants.{Create, Mkdir, Write, Truncate, Read, Chown, SetQuota, SetGrace, Quota as AskQuota}
 use Rattle.qplain.specs.declared.refusal.Refusal.TheVariants.{EEXIST, EISDIR, EACCES, EFBIG, EMLINK, EPERM, ESRCH}
@@ -34,9 +35,7 @@ use Rattle.qplain_laws.proofs.Trying.{none-from_not_some, true-from_not}
 
 -- a write of nothing leaves the file
 written-nothing : (file : File) (off : ℕ) (bytes : List ℕ) → (length bytes == 0) ≡ true → after_write file off bytes ≡ file
-unfolding after_write
-written-nothing file off [] none = refl
-written-nothing file off (byte ∷ rest) none = let zero : length (byte ∷ rest) ≡ 0 = grind (arith, tests, none) in absurd (omega (arith, zero))
+written-nothing file off bytes none = after_write_none file off bytes (grind (arith, tests, none))
 
 -- the principal that is declared has the limits that are set
 limits-set : (kind : Kind) (id : ℕ) (limits : Limits) (hs : List Holder) → list_any (is_holder kind id) hs ≡ true

@@ -32,7 +32,8 @@ unfolding with_touched
 rises-touched xs off zero rises = rises
 rises-touched xs off (suc n) rises = Rises-with_index 0 (with_touched xs off n) _ (rises-touched xs off n rises) (omega arith)
 
-in_order-after_write : (file : File) (off : ℕ) (bytes : List ℕ) → IsStrictlySortedBy nat_cmp file.allocated
+-- a write leaves the allocated indexes in order
+pub in_order-after_write : (file : File) (off : ℕ) (bytes : List ℕ) → IsStrictlySortedBy nat_cmp file.allocated
     → IsStrictlySortedBy nat_cmp (after_write file off bytes).allocated
 unfolding after_write
 in_order-after_write file off [] sorted = sorted

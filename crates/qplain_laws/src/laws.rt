@@ -1,5 +1,5 @@
 //! The laws of the plain machine, each the contract of a function that does nothing when it runs.
-ghost use Rattle.qplain_laws.specs.Order.{LinksComeFirst};
+ghost use Rattle.qplain_laws.specs.Order.{LinksComeFirst, OverwritesAreGranted};
 ghost use Rattle.qplain_laws.specs.Laws.{AllStayReached, EndsAreTheRules, EndsStay, GivingBackIsGranted, LimitsHold, LimitsStay, NewLimitsAreTheRules, NumbersGoOn, OwnersHold, RefusalsChangeNothing, RightsHold, SetupsStay, StartIsLawful, StartIsReached, StepsStayLawful, UsesAddUp};
 
 /// Totals and inode numbers stay within the bounds, and a grace end stands exactly where use is over its soft limit.
@@ -31,6 +31,11 @@ pub fn giving_back_is_granted()
 /// first.
 pub fn links_come_first()
     ensures { LinksComeFirst }
+{}
+
+/// From a lawful state a write that touches allocated blocks alone is refused for no want of space or of quota.
+pub fn overwrites_are_granted()
+    ensures { OverwritesAreGranted }
 {}
 
 /// In a lawful state the uses of all users add up to the totals of the store, and so do those of all groups.
