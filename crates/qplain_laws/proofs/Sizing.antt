@@ -1,8 +1,7 @@
 -- Files stay within the file limit, and their blocks below their sizes.
-use Rattle.std.proofs.Common.{◌≡◌, ℕ, [], All, IfSome, Option, Some, sym, subst, refl}
+use Rattle.std.proofs.Common.{◌≡◌, ℕ, [], IfSome, Option, Some, sym, subst}
 use Rattle.std.specs.Ordering.{nat_cmp}
 use Rattle.std.specs.BTreeMap.{is_at}
-use Rattle.std.specs.Map.{values_of}
 use Rattle.std.proofs.lemmas.List.Elements.{All-cons, All-nil}
 use Rattle.std.proofs.lemmas.Map.Views.{All-values-insert_entry, All-values-set_value, IfSome-lookup_from_All}
 use Rattle.qblocks.specs.File.{File}
