@@ -3,6 +3,7 @@
 use Rattle.std.proofs.Common.{◌≡◌, ℕ, ◌+◌, ◌==◌, Bool, true, false, not, ◌&&◌, ◌||◌, nat_lt, cond, List, length, Option, Some, None, is_some, Result, Ok, Err, refl, filter, arith}
 use Rattle.std.specs.List.{find, list_any}
 use Rattle.std.specs.Option.{unwrap_or}
+use Rattle.qrules.specs.Sort.{Sort, Inodes, Blocks}
 use Rattle.qblocks.specs.File.{read_at}
 use Rattle.qplain.specs.declared.call.Call.{Call}
 use Rattle.qplain.specs.declared.call.Call.TheVariants.{Create, Mkdir, Write, Truncate, Read, Stat as AskStat, Link, Unlink, Rmdir, Rename, Chown, SetQuota, SetGrace, Quota as AskQuota}
@@ -12,23 +13,22 @@ use Rattle.qplain.specs.declared.refusal.Refusal.TheVariants.{EBUSY, EINVAL, ENA
 use Rattle.qplain.specs.declared.reply.Reply.{Reply}
 use Rattle.qplain.specs.declared.reply.Reply.TheVariants.{Done, Bytes, Stat as StatReply, Quota as QuotaReply, Refused}
 use Rattle.qplain.specs.Caller.{Caller, is_superuser}
-use Rattle.qplain.specs.State.{Holder, Inode, State, inode_at, is_directory, named, new_directory, NameKey}
-use Rattle.qplain.specs.Use.{has_too_many_links, is_empty, has_name, total_of}
+use Rattle.qplain.specs.State.{Holder, Inode, NameKey, State, inode_at, is_directory, named, new_directory}
+use Rattle.qplain.specs.Use.{has_name, has_too_many_links, is_empty, total_of}
 use Rattle.qplain.specs.Walk.{components, is_too_long, last_name, led_to, parent, walk}
 use Rattle.qplain.specs.Arguments.{is_declared, is_holder, is_invalid, paths_of}
 use Rattle.qplain.specs.Attempt.{Attempt, Refuse, Answer, Becomes, at_inode, at_name, at_path, at_reached, in_parent, in_reached, no_change, under}
 use Rattle.qplain.specs.Rights.{is_own, may_give, may_remove, may_write}
-use Rattle.qplain.specs.Names.{create_as, created, link_as, link_to, mkdir_as, rmdir_as, rmdir_at, unless_too_many_links, unlink_as, unlink_at, with_name, swept, without_name}
+use Rattle.qplain.specs.Names.{create_as, created, link_as, link_to, mkdir_as, rmdir_as, rmdir_at, swept, unless_too_many_links, unlink_as, unlink_at, with_name, without_name}
 use Rattle.qplain.specs.Renames.{meets, passes, rename_as, rename_from, rename_over, rename_to, renamed}
-use Rattle.qplain_laws.specs.Replaces.{Replaces}
-use Rattle.qplain_laws.proofs.Replacing.{Replaces-changed}
-use Rattle.qrules.specs.Sort.{Sort, Inodes, Blocks}
-use Rattle.qplain.specs.Files.{read_from, with_inode, stat_at, stat_of, truncate_at, write_into}
+use Rattle.qplain.specs.Files.{read_from, stat_at, stat_of, truncate_at, with_inode, write_into}
 use Rattle.qplain.specs.Owners.{chown_at, with_owners}
 use Rattle.qplain.specs.Quotas.{quota_from, quota_of, with_limits_of}
 use Rattle.qplain.specs.Calls.{attempt, attempt_of, unless}
 use Rattle.qplain.specs.Journal.{change_of}
 use Rattle.qplain_laws.specs.Laws.{is_for_limits}
+use Rattle.qplain_laws.specs.Replaces.{Replaces}
+use Rattle.qplain_laws.proofs.Replacing.{Replaces-changed}
 use Rattle.qplain_laws.proofs.WalkFaults.{Plain, led_to-plain, parent-plain, walk-plain}
 
 -- the reply is a refusal

@@ -21,7 +21,7 @@ use Rattle.qplain_laws.proofs.Doing.{OnDone, at_path-done, walk-ends}
 use Rattle.qplain.specs.Files.{stat_at}
 use Rattle.qplain_laws.proofs.Making.{ask_quota-done, chown-done, create-done, mkdir-done, read-done, set_grace-done, set_quota-done, truncate-done, write-done}
 use Rattle.qplain_laws.proofs.Unnaming.{link-done, rename-done, rmdir-done, unlink-done}
-use Rattle.qplain_laws.proofs.Running.{find-map}
+use Rattle.qplain_laws.proofs.Setting.{limits-ends}
 
 -- ---- call by call
 
@@ -47,10 +47,6 @@ attempt_of-done S cred lawful (AskQuota kind id) = ask_quota-done S cred lawful 
 leads-ends : (T : State) (moment : ℕ) (path : List ℕ) (number : ℕ) → LeadsTo T path number → LeadsTo (ends_after T moment) path number
 leads-ends T moment path number leads = walk-ends T moment (components path) ∙ leads
 
-same-limits : (T : State) (moment : ℕ) (o : Option Holder) → option_map (λ h. h.limits) (option_map (with_ends_of T moment) o) ≡ option_map (λ h. h.limits) o
-same-limits T moment None = refl
-same-limits T moment (Some h) = refl
-
 -- what was done is done with them too
 ends-done : (S T : State) (cred : Caller) (moment number : ℕ) (call : Call) → HasDone cred S call number T → HasDone cred S call number (ends_after T moment)
 ends-done S T cred moment number (Create path) has = (leads-ends T moment path number has.0, has.1)
@@ -65,8 +61,7 @@ ends-done S T cred moment number (Rmdir path) has = (has.0, walk-ends T moment (
 ends-done S T cred moment number (Rename from to) has = (has.0, leads-ends T moment to number has.1, has.2)
 ends-done S T cred moment number (Chown path uid gid) has = has
 ends-done S T cred moment number (SetQuota kind id limits) has =
-    ap (option_map (λ h. h.limits)) (find-map (is_holder kind id) (with_ends_of T moment) (λ h. refl) T.holders)
-    ∙ same-limits T moment (find (is_holder kind id) T.holders) ∙ has
+    limits-ends T moment kind id ∙ has
 ends-done S T cred moment number (SetGrace graces) has = has
 ends-done S T cred moment number (AskQuota kind id) has = has
 

@@ -43,6 +43,7 @@ pub mod Playing
 pub mod Answering
 pub mod Asking
 pub mod Running
+pub mod Setting
 pub mod Touching
 pub mod TouchedRecords
 pub mod Doing

@@ -3,11 +3,12 @@ use Rattle.std.specs.Prelude.{◌≡◌, ◌≢◌, ℕ, ◌+◌, Bool, true, fa
 use Rattle.std.specs.List.{find}
 use Rattle.std.specs.Option.{option_map}
 use Rattle.qrules.specs.declared.kind.Kind.{Kind}
+use Rattle.qrules.specs.declared.limits.Limits.{Limits}
 use Rattle.qrules.specs.declared.over.Over.{Over}
 use Rattle.qrules.specs.Sort.{Sort, Inodes, Blocks, grace_of}
 use Rattle.qrules.specs.Account.{Account}
 use Rattle.qplain.specs.declared.call.Call.{Call}
-use Rattle.qplain.specs.declared.call.Call.TheVariants.{Create, Mkdir, Read, Stat, Link, Unlink, Rmdir, Rename, Chown, SetQuota, Quota}
+use Rattle.qplain.specs.declared.call.Call.TheVariants.{Create, Mkdir, Read, Stat, Link, Unlink, Rmdir, Rename, Chown, SetQuota, SetGrace, Quota}
 use Rattle.qplain.specs.declared.refusal.Refusal.TheVariants.{EDQUOT}
 use Rattle.qplain.specs.declared.reply.Reply.TheVariants.{Refused}
 use Rattle.qplain.specs.Caller.{Caller, is_superuser}
@@ -53,6 +54,23 @@ end_at S kind id sort = end_of sort (find (is_holder kind id) S.holders)
 abbrev pub sets_limits_of : Kind → ℕ → Call → Bool
 sets_limits_of kind id (SetQuota other number limits) = is_same_kind other kind && number == id
 sets_limits_of kind id call = false
+
+-- the call sets the graces
+abbrev pub sets_graces : Call → Bool
+sets_graces (SetGrace graces) = true
+sets_graces call = false
+
+-- the limits of a principal, if there is such a principal
+abbrev pub limits_at : State → Kind → ℕ → Option Limits
+limits_at S kind id = option_map (λ h. h.limits) (find (is_holder kind id) S.holders)
+
+-- no call but setgrace changes the graces, and none but a setquota of a principal changes that one's limits
+abbrev pub SettingsStay : Type 0
+SettingsStay =
+    (S : State) (cred : Caller) (moment : ℕ) (call : Call)
+    → (sets_graces call ≡ false → (step S cred moment call).0.graces ≡ S.graces)
+    × ((kind : Kind) (id : ℕ) → sets_limits_of kind id call ≡ false
+    → limits_at (step S cred moment call).0 kind id ≡ limits_at S kind id)
 
 -- a grace that runs before and after ends when it would have, and one that begins ends at this moment
 pub record RunsOn (before after : Option ℕ) (begun : ℕ) : Type 0 where

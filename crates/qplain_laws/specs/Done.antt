@@ -14,6 +14,7 @@ use Rattle.qplain.specs.Walk.{components, last_name, parent, walk}
 use Rattle.qplain.specs.Arguments.{is_holder}
 use Rattle.qplain.specs.Owners.{with_owners}
 use Rattle.qplain.specs.Step.{step}
+use Rattle.qplain_laws.specs.Changes.{limits_at}
 use Rattle.qplain_laws.specs.Laws.{IsLawful}
 
 -- the path leads to the inode of this number
@@ -53,8 +54,7 @@ HasDone cred old (Rename from to) number new =
     LeadsTo old from number × LeadsTo new to number × (LeadsTo old to number ⊎ HasLeft old new from)
 HasDone cred old (Chown path uid gid) number new =
     IsChanged old new path number (λ inode. with_owners inode (unwrap_or uid inode.uid) (unwrap_or gid inode.gid))
-HasDone cred old (SetQuota kind id limits) number new =
-    option_map (λ h. h.limits) (find (is_holder kind id) new.holders) ≡ Some limits
+HasDone cred old (SetQuota kind id limits) number new = limits_at new kind id ≡ Some limits
 HasDone cred old (SetGrace graces) number new = new.graces ≡ graces
 HasDone cred old call number new = ⊥
 

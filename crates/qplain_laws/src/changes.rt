@@ -1,7 +1,7 @@
 //! What one call changes and what it leaves, each law the contract of a function that does nothing when it runs.
 ghost use Rattle.qplain_laws.specs.Done.{DoneIsDone};
 ghost use Rattle.qplain_laws.specs.Sizes.{FilesStayRightSized, StartIsRightSized};
-ghost use Rattle.qplain_laws.specs.Changes.{AskingChangesNothing, GracesRunOn, NamesCostNothing, OneInodeIsTouched, OtherNamesStay, SuperuserMeetsNoQuota, TotalsAreMoved};
+ghost use Rattle.qplain_laws.specs.Changes.{AskingChangesNothing, GracesRunOn, NamesCostNothing, OneInodeIsTouched, OtherNamesStay, SettingsStay, SuperuserMeetsNoQuota, TotalsAreMoved};
 
 /// Read, stat and quota, which only ask, leave the state as it is.
 pub fn asking_changes_nothing()
@@ -11,6 +11,11 @@ pub fn asking_changes_nothing()
 /// No step of the superuser is refused for a quota.
 pub fn superuser_meets_no_quota()
     ensures { SuperuserMeetsNoQuota }
+{}
+
+/// No call but setgrace changes the graces, and none but a setquota of a principal changes that one's limits.
+pub fn settings_stay()
+    ensures { SettingsStay }
 {}
 
 /// A grace that runs is never prolonged: a grace end that stands before and after a call that does not set the

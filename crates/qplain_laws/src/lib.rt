@@ -3,7 +3,8 @@
 
 pub use changes::{
     asking_changes_nothing, done_is_done, files_stay_right_sized, graces_run_on,
-    names_cost_nothing, one_inode_is_touched, other_names_stay, superuser_meets_no_quota,
+    names_cost_nothing, one_inode_is_touched, other_names_stay, settings_stay,
+    superuser_meets_no_quota,
 };
 pub use examples::{
     more_worked_examples, worked_examples, worked_examples_at_edges, worked_examples_of_names,
