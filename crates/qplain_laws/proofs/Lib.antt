@@ -51,6 +51,7 @@ pub mod Making
 pub mod Unnaming
 pub mod DoneSteps
 pub mod Sizing
+pub mod Reading
 pub mod Costless
 pub mod LinksFirst
 pub mod Overwriting

@@ -3,6 +3,7 @@ pub mod Laws
 pub mod Changes
 pub mod Done
 pub mod Sizes
+pub mod Bytes
 pub mod Order
 pub mod Journals
 pub mod Examples

@@ -1,4 +1,5 @@
 //! What one call changes and what it leaves, each law the contract of a function that does nothing when it runs.
+ghost use Rattle.qplain_laws.specs.Bytes.{BytesAreCut, BytesAreRead, BytesAreWritten};
 ghost use Rattle.qplain_laws.specs.Done.{DoneIsDone};
 ghost use Rattle.qplain_laws.specs.Sizes.{FilesStayRightSized, StartIsRightSized};
 ghost use Rattle.qplain_laws.specs.Changes.{AskingChangesNothing, GracesRunOn, NamesCostNothing, OneInodeIsTouched, OtherNamesStay, SettingsStay, SuperuserMeetsNoQuota, TotalsAreMoved};
@@ -40,6 +41,14 @@ pub fn other_names_stay()
 /// paths lead before and after, and what stands there.
 pub fn done_is_done()
     ensures { DoneIsDone }
+{}
+
+/// What was written is read back, and every other byte is as it was; a truncated file has the size that was named, and
+/// the bytes below it.
+pub fn bytes_are_kept()
+    ensures written { BytesAreWritten }
+    ensures cut { BytesAreCut }
+    ensures read { BytesAreRead }
 {}
 
 /// No file is larger than the file limit, and each block of a file begins below its size: in a new store, and after

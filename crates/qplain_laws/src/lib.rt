@@ -2,7 +2,7 @@
 #![tactic(auto)]
 
 pub use changes::{
-    asking_changes_nothing, done_is_done, files_stay_right_sized, graces_run_on,
+    asking_changes_nothing, bytes_are_kept, done_is_done, files_stay_right_sized, graces_run_on,
     names_cost_nothing, one_inode_is_touched, other_names_stay, settings_stay,
     superuser_meets_no_quota,
 };
