@@ -8,7 +8,7 @@ use Rattle.qrules.specs.declared.kind.Kind.TheVariants.{User, Group}
 use Rattle.qrules.specs.declared.limits.Limits.{Limits}
 use Rattle.qrules.specs.declared.graces.Graces.{Graces}
 use Rattle.qrules.specs.declared.graces.TheConstants.{MAX_MOMENT}
-use Rattle.qblocks.specs.File.{File, after_truncate, after_write, read_at}
+use Rattle.qblocks.specs.File.{File, after_truncate, after_write, empty_file, read_at}
 use Rattle.qplain.specs.declared.call.Call.{Call}
 use Rattle.qplain.specs.declared.call.Call.TheVariants.{Create, Mkdir, Write, Truncate, Read, Stat as AskStat, Link, Unlink, Rmdir, Rename, Chown, SetQuota, SetGrace, Quota as AskQuota}
 use Rattle.qplain.specs.declared.refusal.Refusal.{Refusal}
@@ -33,10 +33,11 @@ use Rattle.qplain.specs.Step.{settle, settled, step}
 use Rattle.qplain_laws.proofs.Trying.{OnBecomes, at_name-becomes, at_path-becomes, choice, in_parent-becomes, none-from_not_some, true-from_not, unless-becomes}
 use Rattle.qplain_laws.proofs.Sound.{MayFollow, empty-sound, known-caller, owned-follows, truncated-follows, written-follows}
 
--- the inode is the caller's, and its group the caller's first
+-- the inode is the caller's, its group the caller's first, and its file empty
 pub record IsOwn (cred : Caller) (inode : Inode) : Type 0 where
   pub user : inode.uid ≡ cred.uid
   pub group : inode.gid ≡ cred.gid
+  pub empty : inode.file ≡ empty_file
 
 -- the plain results that the calls of a caller may have
 pub record HoldsOfResults (P : State → Type 0) (S : State) (cred : Caller) : Type 0 where
@@ -91,7 +92,7 @@ module _ (P : State → Type 0) (S : State) (cred : Caller) (holds : HoldsOfResu
   create_as-becomes : (dir : ℕ) (name : List ℕ) → is_known S cred ≡ true → is_directory S dir ≡ true → OnBecomes P (create_as S cred dir name)
   create_as-becomes dir name known stands =
       choice P (is_some (named S dir name)) (Refuse EEXIST) (Becomes (created S (new_file cred.uid cred.gid) dir name) S.next) tt
-      (λ absent. holds.created (new_file cred.uid cred.gid) dir name (record { user = refl; group = refl }) (known-caller S cred known)
+      (λ absent. holds.created (new_file cred.uid cred.gid) dir name (record { user = refl; group = refl; empty = refl }) (known-caller S cred known)
       (empty-sound (new_file cred.uid cred.gid) refl) stands (none-from_not_some (named S dir name) absent) refl)
 
   unless_too_many_links-becomes : (new : State) (number : ℕ) → (has_too_many_links new ≡ false → P new) → OnBecomes P (unless_too_many_links new number)
@@ -102,7 +103,7 @@ module _ (P : State → Type 0) (S : State) (cred : Caller) (holds : HoldsOfResu
       let inode : Inode = new_directory cred.uid cred.gid in
       choice P (is_some (named S dir name)) (Refuse EEXIST) (unless_too_many_links (created S inode dir name) S.next) tt
       (λ absent. unless_too_many_links-becomes (created S inode dir name) S.next
-      (λ few. holds.created inode dir name (record { user = refl; group = refl }) (known-caller S cred known)
+      (λ few. holds.created inode dir name (record { user = refl; group = refl; empty = refl }) (known-caller S cred known)
       (empty-sound inode refl) stands (none-from_not_some (named S dir name) absent) few))
 
   write_into-becomes : (off : ℕ) (bytes : List ℕ) (number : ℕ) (inode : Inode) → inode_at S number ≡ Some inode
@@ -117,7 +118,7 @@ module _ (P : State → Type 0) (S : State) (cred : Caller) (holds : HoldsOfResu
       choice P (not (may_write cred inode)) (Refuse EACCES) some tt (λ may.
       choice P (length bytes == 0) (Answer (Done number no_change)) fits tt (λ more.
       choice P (nat_lt S.file_limit (off + length bytes)) (Refuse EFBIG) becomes tt (λ below.
-      holds.changed number inode (record inode { file = file }) there (written-follows S inode off bytes file_too)
+      holds.changed number inode (record inode { file = file }) there (written-follows S inode off bytes file_too below)
       (owners-kept cred inode (true-from_not (may_write cred inode) may))))))
 
   truncate_at-becomes : (size number : ℕ) (inode : Inode) → inode_at S number ≡ Some inode → OnBecomes P (truncate_at S cred size number inode)
@@ -129,7 +130,7 @@ module _ (P : State → Type 0) (S : State) (cred : Caller) (holds : HoldsOfResu
       choice P inode.dir (Refuse EISDIR) allowed tt (λ file_too.
       choice P (not (may_write cred inode)) (Refuse EACCES) fits tt (λ may.
       choice P (nat_lt S.file_limit size) (Refuse EFBIG) becomes tt (λ below.
-      holds.changed number inode (record inode { file = file }) there (truncated-follows S inode size file_too)
+      holds.changed number inode (record inode { file = file }) there (truncated-follows S inode size file_too below)
       (owners-kept cred inode (true-from_not (may_write cred inode) may)))))
 
   read_from-becomes : (off len number : ℕ) (inode : Inode) → OnBecomes P (read_from off len number inode)
@@ -250,7 +251,7 @@ module _ (P : State → Type 0) (S : State) (cred : Caller) (holds : HoldsOfResu
   attempt_of-becomes (AskQuota kind id) known good = ask_quota-becomes kind id
 
   -- what holds of the plain result of every call, holds of the attempt
-  attempt-becomes : (moment : ℕ) (call : Call) → OnBecomes P (attempt S cred moment call)
+  pub attempt-becomes : (moment : ℕ) (call : Call) → OnBecomes P (attempt S cred moment call)
   attempt-becomes moment call =
       unless-becomes P (refusal_of_arguments S cred moment call) (attempt_of S cred call)
       (λ lawful.

@@ -17,7 +17,8 @@ use Rattle.qplain.specs.Use.{has_too_many_links, is_empty, names_to}
 use Rattle.qplain.specs.Walk.{components, last_name, walk}
 use Rattle.qplain_laws.specs.Laws.{GivingBackIsGranted, IsLawful, is_for_limits}
 use Rattle.qplain_laws.proofs.Finding.{led-inode}
-use Rattle.qplain_laws.proofs.GivingBack.{NoLimit, at_name-no_limit, at_reached-no_limit, choose, granted-fewer, no_limit, rmdir-no_limit, truncate-no_limit, under-no_limit, unlink-no_limit, walk-plain}
+use Rattle.qplain_laws.proofs.GivingBack.{NoLimit, at_name-no_limit, at_reached-no_limit, choose, granted-fewer, no_limit, rmdir-no_limit, truncate-no_limit, under-no_limit, unlink-no_limit}
+use Rattle.qplain_laws.proofs.WalkFaults.{walk-plain}
 use Rattle.qplain_laws.proofs.Renaming.{Replaces-held_on, Replaces-moved, Replaces-replaced, names_to-target}
 use Rattle.qplain_laws.proofs.Replacing.{Replaces-names}
 
@@ -102,7 +103,7 @@ module _ (S : State) (cred : Caller) (moment : ℕ) (lawful : IsLawful S) where
 
   link-no_limit : (from to : List ℕ) → NoLimit S cred moment lawful (at_path S (link_to S to) from)
   link-no_limit from to =
-      at_reached-no_limit S cred moment lawful (link_to S to) (walk S (components from)) (walk-plain S cred moment lawful (Ok ROOT) (components from) tt)
+      at_reached-no_limit S cred moment lawful (link_to S to) (walk S (components from)) (walk-plain S (Ok ROOT) (components from) tt)
       (λ number inode reached there.
       in_parent-no_limit EEXIST (link_as S number inode) to refl (λ dir name stands. link_as-no_limit number inode dir name))
 

@@ -1,5 +1,5 @@
 -- Whoever is over a limit may give back: no truncation, unlink or rmdir is refused for want of space or of quota.
-use Rattle.std.proofs.Common.{◌≡◌, ℕ, ◌+◌, ◌-◌, ◌≤◌, ◌==◌, ◌<◌, Bool, true, false, not, nat_le, nat_lt, cond, List, [], ◌∷◌, length, take, filter, fold, Option, Some, None, Result, Ok, Err, refl, sym, ap, subst, ◌∙◌, tests, arith}
+use Rattle.std.proofs.Common.{◌≡◌, ℕ, ◌+◌, ◌-◌, ◌≤◌, ◌==◌, ◌<◌, Bool, true, false, not, nat_le, nat_lt, cond, List, [], ◌∷◌, length, take, filter, Option, Some, None, Result, Ok, Err, refl, sym, ap, subst, ◌∙◌, tests, arith}
 use Rattle.std.specs.List.{list_any}
 use Rattle.std.specs.Option.{option_or, option_map}
 use Rattle.std.proofs.lemmas.List.Filters.{length-filter_both}
@@ -15,7 +15,7 @@ use Rattle.qplain.specs.declared.reply.Reply.TheVariants.{Refused}
 use Rattle.qplain.specs.Caller.{Caller, is_superuser}
 use Rattle.qplain.specs.State.{Holder, Inode, State, inode_at, is_directory, named}
 use Rattle.qplain.specs.Use.{account_of, is_empty, names_to, use_of, weight}
-use Rattle.qplain.specs.Walk.{as_directory, components, follow, is_too_long, led_to, parent, walk}
+use Rattle.qplain.specs.Walk.{components, is_too_long, led_to, parent, walk}
 use Rattle.qplain.specs.Decision.{fault_of_holder, first_refusal, is_too_full, refusal_between}
 use Rattle.qplain.specs.Arguments.{is_invalid, paths_of}
 use Rattle.qplain.specs.Attempt.{Attempt, Refuse, Answer, Becomes, at_inode, at_name, at_path, at_reached, in_reached, under}
@@ -27,6 +27,7 @@ use Rattle.qplain.specs.Step.{settle, settled}
 use Rattle.qplain_laws.specs.Laws.{FitsTogether, IsLawful, RefusesForNoLimit, is_for_limits}
 use Rattle.qplain_laws.specs.Replaces.{Replaces, charge_of, weight_of}
 use Rattle.qplain_laws.proofs.Trying.{as_directory-ok, led_to-ok, true-from_not}
+use Rattle.qplain_laws.proofs.WalkFaults.{Plain, led_to-plain, parent-plain, walk-plain}
 use Rattle.qplain_laws.proofs.Removing.{Replaces-last, Replaces-more, links_of-unlinked, one_name}
 use Rattle.qplain_laws.proofs.Replacing.{Replaces-changed, fault_of-fewer, not_full-after}
 
@@ -140,31 +141,6 @@ module _ (S : State) (cred : Caller) (moment : ℕ) (lawful : IsLawful S) where
   choose true x y p q = p
   choose false x y p q = q refl
 
-  -- a walk is refused for no limit
-  abbrev pub Plain : Result ℕ Refusal → Type 0
-  Plain (Ok n) = Unit {0}
-  Plain (Err r) = is_for_limits r ≡ false
-
-  led_to-plain : (o : Option ℕ) → Plain (led_to o)
-  led_to-plain None = refl
-  led_to-plain (Some n) = tt
-
-  follow-plain : (r : Result ℕ Refusal) (name : List ℕ) → Plain r → Plain (follow S r name)
-  follow-plain (Err e) name h = h
-  follow-plain (Ok d) name h =
-      elim (is_directory S d) as (λ b. Plain (cond b (led_to (named S d name)) (Err ENOTDIR))) [
-        | true ↦ led_to-plain (named S d name)
-        | false ↦ refl
-      ]
-
-  pub walk-plain : (r : Result ℕ Refusal) (names : List (List ℕ)) → Plain r → Plain (fold (follow S) r names)
-  walk-plain r [] h = h
-  walk-plain r (name ∷ rest) h = walk-plain (follow S r name) rest (follow-plain r name h)
-
-  as_directory-plain : (r : Result ℕ Refusal) → Plain r → Plain (as_directory S r)
-  as_directory-plain (Err e) h = h
-  as_directory-plain (Ok d) h = elim (is_directory S d) as (λ b. Plain (cond b (Ok d) (Err ENOTDIR))) [ true ↦ tt | false ↦ refl ]
-
   at_inode-no_limit : (try : ℕ → Inode → Attempt) (number : ℕ) (o : Option Inode)
       → ((inode : Inode) → o ≡ Some inode → NoLimit (try number inode)) → NoLimit (at_inode try number o)
   at_inode-no_limit try number None each = refl
@@ -179,7 +155,7 @@ module _ (S : State) (cred : Caller) (moment : ℕ) (lawful : IsLawful S) where
 
   pub truncate-no_limit : (path : List ℕ) (size : ℕ) → NoLimit (at_path S (truncate_at S cred size) path)
   truncate-no_limit path size =
-      at_reached-no_limit (truncate_at S cred size) (walk S (components path)) (walk-plain (Ok ROOT) (components path) tt) (λ number inode reached there.
+      at_reached-no_limit (truncate_at S cred size) (walk S (components path)) (walk-plain S (Ok ROOT) (components path) tt) (λ number inode reached there.
       let becomes : Attempt = Becomes (with_file S number inode (after_truncate inode.file size)) number in
       let fits : Attempt = cond (nat_lt S.file_limit size) (Refuse EFBIG) becomes in
       choose inode.dir (Refuse EISDIR) (cond (not (may_write cred inode)) (Refuse EACCES) fits) refl (λ file.
@@ -223,7 +199,7 @@ module _ (S : State) (cred : Caller) (moment : ℕ) (lawful : IsLawful S) where
   under-no_limit of_root try plain each names None = plain
   under-no_limit of_root try plain each names (Some name) =
       in_reached-no_limit try name (parent S names)
-      (as_directory-plain (walk S (take (length names - 1) names)) (walk-plain (Ok ROOT) (take (length names - 1) names) tt))
+      (parent-plain S names)
       (λ dir placed. each dir name (as_directory-ok S (walk S (take (length names - 1) names)) dir placed))
 
   -- what is wrong with a call as it is written is no limit

@@ -1,6 +1,6 @@
 -- Every inode is reached from the root after a name in place of another: the walks that are kept, and
 -- those that it moves.
-use Rattle.std.proofs.Common.{◌≡◌, ℕ, ◌==◌, Bool, true, false, not, ◌&&◌, cond, List, [], ◌∷◌, ◌++◌, All, fold, slice_index_or, Some, None, Result, Ok, Err, refl, sym, ap, subst, ◌∙◌, tests, arith, ◌⊎◌, inl, inr, ⊎_elim}
+use Rattle.std.proofs.Common.{◌≡◌, ℕ, ◌-◌, ◌==◌, length, take, Bool, true, false, not, ◌&&◌, cond, List, [], ◌∷◌, ◌++◌, All, fold, slice_index_or, Some, None, Result, Ok, Err, refl, sym, ap, subst, ◌∙◌, tests, arith, ◌⊎◌, inl, inr, ⊎_elim}
 use Rattle.std.specs.Map.{lookup}
 use Rattle.std.specs.BTreeMap.{is_at}
 use Rattle.std.proofs.lemmas.Bool.{and_left, and_right, cond-true, or_parts}
@@ -11,7 +11,7 @@ use Rattle.qplain.specs.declared.refusal.Refusal.{Refusal}
 use Rattle.qplain.specs.declared.refusal.Refusal.TheVariants.{ENOTDIR}
 use Rattle.qplain.specs.State.{Inode, State, inode_at, is_dir, is_directory, name_key_cmp, named}
 use Rattle.qplain.specs.Use.{has_name, is_empty}
-use Rattle.qplain.specs.Walk.{as_directory, follow, parent}
+use Rattle.qplain.specs.Walk.{as_directory, follow, parent, walk}
 use Rattle.qplain.specs.Names.{swept, with_name, without_name}
 use Rattle.qplain.specs.Renames.{is_reached, meets, passes, renamed}
 use Rattle.qplain_laws.specs.Laws.{AllReached, FitsTogether, IsReached}
@@ -22,7 +22,8 @@ use Rattle.qplain_laws.proofs.Sweeping.{has_name-there, stays-swept}
 use Rattle.qplain_laws.proofs.Walking.{parent-from_root, parent_from, parent_from-fault, walk-fault}
 use Rattle.qplain_laws.proofs.Renaming.{All-renamed, has_name-renamed, lead-W, named-U, named-V, outside, sorted-U, sorted-W, unfilled-target}
 use Rattle.qplain_laws.proofs.Meeting.{meets_from, meets_from-first}
-use Rattle.qplain_laws.proofs.Reaching.{ends-there, follow-from, follow-parts, named-reached, reached-at, reached-further}
+use Rattle.qplain_laws.proofs.Leaving.{named-reached}
+use Rattle.qplain_laws.proofs.Reaching.{ends-there, follow-from, follow-parts, reached-at, reached-further}
 
 -- where a step to one number is not kept, walks that come past it go on from there
 module _ (S S1 : State) (bad : ℕ → Bool) (jump : ℕ)
@@ -69,18 +70,29 @@ avoids-from S number r (name ∷ rest) h =
     let parts = or_parts (is_reached number r) (meets_from S number (follow S r name) rest) (sym (meets_from-first S number r name rest) ∙ h) in
     (and_left (is_reached number r) (is_directory S number) parts.0, avoids-from S number (follow S r name) rest parts.1)
 
-as-ok : (S : State) (d x : ℕ) → as_directory S (Ok d) ≡ Ok x → (is_directory S d ≡ true) × (d ≡ x)
+-- what is reached as a directory is one
+pub as-ok : (S : State) (d x : ℕ) → as_directory S (Ok d) ≡ Ok x → (is_directory S d ≡ true) × (d ≡ x)
 as-ok S d x h = by (is_directory S d) refl h
   where
     by : (b : Bool) → is_directory S d ≡ b → cond b (Ok d) (Err ENOTDIR) ≡ Ok x → (is_directory S d ≡ true) × (d ≡ x)
     by true e g = (e, cc)
     by false e g = cc
 
+-- a parent that was reached is where the walk of all names but the last ends
+pub parent-ok : (S : State) (names : List (List ℕ)) (dir : ℕ) → parent S names ≡ Ok dir
+    → (walk S (take (length names - 1) names) ≡ Ok dir) × (is_directory S dir ≡ true)
+parent-ok S names dir h = by (walk S (take (length names - 1) names)) h
+  where
+    by : (r : Result ℕ Refusal) → as_directory S r ≡ Ok dir → (r ≡ Ok dir) × (is_directory S dir ≡ true)
+    by (Err e) g = cc
+    by (Ok d) g =
+        let parts = as-ok S d dir g in
+        (ap (λ n. Ok n) parts.1, ap (λ n. is_directory S n) (sym parts.1) ∙ parts.0)
+
 module _ (S : State) (to : List (List ℕ)) (dir : ℕ) (name : List ℕ) (number : ℕ) (inode : Inode) (to_dir : ℕ) (to_name : List ℕ) (fits : FitsTogether S)
     (placed : parent S to ≡ Ok to_dir) (not_inside : (inode.dir && meets S to number) ≡ false)
     (led : named S dir name ≡ Some number) (there : inode_at S number ≡ Some inode) (stands : is_directory S to_dir ≡ true)
-    (other : passes (λ n. n == number) (named S to_dir to_name) ≡ false) (empty : passes (λ n. not (is_empty S n)) (named S to_dir to_name) ≡ false)
-    (all : AllReached S) where
+    (other : passes (λ n. n == number) (named S to_dir to_name) ≡ false) (empty : passes (λ n. not (is_empty S n)) (named S to_dir to_name) ≡ false) where
   abbrev U : State
   U = without_name S dir name
 
@@ -154,23 +166,29 @@ module _ (S : State) (to : List (List ℕ)) (dir : ℕ) (name : List ℕ) (numbe
       let both : ((m == number) && is_directory S number) ≡ true = (λ i. is i && stands_too i) in
       cc)
 
+  -- what was the parent is a directory still
+  at-parent : (d : ℕ) → as_directory S (Ok d) ≡ Ok to_dir → as_directory M1 (Ok d) ≡ Ok to_dir
+  at-parent d h =
+      let same : d ≡ to_dir = (as-ok S d to_dir h).1 in
+      let at : is_directory M1 to_dir ≡ true = directory-moved to_dir stands to_dir-apart in
+      ap (λ n. as_directory M1 (Ok n)) same ∙ ap (λ b. cond b (Ok to_dir) (Err ENOTDIR)) at
+
   -- a walk to the parent that comes past no directory of this number is kept
-  parent-kept : (r : Result ℕ Refusal) (names : List (List ℕ)) → Avoids S number r names → parent_from S r names ≡ Ok to_dir
-      → (p : List (List ℕ)) × (fold (follow M1) r p ≡ Ok to_dir)
+  parent-kept : (r : Result ℕ Refusal) (names : List (List ℕ)) → Avoids S number r names → parent_from S r names ≡ Ok to_dir → parent_from M1 r names ≡ Ok to_dir
   parent-kept (Err e) names avoids h = let fault = parent_from-fault S e names in cc
-  parent-kept (Ok d) [] avoids h = ([], ap (λ (n : ℕ). Ok n) (as-ok S d to_dir h).1)
-  parent-kept (Ok d) (nm ∷ []) avoids h = ([], ap (λ (n : ℕ). Ok n) (as-ok S d to_dir h).1)
+  parent-kept (Ok d) [] avoids h = at-parent d h
+  parent-kept (Ok d) (nm ∷ []) avoids h = at-parent d h
   parent-kept (Ok d) (nm ∷ next ∷ rest) avoids h =
       by (parent-kept (follow S (Ok d) nm) (next ∷ rest) avoids.1 h) (follow S (Ok d) nm) refl h avoids.1.0
     where
-      by : (p : List (List ℕ)) × (fold (follow M1) (follow S (Ok d) nm) p ≡ Ok to_dir) → (r : Result ℕ Refusal) → follow S (Ok d) nm ≡ r
+      by : parent_from M1 (follow S (Ok d) nm) (next ∷ rest) ≡ Ok to_dir → (r : Result ℕ Refusal) → follow S (Ok d) nm ≡ r
           → parent_from S r (next ∷ rest) ≡ Ok to_dir → (is_reached number r && is_directory S number) ≡ false
-          → (p : List (List ℕ)) × (fold (follow M1) (Ok d) p ≡ Ok to_dir)
+          → parent_from M1 (follow M1 (Ok d) nm) (next ∷ rest) ≡ Ok to_dir
       by later (Err e) s g past = let fault = parent_from-fault S e (next ∷ rest) in cc
       by later (Ok m) s g past =
           let on = leads-on m next rest g in
           let kept : follow M1 (Ok d) nm ≡ follow S (Ok d) nm = keeps-moved d nm m s on.1 (not-number m past on.0) ∙ sym s in
-          (nm ∷ later.0, ap (λ r. fold (follow M1) r later.0) kept ∙ later.1)
+          ap (λ r. parent_from M1 r (next ∷ rest)) kept ∙ later
 
   avoids-all : Avoids S number (Ok ROOT) to
   avoids-all = by inode.dir refl not_inside
@@ -179,38 +197,45 @@ module _ (S : State) (to : List (List ℕ)) (dir : ℕ) (name : List ℕ) (numbe
       by true is h = avoids-from S number (Ok ROOT) to h
       by false is h = avoids-file S number (ap is_dir there ∙ is) (Ok ROOT) to
 
+  -- the second path has the parent that it had
+  pub parent-renamed : parent (renamed S dir name to_dir to_name number) to ≡ Ok to_dir
+  parent-renamed = parent-from_root M1 to ∙ parent-kept (Ok ROOT) to avoids-all (sym (parent-from_root S to) ∙ placed)
+
+  -- and its last name leads to the number
+  pub named-renamed : named (renamed S dir name to_dir to_name number) to_dir to_name ≡ Some number
+  named-renamed =
+      lookup-insert_new name_key_total V.names (to_dir, to_name) number (to_dir, to_name) empty-V
+      ∙ cond-true (is_at (name_key_cmp (to_dir, to_name)) (to_dir, to_name)) (Some number) (named V to_dir to_name) (name-laws.refl (to_dir, to_name))
+
   to_dir-reached : IsReached M1 to_dir
-  to_dir-reached = parent-kept (Ok ROOT) to avoids-all (sym (parent-from_root S to) ∙ placed)
+  to_dir-reached = (take (length to - 1) to, (parent-ok M1 to to_dir parent-renamed).0)
 
   number-reached : IsReached M1 number
-  number-reached =
-      let new : named M1 to_dir to_name ≡ Some number =
-      lookup-insert_new name_key_total V.names (to_dir, to_name) number (to_dir, to_name) empty-V
-      ∙ cond-true (is_at (name_key_cmp (to_dir, to_name)) (to_dir, to_name)) (Some number) (named V to_dir to_name) (name-laws.refl (to_dir, to_name)) in
-      reached-further M1 to_dir to_name number to_dir-reached (directory-moved to_dir stands to_dir-apart) new
+  number-reached = reached-further M1 to_dir to_name number to_dir-reached (directory-moved to_dir stands to_dir-apart) named-renamed
 
-  moved : (q : ℕ) → is_target q ≡ false → IsReached S q → IsReached M1 q
-  moved q apart reached =
-      ⊎_elim (λ p. p)
-      (λ p. (number-reached.0 ++ p.0, fold-append (follow M1) (Ok ROOT) number-reached.0 p.0 ∙ ap (λ r. fold (follow M1) r p.0) number-reached.1 ∙ p.1))
-      (walk-moved S M1 is_target number keeps-moved dead-moved ROOT reached.0 q reached.1 apart)
+  module _ (all : AllReached S) where
+    moved : (q : ℕ) → is_target q ≡ false → IsReached S q → IsReached M1 q
+    moved q apart reached =
+        ⊎_elim (λ p. p)
+        (λ p. (number-reached.0 ++ p.0, fold-append (follow M1) (Ok ROOT) number-reached.0 p.0 ∙ ap (λ r. fold (follow M1) r p.0) number-reached.1 ∙ p.1))
+        (walk-moved S M1 is_target number keeps-moved dead-moved ROOT reached.0 q reached.1 apart)
 
-  -- every inode that is left is reached
-  pub renamed_reached : AllReached (renamed S dir name to_dir to_name number)
-  renamed_reached = λ k d below.
-      let e : ℕ × Inode = slice_index_or M1.inodes k d in
-      let has : has_name W e.0 ≡ true = filter_passes (λ (x : ℕ × Inode). has_name W x.0) S.inodes k d below in
-      let old : IsReached S e.0 = All-filter (λ (x : ℕ × Inode). has_name W x.0) (λ x. IsReached S x.0) S.inodes all k d below in
-      by e.0 has old (is_target e.0) refl
-    where
-      outside-W : All (λ e. is_target e.0.0 ≡ false) W.names
-      outside-W =
-          All-renamed S dir name number inode to_dir to_name fits led there stands other empty (λ e. is_target e.0.0 ≡ false) no-target to_dir-apart
+    -- every inode that is left is reached
+    pub renamed_reached : AllReached (renamed S dir name to_dir to_name number)
+    renamed_reached = λ k d below.
+        let e : ℕ × Inode = slice_index_or M1.inodes k d in
+        let has : has_name W e.0 ≡ true = filter_passes (λ (x : ℕ × Inode). has_name W x.0) S.inodes k d below in
+        let old : IsReached S e.0 = All-filter (λ (x : ℕ × Inode). has_name W x.0) (λ x. IsReached S x.0) S.inodes all k d below in
+        by e.0 has old (is_target e.0) refl
+      where
+        outside-W : All (λ e. is_target e.0.0 ≡ false) W.names
+        outside-W =
+            All-renamed S dir name number inode to_dir to_name fits led there stands other empty (λ e. is_target e.0.0 ≡ false) no-target to_dir-apart
 
-      by : (q : ℕ) → has_name W q ≡ true → IsReached S q → (b : Bool) → is_target q ≡ b → IsReached M1 q
-      by q has old false apart = moved q apart old
-      by q has old true same =
-          named-reached S W.names q (sorted-W S dir name number inode to_dir to_name fits led there stands other empty)
-          (lead-W S dir name number inode to_dir to_name fits led there stands other empty) has (λ d nm at is.
-          let apart : is_target d ≡ false = holds-of-dir W (λ n. is_target n ≡ false) outside-W d nm q is in
-          (moved d apart (reached-at S d all (some-is_dir (inode_at S d) at)), directory-moved d at apart))
+        by : (q : ℕ) → has_name W q ≡ true → IsReached S q → (b : Bool) → is_target q ≡ b → IsReached M1 q
+        by q has old false apart = moved q apart old
+        by q has old true same =
+            named-reached S W.names q (sorted-W S dir name number inode to_dir to_name fits led there stands other empty)
+            (lead-W S dir name number inode to_dir to_name fits led there stands other empty) has (λ d nm at is.
+            let apart : is_target d ≡ false = holds-of-dir W (λ n. is_target n ≡ false) outside-W d nm q is in
+            (moved d apart (reached-at S d all (some-is_dir (inode_at S d) at)), directory-moved d at apart))

@@ -8,7 +8,8 @@ use Rattle.qplain.specs.Decision.{ends_after}
 use Rattle.qplain.specs.Quotas.{with_limits_of}
 use Rattle.qplain_laws.specs.Laws.{AllReached, AllStayReached, FitsTogether, IsReached, StartIsReached}
 use Rattle.qplain_laws.proofs.Becoming.{HoldsOfResults, step-becomes}
-use Rattle.qplain_laws.proofs.Reaching.{changed_reached, created_reached, linked_reached, removed_reached, walks-same}
+use Rattle.qplain_laws.proofs.Leaving.{removed_reached, walks-same}
+use Rattle.qplain_laws.proofs.Reaching.{changed_reached, created_reached, linked_reached}
 use Rattle.qplain_laws.proofs.Moving.{renamed_reached}
 
 results_reach : (S : State) (cred : Caller) → FitsTogether S → AllReached S → HoldsOfResults AllReached S cred

@@ -1,5 +1,5 @@
--- What each change of an inode leaves of it: a directory that holds nothing, and allocated indexes in order.
-use Rattle.std.proofs.Common.{◌≡◌, ℕ, zero, suc, Bool, true, false, not, ◌&&◌, nat_le, cond, List, [], ◌∷◌, length, filter, Option, Some, None, refl, subst, sym, arith}
+-- What each change of an inode leaves of it: a directory that holds nothing, allocated indexes in order, a right size.
+use Rattle.std.proofs.Common.{◌≡◌, ℕ, zero, suc, ◌+◌, nat_lt, Bool, true, false, not, ◌&&◌, nat_le, cond, List, [], ◌∷◌, length, filter, Option, Some, None, refl, subst, sym, arith}
 use Rattle.std.specs.Ordering.{nat_cmp}
 use Rattle.std.specs.List.Sorted.{IsStrictlySortedBy}
 use Rattle.std.proofs.lemmas.List.Kept.{IsStrictlySortedBy-filter}
@@ -15,20 +15,25 @@ use Rattle.qplain.specs.Caller.{Caller}
 use Rattle.std.specs.List.{list_all}
 use Rattle.qplain.specs.Owners.{with_owners}
 use Rattle.qplain_laws.specs.Laws.{IsSound, has_known_owners}
+use Rattle.qplain_laws.specs.Sizes.{IsRightSized}
 use Rattle.qplain_laws.proofs.Orders.{above-zero, rises-sorted, sorted-rises}
+use Rattle.qplain_laws.proofs.RightSized.{right_sized-truncated, right_sized-written}
 
--- the inode may stand where the other stood: it is as much a directory, its owners are known, and it is sound
+-- the inode may stand where the other stood: it is as much a directory, its owners are known, it is sound, and its file
+-- is right-sized
 pub record MayFollow (S : State) (inode changed : Inode) : Type 0 where
   pub dir : changed.dir ≡ inode.dir
   pub owners : has_known_owners S inode ≡ true → has_known_owners S changed ≡ true
   pub sound : IsSound inode → IsSound changed
+  pub size : IsRightSized S.file_limit inode.file → IsRightSized S.file_limit changed.file
 
 rises-touched : (xs : List ℕ) (off n : ℕ) → Rises 0 xs → Rises 0 (with_touched xs off n)
 unfolding with_touched
 rises-touched xs off zero rises = rises
 rises-touched xs off (suc n) rises = Rises-with_index 0 (with_touched xs off n) _ (rises-touched xs off n rises) (omega arith)
 
-in_order-after_write : (file : File) (off : ℕ) (bytes : List ℕ) → IsStrictlySortedBy nat_cmp file.allocated
+-- a write leaves the allocated indexes in order
+pub in_order-after_write : (file : File) (off : ℕ) (bytes : List ℕ) → IsStrictlySortedBy nat_cmp file.allocated
     → IsStrictlySortedBy nat_cmp (after_write file off bytes).allocated
 unfolding after_write
 in_order-after_write file off [] sorted = sorted
@@ -47,24 +52,28 @@ in_order-after_truncate file size sorted =
 
 -- a file may follow with other bytes and blocks in order
 file-follows : (S : State) (inode : Inode) (file : File) → inode.dir ≡ false
-    → (IsStrictlySortedBy nat_cmp inode.file.allocated → IsStrictlySortedBy nat_cmp file.allocated) → MayFollow S inode (record inode { file = file })
-file-follows S inode file is_file keeps = record {
+    → (IsStrictlySortedBy nat_cmp inode.file.allocated → IsStrictlySortedBy nat_cmp file.allocated)
+    → (IsRightSized S.file_limit inode.file → IsRightSized S.file_limit file) → MayFollow S inode (record inode { file = file })
+file-follows S inode file is_file keeps sized = record {
   dir = refl;
   owners = λ known. known;
   sound = λ sound. record { holds_nothing = λ is_dir. cc; in_order = keeps sound.in_order };
+  size = sized;
 }
 
 -- as after a write
-pub written-follows : (S : State) (inode : Inode) (off : ℕ) (bytes : List ℕ) → inode.dir ≡ false
+pub written-follows : (S : State) (inode : Inode) (off : ℕ) (bytes : List ℕ) → inode.dir ≡ false → nat_lt S.file_limit (off + length bytes) ≡ false
     → MayFollow S inode (record inode { file = after_write inode.file off bytes })
-written-follows S inode off bytes is_file =
+written-follows S inode off bytes is_file below =
     file-follows S inode (after_write inode.file off bytes) is_file (in_order-after_write inode.file off bytes)
+    (right_sized-written S.file_limit inode.file off bytes below)
 
 -- and after a truncation
-pub truncated-follows : (S : State) (inode : Inode) (size : ℕ) → inode.dir ≡ false
+pub truncated-follows : (S : State) (inode : Inode) (size : ℕ) → inode.dir ≡ false → nat_lt S.file_limit size ≡ false
     → MayFollow S inode (record inode { file = after_truncate inode.file size })
-truncated-follows S inode size is_file =
+truncated-follows S inode size is_file below =
     file-follows S inode (after_truncate inode.file size) is_file (in_order-after_truncate inode.file size)
+    (right_sized-truncated S.file_limit inode.file size below)
 
 owner-declared : (S : State) (kind : Kind) (o : Option ℕ) (old : ℕ) → is_undeclared S kind o ≡ false → is_declared S kind old ≡ true
     → is_declared S kind (unwrap_or o old) ≡ true
@@ -84,6 +93,7 @@ owned-follows S inode uid gid user group = record {
       let parts = and_parts (is_declared S User inode.uid) (is_declared S Group inode.gid) known in
       λ i. owner-declared S User uid inode.uid user parts.0 i && owner-declared S Group gid inode.gid group parts.1 i;
   sound = λ sound. record { holds_nothing = sound.holds_nothing; in_order = sound.in_order };
+  size = λ right. record { size = right.size; blocks = right.blocks };
 }
 
 -- an inode with an empty file is sound

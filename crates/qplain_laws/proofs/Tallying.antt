@@ -25,7 +25,7 @@ use Rattle.qplain.specs.Calls.{attempt}
 use Rattle.qplain.specs.Step.{change_between, settle, settled, step}
 use Rattle.qplain_laws.specs.Laws.{IsLawful, KeepsSetup}
 use Rattle.qplain_laws.specs.Journals.{ChangesAreSmall, ChangesAreTold, IsTallyOf, IsWithin, JournalsStayLawful, StepsAreSmall, TalliesAreSmall, TalliesBalance}
-use Rattle.qplain_laws.proofs.Answering.{TellsNone, attempt-none}
+use Rattle.qplain_laws.proofs.Answering.{MayBecome, TellsNone, attempt-none}
 use Rattle.qplain_laws.proofs.Kept.{setups_stay}
 use Rattle.qplain_laws.proofs.Lawful.{steps_stay_lawful}
 use Rattle.qplain_laws.proofs.Settling.{change-none}
@@ -56,14 +56,14 @@ settled-told : (S new : State) (number moment : ℕ) (o : Option Refusal)
 settled-told S new number moment (Some r) = sym (change-none S S.holders S.graces)
 settled-told S new number moment None = refl
 
-settle-told : (S : State) (cred : Caller) (moment : ℕ) (a : Attempt) → TellsNone a
+settle-told : (S : State) (cred : Caller) (moment : ℕ) (P : State → Type 0) (a : Attempt) → TellsNone P a
     → change_of (settle S cred moment a).1 ≡ change_between S (settle S cred moment a).0
-settle-told S cred moment (Refuse r) none = sym (change-none S S.holders S.graces)
-settle-told S cred moment (Answer reply) none = none.none ∙ sym (change-none S S.holders S.graces)
-settle-told S cred moment (Becomes new number) none = settled-told S new number moment (refusal_between S new cred moment)
+settle-told S cred moment P (Refuse r) none = sym (change-none S S.holders S.graces)
+settle-told S cred moment P (Answer reply) none = none.none.0 ∙ sym (change-none S S.holders S.graces)
+settle-told S cred moment P (Becomes new number) none = settled-told S new number moment (refusal_between S new cred moment)
 
 pub changes_are_told : ChangesAreTold
-changes_are_told S cred moment call = settle-told S cred moment (attempt S cred moment call) (attempt-none S cred moment call)
+changes_are_told S cred moment call = settle-told S cred moment (MayBecome S call) (attempt S cred moment call) (attempt-none S cred moment call)
 
 -- the rise and the fall of totals within the bounds are within them
 within-bounds : (old new : State) (blocks inodes : ℕ) → total_of old Blocks ≤ blocks → total_of new Blocks ≤ blocks → total_of old Inodes ≤ inodes

@@ -1,7 +1,13 @@
 -- The laws, and worked examples. A module that no public clause cites says so.
 pub mod Laws
+pub mod Changes
+pub mod Done
+pub mod Sizes
+pub mod Bytes
+pub mod Order
 pub mod Journals
 pub mod Examples
 pub mod MoreExamples
 pub mod NameExamples
+pub mod EdgeExamples
 pub mod Replaces

@@ -1,6 +1,7 @@
 //! Worked examples of the plain machine: each clause is one, and holds by computation.
 ghost use Rattle.qplain_laws.specs.Examples.{BoardOfJournal, CreateWriteStat, EmptyWrite, EntriesOfWorker, ExampleIsGranted, GraceHasEnded, GraceRuns, GracesMoveNone, HardLimit, JournalIsLegal, LimitsAnew, Paths, ReadOverAHole, Rights, SixInodes, SpaceBeforeQuota, SuperuserPasses, TallyOfJournal, UnknownCallers, WhoseLimitFirst, WriteOverAnEdge};
 ghost use Rattle.qplain_laws.specs.MoreExamples.{EndsMove, GrownAgain, InodesGivenBack, LastName, MayGive, MayTruncate, MayUnlink, NoNumberAgain, OnlyWhatRises, OtherGroup, Shorter, ShorterByBytes};
+ghost use Rattle.qplain_laws.specs.EdgeExamples.{BothLimitsAtOnce, ExactlyFull, InsideAFile, LargestLimits, LongestTexts, TwoGraces};
 ghost use Rattle.qplain_laws.specs.NameExamples.{DirectoriesGo, DirectoriesMove, FurtherNames, MayLink, MayMakeDirectories, MayRemoveDirectories, MayRename, NamesMove, NewDirectories};
 
 /// What the definitions answer on small scripts, counted by hand from the rules. It does nothing when it runs.
@@ -55,4 +56,14 @@ pub fn worked_examples_of_names()
     ensures names_move { NamesMove }
     ensures directories_move { DirectoriesMove }
     ensures may_rename { MayRename }
+{}
+
+/// What they answer at the edges of ranges and of the store.
+pub fn worked_examples_at_edges()
+    ensures inside_a_file { InsideAFile }
+    ensures both_limits_at_once { BothLimitsAtOnce }
+    ensures two_graces { TwoGraces }
+    ensures largest_limits { LargestLimits }
+    ensures exactly_full { ExactlyFull }
+    ensures longest_texts { LongestTexts }
 {}

@@ -1,4 +1,5 @@
 //! The laws of the plain machine, each the contract of a function that does nothing when it runs.
+ghost use Rattle.qplain_laws.specs.Order.{LinksComeFirst, OverwritesAreGranted};
 ghost use Rattle.qplain_laws.specs.Laws.{AllStayReached, EndsAreTheRules, EndsStay, GivingBackIsGranted, LimitsHold, LimitsStay, NewLimitsAreTheRules, NumbersGoOn, OwnersHold, RefusalsChangeNothing, RightsHold, SetupsStay, StartIsLawful, StartIsReached, StepsStayLawful, UsesAddUp};
 
 /// Totals and inode numbers stay within the bounds, and a grace end stands exactly where use is over its soft limit.
@@ -24,6 +25,17 @@ pub fn limits_hold()
 /// quota: whoever is over a limit may give back, and names cost nothing.
 pub fn giving_back_is_granted()
     ensures { GivingBackIsGranted }
+{}
+
+/// From a lawful state a mkdir that is refused for want of space or of quota had links left in its parent: EMLINK comes
+/// first.
+pub fn links_come_first()
+    ensures { LinksComeFirst }
+{}
+
+/// From a lawful state a write that touches allocated blocks alone is refused for no want of space or of quota.
+pub fn overwrites_are_granted()
+    ensures { OverwritesAreGranted }
 {}
 
 /// In a lawful state the uses of all users add up to the totals of the store, and so do those of all groups.

@@ -1,14 +1,22 @@
 //! The laws of the plain machine, proved over every call, and worked examples of it, over `qplain`.
 #![tactic(auto)]
 
-pub use examples::{more_worked_examples, worked_examples, worked_examples_of_names};
+pub use changes::{
+    asking_changes_nothing, bytes_are_kept, done_is_done, files_stay_right_sized, graces_run_on,
+    names_cost_nothing, one_inode_is_touched, other_names_stay, settings_stay,
+    superuser_meets_no_quota,
+};
+pub use examples::{
+    more_worked_examples, worked_examples, worked_examples_at_edges, worked_examples_of_names,
+};
 pub use journals::{changes_are_small, journals_stay_lawful, tallies_add_up};
 pub use laws::{
     ends_stay, giving_back_is_granted, holders_keep_the_rules, inodes_stay_reached, limits_hold,
-    numbers_go_on, refusals_change_nothing, rights_hold, setups_stay, stores_stay_lawful,
-    uses_add_up,
+    links_come_first, numbers_go_on, overwrites_are_granted, refusals_change_nothing, rights_hold,
+    setups_stay, stores_stay_lawful, uses_add_up,
 };
 
+mod changes;
 mod examples;
 mod journals;
 mod laws;
