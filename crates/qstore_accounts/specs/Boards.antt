@@ -24,12 +24,12 @@ board_row kind id a = record {
 }
 
 -- the row of a kept holder's record
-abbrev pub holder_row : Kind → KeptHolder → BoardRow
-holder_row kind o = board_row kind o.id o.account
+abbrev pub board_row_of : Kind → KeptHolder → BoardRow
+board_row_of kind o = board_row kind o.id o.account
 
 -- the rows of all records: users come before groups
 abbrev pub rows_in : List KeptHolder → List KeptHolder → List BoardRow
-rows_in users groups = map (holder_row User) users ++ map (holder_row Group) groups
+rows_in users groups = map (board_row_of User) users ++ map (board_row_of Group) groups
 
 -- the row of a posting's record, which stands after N rows of others
 abbrev pub placed_row : Kind → ℕ → Posting → PlacedRow

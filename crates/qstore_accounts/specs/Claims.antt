@@ -32,7 +32,7 @@ slot_in User slots = slots.user
 slot_in Group slots = slots.group
 
 -- the share of one kind's record in a claim
-abbrev pub share_in : Kind → Claim → Share
+abbrev pub share_in : Kind → Claim → OwnerClaim
 share_in kind claim = record { slot = slot_in kind claim.slots; weight = claim.weight }
 
 -- the weight is the inode's

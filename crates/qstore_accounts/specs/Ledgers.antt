@@ -58,7 +58,7 @@ pub record IsFinal (holders : List KeptHolder) (kind : Kind) (S1 : State) (momen
   pub account : (o : KeptHolder) → slice_get holders p.slot ≡ Some o → p.account ≡ record_after S1 moment kind o
 
 -- the share that is given up, unless the other is taken of the same record
-abbrev pub apart : Option OwnerClaim → Option OwnerClaim → Option Share
+abbrev pub apart : Option OwnerClaim → Option OwnerClaim → Option OwnerClaim
 apart None to = None
 apart (Some lost) None = Some lost
 apart (Some lost) (Some gained) = if lost.slot == gained.slot then None else Some lost

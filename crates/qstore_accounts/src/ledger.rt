@@ -8,7 +8,7 @@ ghost use Rattle.qrules.specs.declared.kind.Kind.{Kind};
 ghost use Rattle.qplain.specs.State.{Inode, State};
 ghost use Rattle.qstore_accounts.specs.KeptHolders.{AreById, IsSlotOf};
 ghost use Rattle.qstore_accounts.specs.Bills.{ArePlaced, post, posted};
-ghost use Rattle.qstore_accounts.specs.Boards.{holder_row};
+ghost use Rattle.qstore_accounts.specs.Boards.{board_row_of};
 ghost use Rattle.qstore_accounts.specs.Ledgers.{ArePosted, holder_row, IsFinal, IsHolderAt, IsLedgerReplacement, new_holder, refusal_of};
 
 use crate::bill::{Posting, Postings};
@@ -260,7 +260,7 @@ impl Ledger {
         kind: Kind,
         rows: &mut Vec<BoardRow>,
     ) -> Result<(), NoMemory>
-        ensures { OnOk result (rows.new.items ≡ rows.old.items ++ map (holder_row kind) self.now) }
+        ensures { OnOk result (rows.new.items ≡ rows.old.items ++ map (board_row_of kind) self.now) }
     {
         for holder in &self.holders {
             rows.push(board_row(kind, holder.id, &holder.account))?;
