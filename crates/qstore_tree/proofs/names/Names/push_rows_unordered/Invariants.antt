@@ -1,7 +1,7 @@
 use Rattle.std.proofs.Common.{◌++◌, map, IsPermutation}
 use Rattle.qstore_tree.specs.Names.{name_row}
 use Rattle.qstore_tree.proofs.Rows.{row_to}
-use Rattle.qstore_tree.proofs.names.Names.push_rows.Given as goal
+use Rattle.qstore_tree.proofs.names.Names.push_rows_unordered.Given as goal
 
 abbrev pub invariant-loop-ino : goal.invariant-loop-ino
 invariant-loop-ino l =

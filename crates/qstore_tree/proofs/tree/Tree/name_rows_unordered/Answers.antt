@@ -5,7 +5,7 @@ use Rattle.qplain.specs.State.{name_key_cmp}
 use Rattle.qstore_tree.specs.Tree.{RoomyTree, name_row_of}
 use Rattle.qstore_tree.proofs.AllNames.{named-by_key}
 use Rattle.qstore_tree.proofs.Rows.{names_end, names_step, nodes_rows, rows_in}
-use Rattle.qstore_tree.proofs.tree.Tree.name_rows.Goals as goal
+use Rattle.qstore_tree.proofs.tree.Tree.name_rows_unordered.Goals as goal
 
 pub loop-number-init : goal.loop-number-init
 loop-number-init c =
@@ -17,8 +17,8 @@ loop-number-init c =
 
 pub loop-number-preserved : goal.loop-number-preserved
 loop-number-preserved c =
-    names_step c.loop-number.rows.items c.push_names.new.rows.items _ c.loop-number.number-iterator _
-    (c.in-Some.number.now, c.in-Some.node.now) c.in-Some.ensures.steps c.in_ok-push_names.ensures c.loop-number.invariant
+    names_step c.loop-number.rows.items c.push_names_unordered.new.rows.items _ c.loop-number.number-iterator _
+    (c.in-Some.number.now, c.in-Some.node.now) c.in-Some.ensures.steps c.in_ok-push_names_unordered.ensures c.loop-number.invariant
 
 pub returns-clause-rows : goal.returns-clause-rows
 returns-clause-rows c = names_end c.loop-number.rows.items _ c.loop-number.number-iterator c.in-None.ensures.steps.0 c.loop-number.invariant

@@ -8,7 +8,7 @@ use Rattle.qstore_tree.specs.Names.{RoomyNames, names_of, name_row}
 use Rattle.qstore_tree.proofs.Bytes.{names_of-order}
 use Rattle.qstore_tree.proofs.Pushed.{shuffled_end, shuffled_step}
 use Rattle.qstore_tree.proofs.Rows.{row_to, table_rows}
-use Rattle.qstore_tree.proofs.names.Names.push_rows.Goals as goal
+use Rattle.qstore_tree.proofs.names.Names.push_rows_unordered.Goals as goal
 
 pub loop-ino-init : goal.loop-ino-init
 loop-ino-init c =
