@@ -11,5 +11,6 @@ pub mod Changed
 pub mod Pushed
 pub mod Shuffled
 pub mod Sorted
+pub mod Gathered
 pub mod Rows
 pub mod Directories

@@ -139,6 +139,10 @@ falls_nowhere n (x ∷ xs) up i j d le lt =
     let second : get_or (map n (x ∷ xs)) j d ≡ n (get_or (x ∷ xs) j x) = get_or-map n (x ∷ xs) j x d within in
     rw (first, second) (up i j x le within)
 
+-- numbers of elements that do not fall are in order
+pub numbers-sorted : {X : Type 0} (n : X → ℕ) (xs : List X) → IsNonDecreasingBy n xs → IsSorted nat_cmp (map n xs)
+numbers-sorted n xs up = nowhere_less (map n xs) (falls_nowhere n xs up)
+
 -- a row beside its number
 abbrev numbered : InodeRow → ℕ × InodeRow
 numbered row = (row.ino, row)
@@ -158,5 +162,5 @@ rows-in_order wanted rows p sorted up =
     sym (rows_alone rows)
     ∙ ap (map (λ e. e.1)) (one_order nat_cmp_total nat_cmp-IsAntisymmetric (map numbered wanted) (map numbered rows) (IsPermutation-map numbered wanted rows p)
     (subst (IsStrictlySortedBy nat_cmp) (sym (numbers_alone wanted)) sorted)
-    (nowhere_less _ (subst IsNonDecreasing (sym (numbers_alone rows)) (falls_nowhere (λ row. row.ino) rows up))))
+    (subst (IsSorted nat_cmp) (sym (numbers_alone rows)) (numbers-sorted (λ row. row.ino) rows up)))
     ∙ rows_alone wanted

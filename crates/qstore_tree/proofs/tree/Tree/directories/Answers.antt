@@ -1,0 +1,38 @@
+use Rattle.std.proofs.Common.{◌≡◌, ℕ, Bor, List, [], ◌∷◌, map, refl, rules, subst, sym, ap, ◌∙◌}
+use Rattle.std.specs.Ordering.{nat_cmp}
+use Rattle.std.specs.List.Sorted.{IsSorted}
+use Rattle.std.specs.Map.{keys_of}
+use Rattle.std.proofs.lemmas.List.Sorted.{IsNonDecreasingBy-from_sort_by_key}
+use Rattle.qstore_tree.specs.Names.{RoomyNames}
+use Rattle.qstore_tree.specs.Tree.{RoomyTree}
+use Rattle.qstore_tree.proofs.Gathered.{Gathers, gathers_all, gathers_directory, gathers_file, gathers_none, numbers_seen}
+use Rattle.qstore_tree.proofs.Shuffled.{numbers-sorted}
+use Rattle.qstore_tree.proofs.tree.Tree.directories.Goals as goal
+
+pub loop-number-init : goal.loop-number-init
+loop-number-init c =
+    let nodes = c.self.inside.nodes.entries in
+    let start : c.into_iter-number-iterator.result ≡ nodes = c.into_iter-number-iterator.ensures.into_iter_gives ∙ c.iter-number-items.ensures.rest in
+    subst (Gathers c.args.self.now.names c.new-directories.result.items) (sym start)
+    (subst (λ (ds : List (ℕ × Bor RoomyNames)). Gathers c.args.self.now.names ds nodes) (sym c.new-directories.ensures.items)
+    (subst (λ (t : RoomyTree). Gathers t.names [] nodes) c.self.view_is (gathers_none nodes c.iter-number-items.ensures.unique)))
+
+pub loop-number-preserved-in-Continue-1 : goal.loop-number-preserved-in-Continue-1
+loop-number-preserved-in-Continue-1 c =
+    gathers_directory _ c.loop-number.directories.items c.loop-number.number-iterator _ (c.in-Some.number.now, c.in-Some.node.now) c.in-Some.ensures.steps
+    (c.in-Some.number.now, c.in-Some-names.names) c.push.new.self.items c.in_ok-push.ensures.items refl
+    c.in-Some-names.ensures.directory c.in-Some-names.ensures.names c.loop-number.invariant
+
+pub loop-number-preserved : goal.loop-number-preserved
+loop-number-preserved c =
+    gathers_file _ c.loop-number.directories.items c.loop-number.number-iterator _ (c.in-Some.number.now, c.in-Some.node.now) c.in-Some.ensures.steps
+    c.in_default.ensures.directory c.loop-number.invariant
+
+pub returns : goal.returns
+returns c =
+    let sorted = c.sort_unstable_by_key.new.self.items in
+    gathers_all c.args.self.now.names c.loop-number.directories.items sorted c.loop-number.number-iterator c.in-None.ensures.steps.0
+    c.loop-number.invariant c.sort_unstable_by_key.ensures.permutation
+    (subst (IsSorted nat_cmp) (numbers_seen sorted) (numbers-sorted (λ (d : ℕ × Bor RoomyNames). d.0) sorted
+    (IsNonDecreasingBy-from_sort_by_key (λ (d : ℕ × Bor RoomyNames). d.0) sorted
+    c.sort_unstable_by_key.ensures.sorted (λ a r q k. search rules))))
