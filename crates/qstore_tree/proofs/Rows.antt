@@ -18,10 +18,9 @@ use Rattle.qrules.specs.declared.name_row.NameRow.{NameRow}
 use Rattle.qplain.specs.State.{Inode}
 use Rattle.qstore_tree.specs.declared.node.Node.{Node}
 use Rattle.qstore_tree.specs.InOrder.{in_order, keyed_by, read_by}
-use Rattle.qstore_tree.specs.Names.{borrowed_entry, names_of, name_row}
+use Rattle.qstore_tree.specs.Names.{RoomyNames, borrowed_entry, name_row, names_of}
 use Rattle.qstore_tree.specs.Nodes.{inode_of, names_in, node_row}
-use Rattle.qstore_tree.specs.Tree.{name_row_of}
-use Rattle.qstore_tree.specs.Tree.{all_names, kept_row, keyed}
+use Rattle.qstore_tree.specs.Tree.{all_names, kept_row, keyed, name_row_of, names_in_all}
 use Rattle.qstore_tree.proofs.Bytes.{bytes_ties, distinct-keyed_by, text_eq}
 use Rattle.qstore_tree.proofs.InOrder.{first_of, less_from, second_of}
 use Rattle.qstore_tree.proofs.Numbered.{numbered-sorted, sorted-read_by}
@@ -155,3 +154,14 @@ row_of_borrowed dir name = name_row dir (borrowed_entry name) ∷ []
 pub rows_borrowed : {A : Type 0} (dir : ℕ) (names : List (Bor (String A) × ℕ)) → flat_map (row_of_borrowed dir) names ≡ map (name_row dir) (map borrowed_entry names)
 rows_borrowed dir [] = refl
 rows_borrowed dir (n ∷ names) = ap (λ rows. name_row dir (borrowed_entry n) ∷ rows) (rows_borrowed dir names)
+
+-- the rows of the names in a directory that is borrowed
+abbrev pub rows_under : ℕ × Bor RoomyNames → List NameRow
+rows_under d = map (name_row d.0) (in_order (slice_cmp nat_cmp) d.1.now.entries)
+
+-- the rows of the names in directories that are borrowed
+pub rows_under-each : (ds : List (ℕ × Bor RoomyNames)) → flat_map rows_under ds ≡ map name_row_of (names_in_all ds)
+rows_under-each [] = refl
+rows_under-each (d ∷ ds) =
+    let names = in_order (slice_cmp nat_cmp) d.1.now.entries in
+    sym (map-append name_row_of (keyed d.0 names) (names_in_all ds) ∙ (λ i. rows_keyed d.0 names i ++ sym (rows_under-each ds) i))

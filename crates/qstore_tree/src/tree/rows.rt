@@ -42,7 +42,8 @@ impl Tree {
 
     /// The directories by number, borrowed, each with its names. O(n), and a sort of the directories.
     fn directories(&self, alloc: Global) -> Result<Vec<(u64, &Names)>, NoMemory>
-        ensures { IfOk result (λ directories. names_in_all directories.items ≡ self.now.names) }
+        ensures names { IfOk result (λ directories. names_in_all directories.items ≡ self.now.names) }
+        ensures by_key { OnOk result (IsStrictlySortedBy name_key_cmp (keys_of self.now.names)) }
     {
         let mut directories = Vec::new(alloc);
         for (number, node) in self.nodes.iter() {

@@ -12,7 +12,8 @@ loop-name-init c =
 pub loop-name-preserved : goal.loop-name-preserved
 loop-name-preserved c =
     placed_step (row_of_borrowed c.args.dir) c.loop-name.rows.items c.push.new.self.items _ c.deref-name-items.result.now c.loop-name.name-index
-    c.name-item.result c.loop-name-test.true ? c.loop-name.invariant
+    c.name-item.result c.loop-name-test.true
+    (c.in_ok-push.ensures.items ∙ ap (λ n. c.loop-name.rows.items ++ row_of_borrowed c.args.dir n) c.name-item.is) c.loop-name.invariant
 
 pub returns : goal.returns
 returns c =
