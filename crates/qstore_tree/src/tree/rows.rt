@@ -47,9 +47,10 @@ impl Tree {
     {
         let mut directories = Vec::new(alloc);
         for (number, node) in self.nodes.iter() {
-            if let Some(names) = node.names() {
-                directories.push((*number, names))?;
-            }
+            let Some(names) = node.names() else {
+                continue;
+            };
+            directories.push((*number, names))?;
         }
         directories.sort_unstable_by_key(|directory| directory.0);
         Ok(directories)

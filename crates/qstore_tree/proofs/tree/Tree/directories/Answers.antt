@@ -19,17 +19,6 @@ loop-number-init c =
     (subst (λ (ds : List (ℕ × Bor RoomyNames)). Gathers c.args.self.now.names ds nodes) (sym c.new-directories.ensures.items)
     (subst (λ (t : RoomyTree). Gathers t.names [] nodes) c.self.view_is (gathers_none nodes c.iter-number-items.ensures.unique)))
 
-pub loop-number-preserved-in-Continue-1 : goal.loop-number-preserved-in-Continue-1
-loop-number-preserved-in-Continue-1 c =
-    gathers_directory _ c.loop-number.directories.items c.loop-number.number-iterator _ (c.in-Some.number.now, c.in-Some.node.now) c.in-Some.ensures.steps
-    (c.in-Some.number.now, c.in-Some-names.names) c.push.new.self.items c.in_ok-push.ensures.items refl
-    c.in-Some-names.ensures.directory c.in-Some-names.ensures.names c.loop-number.invariant
-
-pub loop-number-preserved : goal.loop-number-preserved
-loop-number-preserved c =
-    gathers_file _ c.loop-number.directories.items c.loop-number.number-iterator _ (c.in-Some.number.now, c.in-Some.node.now) c.in-Some.ensures.steps
-    c.in_default.ensures.directory c.loop-number.invariant
-
 pub returns-clause-names : goal.returns-clause-names
 returns-clause-names c =
     let sorted = c.sort_unstable_by_key.new.self.items in
