@@ -20,7 +20,6 @@ use Rattle.qstore_tree.specs.Nodes.{is_dir_content, names_in}
 use Rattle.qstore_tree.specs.Tree.{all_names, keyed, names_in_all}
 use Rattle.qstore_tree.proofs.InOrder.{both_of, first_of, in_order-sorted, second_of, strictly}
 use Rattle.qstore_tree.proofs.Numbered.{numbered-sorted}
-use Rattle.qstore_tree.proofs.Pushed.{shuffled_end}
 use Rattle.qstore_tree.proofs.Shuffled.{in_order-shuffled, one_order}
 use Rattle.qstore_tree.proofs.TreeChanges.{no_names}
 

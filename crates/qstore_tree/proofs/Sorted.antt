@@ -1,5 +1,5 @@
 -- What a sort leaves: its elements read by a function are in order, and names in order by their bytes.
-use Rattle.std.proofs.Common.{◌≡◌, ℕ, ◌+◌, ◌<◌, false, List, [], ◌∷◌, length, map, get_or, Bor, String, string_bytes, nat_eq, refl, sym, ap, ◌∙◌, subst, arith}
+use Rattle.std.proofs.Common.{◌≡◌, ℕ, ◌+◌, ◌<◌, false, List, [], ◌∷◌, length, map, get_or, Bor, String, string_bytes, nat_eq, refl, ap, subst, arith}
 use Rattle.std.specs.declared.cmp.Ordering.{Ordering}
 use Rattle.std.specs.declared.cmp.Ordering.TheVariants.{Less, Equal, Greater}
 use Rattle.std.specs.Ordering.{is_lt, nat_cmp, ordering_then}
@@ -11,7 +11,7 @@ use Rattle.std.specs.String.{string_cmp}
 use Rattle.std.proofs.lemmas.List.{get_or-map, length-map, map-id}
 use Rattle.std.proofs.lemmas.List.Sorted.{IsPermutation-sym}
 use Rattle.std.proofs.lemmas.Map.Lookups.{exact_bytes}
-use Rattle.qstore_tree.specs.InOrder.{in_order, keyed_by}
+use Rattle.qstore_tree.specs.InOrder.{keyed_by}
 use Rattle.qstore_tree.specs.Names.{borrowed_entry, names_of}
 use Rattle.qstore_tree.proofs.Bytes.{bytes_ties, distinct-keyed_by, text_eq}
 use Rattle.qstore_tree.proofs.Shuffled.{map-shuffled}

@@ -1,4 +1,4 @@
-use Rattle.std.proofs.Common.{◌≡◌, ◌++◌, ap, drop, flat_map, map, sym, ◌∙◌}
+use Rattle.std.proofs.Common.{◌++◌, ap, flat_map, map, ◌∙◌}
 use Rattle.qstore_tree.specs.Names.{name_row}
 use Rattle.qstore_tree.proofs.Pushed.{placed_end, placed_step}
 use Rattle.qstore_tree.proofs.Rows.{row_of_borrowed, rows_borrowed}

@@ -1,4 +1,4 @@
-use Rattle.std.proofs.Common.{◌≡◌, ℕ, Bor, List, [], ◌∷◌, map, refl, rules, subst, sym, ap, ◌∙◌}
+use Rattle.std.proofs.Common.{◌≡◌, ℕ, Bor, List, [], rules, subst, sym, ◌∙◌}
 use Rattle.std.specs.Ordering.{nat_cmp}
 use Rattle.std.specs.List.Sorted.{IsSorted, IsStrictlySortedBy}
 use Rattle.std.specs.Map.{keys_of}
@@ -7,7 +7,7 @@ use Rattle.qplain.specs.State.{name_key_cmp}
 use Rattle.qstore_tree.specs.Names.{RoomyNames}
 use Rattle.qstore_tree.specs.Tree.{RoomyTree}
 use Rattle.qstore_tree.proofs.AllNames.{named-by_key}
-use Rattle.qstore_tree.proofs.Gathered.{Gathers, gathers_all, gathers_directory, gathers_file, gathers_none, numbers_seen}
+use Rattle.qstore_tree.proofs.Gathered.{Gathers, gathers_all, gathers_none, numbers_seen}
 use Rattle.qstore_tree.proofs.Shuffled.{numbers-sorted}
 use Rattle.qstore_tree.proofs.tree.Tree.directories.Goals as goal
 

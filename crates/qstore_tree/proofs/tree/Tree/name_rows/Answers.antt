@@ -1,4 +1,4 @@
-use Rattle.std.proofs.Common.{◌≡◌, ◌++◌, ap, flat_map, map, ◌∙◌}
+use Rattle.std.proofs.Common.{◌++◌, ap, flat_map, map, ◌∙◌}
 use Rattle.qstore_tree.specs.Tree.{name_row_of}
 use Rattle.qstore_tree.proofs.Pushed.{placed_end, placed_step}
 use Rattle.qstore_tree.proofs.Rows.{rows_under, rows_under-each}
