@@ -128,9 +128,11 @@ module _ (names : List (NameKey × ℕ)) (ds : List (ℕ × Bor RoomyNames)) (es
 pub gathers_all : (names : List (NameKey × ℕ)) (ds sorted : List (ℕ × Bor RoomyNames)) (rest : List (ℕ × Node)) → rest ≡ []
     → Gathers names ds rest → IsPermutation ds sorted → IsSorted nat_cmp (keys_of (map seen_directory sorted)) → names_in_all sorted ≡ names
 gathers_all names ds sorted rest none so_far p up =
-    let done : IsPermutation so_far.all (map seen_directory ds) =
-    subst (IsPermutation so_far.all) (ap (λ l. map seen_directory ds ++ flat_map directory_in l) none ∙ append-nil (map seen_directory ds)) so_far.in_some_order in
+    let gathered = map seen_directory ds in
+    let done : IsPermutation so_far.all gathered =
+    subst (IsPermutation so_far.all) (ap (λ l. gathered ++ flat_map directory_in l) none ∙ append-nil gathered) so_far.in_some_order in
     names_seen sorted
     ∙ ap (flat_map names_under) (one_order nat_cmp_total nat_cmp-IsAntisymmetric so_far.all (map seen_directory sorted)
-    (IsPermutation-trans so_far.all (map seen_directory ds) (map seen_directory sorted) done (IsPermutation-map seen_directory ds sorted p)) so_far.by_number up)
+    (IsPermutation-trans so_far.all gathered (map seen_directory sorted) done (IsPermutation-map seen_directory ds sorted p))
+    so_far.by_number up)
     ∙ so_far.names_are

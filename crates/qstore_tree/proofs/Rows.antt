@@ -151,7 +151,8 @@ abbrev pub row_of_borrowed : {A : Type 0} → ℕ → Bor (String A) × ℕ → 
 row_of_borrowed dir name = name_row dir (borrowed_entry name) ∷ []
 
 -- the rows of names that are borrowed
-pub rows_borrowed : {A : Type 0} (dir : ℕ) (names : List (Bor (String A) × ℕ)) → flat_map (row_of_borrowed dir) names ≡ map (name_row dir) (map borrowed_entry names)
+pub rows_borrowed : {A : Type 0} (dir : ℕ) (names : List (Bor (String A) × ℕ))
+    → flat_map (row_of_borrowed dir) names ≡ map (name_row dir) (map borrowed_entry names)
 rows_borrowed dir [] = refl
 rows_borrowed dir (n ∷ names) = ap (λ rows. name_row dir (borrowed_entry n) ∷ rows) (rows_borrowed dir names)
 

@@ -18,7 +18,9 @@ pub loop-name-init : goal.loop-name-init
 loop-name-init c =
     let es = c.self.inside.table.entries in
     let start : c.into_iter-name-iterator.result ≡ es = c.into_iter-name-iterator.ensures.into_iter_gives ∙ c.iter-name-items.ensures.rest in
-    subst (λ (n : RoomyNames). IsPermutation n.entries (map borrowed_entry c.in_ok-names.names.items ++ map text_entry c.into_iter-name-iterator.result)) c.self.view_is
+    let pushed = c.in_ok-names.names.items in
+    let left = c.into_iter-name-iterator.result in
+    subst (λ (n : RoomyNames). IsPermutation n.entries (map borrowed_entry pushed ++ map text_entry left)) c.self.view_is
     (subst (IsPermutation (names_of es)) (λ i. map borrowed_entry (sym c.in_ok-names.ensures.items i) ++ map text_entry (sym start i))
     (table_names es c.iter-name-items.ensures.unique))
 

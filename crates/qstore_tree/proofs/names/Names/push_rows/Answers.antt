@@ -17,4 +17,5 @@ loop-name-preserved c =
 
 pub returns : goal.returns
 returns c =
-    placed_end (row_of_borrowed c.args.dir) c.loop-name.rows.items _ c.deref-name-items.result.now c.loop-name.name-index c.loop-name-test.false c.loop-name.invariant
+    placed_end (row_of_borrowed c.args.dir) c.loop-name.rows.items _ c.deref-name-items.result.now c.loop-name.name-index
+    c.loop-name-test.false c.loop-name.invariant

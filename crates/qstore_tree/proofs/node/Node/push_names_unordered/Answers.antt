@@ -33,6 +33,7 @@ returns-in-Directory c =
     let same : InOrder → names ≡ in_order (slice_cmp nat_cmp) (names_in c.args.self.now.content) =
     λ order. sym (in_order-sorted nat_list_cmp_total exact_bytes names (sorted_from (slice_cmp nat_cmp) names order))
     ∙ ap (λ x. in_order (slice_cmp nat_cmp) (names_in x)) (sym c.in-Directory.is) in
-    both c.push_rows_unordered.result (λ (pushed : IsPermutation (rows ++ map (name_row c.args.number) names) c.push_rows_unordered.new.rows.items) (order : InOrder).
-    subst (λ es. IsPermutation (rows ++ map (name_row c.args.number) es) c.push_rows_unordered.new.rows.items) (same order) pushed)
+    let more = c.push_rows_unordered.new.rows.items in
+    both c.push_rows_unordered.result (λ (pushed : IsPermutation (rows ++ map (name_row c.args.number) names) more) (order : InOrder).
+    subst (λ es. IsPermutation (rows ++ map (name_row c.args.number) es) more) (same order) pushed)
     c.push_rows_unordered.ensures.rows c.push_rows_unordered.ensures.in_order
