@@ -1,5 +1,5 @@
 -- The directories of a tree, gathered from a table in any order and sorted by number: their names are the tree's.
-use Rattle.std.proofs.Common.{◌≡◌, ℕ, Bool, true, false, cond, Bor, List, [], ◌∷◌, ◌++◌, flat_map, map, T, append-nil, append_assoc, nat_eq, refl, subst, sym, ap, ◌∙◌, IsPermutation}
+use Rattle.std.proofs.Common.{◌≡◌, ℕ, Bool, true, false, cond, Bor, List, [], ◌∷◌, ◌++◌, flat_map, map, T, append-nil, nat_eq, refl, subst, sym, ap, ◌∙◌, IsPermutation}
 use Rattle.std.specs.Ordering.{nat_cmp}
 use Rattle.std.specs.Cmp.{nat_cmp_total, unsigned_ties}
 use Rattle.std.specs.Cmp.Lexicographic.{nat_list_cmp_total, slice_cmp}
@@ -8,7 +8,6 @@ use Rattle.std.specs.FinMap.Entries.{below_all, is_sorted}
 use Rattle.std.specs.List.{IsDistinct}
 use Rattle.std.specs.List.Sorted.{IsSorted, IsStrictlySortedBy}
 use Rattle.std.specs.Map.{keys_of}
-use Rattle.std.proofs.lemmas.List.{map-append}
 use Rattle.std.proofs.lemmas.Grind.{flat_map-append}
 use Rattle.std.proofs.lemmas.List.Sorted.{IsPermutation-map, IsPermutation-sym, IsPermutation-trans}
 use Rattle.std.proofs.lemmas.Map.Lookups.{exact_bytes}
@@ -95,34 +94,6 @@ gathers_none nodes d = record {
   names_are = sym (names_of_nodes (in_order nat_cmp nodes));
   in_some_order = IsPermutation-sym _ _ (in_order-shuffled nat_cmp_total nat_cmp-IsAntisymmetric directory_in unsigned_ties nodes d);
 }
-
-module _ (names : List (NameKey × ℕ)) (ds : List (ℕ × Bor RoomyNames)) (es rest : List (ℕ × Node)) (e : ℕ × Node) (first : es ≡ e ∷ rest) where
-  -- a node that is no directory
-  pub gathers_file : false ≡ is_dir_content e.1.content → Gathers names ds es → Gathers names ds rest
-  gathers_file is so_far = record {
-    all = so_far.all;
-    by_number = so_far.by_number;
-    names_are = so_far.names_are;
-    in_some_order =
-        subst (IsPermutation so_far.all) (ap (λ l. map seen_directory ds ++ flat_map directory_in l) first
-        ∙ ap (λ b. map seen_directory ds ++ (cond b ((e.0, names_in e.1.content) ∷ []) [] ++ flat_map directory_in rest)) (sym is)) so_far.in_some_order;
-  }
-
-  -- a directory
-  pub gathers_directory : (d : ℕ × Bor RoomyNames) (more : List (ℕ × Bor RoomyNames)) → more ≡ ds ++ d ∷ [] → d.0 ≡ e.0
-      → true ≡ is_dir_content e.1.content → d.1.now.entries ≡ names_in e.1.content
-      → Gathers names ds es → Gathers names more rest
-  gathers_directory d more pushed number is entries so_far = record {
-    all = so_far.all;
-    by_number = so_far.by_number;
-    names_are = so_far.names_are;
-    in_some_order =
-        subst (IsPermutation so_far.all) (ap (λ l. map seen_directory ds ++ flat_map directory_in l) first
-        ∙ ap (λ b. map seen_directory ds ++ (cond b ((e.0, names_in e.1.content) ∷ []) [] ++ flat_map directory_in rest)) (sym is)
-        ∙ (λ i. map seen_directory ds ++ (sym number i, sym entries i) ∷ flat_map directory_in rest)
-        ∙ sym (append_assoc (map seen_directory ds) (seen_directory d ∷ []) (flat_map directory_in rest))
-        ∙ ap (λ l. l ++ flat_map directory_in rest) (sym (ap (map seen_directory) pushed ∙ map-append seen_directory ds (d ∷ [])))) so_far.in_some_order;
-  }
 
 -- after the last node, sorted by number
 pub gathers_all : (names : List (NameKey × ℕ)) (ds sorted : List (ℕ × Bor RoomyNames)) (rest : List (ℕ × Node)) → rest ≡ []
