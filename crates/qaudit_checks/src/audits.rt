@@ -23,7 +23,7 @@ pub fn audit(
     // The blocks of a lawful state fit 64 bits, so those of its rows do.
     store.always_lawful();
     let inodes = store.inode_rows()?;
-    let names = store.name_rows()?;
+    let names = store.name_rows_unordered()?;
     let counts = recount(alloc, &inodes, &names)?;
     compare(alloc, &counts, records)
 }

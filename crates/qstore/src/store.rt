@@ -43,7 +43,6 @@ mod unlink;
 mod write;
 
 /// Inodes, names and quota records in memory, whose state and replies are those of the plain machine.
-///
 /// Every record's use, the totals and the link counts are kept, and no call walks the inodes or the names.
 #[derive(Drop)]
 pub struct Store {
@@ -69,10 +68,9 @@ impl Model for Store {
 
 impl Store {
     /// A new store of a setup. It holds the root directory, inode 1 of user 0 and group 0; the next number is 2, and a
-    /// file has at most 2^30 bytes (tmpfs(5), profile).
-    ///
-    /// The hashes of names begin at `seed`, any number: who does not know it cannot search for names that collide, and no
-    /// answer depends on it. After an Err nothing was made. O(n) for n principals.
+    /// file has at most 2^30 bytes (tmpfs(5), profile). The hashes of names begin at `seed`, any number: who does not
+    /// know it cannot search for names that collide, and no answer depends on it. After an Err nothing was made. O(n)
+    /// for n principals.
     pub fn new(alloc: Global, setup: Setup, seed: u64) -> Result<Store, NoMemory>
         ensures { IfOk result (λ s. s.state ≡ start setup) }
     {
@@ -202,7 +200,6 @@ impl Store {
     }
 
     /// Does what is ready, and gives the reply. It takes no memory and always succeeds.
-    ///
     /// The caller owes that this store had no other `ready`, `apply` or `commit` since.
     #[inline(always)]
     pub fn commit(&mut self, ready: Ready) -> Reply
@@ -218,11 +215,9 @@ impl Store {
     }
 
     /// One call: the state and the reply are those of the plain machine's step. An Err leaves the state as it was, and
-    /// comes after all refusals.
-    ///
-    /// Moments and refusals, and which calls may want memory, are as for `ready`. O(bytes of the path and of the data),
-    /// and O(log n) for each 64 KiB of a file of n blocks, where names do not collide and no map has to grow. No bytes
-    /// are copied beside the file.
+    /// comes after all refusals. Moments and refusals, and which calls may want memory, are as for `ready`; no bytes are
+    /// copied beside the file. O(bytes of the path and of the data), and O(log n) for each 64 KiB of a file of n blocks,
+    /// where names do not collide and no map has to grow.
     pub fn apply(&mut self, cred: &Cred, moment: u64, call: &Call) -> Result<Reply, NoMemory>
         ensures ok { IfOk result (λ reply. (self.new.state, reply) ≡ step self.old.state cred.now moment call.now) }
         ensures err { OnErr result (self.new.state ≡ self.old.state) }

@@ -10,5 +10,7 @@ pub mod TreeChanges
 pub mod Changed
 pub mod Pushed
 pub mod Shuffled
+pub mod Sorted
+pub mod Gathered
 pub mod Rows
 pub mod Directories

@@ -1,5 +1,5 @@
 -- The rows of an audit: a loop over the nodes pushes what contracts say of the whole tree, in another order.
-use Rattle.std.proofs.Common.{◌≡◌, ℕ, ◌<◌, ◌^◌, cond, List, [], ◌∷◌, ◌++◌, length, flat_map, map, Some, String, T, append-nil, append_assoc, nat_eq, refl, string_bytes, subst, sym, ap, ◌∙◌}
+use Rattle.std.proofs.Common.{◌≡◌, ℕ, Bor, ◌<◌, ◌^◌, cond, List, [], ◌∷◌, ◌++◌, length, flat_map, map, Some, String, T, append-nil, append_assoc, nat_eq, refl, string_bytes, subst, sym, ap, ◌∙◌}
 use Rattle.std.specs.Ordering.{is_eq, nat_cmp, ordering_reverse}
 use Rattle.std.specs.Cmp.{nat_cmp_total, tied_itself, unsigned_ties}
 use Rattle.std.specs.Cmp.Lexicographic.{nat_list_cmp_total, pointwise, slice_cmp}
@@ -18,10 +18,9 @@ use Rattle.qrules.specs.declared.name_row.NameRow.{NameRow}
 use Rattle.qplain.specs.State.{Inode}
 use Rattle.qstore_tree.specs.declared.node.Node.{Node}
 use Rattle.qstore_tree.specs.InOrder.{in_order, keyed_by, read_by}
-use Rattle.qstore_tree.specs.Names.{names_of, name_row}
+use Rattle.qstore_tree.specs.Names.{RoomyNames, borrowed_entry, name_row, names_of}
 use Rattle.qstore_tree.specs.Nodes.{inode_of, names_in, node_row}
-use Rattle.qstore_tree.specs.Tree.{name_row_of}
-use Rattle.qstore_tree.specs.Tree.{all_names, kept_row, keyed}
+use Rattle.qstore_tree.specs.Tree.{all_names, kept_row, keyed, name_row_of, names_in_all}
 use Rattle.qstore_tree.proofs.Bytes.{bytes_ties, distinct-keyed_by, text_eq}
 use Rattle.qstore_tree.proofs.InOrder.{first_of, less_from, second_of}
 use Rattle.qstore_tree.proofs.Numbered.{numbered-sorted, sorted-read_by}
@@ -146,3 +145,24 @@ names_step rows more all es rest e first pushed so_far =
 -- nothing is left
 pub names_end : (rows all : List NameRow) (es : List (ℕ × Node)) → es ≡ [] → IsPermutation all (rows ++ flat_map rows_in es) → IsPermutation all rows
 names_end rows all es none so_far = subst (IsPermutation all) (ap (λ xs. rows ++ flat_map rows_in xs) none ∙ append-nil rows) so_far
+
+-- the row of a name that is borrowed
+abbrev pub row_of_borrowed : {A : Type 0} → ℕ → Bor (String A) × ℕ → List NameRow
+row_of_borrowed dir name = name_row dir (borrowed_entry name) ∷ []
+
+-- the rows of names that are borrowed
+pub rows_borrowed : {A : Type 0} (dir : ℕ) (names : List (Bor (String A) × ℕ))
+    → flat_map (row_of_borrowed dir) names ≡ map (name_row dir) (map borrowed_entry names)
+rows_borrowed dir [] = refl
+rows_borrowed dir (n ∷ names) = ap (λ rows. name_row dir (borrowed_entry n) ∷ rows) (rows_borrowed dir names)
+
+-- the rows of the names in a directory that is borrowed
+abbrev pub rows_under : ℕ × Bor RoomyNames → List NameRow
+rows_under d = map (name_row d.0) (in_order (slice_cmp nat_cmp) d.1.now.entries)
+
+-- the rows of the names in directories that are borrowed
+pub rows_under-each : (ds : List (ℕ × Bor RoomyNames)) → flat_map rows_under ds ≡ map name_row_of (names_in_all ds)
+rows_under-each [] = refl
+rows_under-each (d ∷ ds) =
+    let names = in_order (slice_cmp nat_cmp) d.1.now.entries in
+    sym (map-append name_row_of (keyed d.0 names) (names_in_all ds) ∙ (λ i. rows_keyed d.0 names i ++ sym (rows_under-each ds) i))

@@ -188,7 +188,7 @@ in_order-none none = ap (in_order nat_cmp) none ∙ in_order-sorted nat_cmp_tota
 
 -- ---- one node less
 -- a file has no names
-no_names : (content : Content) → is_dir_content content ≡ false → names_in content ≡ []
+pub no_names : (content : Content) → is_dir_content content ≡ false → names_in content ≡ []
 no_names (AFile f) is = refl
 no_names (Directory names) is = cc
 

@@ -1,5 +1,6 @@
 -- The names in one directory, as a store keeps them.
 use Rattle.std.specs.Prelude.{◌≡◌, ℕ, List, String, string_bytes, if◌then◌else◌, None}
+use Rattle.std.specs.Borrow.{Bor}
 use Rattle.std.specs.Ordering.{nat_cmp}
 use Rattle.std.specs.Cmp.Lexicographic.{slice_cmp}
 use Rattle.std.specs.BTreeMap.{is_at}
@@ -25,3 +26,7 @@ LosesName name old new =
 -- the row of a name in this directory
 abbrev pub name_row : ℕ → List ℕ × ℕ → NameRow
 name_row dir e = record { dir = dir; ino = e.1 }
+
+-- a name that is borrowed, and its number, as contracts see them
+abbrev pub borrowed_entry : {A : Type 0} → Bor (String A) × ℕ → List ℕ × ℕ
+borrowed_entry name = (string_bytes name.0.now, name.1)

@@ -1,5 +1,6 @@
 -- All inodes and names, as a store keeps them, and what calls see of them.
 use Rattle.std.specs.Prelude.{◌≡◌, ℕ, ◌<◌, true, List, [], ◌∷◌, ◌++◌, length, None}
+use Rattle.std.specs.Borrow.{Bor}
 use Rattle.std.specs.Option.{unwrap_or}
 use Rattle.std.specs.Ordering.{nat_cmp}
 use Rattle.std.specs.Cmp.Lexicographic.{slice_cmp}
@@ -11,6 +12,7 @@ use Rattle.qplain.specs.State.{Inode, NameKey, is_dir, name_key_cmp}
 use Rattle.qstore_tree.specs.declared.node.Node.{Node}
 pub use Rattle.qstore_tree.specs.Room.{Room, file_room, name_room}
 use Rattle.qstore_tree.specs.InOrder.{in_order, keyed_by, read_by}
+use Rattle.qstore_tree.specs.Names.{RoomyNames}
 use Rattle.qstore_tree.specs.Nodes.{inode_of, name_room_in, names_in, roomy_file_in}
 
 -- the inodes by number, the names by key, the kept link counts by number, and the room
@@ -28,6 +30,11 @@ keyed dir names = keyed_by (λ name. (dir, name)) names
 abbrev pub all_names : List (ℕ × Node) → List (NameKey × ℕ)
 all_names [] = []
 all_names (e ∷ es) = keyed e.0 (in_order (slice_cmp nat_cmp) (names_in e.1.content)) ++ all_names es
+
+-- the names in directories that are borrowed, each directory's by their bytes
+abbrev pub names_in_all : List (ℕ × Bor RoomyNames) → List (NameKey × ℕ)
+names_in_all [] = []
+names_in_all (d ∷ ds) = keyed d.0 (in_order (slice_cmp nat_cmp) d.1.now.entries) ++ names_in_all ds
 
 -- what is seen of nodes in a table that has room for `spare` more
 abbrev pub tree_of : List (ℕ × Node) → ℕ → RoomyTree

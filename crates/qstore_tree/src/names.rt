@@ -1,11 +1,12 @@
 //! The names in one directory.
-ghost use Rattle.std.specs.Prelude.{◌≡◌, ◌<◌, ◌≤◌, ◌==◌, ◌++◌, [], length, map, string_bytes, None, IsPermutation, OnOk};
+ghost use Rattle.std.specs.Prelude.{◌≡◌, ◌<◌, ◌≤◌, ◌==◌, ◌++◌, [], length, map, string_bytes, None, IfOk, IsPermutation, OnOk};
 ghost use Rattle.std.specs.Ordering.{nat_cmp};
 ghost use Rattle.std.specs.Cmp.Lexicographic.{slice_cmp};
 ghost use Rattle.std.specs.BTreeMap.{insert_entry, is_at};
 ghost use Rattle.std.specs.List.Sorted.{IsStrictlySortedBy};
 ghost use Rattle.std.specs.Map.{keys_of, lookup};
-ghost use Rattle.qstore_tree.specs.Names.{LosesName, name_row};
+ghost use Rattle.qstore_tree.specs.InOrder.{in_order};
+ghost use Rattle.qstore_tree.specs.Names.{LosesName, borrowed_entry, name_row};
 
 use crate::name_hasher::NameHasher;
 use qplain::NoMemory;
@@ -85,8 +86,43 @@ impl Names {
         self.table.remove(name);
     }
 
+    /// Appends a row for each of these names, which are in this directory, in the order of their bytes.
+    /// O(n log n), and for audits alone.
+    pub(crate) fn push_rows(
+        &self,
+        alloc: Global,
+        dir: u64,
+        rows: &mut Vec<NameRow>,
+    ) -> Result<(), NoMemory>
+        ensures { OnOk result (rows.new.items
+            ≡ rows.old.items ++ map (name_row dir) (in_order (slice_cmp nat_cmp) self.now.entries)) }
+    {
+        let names = self.by_bytes(alloc)?;
+        for name in names.iter() {
+            rows.push(NameRow { dir, ino: name.1 })?;
+        }
+        Ok(())
+    }
+
+    /// The names in the order of their bytes, borrowed, each with the number that it leads to. O(n log n).
+    fn by_bytes(&self, alloc: Global) -> Result<Vec<(&String, u64)>, NoMemory>
+        ensures { IfOk result (λ names.
+            map borrowed_entry names.items ≡ in_order (slice_cmp nat_cmp) self.now.entries) }
+    {
+        let mut names = Vec::with_capacity(alloc, self.table.len())?;
+        for (name, number) in self.table.iter() {
+            names.push((name, *number))?;
+        }
+        names.sort_unstable();
+        Ok(names)
+    }
+
     /// Appends a row for each of these names, which are in this directory, in any order. O(n), and for audits alone.
-    pub(crate) fn push_rows(&self, dir: u64, rows: &mut Vec<NameRow>) -> Result<(), NoMemory>
+    pub(crate) fn push_rows_unordered(
+        &self,
+        dir: u64,
+        rows: &mut Vec<NameRow>,
+    ) -> Result<(), NoMemory>
         ensures rows { OnOk result
             (IsPermutation (rows.old.items ++ map (name_row dir) self.now.entries) rows.new.items) }
         ensures in_order { OnOk result

@@ -214,14 +214,18 @@ impl Node {
     }
 
     /// Appends a row for each name in this inode, whose number this is, in any order.
-    pub(crate) fn push_names(&self, number: u64, rows: &mut Vec<NameRow>) -> Result<(), NoMemory>
+    pub(crate) fn push_names_unordered(
+        &self,
+        number: u64,
+        rows: &mut Vec<NameRow>,
+    ) -> Result<(), NoMemory>
         ensures { OnOk result (IsPermutation
             (rows.old.items ++ map (name_row number) (in_order (slice_cmp nat_cmp) (names_in self.now.content)))
             rows.new.items) }
     {
         match &self.content {
             Content::File(_) => Ok(()),
-            Content::Directory(names) => names.push_rows(number, rows),
+            Content::Directory(names) => names.push_rows_unordered(number, rows),
         }
     }
 }

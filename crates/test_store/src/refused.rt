@@ -112,12 +112,13 @@ fn ask(
     Ok(())
 }
 
-/// How many record rows, inode rows and name rows a store has.
-fn count_rows(rt: &impl Print, store: &Store) -> Result<(usize, usize, usize), NoMemory> {
+/// How many record rows, inode rows and name rows a store has, the last in order and in any order.
+fn count_rows(rt: &impl Print, store: &Store) -> Result<(usize, usize, usize, usize), NoMemory> {
     let records = again(rt, || store.record_rows())?;
     let inodes = again(rt, || store.inode_rows())?;
     let names = again(rt, || store.name_rows())?;
-    Ok((records.len(), inodes.len(), names.len()))
+    let unordered = again(rt, || store.name_rows_unordered())?;
+    Ok((records.len(), inodes.len(), names.len(), unordered.len()))
 }
 
 const ROWS: [(Way, Row<'static>); 24] = [
@@ -154,7 +155,7 @@ fn a_refused_call_changes_nothing(rt: HostRuntime) -> Result<(), NoMemory> {
     for (way, row) in ROWS {
         ask(&rt, alloc, &mut store, way, row)?;
     }
-    assert_eq!(rt; count_rows(&rt, &store)?, (3, 5, 5));
+    assert_eq!(rt; count_rows(&rt, &store)?, (3, 5, 5, 5));
     assert_eq!(rt; (store.blocks(), store.inodes()), (0, 5));
     Ok(())
 }

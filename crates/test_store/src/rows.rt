@@ -46,8 +46,16 @@ fn inodes_are_listed_by_number(rt: HostRuntime) -> Result<(), NoMemory> {
 }
 
 #[test]
-fn each_name_is_listed(rt: HostRuntime) -> Result<(), NoMemory> {
-    let mut rows = two_files(&rt, rt.alloc())?.name_rows()?;
+fn names_are_listed_by_directory_then_by_name(rt: HostRuntime) -> Result<(), NoMemory> {
+    let rows = two_files(&rt, rt.alloc())?.name_rows()?;
+    let wanted = [NameRow { dir: 1, ino: 3 }, NameRow { dir: 1, ino: 2 }];
+    assert!(rt; rows.as_slice() == wanted.as_slice());
+    Ok(())
+}
+
+#[test]
+fn each_name_is_listed_once_in_any_order(rt: HostRuntime) -> Result<(), NoMemory> {
+    let mut rows = two_files(&rt, rt.alloc())?.name_rows_unordered()?;
     rows.sort_unstable_by_key(|row| row.ino);
     let wanted = [NameRow { dir: 1, ino: 2 }, NameRow { dir: 1, ino: 3 }];
     assert!(rt; rows.as_slice() == wanted.as_slice());

@@ -94,8 +94,7 @@ impl Store {
         self.claim(cred, callers, node.uid, node.gid, blocks_of(node))
     }
 
-    /// Keeps the bill of a change by which the inode of one claim comes to stand in the place of the other's, and which
-    /// gives N numbers, or tells why it is refused.
+    /// Keeps the bill of a change that puts one claim's inode in the other's place and gives N numbers, or refuses it.
     pub(super) fn admit(
         &mut self,
         cred: &Cred,

@@ -39,7 +39,6 @@ impl Store {
 
     /// Puts the rows that `commit` of a ready call will change on a board after others, of which there is room for
     /// four. O(1). It is out of line, so that what is ready has no address where a call changes no row.
-    ///
     /// The caller owes that this store had no other `ready`, `apply` or `commit` since.
     #[inline(never)]
     pub fn push_changed_rows(&self, ready: &Ready, rows: &mut Vec<PlacedRow>)

@@ -1,4 +1,4 @@
-//! What audits, reports and boards read: the records, the inodes and the names of a store, one row for each.
+//! The rows of a store's records, inodes and names, for audits, reports and boards. An Err leaves nothing made.
 ghost use Rattle.std.specs.Prelude.{◌≡◌, map, IfOk, IsPermutation, OnOk};
 ghost use Rattle.std.specs.Ordering.{nat_cmp};
 ghost use Rattle.std.specs.List.{AllPairs};
@@ -14,7 +14,7 @@ use qrules::{BoardRow, InodeRow, NameRow, RecordRow};
 
 impl Store {
     /// The quota records, each once: users by id, then groups by id. Uses are in blocks of 4096 bytes,
-    /// block limits in KiB, ends in seconds. O(n), as many as are declared. An Err leaves nothing made.
+    /// block limits in KiB, ends in seconds. O(n), as many as are declared.
     pub fn record_rows(&self) -> Result<Vec<RecordRow>, NoMemory>
         ensures rows { IfOk result (λ rows. rows.items ≡ map (record_row_of self.now.state) self.now.state.holders) }
         ensures by_id { OnOk result (AllPairs StandsBefore self.now.state.holders) }
@@ -22,15 +22,14 @@ impl Store {
         self.accounts.rows(self.alloc)
     }
 
-    /// The rows of a board: the quota records, users by id, then groups by id. O(n). An Err leaves nothing made.
+    /// The rows of a board: the quota records, users by id, then groups by id. O(n).
     pub fn board_rows(&self) -> Result<Vec<BoardRow>, NoMemory>
         ensures { IfOk result (λ rows. rows.items ≡ map (row_of self.now.state) self.now.state.holders) }
     {
         self.accounts.board_rows(self.alloc)
     }
 
-    /// The inodes by number, each once, with its allocated blocks of 4096 bytes and the link count that is kept for it.
-    /// O(n log n), O(n) where none was taken out. An Err leaves nothing made.
+    /// The inodes by number, each once, in blocks of 4096 bytes. O(n log n), O(n) where none was taken out.
     pub fn inode_rows(&self) -> Result<Vec<InodeRow>, NoMemory>
         ensures rows { IfOk result (λ rows. rows.items ≡ map (inode_row_of self.now.state) self.now.state.inodes) }
         ensures by_number { OnOk result (IsStrictlySortedBy nat_cmp (keys_of self.now.state.inodes)) }
@@ -38,11 +37,19 @@ impl Store {
         self.tree.inode_rows(self.alloc)
     }
 
-    /// The names, each once, in any order. O(n). An Err leaves nothing made.
+    /// The names by directory, then by name, each once. O(n log n).
     pub fn name_rows(&self) -> Result<Vec<NameRow>, NoMemory>
+        ensures rows { IfOk result (λ rows. rows.items ≡ map name_row_of self.now.state.names) }
+        ensures by_key { OnOk result (IsStrictlySortedBy name_key_cmp (keys_of self.now.state.names)) }
+    {
+        self.tree.name_rows(self.alloc)
+    }
+
+    /// The names, each once, in any order, for who only counts them. O(n).
+    pub fn name_rows_unordered(&self) -> Result<Vec<NameRow>, NoMemory>
         ensures rows { IfOk result (λ rows. IsPermutation (map name_row_of self.now.state.names) rows.items) }
         ensures each_once { OnOk result (IsStrictlySortedBy name_key_cmp (keys_of self.now.state.names)) }
     {
-        self.tree.name_rows(self.alloc)
+        self.tree.name_rows_unordered(self.alloc)
     }
 }

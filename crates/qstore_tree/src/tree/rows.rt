@@ -4,8 +4,9 @@ ghost use Rattle.std.specs.Ordering.{nat_cmp};
 ghost use Rattle.std.specs.List.Sorted.{IsStrictlySortedBy};
 ghost use Rattle.std.specs.Map.{keys_of};
 ghost use Rattle.qplain.specs.State.{name_key_cmp};
-ghost use Rattle.qstore_tree.specs.Tree.{kept_row, name_row_of};
+ghost use Rattle.qstore_tree.specs.Tree.{kept_row, name_row_of, names_in_all};
 
+use crate::names::Names;
 use crate::tree::Tree;
 use qplain::NoMemory;
 use qrules::{InodeRow, NameRow};
@@ -26,14 +27,43 @@ impl Tree {
         Ok(rows)
     }
 
-    /// A row for each name, in any order. O(n), and for audits alone.
+    /// A row for each name, by directory, then by name. O(n log n), and for audits alone.
     pub fn name_rows(&self, alloc: Global) -> Result<Vec<NameRow>, NoMemory>
+        ensures rows { IfOk result (λ rows. rows.items ≡ map name_row_of self.now.names) }
+        ensures by_key { OnOk result (IsStrictlySortedBy name_key_cmp (keys_of self.now.names)) }
+    {
+        let directories = self.directories(alloc)?;
+        let mut rows = Vec::new(alloc);
+        for (dir, names) in directories.iter() {
+            names.push_rows(alloc, *dir, &mut rows)?;
+        }
+        Ok(rows)
+    }
+
+    /// The directories by number, borrowed, each with its names. O(n), and a sort of the directories.
+    fn directories(&self, alloc: Global) -> Result<Vec<(u64, &Names)>, NoMemory>
+        ensures names { IfOk result (λ directories. names_in_all directories.items ≡ self.now.names) }
+        ensures by_key { OnOk result (IsStrictlySortedBy name_key_cmp (keys_of self.now.names)) }
+    {
+        let mut directories = Vec::new(alloc);
+        for (number, node) in self.nodes.iter() {
+            let Some(names) = node.names() else {
+                continue;
+            };
+            directories.push((*number, names))?;
+        }
+        directories.sort_unstable_by_key(|directory| directory.0);
+        Ok(directories)
+    }
+
+    /// A row for each name, in any order. O(n), and for audits alone.
+    pub fn name_rows_unordered(&self, alloc: Global) -> Result<Vec<NameRow>, NoMemory>
         ensures rows { IfOk result (λ rows. IsPermutation (map name_row_of self.now.names) rows.items) }
         ensures each_once { OnOk result (IsStrictlySortedBy name_key_cmp (keys_of self.now.names)) }
     {
         let mut rows = Vec::new(alloc);
         for (number, node) in self.nodes.iter() {
-            node.push_names(*number, &mut rows)?;
+            node.push_names_unordered(*number, &mut rows)?;
         }
         Ok(rows)
     }

@@ -1,34 +1,21 @@
-use Rattle.std.proofs.Common.{map, subst, sym, ◌∙◌, IsPermutation}
-use Rattle.std.specs.Ordering.{nat_cmp}
-use Rattle.std.specs.Cmp.Lexicographic.{slice_cmp}
-use Rattle.std.specs.List.Sorted.{IsStrictlySortedBy}
-use Rattle.std.specs.Map.{keys_of}
-use Rattle.std.proofs.lemmas.List.Sorted.{IsPermutation-append_right}
-use Rattle.qstore_tree.specs.Names.{RoomyNames, names_of, name_row}
-use Rattle.qstore_tree.proofs.Bytes.{names_of-order}
-use Rattle.qstore_tree.proofs.Pushed.{shuffled_end, shuffled_step}
-use Rattle.qstore_tree.proofs.Rows.{row_to, table_rows}
+use Rattle.std.proofs.Common.{◌++◌, ap, flat_map, map, ◌∙◌}
+use Rattle.qstore_tree.specs.Names.{name_row}
+use Rattle.qstore_tree.proofs.Pushed.{placed_end, placed_step}
+use Rattle.qstore_tree.proofs.Rows.{row_of_borrowed, rows_borrowed}
 use Rattle.qstore_tree.proofs.names.Names.push_rows.Goals as goal
 
-pub loop-ino-init : goal.loop-ino-init
-loop-ino-init c =
-    let es = c.self.inside.table.entries in
-    IsPermutation-append_right c.args.rows.now.items (map (name_row c.args.dir) c.args.self.now.entries) _
-    (subst (λ (n : RoomyNames). IsPermutation (map (name_row c.args.dir) n.entries) (map (row_to c.args.dir) c.into_iter-ino-iterator.result)) c.self.view_is
-    (subst (λ l. IsPermutation (map (name_row c.args.dir) (names_of es)) (map (row_to c.args.dir) l))
-    (sym (c.into_iter-ino-iterator.ensures.into_iter_gives ∙ c.values-ino-items.ensures.rest))
-    (table_rows c.args.dir es c.values-ino-items.ensures.unique)))
+pub loop-name-init : goal.loop-name-init
+loop-name-init c =
+    ap (λ l. c.args.rows.now.items ++ l) (ap (flat_map (row_of_borrowed c.args.dir)) c.deref-name-items.ensures.value
+    ∙ rows_borrowed c.args.dir c.in_ok-names.names.items ∙ ap (map (name_row c.args.dir)) c.in_ok-names.ensures)
 
-pub loop-ino-preserved : goal.loop-ino-preserved
-loop-ino-preserved c =
-    shuffled_step (row_to c.args.dir) c.loop-ino.rows.items c.push.new.self.items _ c.loop-ino.ino-iterator _ c.in-Some.ino.now
-    c.in-Some.ensures.steps c.in_ok-push.ensures.items c.loop-ino.invariant
+pub loop-name-preserved : goal.loop-name-preserved
+loop-name-preserved c =
+    placed_step (row_of_borrowed c.args.dir) c.loop-name.rows.items c.push.new.self.items _ c.deref-name-items.result.now c.loop-name.name-index
+    c.name-item.result c.loop-name-test.true
+    (c.in_ok-push.ensures.items ∙ ap (λ n. c.loop-name.rows.items ++ row_of_borrowed c.args.dir n) c.name-item.is) c.loop-name.invariant
 
-pub returns-clause-rows : goal.returns-clause-rows
-returns-clause-rows c =
-    shuffled_end (row_to c.args.dir) c.loop-ino.rows.items _ c.loop-ino.ino-iterator c.in-None.ensures.steps.0 c.loop-ino.invariant
-
-pub returns-clause-in_order : goal.returns-clause-in_order
-returns-clause-in_order c =
-    let InOrder : RoomyNames → Type 0 = λ n. IsStrictlySortedBy (slice_cmp nat_cmp) (keys_of n.entries) in
-    subst InOrder c.self.view_is (names_of-order c.self.inside.table.entries)
+pub returns : goal.returns
+returns c =
+    placed_end (row_of_borrowed c.args.dir) c.loop-name.rows.items _ c.deref-name-items.result.now c.loop-name.name-index
+    c.loop-name-test.false c.loop-name.invariant

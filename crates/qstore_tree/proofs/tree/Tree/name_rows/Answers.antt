@@ -1,28 +1,20 @@
-use Rattle.std.proofs.Common.{◌≡◌, ◌++◌, flat_map, map, subst, sym, ◌∙◌, IsPermutation}
-use Rattle.std.specs.List.Sorted.{IsStrictlySortedBy}
-use Rattle.std.specs.Map.{keys_of}
-use Rattle.qplain.specs.State.{name_key_cmp}
-use Rattle.qstore_tree.specs.Tree.{RoomyTree, name_row_of}
-use Rattle.qstore_tree.proofs.AllNames.{named-by_key}
-use Rattle.qstore_tree.proofs.Rows.{names_end, names_step, nodes_rows, rows_in}
+use Rattle.std.proofs.Common.{◌++◌, ap, flat_map, map, ◌∙◌}
+use Rattle.qstore_tree.specs.Tree.{name_row_of}
+use Rattle.qstore_tree.proofs.Pushed.{placed_end, placed_step}
+use Rattle.qstore_tree.proofs.Rows.{rows_under, rows_under-each}
 use Rattle.qstore_tree.proofs.tree.Tree.name_rows.Goals as goal
 
-pub loop-number-init : goal.loop-number-init
-loop-number-init c =
-    let nodes = c.self.inside.nodes.entries in
-    let start : c.into_iter-number-iterator.result ≡ nodes = c.into_iter-number-iterator.ensures.into_iter_gives ∙ c.iter-number-items.ensures.rest in
-    subst (IsPermutation (map name_row_of c.args.self.now.names)) (λ i. sym c.new-rows.ensures.items i ++ flat_map rows_in (sym start i))
-    (subst (λ (t : RoomyTree). IsPermutation (map name_row_of t.names) (flat_map rows_in nodes)) c.self.view_is
-    (nodes_rows nodes c.iter-number-items.ensures.unique))
+pub loop-dir-init : goal.loop-dir-init
+loop-dir-init c =
+    (λ i. c.new-rows.ensures.items i ++ flat_map rows_under (c.deref-dir-items.ensures.value i))
+    ∙ rows_under-each c.in_ok-directories.directories.items ∙ ap (map name_row_of) c.in_ok-directories.ensures.names
 
-pub loop-number-preserved : goal.loop-number-preserved
-loop-number-preserved c =
-    names_step c.loop-number.rows.items c.push_names.new.rows.items _ c.loop-number.number-iterator _
-    (c.in-Some.number.now, c.in-Some.node.now) c.in-Some.ensures.steps c.in_ok-push_names.ensures c.loop-number.invariant
+pub loop-dir-preserved : goal.loop-dir-preserved
+loop-dir-preserved c =
+    placed_step rows_under c.loop-dir.rows.items c.push_rows.new.rows.items _ c.deref-dir-items.result.now c.loop-dir.dir-index
+    c.loop-dir-item.result c.loop-dir-test.true
+    (c.in_ok-push_rows.ensures ∙ ap (λ d. c.loop-dir.rows.items ++ rows_under d) c.loop-dir-item.is) c.loop-dir.invariant
 
 pub returns-clause-rows : goal.returns-clause-rows
-returns-clause-rows c = names_end c.loop-number.rows.items _ c.loop-number.number-iterator c.in-None.ensures.steps.0 c.loop-number.invariant
-
-pub returns-clause-each_once : goal.returns-clause-each_once
-returns-clause-each_once c =
-    subst (λ (t : RoomyTree). IsStrictlySortedBy name_key_cmp (keys_of t.names)) c.self.view_is (named-by_key c.self.inside.nodes.entries)
+returns-clause-rows c =
+    placed_end rows_under c.loop-dir.rows.items _ c.deref-dir-items.result.now c.loop-dir.dir-index c.loop-dir-test.false c.loop-dir.invariant

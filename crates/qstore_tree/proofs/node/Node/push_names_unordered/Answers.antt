@@ -10,7 +10,7 @@ use Rattle.qstore_tree.specs.InOrder.{in_order}
 use Rattle.qstore_tree.specs.Names.{name_row}
 use Rattle.qstore_tree.specs.Nodes.{names_in}
 use Rattle.qstore_tree.proofs.InOrder.{in_order-sorted, sorted_from}
-use Rattle.qstore_tree.proofs.node.Node.push_names.Goals as goal
+use Rattle.qstore_tree.proofs.node.Node.push_names_unordered.Goals as goal
 
 pub returns-in-File : goal.returns-in-File
 returns-in-File c =
@@ -33,6 +33,7 @@ returns-in-Directory c =
     let same : InOrder → names ≡ in_order (slice_cmp nat_cmp) (names_in c.args.self.now.content) =
     λ order. sym (in_order-sorted nat_list_cmp_total exact_bytes names (sorted_from (slice_cmp nat_cmp) names order))
     ∙ ap (λ x. in_order (slice_cmp nat_cmp) (names_in x)) (sym c.in-Directory.is) in
-    both c.push_rows.result (λ (pushed : IsPermutation (rows ++ map (name_row c.args.number) names) c.push_rows.new.rows.items) (order : InOrder).
-    subst (λ es. IsPermutation (rows ++ map (name_row c.args.number) es) c.push_rows.new.rows.items) (same order) pushed)
-    c.push_rows.ensures.rows c.push_rows.ensures.in_order
+    let more = c.push_rows_unordered.new.rows.items in
+    both c.push_rows_unordered.result (λ (pushed : IsPermutation (rows ++ map (name_row c.args.number) names) more) (order : InOrder).
+    subst (λ es. IsPermutation (rows ++ map (name_row c.args.number) es) more) (same order) pushed)
+    c.push_rows_unordered.ensures.rows c.push_rows_unordered.ensures.in_order
