@@ -52,8 +52,8 @@ AreTranscriptsOf worker [] journal (t ∷ ts) = ⊥
 AreTranscriptsOf worker (lines ∷ scripts) journal [] = ⊥
 
 -- what a run of these scripts leaves, from this setup on; the journal has a worker for each and is no longer than it
--- may be, the tallies are its own and balance with the store's totals, no entry belongs to anyone else, the boards that were shown are its own and never
--- fall, and the differences are those of the store's own rows, of which there are none
+-- may be, the tallies are its own and balance with the store's totals, no entry belongs to anyone else, the boards that
+-- were shown are its own and never fall, and the differences are those of the store's own rows, of which there are none
 pub record IsOutcomeOf (setting : Setting) (scripts : List (List Line)) (o : Outcome) : Type 0 where
   pub setup : o.setup ≡ setting
   pub legal : IsLegal (start setting) o.journal.entries

@@ -7,7 +7,8 @@ pub returns-in_err-put_head-clause-writes : goal.returns-in_err-put_head-clause-
 returns-in_err-put_head-clause-writes g c = refused_first _ _ _ _ _ c.from_residual.ensures.0 (rw c.workers.ensures at c.in_err-put_head.ensures)
 
 pub returns-clause-writes : goal.returns-clause-writes
-returns-clause-writes g c = writes_then _ _ _ _ _ _ (rw c.workers.ensures at c.in_ok-put_head.ensures) (rw c.entries.ensures.entries at c.put_entries.ensures.writes)
+returns-clause-writes g c = writes_then _ _ _ _ _ _ (rw c.workers.ensures at c.in_ok-put_head.ensures)
+    (rw c.entries.ensures.entries at c.put_entries.ensures.writes)
 
 pub returns-clause-again : goal.returns-clause-again
 returns-clause-again g c = IfOk-weaker c.put_entries.result _ _
