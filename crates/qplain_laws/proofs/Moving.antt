@@ -174,7 +174,8 @@ module _ (S : State) (to : List (List ℕ)) (dir : ℕ) (name : List ℕ) (numbe
       ap (λ n. as_directory M1 (Ok n)) same ∙ ap (λ b. cond b (Ok to_dir) (Err ENOTDIR)) at
 
   -- a walk to the parent that comes past no directory of this number is kept
-  parent-kept : (r : Result ℕ Refusal) (names : List (List ℕ)) → Avoids S number r names → parent_from S r names ≡ Ok to_dir → parent_from M1 r names ≡ Ok to_dir
+  parent-kept : (r : Result ℕ Refusal) (names : List (List ℕ)) → Avoids S number r names → parent_from S r names ≡ Ok to_dir
+      → parent_from M1 r names ≡ Ok to_dir
   parent-kept (Err e) names avoids h = let fault = parent_from-fault S e names in cc
   parent-kept (Ok d) [] avoids h = at-parent d h
   parent-kept (Ok d) (nm ∷ []) avoids h = at-parent d h

@@ -78,7 +78,8 @@ module _ (S : State) (dir : ℕ) (name : List ℕ) (fits : FitsTogether S) where
       named-without S d nm number led dir name fits.names.in_order
       ∙ cond-false (is_at (name_key_cmp (d, nm)) (dir, name)) None (named S dir name) (apart-from path d nm apart place)
 
-  pub stays-renamed : (from to : List ℕ) (d : ℕ) (nm : List ℕ) (number to_dir : ℕ) (to_name : List ℕ) → Apart S dir name from → Apart S dir name to → IsPlace S from d nm
+  pub stays-renamed : (from to : List ℕ) (d : ℕ) (nm : List ℕ) (number to_dir : ℕ) (to_name : List ℕ) → Apart S dir name from → Apart S dir name to
+      → IsPlace S from d nm
       → IsPlace S to to_dir to_name → named S d nm ≡ Some number → Stays S dir name number (renamed S d nm to_dir to_name number)
   stays-renamed from to d nm number to_dir to_name apart apart_too place to_place led =
       let U : State = without_name S d nm in

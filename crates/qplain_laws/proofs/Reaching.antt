@@ -88,7 +88,8 @@ reached-at S q all some = reached-there S q (inode_at S q) all refl some
 none-bad : ℕ → Bool
 none-bad n = false
 
-module _ (S : State) (inode : Inode) (dir : ℕ) (name : List ℕ) (fits : FitsTogether S) (stands : is_directory S dir ≡ true) (absent : named S dir name ≡ None) where
+module _ (S : State) (inode : Inode) (dir : ℕ) (name : List ℕ) (fits : FitsTogether S) (stands : is_directory S dir ≡ true)
+    (absent : named S dir name ≡ None) where
   none : inode_at S S.next ≡ None
   none = absent-fresh S.inodes S.next fits.inodes.fresh
 

@@ -36,8 +36,8 @@ IsChanged old new path number change =
     LeadsTo old path number × (inode : Inode) × (inode_at old number ≡ Some inode)
     × (inode_at new number ≡ Some (change inode))
 
--- what a caller's call has done that was answered `Done` with this number: a rename of a path to another that led to the
--- same inode leaves both, and a call that only asks is never done
+-- what a caller's call has done that was answered `Done` with this number: a rename of a path to another that led to
+-- the same inode leaves both, and a call that only asks is never done
 abbrev pub HasDone : Caller → State → Call → ℕ → State → Type 0
 HasDone cred old (Create path) number new =
     LeadsTo new path number × (inode_at new number ≡ Some (new_file cred.uid cred.gid))
