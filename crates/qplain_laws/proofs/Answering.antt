@@ -137,13 +137,13 @@ module _ {P : State → Type 0} where
   under-none S of_root try names None plain each = refuses of_root plain
   under-none S of_root try names (Some name) plain each = in_reached-none try name (parent S names) (parent-plain S names) (λ dir. each dir name)
 
-  at_path-none : (S : State) (try : ℕ → Inode → Attempt) (path : List ℕ) → ((number : ℕ) (inode : Inode) → inode_at S number ≡ Some inode
-      → TellsNone P (try number inode))
+  at_path-none : (S : State) (try : ℕ → Inode → Attempt) (path : List ℕ)
+      → ((number : ℕ) (inode : Inode) → inode_at S number ≡ Some inode → TellsNone P (try number inode))
       → TellsNone P (at_path S try path)
   at_path-none S try path each = at_reached-none S try (walk S (components path)) (walk-plain S (Ok ROOT) (components path) tt) each
 
-  at_name-none : (S : State) (try : ℕ → Inode → Attempt) (dir : ℕ) (name : List ℕ) → ((number : ℕ) (inode : Inode) → inode_at S number ≡ Some inode
-      → TellsNone P (try number inode))
+  at_name-none : (S : State) (try : ℕ → Inode → Attempt) (dir : ℕ) (name : List ℕ)
+      → ((number : ℕ) (inode : Inode) → inode_at S number ≡ Some inode → TellsNone P (try number inode))
       → TellsNone P (at_name S try dir name)
   at_name-none S try dir name each = at_reached-none S try (led_to (named S dir name)) (led_to-plain (named S dir name)) each
 

@@ -48,8 +48,8 @@ leads-no_place S path dir name place none = walk-place S path dir name place ∙
 -- ---- places that stay
 
 -- where every step is kept but those to dead ends, so is every place that is in none
-pub place-kept : (S S1 : State) (bad : ℕ → Bool) (keeps : (d : ℕ) (nm : List ℕ) (m : ℕ) → follow S (Ok d) nm ≡ Ok m → bad m ≡ false
-    → follow S1 (Ok d) nm ≡ Ok m)
+pub place-kept : (S S1 : State) (bad : ℕ → Bool)
+    (keeps : (d : ℕ) (nm : List ℕ) (m : ℕ) → follow S (Ok d) nm ≡ Ok m → bad m ≡ false → follow S1 (Ok d) nm ≡ Ok m)
     (dead : (m : ℕ) (nm : List ℕ) (x : ℕ) → bad m ≡ true → follow S (Ok m) nm ≡ Ok x → ⊥) (path : List ℕ) (dir : ℕ) (name : List ℕ)
     → bad dir ≡ false → is_directory S1 dir ≡ true → IsPlace S path dir name → IsPlace S1 path dir name
 place-kept S S1 bad keeps dead path dir name good at place =
@@ -104,7 +104,7 @@ module _ (P : ℕ → State → Type 0) (S : State) where
   -- what holds of each inode that the path leads to
   pub at_path-done : (try : ℕ → Inode → Attempt) (path : List ℕ)
       → ((number : ℕ) (inode : Inode) → LeadsTo S path number → inode_at S number ≡ Some inode → OnDone P S (try number inode))
-          → OnDone P S (at_path S try path)
+      → OnDone P S (at_path S try path)
   at_path-done try path each = at_reached-done try (walk S (components path)) each
 
   -- of each that the name leads to

@@ -102,8 +102,8 @@ module _ (S : State) (dir : ℕ) (name : List ℕ) (number : ℕ) (inode : Inode
     pub removed_reached : AllReached S-left
     removed_reached = λ k d below.
         let e : ℕ × Inode = slice_index_or S-left.inodes k d in
-        let has : has_name (without_name S dir name) e.0 ≡ true = filter_passes
-            (λ (x : ℕ × Inode). has_name (without_name S dir name) x.0) S.inodes k d below in
+        let has : has_name (without_name S dir name) e.0 ≡ true =
+        filter_passes (λ (x : ℕ × Inode). has_name (without_name S dir name) x.0) S.inodes k d below in
         let old : IsReached S e.0 = All-filter (λ (x : ℕ × Inode). has_name (without_name S dir name) x.0) (λ x. IsReached S x.0) S.inodes all k d below in
         by e.0 has old (number == e.0) refl
       where

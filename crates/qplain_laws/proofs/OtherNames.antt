@@ -50,8 +50,8 @@ module _ (S : State) (cred : Caller) (lawful : IsLawful S) (dir : ℕ) (name : L
       at_name-done (Stays S dir name) S (unlink_at S cred d nm) d nm (λ number inode led there.
       let becomes : Attempt = Becomes (swept (without_name S d nm)) number in
       unless_refused (Stays S dir name) S inode.dir EISDIR (cond (not (may_remove S cred d number)) (Refuse EPERM) becomes) (λ file.
-      unless_refused (Stays S dir name) S (not (may_remove S cred d number)) EPERM becomes
-          (λ may. stays-removed S dir name lawful.parts path d nm number apart place led))))
+      unless_refused (Stays S dir name) S (not (may_remove S cred d number)) EPERM becomes (λ may.
+      stays-removed S dir name lawful.parts path d nm number apart place led))))
 
   rmdir-stays : (path : List ℕ) → Apart S dir name path → OnDone (Stays S dir name) S (attempt_of S cred (Rmdir path))
   rmdir-stays path apart =
@@ -61,8 +61,8 @@ module _ (S : State) (cred : Caller) (lawful : IsLawful S) (dir : ℕ) (name : L
       let empties : Attempt = cond (not (is_empty S number)) (Refuse ENOTEMPTY) becomes in
       unless_refused (Stays S dir name) S (not inode.dir) ENOTDIR (cond (not (may_remove S cred d number)) (Refuse EPERM) empties) (λ directory.
       unless_refused (Stays S dir name) S (not (may_remove S cred d number)) EPERM empties (λ may.
-      unless_refused (Stays S dir name) S (not (is_empty S number)) ENOTEMPTY becomes
-          (λ empty. stays-removed S dir name lawful.parts path d nm number apart place led)))))
+      unless_refused (Stays S dir name) S (not (is_empty S number)) ENOTEMPTY becomes (λ empty.
+      stays-removed S dir name lawful.parts path d nm number apart place led)))))
 
   rename-stays : (from to : List ℕ) → Apart S dir name from → Apart S dir name to → OnDone (Stays S dir name) S (attempt_of S cred (Rename from to))
   rename-stays from to apart apart_too =
@@ -122,8 +122,8 @@ module _ (S : State) (cred : Caller) (lawful : IsLawful S) (dir : ℕ) (name : L
       in_parent-done (Stays S dir name) S EEXIST (mkdir_as S cred) path (λ d nm place stands.
       let T : State = created S (new_directory cred.uid cred.gid) d nm in
       unless_refused (Stays S dir name) S (is_some (named S d nm)) EEXIST (unless_too_many_links T S.next) (λ free.
-      few-stays T S.next (stays-made S dir name lawful.parts (new_directory cred.uid cred.gid) path d nm (All-head
-          (Apart S dir name) path [] apart) place free)))
+      few-stays T S.next
+      (stays-made S dir name lawful.parts (new_directory cred.uid cred.gid) path d nm (All-head (Apart S dir name) path [] apart) place free)))
   attempt_of-stays (Write path off bytes) apart = write-stays path off bytes
   attempt_of-stays (Truncate path size) apart = truncate-stays path size
   attempt_of-stays (Read path off len) apart =
@@ -134,8 +134,8 @@ module _ (S : State) (cred : Caller) (lawful : IsLawful S) (dir : ℕ) (name : L
   attempt_of-stays (Unlink path) apart = unlink-stays path (All-head (Apart S dir name) path [] apart)
   attempt_of-stays (Rmdir path) apart = rmdir-stays path (All-head (Apart S dir name) path [] apart)
   attempt_of-stays (Rename from to) apart =
-      rename-stays from to (All-head (Apart S dir name) from (to ∷ []) apart) (All-head (Apart S dir name) to [] (All-tail (Apart S dir name) from
-          (to ∷ []) apart))
+      rename-stays from to (All-head (Apart S dir name) from (to ∷ []) apart)
+      (All-head (Apart S dir name) to [] (All-tail (Apart S dir name) from (to ∷ []) apart))
   attempt_of-stays (Chown path uid gid) apart =
       at_path-done (Stays S dir name) S (chown_at S cred uid gid) path (λ number inode leads there.
       unless_refused (Stays S dir name) S (not (may_give cred inode (unwrap_or uid inode.uid) (unwrap_or gid inode.gid))) EPERM

@@ -71,8 +71,8 @@ module _ (S : State) (cred : Caller) (lawful : IsLawful S) where
   further-kept : (dir : ℕ) (name : List ℕ) (number : ℕ) → named S dir name ≡ None → (path : List ℕ) (q : ℕ) → LeadsTo S path q
       → LeadsTo (with_name S dir name number) path q
   further-kept dir name number absent path q leads =
-      walk-kept S (with_name S dir name number) (λ n. false) (keeps-linked S dir name number absent)
-          (λ m nm x e. absurd (cc)) ROOT (components path) q leads refl
+      walk-kept S (with_name S dir name number) (λ n. false) (keeps-linked S dir name number absent) (λ m nm x e. absurd (cc))
+      ROOT (components path) q leads refl
 
   pub link-done : (from to : List ℕ) → OnDone (Has (Link from to)) S (attempt_of S cred (Link from to))
   link-done from to =

@@ -25,8 +25,8 @@ pub fn graces_run_on()
     ensures { GracesRunOn }
 {}
 
-/// From a lawful state a call touches one inode, if any: every other number has what it had, each use rises and falls by
-/// what that one takes and took, and whom it charges as before has the record that it had, unless the call sets limits.
+/// From a lawful state a call touches one inode, if any: every other number has what it had, each use rises and falls
+/// by what that one takes and took, and whom it charges as before keeps the record, unless the call sets limits.
 pub fn one_inode_is_touched()
     ensures { OneInodeIsTouched }
 {}
@@ -58,8 +58,8 @@ pub fn files_stay_right_sized()
     ensures steps { FilesStayRightSized }
 {}
 
-/// Names cost nothing: from a lawful state a link, an unlink, a rmdir or a rename that is told of no change leaves every
-/// inode and every record. A link and a chown are never told of one.
+/// Names cost nothing: from a lawful state a link, an unlink, a rmdir or a rename that is told of no change leaves
+/// every inode and every record. A link and a chown are never told of one.
 pub fn names_cost_nothing()
     ensures inodes { NamesCostNothing }
     ensures told { TotalsAreMoved }
