@@ -1,17 +1,15 @@
 -- A step that is done has done what its call is named for.
-use Rattle.std.proofs.Common.{◌≡◌, ℕ, List, Option, Some, None, refl, ap, subst, ◌∙◌}
-use Rattle.std.specs.List.{find}
-use Rattle.std.specs.Option.{option_map}
+use Rattle.std.proofs.Common.{◌≡◌, ℕ, List, Option, Some, None, subst, ◌∙◌}
 use Rattle.qplain.specs.declared.call.Call.{Call}
 use Rattle.qplain.specs.declared.call.Call.TheVariants.{Create, Mkdir, Write, Truncate, Read, Stat as AskStat, Link, Unlink, Rmdir, Rename, Chown, SetQuota, SetGrace, Quota as AskQuota}
 use Rattle.qplain.specs.declared.change.Change.{Change}
 use Rattle.qplain.specs.declared.refusal.Refusal.{Refusal}
 use Rattle.qplain.specs.declared.reply.Reply.TheVariants.{Done}
 use Rattle.qplain.specs.Caller.{Caller}
-use Rattle.qplain.specs.State.{Holder, State}
+use Rattle.qplain.specs.State.{State}
 use Rattle.qplain.specs.Walk.{components}
-use Rattle.qplain.specs.Decision.{ends_after, refusal_between, with_ends_of}
-use Rattle.qplain.specs.Arguments.{is_holder, refusal_of_arguments}
+use Rattle.qplain.specs.Decision.{ends_after, refusal_between}
+use Rattle.qplain.specs.Arguments.{refusal_of_arguments}
 use Rattle.qplain.specs.Attempt.{Attempt, Refuse, Answer, Becomes}
 use Rattle.qplain.specs.Calls.{attempt, attempt_of, unless}
 use Rattle.qplain.specs.Step.{settle, settled}

@@ -50,6 +50,7 @@ pub mod Doing
 pub mod Making
 pub mod Unnaming
 pub mod DoneSteps
+pub mod Telling
 pub mod Sizing
 pub mod Reading
 pub mod Costless

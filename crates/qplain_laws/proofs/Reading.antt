@@ -1,7 +1,7 @@
 -- The bytes of a file after a write and after a truncation, and those that a read gives.
-use Rattle.std.proofs.Common.{◌≡◌, ℕ, ◌+◌, ◌<◌, List, [], ◌∷◌, drop, refl, ◌∙◌, arith}
+use Rattle.std.proofs.Common.{[], ◌∷◌, drop, refl, ◌∙◌, arith}
 use Rattle.std.proofs.lemmas.List.{get_or-drop, get_or-take}
-use Rattle.qblocks.specs.File.{File, after_truncate, after_write}
+use Rattle.qblocks.specs.File.{after_truncate, after_write}
 use Rattle.qblocks.proofs.Bytes.{get_or-resized, get_or-written, length-resized}
 use Rattle.qplain_laws.specs.Bytes.{BytesAreCut, BytesAreRead, BytesAreWritten}
 

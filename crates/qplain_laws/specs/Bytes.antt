@@ -1,5 +1,5 @@
 -- What a write and a truncation make of a file's bytes, and what a read gives of them, byte by byte.
-use Rattle.std.specs.Prelude.{◌≡◌, ◌<◌, ◌≤◌, ◌+◌, ℕ, List, get_or}
+use Rattle.std.specs.Prelude.{◌≡◌, ◌<◌, ◌+◌, ℕ, List, get_or}
 use Rattle.qblocks.specs.File.{File, after_truncate, after_write, read_at, size_of}
 use Rattle.qblocks.specs.Row.{Overwrites}
 

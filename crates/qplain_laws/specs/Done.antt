@@ -1,7 +1,6 @@
 -- What a call that is done has done: where its paths lead before and after, and what stands there.
 use Rattle.std.specs.Prelude.{◌≡◌, ◌⊎◌, ℕ, List, Some, None, Ok, Err}
-use Rattle.std.specs.List.{find}
-use Rattle.std.specs.Option.{option_map, unwrap_or}
+use Rattle.std.specs.Option.{unwrap_or}
 use Rattle.qblocks.specs.File.{after_truncate, after_write}
 use Rattle.qplain.specs.declared.call.Call.{Call}
 use Rattle.qplain.specs.declared.call.Call.TheVariants.{Create, Mkdir, Write, Truncate, Link, Unlink, Rmdir, Rename, Chown, SetQuota, SetGrace}
@@ -11,7 +10,6 @@ use Rattle.qplain.specs.declared.reply.Reply.TheVariants.{Done}
 use Rattle.qplain.specs.Caller.{Caller}
 use Rattle.qplain.specs.State.{Inode, State, inode_at, named, new_directory, new_file}
 use Rattle.qplain.specs.Walk.{components, last_name, parent, walk}
-use Rattle.qplain.specs.Arguments.{is_holder}
 use Rattle.qplain.specs.Owners.{with_owners}
 use Rattle.qplain.specs.Step.{step}
 use Rattle.qplain_laws.specs.Changes.{limits_at}

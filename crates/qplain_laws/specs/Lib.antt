@@ -2,6 +2,7 @@
 pub mod Laws
 pub mod Changes
 pub mod Done
+pub mod Told
 pub mod Sizes
 pub mod Bytes
 pub mod Order

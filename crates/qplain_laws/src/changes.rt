@@ -1,6 +1,7 @@
 //! What one call changes and what it leaves, each law the contract of a function that does nothing when it runs.
 ghost use Rattle.qplain_laws.specs.Bytes.{BytesAreCut, BytesAreRead, BytesAreWritten};
 ghost use Rattle.qplain_laws.specs.Done.{DoneIsDone};
+ghost use Rattle.qplain_laws.specs.Told.{BytesAreTrue, QuotasAreTrue, StatsAreTrue};
 ghost use Rattle.qplain_laws.specs.Sizes.{FilesStayRightSized, StartIsRightSized};
 ghost use Rattle.qplain_laws.specs.Changes.{AskingChangesNothing, GracesRunOn, NamesCostNothing, OneInodeIsTouched, OtherNamesStay, SettingsStay, SuperuserMeetsNoQuota, TotalsAreMoved};
 
@@ -41,6 +42,14 @@ pub fn other_names_stay()
 /// paths lead before and after, and what stands there.
 pub fn done_is_done()
     ensures { DoneIsDone }
+{}
+
+/// What read, stat and quota are told, where they are answered, is of the file, the inode or the principal that they
+/// name; a record is told to its user or its group's members, and to the superuser.
+pub fn answers_are_true()
+    ensures bytes { BytesAreTrue }
+    ensures stats { StatsAreTrue }
+    ensures quotas { QuotasAreTrue }
 {}
 
 /// What was written is read back, and every other byte is as it was; a truncated file has the size that was named, and

@@ -2,8 +2,8 @@
 #![tactic(auto)]
 
 pub use changes::{
-    asking_changes_nothing, bytes_are_kept, done_is_done, files_stay_right_sized, graces_run_on,
-    names_cost_nothing, one_inode_is_touched, other_names_stay, settings_stay,
+    answers_are_true, asking_changes_nothing, bytes_are_kept, done_is_done, files_stay_right_sized,
+    graces_run_on, names_cost_nothing, one_inode_is_touched, other_names_stay, settings_stay,
     superuser_meets_no_quota,
 };
 pub use examples::{
