@@ -81,7 +81,6 @@ fn crew_of<'a, S: StoreId, B: Boards<S>, V: Drop, G: Gate, R: Wait>(
 /// All room for answers and looks is made before the first start.
 ///
 /// Where a start is refused, no later one is made, and those before are waited for; the worker is named.
-#[tactic(auto, using(crate::proofs::Seating::all_ready))]
 pub(crate) fn play_all<S, B, V, G, R>(
     rt: &R,
     alloc: Global,

@@ -27,6 +27,7 @@ loop-look-preserved g c =
       omega (arith, pushed.capacity, so_far.1),
       looked.look.seen.worker ∙ waited.worker ∙ so_far.2,
       looked.look.tally ∙ waited.tally ∙ so_far.3,
-      look_more (start g.S.StoreId.id.setting) c.loop-look.seat.seen c.board.new.self.seen c.loop-look.looks.items c.push_reserved.new.self.items c.board.result so_far.4
+      look_more (start g.S.StoreId.id.setting) c.loop-look.seat.seen c.board.new.self.seen c.loop-look.looks.items
+          c.push_reserved.new.self.items c.board.result so_far.4
           begins looked.board pushed.items,
     )
