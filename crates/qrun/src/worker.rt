@@ -59,8 +59,7 @@ pub(crate) struct Worker<'a, 'b, 'c, 'd, S: StoreId, B: Boards<S>, V: Drop, G: G
 }
 
 impl<'a, 'b, 'c, 'd, S: StoreId, B: Boards<S>, V: Drop, G: Gate, R: Wait> Model
-    for Worker<'a, 'b, 'c, 'd, S, B, V, G, R>
-{
+    for Worker<'a, 'b, 'c, 'd, S, B, V, G, R> {
     ghost use Rattle.std.specs.Prelude.{◌≡◌, ◌<◌, ◌≤◌, length, vec_capacity, vec_len};
     ghost use Rattle.qplain.specs.Journal.{no_tally};
     ghost use Rattle.qshare.specs.declared.held.TheConstants.{MAX_BATCH};
@@ -74,9 +73,17 @@ impl<'a, 'b, 'c, 'd, S: StoreId, B: Boards<S>, V: Drop, G: Gate, R: Wait> Model
         × (vec_len w.answers ≡ 0) × (length w.lines.now ≤ vec_capacity w.answers) };
 }
 
-impl<'a, 'b, 'c, 'd, S: StoreId, B: Boards<S>, V: Drop, G: Gate, R: Wait>
-    Worker<'a, 'b, 'c, 'd, S, B, V, G, R>
-{
+impl<'a, 'b, 'c, 'd, S: StoreId, B: Boards<S>, V: Drop, G: Gate, R: Wait> Worker<
+    'a,
+    'b,
+    'c,
+    'd,
+    S,
+    B,
+    V,
+    G,
+    R,
+> {
     /// What its thread promises.
     pub(crate) fn plays(&self) -> Plays<'d>
         ensures { (result.worker ≡ self.now.worker) × (result.lines.now ≡ self.now.lines) }

@@ -41,11 +41,11 @@ loop-seat-preserved g c =
           let here : IsPrepared (length workers.items + 1) (slice_index_or scripts (length workers.items) lines) worker =
           subst (λ m. IsPrepared m (slice_index_or scripts (length workers.items) lines) worker) (ap (λ s. s.worker) next.0 ∙ ap (λ i. i + 1) many)
           (subst (λ ls. IsPrepared c.in-Some.seat.worker ls worker) (c.script_at-lines.ensures lines
-              ∙ ap (λ i. slice_index_or scripts i lines) (c.len-in-loop-seat.ensures ∙ workers.ok.0)) own) in
+          ∙ ap (λ i. slice_index_or scripts i lines) (c.len-in-loop-seat.ensures ∙ workers.ok.0)) own) in
           subst (λ ws. Ready k (slice_index_or ws k p)) (sym pushed.items)
           (below_more (λ i. Ready i (slice_index_or (workers.items ++ worker ∷ []) i p)) (length workers.items)
           (λ i low. subst (Ready i) (sym (get_or_append_left workers.items (worker ∷ []) p i low))
-              (c.loop-seat.invariant.2 i p lines (omega (arith, low, workers.ok.0))))
+          (c.loop-seat.invariant.2 i p lines (omega (arith, low, workers.ok.0))))
           (subst (Ready (length workers.items)) (sym (get_or_push workers.items worker p (length workers.items) refl)) here)
           k (omega (arith, less, pushed.len, workers.ok.0))),
     )
