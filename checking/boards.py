@@ -176,7 +176,6 @@ def checks(work):
     yield "15 workers and 1000 boards", all(right for right, _ in runs), True
     with one_processor():
         runs.append(crowd(work))
-        yield "examples/boards on one processor", example(), True
     yield "15 workers and 1000 boards, one processor", runs[-1][0], True
     yield "15 workers and 1000 boards: the course of use", all(len(versions) > 1 for _, versions in runs), True
     yield "examples/boards", example(), True
