@@ -175,9 +175,10 @@ def checks(work):
     runs = [crowd(work, *options) for options in [(), (), ("--batch", "64"), ("--batch", "7")]]
     yield "15 workers and 1000 boards", all(right for right, _ in runs), True
     with one_processor():
-        runs.append(crowd(work))
-    yield "15 workers and 1000 boards, one processor", runs[-1][0], True
+        alone = [crowd(work), crowd(work, "--batch", "7")]
+    yield "15 workers and 1000 boards, one processor", all(right for right, _ in alone), True
     yield "15 workers and 1000 boards: the course of use", all(len(versions) > 1 for _, versions in runs), True
+    yield ".. on one processor", any(len(versions) > 1 for _, versions in alone), True
     yield "examples/boards", example(), True
     for batch in [1, 2, 63, 64]:
         yield f"batches of {batch}", in_batches(work, batch), True
