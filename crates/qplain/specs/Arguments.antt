@@ -3,6 +3,7 @@ use Rattle.std.specs.Prelude.{ℕ, Bool, true, false, not, ◌&&◌, ◌||◌, �
 use Rattle.std.specs.List.{list_all, list_any}
 use Rattle.qrules.specs.declared.kind.Kind.{Kind}
 use Rattle.qrules.specs.declared.kind.Kind.TheVariants.{User, Group}
+use Rattle.qrules.specs.Kinds.{is_same_kind}
 use Rattle.qrules.specs.declared.graces.TheConstants.{MAX_MOMENT}
 use Rattle.qrules.specs.Range.{are_graces_in_range, are_limits_in_range}
 use Rattle.qplain.specs.declared.call.Call.{Call}
@@ -13,13 +14,6 @@ use Rattle.qplain.specs.declared.bounds.TheConstants.{MAX_DATA}
 use Rattle.qplain.specs.Caller.{Caller}
 use Rattle.qplain.specs.State.{Holder, State}
 use Rattle.qplain.specs.Walk.{is_well_formed, is_too_long}
-
--- the two kinds are the same
-abbrev pub is_same_kind : Kind → Kind → Bool
-is_same_kind User User = true
-is_same_kind User Group = false
-is_same_kind Group User = false
-is_same_kind Group Group = true
 
 -- the holder is the principal of this kind and id
 abbrev pub is_holder : Kind → ℕ → Holder → Bool

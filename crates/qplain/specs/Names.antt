@@ -4,6 +4,7 @@ use Rattle.std.specs.Prelude.{ℕ, ◌+◌, not, if◌then◌else◌, List, filt
 use Rattle.std.specs.Ordering.{nat_cmp}
 use Rattle.std.specs.BTreeMap.{is_at, insert_entry}
 use Rattle.std.specs.Map.{remove_entry}
+use Rattle.qplain.specs.declared.owners.Owners.{Owners}
 use Rattle.qplain.specs.declared.refusal.Refusal.TheVariants.{EEXIST, EISDIR, EMLINK, ENOTDIR, ENOTEMPTY, EPERM}
 use Rattle.qplain.specs.Caller.{Caller}
 use Rattle.qplain.specs.State.{Inode, State, named, new_directory, new_file, name_key_cmp}
@@ -19,11 +20,15 @@ created S inode dir name = record S {
   next = S.next + 1;
 }
 
+-- the owners of what a caller makes: its uid and its gid
+abbrev pub owners_by : Caller → Owners
+owners_by cred = record { uid = cred.uid; gid = cred.gid }
+
 -- create a file of the caller's under this name
 abbrev pub create_as : State → Caller → ℕ → List ℕ → Attempt
 create_as S cred dir name =
     if is_some (named S dir name) then Refuse EEXIST
-    else Becomes (created S (new_file cred.uid cred.gid) dir name) S.next
+    else Becomes (created S (new_file (owners_by cred)) dir name) S.next
 
 -- the plain result, unless an inode has too many links in it
 abbrev pub unless_too_many_links : State → ℕ → Attempt
@@ -33,7 +38,7 @@ unless_too_many_links S number = if has_too_many_links S then Refuse EMLINK else
 abbrev pub mkdir_as : State → Caller → ℕ → List ℕ → Attempt
 mkdir_as S cred dir name =
     if is_some (named S dir name) then Refuse EEXIST
-    else unless_too_many_links (created S (new_directory cred.uid cred.gid) dir name) S.next
+    else unless_too_many_links (created S (new_directory (owners_by cred)) dir name) S.next
 
 -- the state in which this name leads to the inode of this number
 abbrev pub with_name : State → ℕ → List ℕ → ℕ → State

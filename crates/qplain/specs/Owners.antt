@@ -1,6 +1,7 @@
 -- Other owners of an inode (chown(2)).
 use Rattle.std.specs.Prelude.{ℕ, not, if◌then◌else◌, Option}
 use Rattle.std.specs.Option.{unwrap_or}
+use Rattle.qplain.specs.declared.owners.Owners.{Owners}
 use Rattle.qplain.specs.declared.refusal.Refusal.TheVariants.{EPERM}
 use Rattle.qplain.specs.Caller.{Caller}
 use Rattle.qplain.specs.State.{Inode, State}
@@ -9,16 +10,19 @@ use Rattle.qplain.specs.Rights.{may_give}
 use Rattle.qplain.specs.Files.{with_inode}
 
 -- the inode with these owners
-abbrev pub with_owners : Inode → ℕ → ℕ → Inode
-with_owners inode uid gid = record inode { uid = uid; gid = gid }
+abbrev pub with_owners : Inode → Owners → Inode
+with_owners inode owners = record inode { owners = owners }
 
 -- give an inode these owners
-abbrev pub give : State → Caller → ℕ → ℕ → ℕ → Inode → Attempt
-give S cred uid gid number inode =
-    if not (may_give cred inode uid gid) then Refuse EPERM
-    else Becomes (with_inode S number (with_owners inode uid gid)) number
+abbrev pub give : State → Caller → Owners → ℕ → Inode → Attempt
+give S cred owners number inode =
+    if not (may_give cred inode owners) then Refuse EPERM
+    else Becomes (with_inode S number (with_owners inode owners)) number
 
--- chown an inode: an owner that is not named stays
+-- the owners with those that are named: an owner that is not named stays
+abbrev pub renewed : Option ℕ → Option ℕ → Owners → Owners
+renewed uid gid owners = record { uid = unwrap_or uid owners.uid; gid = unwrap_or gid owners.gid }
+
+-- chown an inode
 abbrev pub chown_at : State → Caller → Option ℕ → Option ℕ → ℕ → Inode → Attempt
-chown_at S cred uid gid number inode =
-    give S cred (unwrap_or uid inode.uid) (unwrap_or gid inode.gid) number inode
+chown_at S cred uid gid number inode = give S cred (renewed uid gid inode.owners) number inode

@@ -3,12 +3,13 @@ use Rattle.std.specs.Prelude.{ℕ, Bool, false, ◌&&◌, ◌||◌, ◌==◌, �
 use Rattle.std.specs.List.{list_any}
 use Rattle.qrules.specs.declared.kind.Kind.{Kind}
 use Rattle.qrules.specs.declared.kind.Kind.TheVariants.{User, Group}
+use Rattle.qplain.specs.declared.owners.Owners.{Owners}
 use Rattle.qplain.specs.Caller.{Caller, is_superuser}
 use Rattle.qplain.specs.State.{Inode, State, inode_at}
 
 -- the inode belongs to the caller
 abbrev pub is_owner : Caller → Inode → Bool
-is_owner cred inode = cred.uid == inode.uid
+is_owner cred inode = cred.uid == inode.owners.uid
 
 -- an inode is there, and belongs to the caller
 abbrev pub owns : Caller → Option Inode → Bool
@@ -29,9 +30,11 @@ may_remove S cred dir number = is_superuser cred || owns cred (inode_at S number
 
 -- who may give an inode these owners: the superuser; its owner, where the user stays, and the group stays or is one of
 -- the owner's groups
-abbrev pub may_give : Caller → Inode → ℕ → ℕ → Bool
-may_give cred inode uid gid =
-    is_superuser cred || is_owner cred inode && uid == inode.uid && (gid == inode.gid || is_member cred gid)
+abbrev pub may_give : Caller → Inode → Owners → Bool
+may_give cred inode owners =
+    is_superuser cred
+    || is_owner cred inode && owners.uid == inode.owners.uid
+    && (owners.gid == inode.owners.gid || is_member cred owners.gid)
 
 -- the caller's own user and its own groups, of which it may ask
 abbrev pub is_own : Caller → Kind → ℕ → Bool

@@ -7,12 +7,14 @@ use Rattle.std.specs.BTreeMap.{is_at}
 use Rattle.std.specs.Map.{lookup}
 use Rattle.qrules.specs.declared.kind.Kind.{Kind}
 use Rattle.qrules.specs.declared.kind.Kind.TheVariants.{User, Group}
+use Rattle.qrules.specs.Kinds.{rank_of}
 use Rattle.qrules.specs.declared.limits.Limits.{Limits}
 use Rattle.qrules.specs.declared.graces.Graces.{Graces}
 use Rattle.qblocks.specs.File.{File, empty_file}
+use Rattle.qplain.specs.declared.owners.Owners.{Owners}
 use Rattle.qplain.specs.declared.principal.Principal.{Principal}
 use Rattle.qplain.specs.declared.bounds.TheConstants.{FILE_LIMIT, ROOT}
-use Rattle.qplain.specs.Setups.{Setting}
+use Rattle.qplain.specs.Setups.{Setting, principals_in}
 
 -- a user or a group with its limits, and for each sort the moment at which its grace ends, where one runs
 pub record Holder : Type 0 where
@@ -23,11 +25,6 @@ pub record Holder : Type 0 where
   pub block_end : Option ℕ
   pub inode_end : Option ℕ
 
--- users stand before groups
-abbrev pub rank_of : Kind → ℕ
-rank_of User = 0
-rank_of Group = 1
-
 -- by kind, then by id
 abbrev pub holder_cmp : Holder → Holder → Ordering
 holder_cmp = then_cmp (on (λ h. rank_of h.kind) nat_cmp) (on (λ h. h.id) nat_cmp)
@@ -35,8 +32,7 @@ holder_cmp = then_cmp (on (λ h. rank_of h.kind) nat_cmp) (on (λ h. h.id) nat_c
 -- a file or a directory, its owners, and what it holds; a directory's file is empty
 pub record Inode : Type 0 where
   pub dir : Bool
-  pub uid : ℕ
-  pub gid : ℕ
+  pub owners : Owners
   pub file : File
 
 -- the key of a name: its directory, then its bytes
@@ -76,17 +72,17 @@ is_dir (Some inode) = inode.dir
 abbrev pub is_directory : State → ℕ → Bool
 is_directory S number = is_dir (inode_at S number)
 
--- the root directory belongs to user 0 and group 0
-abbrev pub root : Inode
-root = record { dir = true; uid = 0; gid = 0; file = empty_file }
-
 -- an empty file of these owners
-abbrev pub new_file : ℕ → ℕ → Inode
-new_file uid gid = record { dir = false; uid = uid; gid = gid; file = empty_file }
+abbrev pub new_file : Owners → Inode
+new_file owners = record { dir = false; owners = owners; file = empty_file }
 
 -- an empty directory of these owners
-abbrev pub new_directory : ℕ → ℕ → Inode
-new_directory uid gid = record { dir = true; uid = uid; gid = gid; file = empty_file }
+abbrev pub new_directory : Owners → Inode
+new_directory owners = record { dir = true; owners = owners; file = empty_file }
+
+-- the root directory belongs to user 0 and group 0
+abbrev pub root : Inode
+root = new_directory (record { uid = 0; gid = 0 })
 
 -- a declared principal, for whom no grace runs
 abbrev pub holder_of : Kind → Principal → Holder
@@ -99,6 +95,10 @@ holder_of kind p = record {
   inode_end = None;
 }
 
+-- the holders of a kind in a new store
+abbrev pub declared_in : Kind → Setting → List Holder
+declared_in kind s = map (holder_of kind) (principals_in kind s)
+
 -- a new store has the root directory, no name and the next number 2; users come before groups
 abbrev pub start : Setting → State
 start s = record {
@@ -106,7 +106,7 @@ start s = record {
   most_inodes = s.inodes;
   file_limit = FILE_LIMIT;
   graces = s.graces;
-  holders = map (holder_of User) s.users ++ map (holder_of Group) s.groups;
+  holders = declared_in User s ++ declared_in Group s;
   inodes = (ROOT, root) ∷ [];
   names = [];
   next = 2;

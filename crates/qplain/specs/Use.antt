@@ -1,11 +1,12 @@
 -- What is counted, each time afresh over all inodes and names (quotacheck(8)).
-use Rattle.std.specs.Prelude.{ℕ, ◌+◌, Bool, true, false, not, ◌&&◌, ◌||◌, ◌==◌, nat_lt, if◌then◌else◌, length, sum_by, count_by}
+use Rattle.std.specs.Prelude.{ℕ, ◌+◌, Bool, true, false, not, ◌&&◌, ◌||◌, ◌==◌, nat_lt, if◌then◌else◌, length, sum_by, count_by, Option, Some, None}
 use Rattle.std.specs.List.{list_any}
 use Rattle.std.specs.Map.{values_of}
 use Rattle.qrules.specs.declared.kind.Kind.{Kind}
-use Rattle.qrules.specs.declared.kind.Kind.TheVariants.{User, Group}
+use Rattle.qrules.specs.Kinds.{by_kind}
 use Rattle.qrules.specs.Sort.{Sort, Inodes, Blocks}
 use Rattle.qrules.specs.Account.{Account}
+use Rattle.qplain.specs.declared.owners.Owners.{Owners}
 use Rattle.qplain.specs.declared.bounds.TheConstants.{MAX_LINKS, ROOT}
 use Rattle.qplain.specs.State.{Holder, Inode, State, is_directory}
 
@@ -14,14 +15,22 @@ abbrev pub weight : Sort → Inode → ℕ
 weight Inodes inode = 1
 weight Blocks inode = length inode.file.allocated
 
--- whose the inode is
-abbrev pub owner : Kind → Inode → ℕ
-owner User inode = inode.uid
-owner Group inode = inode.gid
+-- which of these owners is of this kind
+abbrev pub owner : Kind → Owners → Option ℕ
+owner kind owners = by_kind (Some owners.uid) (Some owners.gid) kind
+
+-- there is an id, and it is this one
+abbrev pub is_id : ℕ → Option ℕ → Bool
+is_id id None = false
+is_id id (Some other) = id == other
+
+-- the inode is the principal's
+abbrev pub belongs_to : Kind → ℕ → Inode → Bool
+belongs_to kind id inode = is_id id (owner kind inode.owners)
 
 -- what an inode takes of the principal's quota
 abbrev pub charge_to : Kind → ℕ → Sort → Inode → ℕ
-charge_to kind id sort inode = if owner kind inode == id then weight sort inode else 0
+charge_to kind id sort inode = if belongs_to kind id inode then weight sort inode else 0
 
 -- the use of a principal: the sum over all inodes that it owns
 abbrev pub use_of : State → Kind → ℕ → Sort → ℕ

@@ -1,5 +1,5 @@
 -- The uses of all principals of a kind add up to the total.
-use Rattle.std.proofs.Common.{◌≡◌, ℕ, ◌+◌, ◌==◌, Bool, true, false, ◌&&◌, ◌||◌, cond, List, [], ◌∷◌, filter, sum_by, slice_index_or, All, refl, sym, ap, subst, ◌∙◌, tests, arith}
+use Rattle.std.proofs.Common.{◌≡◌, ℕ, ◌+◌, ◌==◌, Bool, true, false, not, ◌&&◌, ◌||◌, cond, List, [], ◌∷◌, filter, sum_by, slice_index_or, All, Option, Some, None, refl, sym, ap, ◌∙◌, tests, arith}
 use Rattle.std.specs.List.{AllByRecursion, IsDistinct, list_any}
 use Rattle.std.specs.List.Sorted.{IsStrictlySortedBy}
 use Rattle.std.specs.declared.cmp.Ordering.{Ordering}
@@ -7,15 +7,19 @@ use Rattle.std.specs.declared.cmp.Ordering.TheVariants.{Less, Equal, Greater}
 use Rattle.std.specs.Ordering.{is_eq, nat_cmp, ordering_then}
 use Rattle.std.specs.Cmp.{unsigned_ties}
 use Rattle.std.specs.Map.{values_of}
+use Rattle.std.proofs.lemmas.Cmp.{nat_eq_equiv}
 use Rattle.std.proofs.lemmas.List.Sums.{sum_by-cons}
 use Rattle.std.proofs.lemmas.List.Elements.{All-head, All-tail}
 use Rattle.qrules.specs.declared.kind.Kind.{Kind}
+use Rattle.qrules.specs.Kinds.{is_same_kind, rank_of}
 use Rattle.qrules.specs.declared.kind.Kind.TheVariants.{User, Group}
 use Rattle.qrules.specs.Sort.{Sort}
-use Rattle.qplain.specs.State.{Holder, Inode, State, holder_cmp, rank_of}
-use Rattle.qplain.specs.Use.{owner, charge_to, weight}
-use Rattle.qplain.specs.Arguments.{is_declared, is_holder, is_same_kind}
-use Rattle.qplain_laws.specs.Laws.{UsesAddUp, has_known_owners}
+use Rattle.qplain.specs.declared.bounds.TheConstants.{ROOT}
+use Rattle.qplain.specs.State.{Holder, Inode, State, holder_cmp, inode_at, is_dir}
+use Rattle.qplain.specs.Use.{belongs_to, charge_to, is_id, owner, weight}
+use Rattle.qplain.specs.Arguments.{is_holder}
+use Rattle.qplain_laws.specs.Laws.{AreKnown, UsersAndGroupsStand, UsesAddUp, has_kind, is_known_owner}
+use Rattle.qplain_laws.proofs.Fitting.{known-owners}
 
 -- the two holders are one principal
 abbrev pub are_same : Holder → Holder → Bool
@@ -23,10 +27,7 @@ are_same g h = is_holder g.kind g.id h
 
 -- no kind has the rank of another
 same_rank : (k l : Kind) → is_eq (nat_cmp (rank_of k) (rank_of l)) ≡ is_same_kind k l
-same_rank User User = refl
-same_rank User Group = refl
-same_rank Group User = refl
-same_rank Group Group = refl
+same_rank k l = sym (unsigned_ties (rank_of k) (rank_of l))
 
 both-eq : (a b : Ordering) → is_eq (ordering_then a b) ≡ (is_eq a && is_eq b)
 both-eq Less b = refl
@@ -51,16 +52,13 @@ distinct-sorted (h ∷ hs) sorted = (each-apart h hs sorted.0, distinct-sorted h
 abbrev of_kind : Kind → List Holder → List Holder
 of_kind kind hs = filter (λ h. is_same_kind kind h.kind) hs
 
+-- the holder is the principal of this kind and id, if there is an id
+abbrev pub is_held : Kind → Option ℕ → Holder → Bool
+is_held kind id h = is_same_kind kind h.kind && is_id h.id id
+
 -- what an inode takes of all holders of a kind together
 abbrev shares : Kind → Sort → Inode → List Holder → ℕ
 shares kind sort inode hs = sum_by (λ h. charge_to kind h.id sort inode) (of_kind kind hs)
-
--- kinds that test as the same are the same
-same_kind : (k l : Kind) → is_same_kind k l ≡ true → k ≡ l
-same_kind User User h = refl
-same_kind User Group h = cc
-same_kind Group User h = cc
-same_kind Group Group h = refl
 
 and_first : (a b : Bool) → (a && b) ≡ true → a ≡ true
 and_first true b h = refl
@@ -86,10 +84,10 @@ one_share of_kind owns weight rest = cond of_kind (cond owns weight 0 + rest) re
 
 shares-cons : (kind : Kind) (sort : Sort) (inode : Inode) (h : Holder) (hs : List Holder)
     → shares kind sort inode (h ∷ hs)
-    ≡ one_share (is_same_kind kind h.kind) (owner kind inode == h.id) (weight sort inode) (shares kind sort inode hs)
+    ≡ one_share (is_same_kind kind h.kind) (belongs_to kind h.id inode) (weight sort inode) (shares kind sort inode hs)
 shares-cons kind sort inode h hs =
     elim (is_same_kind kind h.kind) as (λ b. sum_by (λ g. charge_to kind g.id sort inode) (cond b (h ∷ of_kind kind hs) (of_kind kind hs))
-    ≡ one_share b (owner kind inode == h.id) (weight sort inode) (shares kind sort inode hs)) [
+    ≡ one_share b (belongs_to kind h.id inode) (weight sort inode) (shares kind sort inode hs)) [
       | true ↦ sum_by-cons (λ g. charge_to kind g.id sort inode) h (of_kind kind hs)
       | false ↦ refl
     ]
@@ -130,23 +128,23 @@ one_share-later false owns w rest e = refl
 
 -- an inode takes its weight of its owner, once
 shares-owned : (kind : Kind) (sort : Sort) (inode : Inode) (hs : List Holder) → IsDistinct are_same hs
-    → list_any (is_holder kind (owner kind inode)) hs ≡ true → shares kind sort inode hs ≡ weight sort inode
+    → list_any (is_held kind (owner kind inode.owners)) hs ≡ true → shares kind sort inode hs ≡ weight sort inode
 unfolding IsDistinct
 shares-owned kind sort inode [] distinct known = cc
 shares-owned kind sort inode (h ∷ hs) distinct known =
     shares-cons kind sort inode h hs
-    ∙ (elim (is_holder kind (owner kind inode) h) as (λ b. is_holder kind (owner kind inode) h ≡ b
-    → (b || list_any (is_holder kind (owner kind inode)) hs) ≡ true
-    → one_share (is_same_kind kind h.kind) (owner kind inode == h.id) (weight sort inode) (shares kind sort inode hs) ≡ weight sort inode) [
-      | true ↦ λ owns found. one_share-one (is_same_kind kind h.kind) (owner kind inode == h.id) (weight sort inode) (shares kind sort inode hs) owns
-          (shares-none kind sort inode hs (owner-elsewhere kind (owner kind inode) h hs owns distinct.0))
-      | false ↦ λ other found. one_share-later (is_same_kind kind h.kind) (owner kind inode == h.id) (weight sort inode) (shares kind sort inode hs) other
+    ∙ (elim (is_held kind (owner kind inode.owners) h) as (λ b. is_held kind (owner kind inode.owners) h ≡ b
+    → (b || list_any (is_held kind (owner kind inode.owners)) hs) ≡ true
+    → one_share (is_same_kind kind h.kind) (belongs_to kind h.id inode) (weight sort inode) (shares kind sort inode hs) ≡ weight sort inode) [
+      | true ↦ λ owns found. one_share-one (is_same_kind kind h.kind) (belongs_to kind h.id inode) (weight sort inode) (shares kind sort inode hs) owns
+          (shares-none kind sort inode hs (held-once kind (owner kind inode.owners) h hs owns distinct.0))
+      | false ↦ λ other found. one_share-later (is_same_kind kind h.kind) (belongs_to kind h.id inode) (weight sort inode) (shares kind sort inode hs) other
           ∙ shares-owned kind sort inode hs distinct.1 found
     ]) refl known
 
 -- what all inodes take of all holders of a kind is what they take at all
 balance : (kind : Kind) (sort : Sort) (hs : List Holder) (inodes : List Inode) → IsDistinct are_same hs
-    → All (λ inode. list_any (is_holder kind (owner kind inode)) hs ≡ true) inodes
+    → All (λ inode. list_any (is_held kind (owner kind inode.owners)) hs ≡ true) inodes
     → sum_by (λ h. sum_by (charge_to kind h.id sort) inodes) (of_kind kind hs) ≡ sum_by (weight sort) inodes
 balance kind sort hs [] distinct known = sum-zero (of_kind kind hs)
 balance kind sort hs (inode ∷ inodes) distinct known =
@@ -157,18 +155,42 @@ balance kind sort hs (inode ∷ inodes) distinct known =
     ≡ shares kind sort inode hs + sum_by (λ h. sum_by (charge_to kind h.id sort) inodes) (of_kind kind hs) =
     sum-plus (λ h. charge_to kind h.id sort inode) (λ h. sum_by (charge_to kind h.id sort) inodes) (of_kind kind hs) in
     let owned : shares kind sort inode hs ≡ weight sort inode =
-    shares-owned kind sort inode hs distinct (All-head (λ j. list_any (is_holder kind (owner kind j)) hs ≡ true) inode inodes known) in
+    shares-owned kind sort inode hs distinct (All-head (λ j. list_any (is_held kind (owner kind j.owners)) hs ≡ true) inode inodes known) in
     let rest : sum_by (λ h. sum_by (charge_to kind h.id sort) inodes) (of_kind kind hs) ≡ sum_by (weight sort) inodes =
-    balance kind sort hs inodes distinct (All-tail (λ j. list_any (is_holder kind (owner kind j)) hs ≡ true) inode inodes known) in
+    balance kind sort hs inodes distinct (All-tail (λ j. list_any (is_held kind (owner kind j.owners)) hs ≡ true) inode inodes known) in
     apart ∙ (added ∙ (ap (λ n. n + sum_by (λ h. sum_by (charge_to kind h.id sort) inodes) (of_kind kind hs)) owned
     ∙ (ap (λ n. weight sort inode + n) rest ∙ sym (sum_by-cons (weight sort) inode inodes))))
 
--- each owner of either kind is known
-known-owner : (S : State) (kind : Kind) (inode : Inode) → has_known_owners S inode ≡ true → is_declared S kind (owner kind inode) ≡ true
-known-owner S User inode h = and_first (is_declared S User inode.uid) (is_declared S Group inode.gid) h
-known-owner S Group inode h = and_second (is_declared S User inode.uid) (is_declared S Group inode.gid) h
+-- where the kind is declared a known owner is one of the holders
+pub held-known : (S : State) (kind : Kind) (id : Option ℕ) → has_kind S kind ≡ true → is_known_owner S kind id ≡ true
+    → list_any (is_held kind id) S.holders ≡ true
+held-known S kind None declared known = let clash : not true ≡ true = sym (ap not declared) ∙ known in cc
+held-known S kind (Some id) declared known = ap (λ f. list_any f S.holders) (λ i h. is_same_kind kind h.kind && sides h.id id i) ∙ known
+  where
+    sides : (m n : ℕ) → (m == n) ≡ (n == m)
+    sides m n = nat_eq_equiv.symm m n
 
 pub uses_add_up : UsesAddUp
-uses_add_up S kind sort lawful =
+uses_add_up S kind sort lawful declared =
     balance kind sort S.holders (values_of S.inodes) (distinct-sorted S.holders lawful.parts.holders)
-    (λ k d below. known-owner S kind (slice_index_or (values_of S.inodes) k d) (lawful.parts.inodes.owners_known k d below))
+    (λ k d below. held-known S kind (owner kind (slice_index_or (values_of S.inodes) k d).owners) declared
+    (lawful.parts.inodes.owners_known k d below kind))
+
+-- who is declared is of a kind that is
+kind-declared : (kind : Kind) (id : ℕ) (hs : List Holder) → list_any (is_holder kind id) hs ≡ true → list_any (λ h. is_same_kind kind h.kind) hs ≡ true
+kind-declared kind id [] there = cc
+kind-declared kind id (h ∷ hs) there = by (is_same_kind kind h.kind) (kind-declared kind id hs) there
+  where
+    by : (b : Bool) → (list_any (is_holder kind id) hs ≡ true → list_any (λ g. is_same_kind kind g.kind) hs ≡ true)
+        → (b && id == h.id || list_any (is_holder kind id) hs) ≡ true → (b || list_any (λ g. is_same_kind kind g.kind) hs) ≡ true
+    by true later e = refl
+    by false later e = later e
+
+pub users_and_groups_stand : UsersAndGroupsStand
+users_and_groups_stand S lawful = by (inode_at S ROOT) refl lawful.parts.inodes.root_stands
+  where
+    by : (o : Option Inode) → inode_at S ROOT ≡ o → is_dir o ≡ true → (has_kind S User ≡ true) × (has_kind S Group ≡ true)
+    by None there stands = cc
+    by (Some inode) there stands =
+        let known : AreKnown S inode.owners = known-owners S ROOT inode lawful.parts there in
+        (kind-declared User inode.owners.uid S.holders (known User), kind-declared Group inode.owners.gid S.holders (known Group))

@@ -1,7 +1,6 @@
 -- What a step may become, call by call: the cases that a fact about every plain result has to be shown for.
 use Rattle.std.proofs.Common.{◌≡◌, ℕ, ◌+◌, ◌==◌, Bool, true, false, not, ◌&&◌, ◌||◌, nat_lt, cond, List, length, Option, Some, None, is_some, Ok, refl, tests, arith}
 use Rattle.std.specs.List.{find, list_all, list_any}
-use Rattle.std.specs.Option.{unwrap_or}
 use Rattle.std.proofs.lemmas.Bool.{and_left, and_right}
 use Rattle.qrules.specs.declared.kind.Kind.{Kind}
 use Rattle.qrules.specs.declared.kind.Kind.TheVariants.{User, Group}
@@ -11,6 +10,7 @@ use Rattle.qrules.specs.declared.graces.TheConstants.{MAX_MOMENT}
 use Rattle.qblocks.specs.File.{File, after_truncate, after_write, empty_file, read_at}
 use Rattle.qplain.specs.declared.call.Call.{Call}
 use Rattle.qplain.specs.declared.call.Call.TheVariants.{Create, Mkdir, Write, Truncate, Read, Stat as AskStat, Link, Unlink, Rmdir, Rename, Chown, SetQuota, SetGrace, Quota as AskQuota}
+use Rattle.qplain.specs.declared.owners.Owners.{Owners}
 use Rattle.qplain.specs.declared.refusal.Refusal.{Refusal}
 use Rattle.qplain.specs.declared.refusal.Refusal.TheVariants.{EBUSY, EINVAL, ENAMETOOLONG, ENOTDIR, ENOTEMPTY, EEXIST, EISDIR, EACCES, EFBIG, EMLINK, EPERM, ESRCH}
 use Rattle.qplain.specs.declared.reply.Reply.TheVariants.{Bytes, Done}
@@ -60,10 +60,10 @@ pub record HoldsOfResults (P : State → Type 0) (S : State) (cred : Caller) : T
   pub graced : (graces : Graces) → is_superuser cred ≡ true → P (record S { graces = graces })
 
 -- who may write into an inode may leave it to its owners
-owners-kept : (cred : Caller) (inode : Inode) → may_write cred inode ≡ true → may_give cred inode inode.uid inode.gid ≡ true
+owners-kept : (cred : Caller) (inode : Inode) → may_write cred inode ≡ true → may_give cred inode inode.owners ≡ true
 owners-kept cred inode may =
-    by (is_superuser cred) (is_owner cred inode) (inode.uid == inode.uid) (inode.gid == inode.gid) (is_member cred inode.gid) may (itself inode.uid)
-    (itself inode.gid)
+    by (is_superuser cred) (is_owner cred inode) (inode.owners.uid == inode.owners.uid) (inode.owners.gid == inode.owners.gid) (is_member cred inode.owners.gid) may (itself inode.owners.uid)
+    (itself inode.owners.gid)
   where
     itself : (n : ℕ) → (n == n) ≡ true
     itself n = grind (arith, tests)
@@ -192,11 +192,11 @@ module _ (P : State → Type 0) (S : State) (cred : Caller) (holds : HoldsOfResu
   chown_at-becomes : (uid gid : Option ℕ) (number : ℕ) (inode : Inode) → (is_undeclared S User uid || is_undeclared S Group gid) ≡ false
       → inode_at S number ≡ Some inode → OnBecomes P (chown_at S cred uid gid number inode)
   chown_at-becomes uid gid number inode declared there =
-      let after : Inode = with_owners inode (unwrap_or uid inode.uid) (unwrap_or gid inode.gid) in
+      let owners : Owners = renewed uid gid inode.owners in
       let ids = neither (is_undeclared S User uid) (is_undeclared S Group gid) declared in
-      choice P (not (may_give cred inode (unwrap_or uid inode.uid) (unwrap_or gid inode.gid))) (Refuse EPERM) (Becomes (with_inode S number after) number) tt
-      (λ may. holds.changed number inode after there (owned-follows S inode uid gid ids.0 ids.1)
-      (true-from_not (may_give cred inode (unwrap_or uid inode.uid) (unwrap_or gid inode.gid)) may))
+      choice P (not (may_give cred inode owners)) (Refuse EPERM) (Becomes (with_inode S number (with_owners inode owners)) number) tt
+      (λ may. holds.changed number inode (with_owners inode owners) there (owned-follows S inode uid gid ids.0 ids.1)
+      (true-from_not (may_give cred inode owners) may))
 
   quota_from-becomes : (o : Option Holder) → OnBecomes P (quota_from S o)
   quota_from-becomes None = tt

@@ -1,5 +1,5 @@
 -- What every plain result keeps of a lawful state, before its bounds and ends are looked at.
-use Rattle.std.proofs.Common.{◌≡◌, ℕ, ◌+◌, ◌==◌, Bool, true, false, ◌&&◌, ◌||◌, nat_lt, cond, List, [], ◌∷◌, All, map, IfSome, slice_index_or, Option, Some, None, is_some, refl, sym, ap, subst, ◌∙◌, tests, arith}
+use Rattle.std.proofs.Common.{◌≡◌, ℕ, ◌+◌, ◌==◌, Bool, true, false, not, ◌&&◌, ◌||◌, nat_lt, cond, List, [], ◌∷◌, All, map, IfSome, slice_index_or, Option, Some, None, is_some, refl, sym, ap, subst, ◌∙◌, tests, arith}
 use Rattle.std.specs.List.{AllByRecursion, list_any}
 use Rattle.std.specs.List.Sorted.{IsStrictlySortedBy}
 use Rattle.std.specs.Map.{values_of}
@@ -10,14 +10,14 @@ use Rattle.std.specs.Cmp.{nat_cmp_total}
 use Rattle.std.proofs.lemmas.Map.{keys-set_value}
 use Rattle.std.proofs.lemmas.Map.Views.{All-values-insert_entry, All-values-set_value, IfSome-lookup_from_All}
 use Rattle.qrules.specs.declared.kind.Kind.{Kind}
-use Rattle.qrules.specs.declared.kind.Kind.TheVariants.{User, Group}
+use Rattle.qrules.specs.Kinds.{is_same_kind, rank_of}
 use Rattle.qplain.specs.declared.bounds.TheConstants.{MAX_LINKS, ROOT}
-use Rattle.qplain.specs.State.{Holder, Inode, NameKey, State, holder_cmp, inode_at, is_dir, is_directory, name_key_cmp, named, rank_of}
-use Rattle.qplain.specs.Use.{has_too_many_links, links_of, names_to}
-use Rattle.qplain.specs.Arguments.{is_holder, is_same_kind}
+use Rattle.qplain.specs.State.{Holder, Inode, NameKey, State, holder_cmp, inode_at, is_dir, is_directory, name_key_cmp, named}
+use Rattle.qplain.specs.Use.{has_too_many_links, links_of, names_to, owner}
+use Rattle.qplain.specs.Arguments.{is_holder}
 use Rattle.qplain.specs.Files.{with_inode}
 use Rattle.qplain.specs.Names.{created}
-use Rattle.qplain_laws.specs.Laws.{FitsTogether, IsSound, has_known_owners, has_right_names, leads}
+use Rattle.qplain_laws.specs.Laws.{AreKnown, FitsTogether, IsSound, has_right_names, is_known_owner, leads}
 use Rattle.qplain_laws.proofs.FewLinks.{few-links, none-too_many, too_many-same}
 use Rattle.qplain_laws.proofs.Sound.{MayFollow}
 use Rattle.qplain_laws.proofs.Orders.{All-changed, sorted-insert}
@@ -35,6 +35,18 @@ declared-map : (f : Holder → Holder) → KeepsHolders f → (kind : Kind) (id 
 declared-map f keeps kind id [] = refl
 declared-map f keeps kind id (h ∷ hs) =
     λ i. (is_same_kind kind (keeps.0 h i) && id == keeps.1 h i) || declared-map f keeps kind id hs i
+
+-- and principals of the same kinds
+kinds-map : (f : Holder → Holder) → KeepsHolders f → (kind : Kind) (hs : List Holder)
+    → list_any (λ h. is_same_kind kind h.kind) (map f hs) ≡ list_any (λ h. is_same_kind kind h.kind) hs
+kinds-map f keeps kind [] = refl
+kinds-map f keeps kind (h ∷ hs) = λ i. is_same_kind kind (keeps.0 h i) || kinds-map f keeps kind hs i
+
+-- so the same owners are known
+known-map : (S : State) (f : Holder → Holder) → KeepsHolders f → (kind : Kind) (o : Option ℕ)
+    → is_known_owner (record S { holders = map f S.holders }) kind o ≡ is_known_owner S kind o
+known-map S f keeps kind None = ap not (kinds-map f keeps kind S.holders)
+known-map S f keeps kind (Some id) = declared-map f keeps kind id S.holders
 
 each-apart-map : (f : Holder → Holder) → KeepsHolders f → (g : Holder) (hs : List Holder)
     → AllByRecursion (λ h. holder_cmp g h ≡ Less) hs → AllByRecursion (λ h. holder_cmp (f g) h ≡ Less) (map f hs)
@@ -59,9 +71,8 @@ fits-map S f keeps fits = record {
   inodes = record {
     in_order = fits.inodes.in_order;
     fresh = fits.inodes.fresh;
-    owners_known = λ k d below.
-        let inode : Inode = slice_index_or (values_of S.inodes) k d in
-        (λ i. declared-map f keeps User inode.uid S.holders i && declared-map f keeps Group inode.gid S.holders i) ∙ fits.inodes.owners_known k d below;
+    owners_known = λ k d below kind.
+        known-map S f keeps kind (owner kind (slice_index_or (values_of S.inodes) k d).owners) ∙ fits.inodes.owners_known k d below kind;
     sound = fits.inodes.sound;
     root_stands = fits.inodes.root_stands;
   };
@@ -180,7 +191,7 @@ module _ (S : State) (inode : Inode) (dir : ℕ) (name : List ℕ) (fits : FitsT
       grind (arith, tests, differ)
 
   -- a sound inode of known owners leaves parts that fit together
-  pub created_fits : has_known_owners S inode ≡ true → IsSound inode → has_too_many_links (created S inode dir name) ≡ false
+  pub created_fits : AreKnown S inode.owners → IsSound inode → has_too_many_links (created S inode dir name) ≡ false
       → FitsTogether (created S inode dir name)
   created_fits known sound few = record {
     links = few;
@@ -189,7 +200,7 @@ module _ (S : State) (inode : Inode) (dir : ℕ) (name : List ℕ) (fits : FitsT
       in_order = sorted-insert nat_cmp_total S.inodes S.next inode fits.inodes.in_order;
       fresh = All-insert_new (λ e. nat_lt e.0 (S.next + 1) ≡ true) nat_cmp S.inodes S.next inode (absent-fresh S.inodes S.next fits.inodes.fresh)
           (λ k d below. later (slice_index_or S.inodes k d).0 S.next (fits.inodes.fresh k d below)) (grind (arith, tests));
-      owners_known = All-values-insert_entry nat_cmp S.next inode (λ i. has_known_owners S i ≡ true) S.inodes fits.inodes.owners_known known;
+      owners_known = All-values-insert_entry nat_cmp S.next inode (λ i. AreKnown S i.owners) S.inodes fits.inodes.owners_known known;
       sound = All-values-insert_entry nat_cmp S.next inode IsSound S.inodes fits.inodes.sound sound;
       root_stands = directory-stays ROOT fits.inodes.root_stands;
     };
@@ -211,11 +222,11 @@ module _ (S : State) (inode : Inode) (dir : ℕ) (name : List ℕ) (fits : FitsT
 -- ---- a changed inode
 
 -- what holds of the owners of every inode, and of every inode by itself, holds of one that is there
-pub known-owners : (S : State) (number : ℕ) (inode : Inode) → FitsTogether S → inode_at S number ≡ Some inode → has_known_owners S inode ≡ true
+pub known-owners : (S : State) (number : ℕ) (inode : Inode) → FitsTogether S → inode_at S number ≡ Some inode → AreKnown S inode.owners
 known-owners S number inode fits there =
-    let known : IfSome (inode_at S number) (λ i. has_known_owners S i ≡ true) =
-    IfSome-lookup_from_All (λ i. has_known_owners S i ≡ true) (is_at (nat_cmp number)) S.inodes fits.inodes.owners_known in
-    let at : Option Inode → Type 0 = λ o. IfSome o (λ i. has_known_owners S i ≡ true) in
+    let known : IfSome (inode_at S number) (λ i. AreKnown S i.owners) =
+    IfSome-lookup_from_All (λ i. AreKnown S i.owners) (is_at (nat_cmp number)) S.inodes fits.inodes.owners_known in
+    let at : Option Inode → Type 0 = λ o. IfSome o (λ i. AreKnown S i.owners) in
     subst at there known
 
 pub sound-there : (S : State) (number : ℕ) (inode : Inode) → FitsTogether S → inode_at S number ≡ Some inode → IsSound inode
@@ -259,7 +270,7 @@ changed_fits S number inode changed there follows fits = record {
   inodes = record {
     in_order = subst (IsStrictlySortedBy nat_cmp) (sym (keys-set_value (is_at (nat_cmp number)) S.inodes changed)) fits.inodes.in_order;
     fresh = All-keys-set_value (λ n. nat_lt n S.next ≡ true) (is_at (nat_cmp number)) S.inodes changed fits.inodes.fresh;
-    owners_known = All-values-set_value (is_at (nat_cmp number)) (λ i. has_known_owners S i ≡ true) S.inodes changed
+    owners_known = All-values-set_value (is_at (nat_cmp number)) (λ i. AreKnown S i.owners) S.inodes changed
         fits.inodes.owners_known (follows.owners (known-owners S number inode fits there));
     sound = All-values-set_value (is_at (nat_cmp number)) IsSound S.inodes changed fits.inodes.sound (follows.sound (sound-there S number inode fits there));
     root_stands = directory-same S number inode changed there follows.dir ROOT ∙ fits.inodes.root_stands;

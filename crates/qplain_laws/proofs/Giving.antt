@@ -23,14 +23,14 @@ has cred gid = list_any (λ group. group == gid) (cred.gid ∷ cred.more)
 
 -- the inode is its user's still, and its group's or that of one of the caller's groups
 record Keeps (cred : Caller) (inode after : Inode) : Type 0 where
-  user : after.uid ≡ inode.uid
-  group : (after.gid == inode.gid || has cred after.gid) ≡ true
+  user : after.owners.uid ≡ inode.owners.uid
+  group : (after.owners.gid == inode.owners.gid || has cred after.owners.gid) ≡ true
 
 -- an inode keeps what it is
 keeps-itself : (cred : Caller) (inode after : Inode) → Some inode ≡ Some after → Keeps cred inode after
 keeps-itself cred inode after same =
     let equal : inode ≡ after = cc in
-    subst (Keeps cred inode) equal (record { user = refl; group = or_left (inode.gid == inode.gid) (has cred inode.gid) (itself inode.gid) })
+    subst (Keeps cred inode) equal (record { user = refl; group = or_left (inode.owners.gid == inode.owners.gid) (has cred inode.owners.gid) (itself inode.owners.gid) })
   where
     itself : (n : ℕ) → (n == n) ≡ true
     itself n = grind (arith, tests)
@@ -42,15 +42,15 @@ keeps-same S S1 cred q inode after there then same = keeps-itself cred inode aft
 
 -- what was not there and is there now is the new inode
 made-created : (S : State) (cred : Caller) (inode : Inode) (b : Bool) (o : Option Inode) (after : Inode) → IsOwn cred inode
-    → o ≡ None → cond b (Some inode) o ≡ Some after → (after.uid ≡ cred.uid) × (after.gid ≡ cred.gid)
+    → o ≡ None → cond b (Some inode) o ≡ Some after → (after.owners.uid ≡ cred.uid) × (after.owners.gid ≡ cred.gid)
 made-created S cred inode true o after own none now =
     let equal : inode ≡ after = cc in
-    (ap (λ (i : Inode). i.uid) (sym equal) ∙ own.user, ap (λ (i : Inode). i.gid) (sym equal) ∙ own.group)
+    (ap (λ (i : Inode). i.owners.uid) (sym equal) ∙ own.user, ap (λ (i : Inode). i.owners.gid) (sym equal) ∙ own.group)
 made-created S cred inode false o after own none now = let clash : Some after ≡ None = sym now ∙ none in cc
 
 -- where the caller changed an inode, it may give it to the owners that it has then
 keeps-changed : (S : State) (cred : Caller) (number : ℕ) (inode changed : Inode) → is_superuser cred ≡ false
-    → inode_at S number ≡ Some inode → may_give cred inode changed.uid changed.gid ≡ true
+    → inode_at S number ≡ Some inode → may_give cred inode changed.owners ≡ true
     → (q : ℕ) (one after : Inode) → inode_at S q ≡ Some one → inode_at (with_inode S number changed) q ≡ Some after → Keeps cred one after
 keeps-changed S cred number inode changed other there may q one after at now =
     by (is_at (nat_cmp number) q) refl (sym (inode_at-with_inode S number inode changed q there) ∙ now)
@@ -60,8 +60,8 @@ keeps-changed S cred number inode changed other there may q one after at now =
         let old : Some inode ≡ Some one = sym there ∙ ap (inode_at S) (same-number number q here) ∙ at in
         let was : inode ≡ one = cc in
         let is : changed ≡ after = cc in
-        let parts = may_give-parts cred inode changed.uid changed.gid other may in
-        let user : changed.uid ≡ inode.uid = equal changed.uid inode.uid parts.1 in
+        let parts = may_give-parts cred inode changed.owners other may in
+        let user : changed.owners.uid ≡ inode.owners.uid = equal changed.owners.uid inode.owners.uid parts.1 in
         subst (Keeps cred one) is (subst (λ (i : Inode). Keeps cred i changed) was (record { user = user; group = parts.2 }))
       where
         equal : (m n : ℕ) → (m == n) ≡ true → m ≡ n

@@ -4,7 +4,6 @@ use Rattle.std.specs.List.{list_any}
 use Rattle.std.specs.Option.{option_or, option_map}
 use Rattle.std.proofs.lemmas.List.Filters.{length-filter_both}
 use Rattle.qrules.specs.declared.kind.Kind.{Kind}
-use Rattle.qrules.specs.declared.kind.Kind.TheVariants.{User, Group}
 use Rattle.qrules.specs.Sort.{Sort, Inodes, Blocks}
 use Rattle.qblocks.specs.File.{File, after_truncate, begins_below, size_of}
 use Rattle.qplain.specs.declared.call.Call.{Call}
@@ -14,7 +13,7 @@ use Rattle.qplain.specs.declared.refusal.Refusal.TheVariants.{EINVAL, ENAMETOOLO
 use Rattle.qplain.specs.declared.reply.Reply.TheVariants.{Refused}
 use Rattle.qplain.specs.Caller.{Caller, is_superuser}
 use Rattle.qplain.specs.State.{Holder, Inode, State, inode_at, is_directory, named}
-use Rattle.qplain.specs.Use.{account_of, is_empty, names_to, use_of, weight}
+use Rattle.qplain.specs.Use.{account_of, belongs_to, is_empty, names_to, use_of, weight}
 use Rattle.qplain.specs.Walk.{components, is_too_long, led_to, parent, walk}
 use Rattle.qplain.specs.Decision.{fault_of_holder, first_refusal, is_too_full, refusal_between}
 use Rattle.qplain.specs.Arguments.{is_invalid, paths_of}
@@ -91,8 +90,7 @@ module _ (S : State) (cred : Caller) (moment : ℕ) (lawful : IsLawful S) where
       lighter Blocks = fewer-blocks inode.file size
 
       by : (kind : Kind) (id : ℕ) (sort : Sort) → charge_of kind id sort (Some after) ≤ charge_of kind id sort (Some inode)
-      by User id sort = part-le (inode.uid == id) (weight sort after) (weight sort inode) (lighter sort)
-      by Group id sort = part-le (inode.gid == id) (weight sort after) (weight sort inode) (lighter sort)
+      by kind id sort = part-le (belongs_to kind id inode) (weight sort after) (weight sort inode) (lighter sort)
 
   -- nor is an unlink
   granted-unlink : (dir : ℕ) (name : List ℕ) (number : ℕ) (inode : Inode) → named S dir name ≡ Some number → inode_at S number ≡ Some inode

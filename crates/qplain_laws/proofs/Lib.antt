@@ -30,6 +30,7 @@ pub mod Reaching
 pub mod Leaving
 pub mod Reached
 pub mod Replacing
+pub mod Refusing
 pub mod Losing
 pub mod Removing
 pub mod WalkFaults

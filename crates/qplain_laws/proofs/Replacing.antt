@@ -2,10 +2,7 @@
 -- stores that keep them.
 use Rattle.std.proofs.Common.{◌≡◌, ℕ, ◌+◌, ◌-◌, ◌≤◌, ◌==◌, Bool, true, false, ◌&&◌, ◌||◌, nat_le, nat_lt, cond, List, [], ◌∷◌, All, map, Option, Some, None, refl, sym, ap, subst, ◌∙◌, tests, arith}
 use Rattle.std.specs.Option.{option_or, option_map}
-use Rattle.std.specs.List.{AllByRecursion, find}
-use Rattle.std.specs.List.Sorted.{IsStrictlySortedBy}
-use Rattle.std.specs.declared.cmp.Ordering.TheVariants.{Less}
-use Rattle.std.specs.Ordering.{nat_cmp, ordering_then}
+use Rattle.std.specs.Ordering.{nat_cmp}
 use Rattle.std.specs.BTreeMap.{is_at}
 use Rattle.std.specs.Map.{lookup, set_value, values_of}
 use Rattle.std.proofs.lemmas.Bool.{or_parts}
@@ -13,24 +10,19 @@ use Rattle.std.proofs.lemmas.List.Elements.{All-head, All-tail}
 use Rattle.std.proofs.lemmas.List.Sums.{sum_by-le-sum_by}
 use Rattle.std.proofs.lemmas.Map.Entries.{sum_by-set_value}
 use Rattle.qrules.specs.declared.kind.Kind.{Kind}
-use Rattle.qrules.specs.declared.kind.Kind.TheVariants.{User, Group}
-use Rattle.qrules.specs.declared.over.Over.{Over}
 use Rattle.qrules.specs.Sort.{Sort, Inodes, Blocks}
 use Rattle.qrules.specs.Account.{Account, HasEnds, count_in}
 use Rattle.qrules.specs.Charge.{fault_of}
-use Rattle.qplain.specs.declared.refusal.Refusal.{Refusal}
 use Rattle.qplain.specs.declared.refusal.Refusal.TheVariants.{EDQUOT}
 use Rattle.qplain.specs.declared.bounds.TheConstants.{MAX_NUMBER}
-use Rattle.qplain.specs.State.{Holder, Inode, NameKey, State, holder_cmp, inode_at, rank_of}
-use Rattle.qplain.specs.Use.{account_of, charge_to, owner, total_of, use_of, weight}
-use Rattle.qplain.specs.Arguments.{is_holder, is_same_kind}
+use Rattle.qplain.specs.State.{Holder, Inode, NameKey, State, inode_at}
+use Rattle.qplain.specs.Use.{account_of, belongs_to, charge_to, total_of, use_of, weight}
 use Rattle.qplain.specs.Decision.{ends_after, fault_of_holder, first_refusal, is_too_full, with_ends_of}
 use Rattle.qplain.specs.Files.{with_inode}
 use Rattle.qplain.specs.Names.{created}
 use Rattle.qplain.specs.Step.{change_between}
 use Rattle.qplain_laws.specs.Replaces.{Replaces, charge_of, is_owned, weight_of}
 use Rattle.qplain_laws.proofs.Tables.{sum_by-values-insert_new}
-use Rattle.qplain_laws.proofs.Balance.{each-apart}
 use Rattle.qplain_laws.proofs.Ends.{with_ends_of-same}
 
 -- ---- what each plain result replaces
@@ -210,116 +202,6 @@ module _ (S S1 : State) (from to : Option Inode) (replaces : Replaces S S1 from 
   pub holders-after : (moment : ℕ) → All (λ h. HasEnds (account_of S h)) S.holders → (ends_after S1 moment).holders ≡ map (touched moment) S.holders
   holders-after moment ends = ap (map (with_ends_of S1 moment)) replaces.holders ∙ all-touched moment S.holders ends
 
--- ---- the first refusal is the user's or the group's
-
--- the refusal of a holder, if there is one
-abbrev pub refusal_at : (Holder → Option Over) → Option Holder → Option Refusal
-refusal_at fault None = None
-refusal_at fault (Some h) = option_map (λ over. EDQUOT h.kind over) (fault h)
-
--- one holder passes the first test at most, one the second, and that one comes later
-abbrev IsFirst : (Holder → Bool) → (Holder → Bool) → List Holder → Type 0
-IsFirst p q [] = Unit {0}
-IsFirst p q (h ∷ hs) =
-    (p h ≡ true → (q h ≡ false) × AllByRecursion (λ g. p g ≡ false) hs)
-    × (q h ≡ true → AllByRecursion (λ g. p g ≡ false) hs × AllByRecursion (λ g. q g ≡ false) hs) × IsFirst p q hs
-
-find-none : (p : Holder → Bool) (hs : List Holder) → AllByRecursion (λ g. p g ≡ false) hs → find p hs ≡ None
-find-none p [] none = refl
-find-none p (h ∷ hs) none = rw (none.0) (find-none p hs none.1)
-
-or-none : (o : Option Refusal) → option_or o None ≡ o
-or-none None = refl
-or-none (Some r) = refl
-
-two-refusals : (fault : Holder → Option Over) (p q : Holder → Bool) → ((h : Holder) → p h ≡ false → q h ≡ false → fault h ≡ None)
-    → (hs : List Holder) → IsFirst p q hs → first_refusal fault hs ≡ option_or (refusal_at fault (find p hs)) (refusal_at fault (find q hs))
-two-refusals fault p q none [] first = refl
-two-refusals fault p q none (h ∷ hs) first = by (two-refusals fault p q none hs first.2) (p h) (q h) refl refl
-  where
-    by : first_refusal fault hs ≡ option_or (refusal_at fault (find p hs)) (refusal_at fault (find q hs)) → (b c : Bool) → p h ≡ b → q h ≡ c
-        → option_or (option_map (λ over. EDQUOT h.kind over) (fault h)) (first_refusal fault hs)
-        ≡ option_or (refusal_at fault (cond b (Some h) (find p hs))) (refusal_at fault (cond c (Some h) (find q hs)))
-    by later true true e f = let other = (first.0 e).0 in cc
-    by later true false e f =
-        let gone : find p hs ≡ None = find-none p hs (first.0 e).1 in
-        ap (option_or (option_map (λ over. EDQUOT h.kind over) (fault h)))
-        (later ∙ ap (λ o. option_or (refusal_at fault o) (refusal_at fault (find q hs))) gone)
-    by later false true e f =
-        let no_p : find p hs ≡ None = find-none p hs (first.1 f).0 in
-        let no_q : find q hs ≡ None = find-none q hs (first.1 f).1 in
-        ap (option_or (option_map (λ over. EDQUOT h.kind over) (fault h))) (later ∙ (λ i. option_or (refusal_at fault (no_p i)) (refusal_at fault (no_q i))))
-        ∙ or-none (option_map (λ over. EDQUOT h.kind over) (fault h))
-        ∙ (λ i. option_or (refusal_at fault (sym no_p i)) (option_map (λ over. EDQUOT h.kind over) (fault h)))
-    by later false false e f = ap (λ o. option_or (option_map (λ over. EDQUOT h.kind over) o) (first_refusal fault hs)) (none h e f) ∙ later
-
--- a holder of a kind and id has them
-is_holder-parts : (kind : Kind) (id : ℕ) (h g : Holder) → is_holder kind id h ≡ true → is_holder h.kind h.id g ≡ false → is_holder kind id g ≡ false
-is_holder-parts kind id h g e other =
-    let parts = both-true (is_same_kind kind h.kind) (id == h.id) e in
-    let ids : id ≡ h.id = grind (arith, tests, parts.1) in
-    let kinds : kind ≡ h.kind = same-kind kind h.kind parts.0 in
-    (λ i. is_same_kind (kinds i) g.kind && ids i == g.id) ∙ other
-  where
-    both-true : (a b : Bool) → (a && b) ≡ true → (a ≡ true) × (b ≡ true)
-    both-true true b h = (refl, h)
-    both-true false b h = cc
-
-    same-kind : (k l : Kind) → is_same_kind k l ≡ true → k ≡ l
-    same-kind User User h = refl
-    same-kind User Group h = cc
-    same-kind Group User h = cc
-    same-kind Group Group h = refl
-
-holder-once : (kind : Kind) (id : ℕ) (h : Holder) (hs : List Holder) → is_holder kind id h ≡ true → AllByRecursion (λ g. is_holder h.kind h.id g ≡ false) hs
-    → AllByRecursion (λ g. is_holder kind id g ≡ false) hs
-holder-once kind id h [] e apart = tt
-holder-once kind id h (g ∷ hs) e apart = (is_holder-parts kind id h g e apart.0, holder-once kind id h hs e apart.1)
-
--- no user comes after a group
-no-user : (u g : ℕ) (h : Holder) (hs : List Holder) → is_holder Group g h ≡ true → AllByRecursion (λ x. holder_cmp h x ≡ Less) hs
-    → AllByRecursion (λ x. is_holder User u x ≡ false) hs
-no-user u g h [] e above = tt
-no-user u g h (x ∷ hs) e above = (by h.kind x.kind e above.0, no-user u g h hs e above.1)
-  where
-    by : (k l : Kind) → (is_same_kind Group k && g == h.id) ≡ true → ordering_then (nat_cmp (rank_of k) (rank_of l)) (nat_cmp h.id x.id) ≡ Less
-        → (is_same_kind User l && u == x.id) ≡ false
-    by User l e a = cc
-    by Group User e a = cc
-    by Group Group e a = refl
-
-not-group : (u g : ℕ) (h : Holder) → is_holder User u h ≡ true → is_holder Group g h ≡ false
-not-group u g h e = by h.kind e
-  where
-    by : (k : Kind) → (is_same_kind User k && u == h.id) ≡ true → (is_same_kind Group k && g == h.id) ≡ false
-    by User e = refl
-    by Group e = cc
-
-first-in_order : (u g : ℕ) (hs : List Holder) → IsStrictlySortedBy holder_cmp hs → IsFirst (is_holder User u) (is_holder Group g) hs
-unfolding IsStrictlySortedBy
-first-in_order u g [] sorted = tt
-first-in_order u g (h ∷ hs) sorted = (
-  (λ e. (not-group u g h e, holder-once User u h hs e (each-apart h hs sorted.0))),
-  (λ e. (no-user u g h hs e sorted.0, holder-once Group g h hs e (each-apart h hs sorted.0))),
-  first-in_order u g hs sorted.1,
-)
-
--- the first refusal for a new inode is its user's, or else its group's
-pub first_refusal-after : (S S1 : State) (from : Option Inode) (to : Inode) (moment : ℕ) → Replaces S S1 from (Some to)
-    → IsStrictlySortedBy holder_cmp S.holders
-    → first_refusal (fault_of_holder S S1 moment) S.holders
-    ≡ option_or (refusal_at (fault_of_holder S S1 moment) (find (is_holder User to.uid) S.holders))
-    (refusal_at (fault_of_holder S S1 moment) (find (is_holder Group to.gid) S.holders))
-first_refusal-after S S1 from to moment replaces sorted =
-    two-refusals (fault_of_holder S S1 moment) (is_holder User to.uid) (is_holder Group to.gid)
-    (λ h not_user not_group. fault-other S S1 from (Some to) replaces moment h (owner-not h.kind h.id not_user not_group))
-    S.holders (first-in_order to.uid to.gid S.holders sorted)
-  where
-    owner-not : (k : Kind) (id : ℕ) → (is_same_kind User k && to.uid == id) ≡ false → (is_same_kind Group k && to.gid == id) ≡ false
-        → (owner k to == id) ≡ false
-    owner-not User id u g = u
-    owner-not Group id u g = g
-
 -- where no inode comes to stand, nobody is refused
 pub first_refusal-none : (S S1 : State) (from : Option Inode) (moment : ℕ) → Replaces S S1 from None → (hs : List Holder)
     → first_refusal (fault_of_holder S S1 moment) hs ≡ None
@@ -338,4 +220,4 @@ part-le false n = omega arith
 -- nobody uses more than everybody
 pub use-le-total : (S : State) (kind : Kind) (id : ℕ) (sort : Sort) → use_of S kind id sort ≤ total_of S sort
 use-le-total S kind id sort =
-    sum_by-le-sum_by (charge_to kind id sort) (weight sort) (values_of S.inodes) (λ inode. part-le (owner kind inode == id) (weight sort inode))
+    sum_by-le-sum_by (charge_to kind id sort) (weight sort) (values_of S.inodes) (λ inode. part-le (belongs_to kind id inode) (weight sort inode))

@@ -4,6 +4,7 @@ use Rattle.std.specs.Ordering.{nat_cmp}
 use Rattle.std.specs.BTreeMap.{is_at}
 use Rattle.std.specs.Map.{lookup}
 use Rattle.std.specs.Cmp.{eq_by_cmp_equiv}
+use Rattle.qplain.specs.declared.owners.Owners.{Owners}
 use Rattle.qplain.specs.Caller.{Caller, is_superuser}
 use Rattle.qplain.specs.State.{Inode, State, inode_at, is_directory, name_key_cmp, named}
 use Rattle.qplain.specs.Use.{has_name, is_empty}
@@ -38,10 +39,11 @@ kept S cred fits = record {
 }
 
 -- who may give an inode away, and is not the superuser, owns it, keeps its user, and keeps its group or has the new one
-pub may_give-parts : (cred : Caller) (inode : Inode) (uid gid : ℕ) → is_superuser cred ≡ false → may_give cred inode uid gid ≡ true
-    → (is_owner cred inode ≡ true) × ((uid == inode.uid) ≡ true) × ((gid == inode.gid || is_member cred gid) ≡ true)
-may_give-parts cred inode uid gid other may =
-    by (is_superuser cred) (is_owner cred inode) (uid == inode.uid) (gid == inode.gid || is_member cred gid) other may
+pub may_give-parts : (cred : Caller) (inode : Inode) (owners : Owners) → is_superuser cred ≡ false → may_give cred inode owners ≡ true
+    → (is_owner cred inode ≡ true) × ((owners.uid == inode.owners.uid) ≡ true)
+    × ((owners.gid == inode.owners.gid || is_member cred owners.gid) ≡ true)
+may_give-parts cred inode owners other may =
+    by (is_superuser cred) (is_owner cred inode) (owners.uid == inode.owners.uid) (owners.gid == inode.owners.gid || is_member cred owners.gid) other may
   where
     by : (a b c d : Bool) → a ≡ false → (a || b && c && d) ≡ true → (b ≡ true) × (c ≡ true) × (d ≡ true)
     by true b c d e h = cc
@@ -176,7 +178,7 @@ results_leave S cred fits other = record {
   changed = λ number inode after there follows may. record {
     inodes = λ q one at others.
         while-named (with_inode S number after) q one
-        (inode-kept S cred number inode after there (ap not (may_give-parts cred inode after.uid after.gid other may).0) q one at others)
+        (inode-kept S cred number inode after there (ap not (may_give-parts cred inode after.owners other may).0) q one at others)
         (has_name-there S fits q (ap is_some at));
     names = λ dir n name leads directory others. leads;
   };

@@ -75,10 +75,11 @@ truncated-follows S inode size is_file below =
     file-follows S inode (after_truncate inode.file size) is_file (in_order-after_truncate inode.file size)
     (right_sized-truncated S.file_limit inode.file size below)
 
-owner-declared : (S : State) (kind : Kind) (o : Option ℕ) (old : ℕ) → is_undeclared S kind o ≡ false → is_declared S kind old ≡ true
-    → is_declared S kind (unwrap_or o old) ≡ true
-owner-declared S kind None old named known = known
-owner-declared S kind (Some id) old named known = true-from_not (is_declared S kind id) named
+-- a principal that is declared, or that is not named, is known
+declared-known : (S : State) (kind : Kind) (o : Option ℕ) (old : ℕ) → is_undeclared S kind o ≡ false → is_known_owner S kind (Some old) ≡ true
+    → is_known_owner S kind (Some (unwrap_or o old)) ≡ true
+declared-known S kind None old named known = known
+declared-known S kind (Some id) old named known = true-from_not (is_declared S kind id) named
   where
     true-from_not : (b : Bool) → not b ≡ false → b ≡ true
     true-from_not true h = refl
@@ -86,12 +87,11 @@ owner-declared S kind (Some id) old named known = true-from_not (is_declared S k
 
 -- an inode may follow under owners that are declared
 pub owned-follows : (S : State) (inode : Inode) (uid gid : Option ℕ) → is_undeclared S User uid ≡ false → is_undeclared S Group gid ≡ false
-    → MayFollow S inode (with_owners inode (unwrap_or uid inode.uid) (unwrap_or gid inode.gid))
+    → MayFollow S inode (with_owners inode (renewed uid gid inode.owners))
 owned-follows S inode uid gid user group = record {
   dir = refl;
-  owners = λ known.
-      let parts = and_parts (is_declared S User inode.uid) (is_declared S Group inode.gid) known in
-      λ i. owner-declared S User uid inode.uid user parts.0 i && owner-declared S Group gid inode.gid group parts.1 i;
+  owners = λ known. each_kind (λ kind. is_known_owner S kind (owner kind (renewed uid gid inode.owners)) ≡ true)
+      (declared-known S User uid inode.owners.uid user (known User)) (declared-known S Group gid inode.owners.gid group (known Group));
   sound = λ sound. record { holds_nothing = sound.holds_nothing; in_order = sound.in_order };
   size = λ right. record { size = right.size; blocks = right.blocks };
 }
@@ -105,8 +105,8 @@ empty-sound inode empty = record {
 }
 
 -- what belongs to a caller who is known has known owners
-pub known-caller : (S : State) (cred : Caller) → is_known S cred ≡ true → (is_declared S User cred.uid && is_declared S Group cred.gid) ≡ true
+pub known-caller : (S : State) (cred : Caller) → is_known S cred ≡ true → AreKnown S (owners_by cred)
 known-caller S cred known =
     let parts = and_parts (is_declared S User cred.uid) (is_declared S Group cred.gid && list_all (is_declared S Group) cred.more) known in
-    and_from (is_declared S User cred.uid) (is_declared S Group cred.gid) parts.0
-    (and_parts (is_declared S Group cred.gid) (list_all (is_declared S Group) cred.more) parts.1).0
+    each_kind (λ kind. is_known_owner S kind (owner kind (owners_by cred)) ≡ true)
+    parts.0 (and_parts (is_declared S Group cred.gid) (list_all (is_declared S Group) cred.more) parts.1).0

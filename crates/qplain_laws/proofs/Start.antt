@@ -1,5 +1,5 @@
 -- A new store of a setup that is not refused is lawful.
-use Rattle.std.proofs.Common.{◌≡◌, ℕ, suc, ◌+◌, ◌*◌, ◌<◌, ◌≤◌, ◌==◌, Bool, true, false, not, ◌&&◌, ◌||◌, nat_le, nat_lt, cond, List, [], ◌∷◌, All, ◌++◌, map, slice_index_or, Some, None, refl, sym, ◌∙◌, tests, arith}
+use Rattle.std.proofs.Common.{◌≡◌, ℕ, suc, ◌+◌, ◌*◌, ◌<◌, ◌≤◌, ◌==◌, Bool, true, false, not, ◌&&◌, ◌||◌, nat_le, nat_lt, cond, List, [], ◌∷◌, All, ◌++◌, map, slice_index_or, Some, None, refl, sym, ap, ◌∙◌, tests, arith}
 use Rattle.std.specs.List.{AllByRecursion, list_any}
 use Rattle.std.specs.List.Sorted.{IsNonDecreasingBy, IsStrictlySortedBy}
 use Rattle.std.specs.declared.cmp.Ordering.TheVariants.{Less}
@@ -8,7 +8,11 @@ use Rattle.std.proofs.lemmas.List.Elements.{All-append, All-cons, All-map, All-n
 use Rattle.std.proofs.lemmas.List.Folds.{list_any-append}
 use Rattle.qrules.specs.declared.kind.Kind.{Kind}
 use Rattle.qrules.specs.declared.kind.Kind.TheVariants.{User, Group}
+use Rattle.qrules.specs.Kinds.{is_same_kind, rank_of}
 use Rattle.qrules.specs.Sort.{is_over}
+use Rattle.qrules.proofs.Ranks.{each_kind, same_kind-refl}
+use Rattle.std.proofs.lemmas.Bool.{or_left}
+use Rattle.std.specs.declared.cmp.Ordering.{Ordering}
 use Rattle.qrules.specs.Account.{HasEnds}
 use Rattle.qplain.specs.declared.principal.Principal.{Principal}
 use Rattle.qplain.specs.declared.setup.SetupFault.TheVariants.{Range, Duplicate, NoZero}
@@ -16,31 +20,38 @@ use Rattle.qrules.specs.Range.{are_graces_in_range}
 use Rattle.qplain.specs.declared.setup.TheConstants.{MAX_BLOCKS, MAX_INODES}
 use Rattle.qplain.specs.declared.bounds.TheConstants.{ROOT}
 use Rattle.qplain.specs.Principals.{are_in_range, collide, has_duplicate, has_zero}
-use Rattle.qplain.specs.Setups.{Setting, is_in_range}
-use Rattle.qplain.specs.State.{Holder, holder_cmp, holder_of, rank_of, root, start}
-use Rattle.qplain.specs.Use.{account_of}
-use Rattle.qplain.specs.Arguments.{is_declared, is_holder, is_same_kind}
-use Rattle.qplain_laws.specs.Laws.{IsSound, StartIsLawful, has_known_owners, has_right_names, leads}
+use Rattle.qplain.specs.Setups.{IsLawfulSetup, Setting, is_in_range, principals_in, setup_fault}
+use Rattle.qplain.specs.State.{Holder, declared_in, holder_cmp, holder_of, root, start}
+use Rattle.qplain.specs.Use.{account_of, belongs_to, owner}
+use Rattle.qplain.specs.Arguments.{is_declared, is_holder}
+use Rattle.qplain_laws.specs.Laws.{AreKnown, IsSound, StartIsLawful, has_right_names, is_known_owner, leads}
 use Rattle.qplain_laws.proofs.Fitting.{or_right}
 use Rattle.qplain_laws.proofs.Sound.{empty-sound}
 use Rattle.qplain_laws.proofs.Orders.{nat_cmp-below}
 
 -- what a setting that is not refused has passed
-record HasPassed (in_range users_twice groups_twice user_zero group_zero : Bool) : Type 0 where
-  range : in_range ≡ true
-  users : users_twice ≡ false
-  groups : groups_twice ≡ false
-  user : user_zero ≡ true
-  group : group_zero ≡ true
+record HasPassed (s : Setting) : Type 0 where
+  range : is_in_range s ≡ true
+  single : (kind : Kind) → has_duplicate (principals_in kind s) ≡ false
+  zero : (kind : Kind) → has_zero (principals_in kind s) ≡ true
 
-passed : (r d e z w : Bool) → cond (not r) (Some Range) (cond (d || e) (Some Duplicate) (cond (not (z && w)) (Some NoZero) None)) ≡ None
-    → HasPassed r d e z w
-passed true false false true true h = record { range = refl; users = refl; groups = refl; user = refl; group = refl }
-passed false d e z w h = cc
-passed true true e z w h = cc
-passed true false true z w h = cc
-passed true false false false w h = cc
-passed true false false true false h = cc
+passed : (s : Setting) → setup_fault s ≡ None → HasPassed s
+passed s granted =
+    let tests = by (is_in_range s) (has_duplicate s.users) (has_duplicate s.groups) (has_zero s.users) (has_zero s.groups) granted in
+    record {
+      range = tests.0;
+      single = each_kind (λ kind. has_duplicate (principals_in kind s) ≡ false) tests.1 tests.2;
+      zero = each_kind (λ kind. has_zero (principals_in kind s) ≡ true) tests.3 tests.4;
+    }
+  where
+    by : (r d e z w : Bool) → cond (not r) (Some Range) (cond (d || e) (Some Duplicate) (cond (not (z && w)) (Some NoZero) None)) ≡ None
+        → (r ≡ true) × (d ≡ false) × (e ≡ false) × (z ≡ true) × (w ≡ true)
+    by true false false true true h = (refl, refl, refl, refl, refl)
+    by false d e z w h = cc
+    by true true e z w h = cc
+    by true false true z w h = cc
+    by true false false false w h = cc
+    by true false false true false h = cc
 
 third : (a b c d e f g : Bool) → (a && b && c && d && e && f && g) ≡ true → c ≡ true
 third a b true d e f g h = refl
@@ -60,13 +71,10 @@ not_over-blocks false soft = grind (arith, tests)
 
 -- the holders of a new store have no ends, and are over no soft limit
 ends-start : (s : Setting) (kind : Kind) (p : Principal) → HasEnds (account_of (start s) (holder_of kind p))
-ends-start s User p = record { inodes = sym (not_over-inodes (0 == p.id) p.limits.inode_soft); blocks = sym (not_over-blocks (0 == p.id) p.limits.block_soft) }
-ends-start s Group p = record { inodes = sym (not_over-inodes (0 == p.id) p.limits.inode_soft); blocks = sym (not_over-blocks (0 == p.id) p.limits.block_soft) }
-
--- a kind is the same as itself
-pub same_kind-refl : (kind : Kind) → is_same_kind kind kind ≡ true
-same_kind-refl User = refl
-same_kind-refl Group = refl
+ends-start s kind p = record {
+  inodes = sym (not_over-inodes (belongs_to kind p.id root) p.limits.inode_soft);
+  blocks = sym (not_over-blocks (belongs_to kind p.id root) p.limits.block_soft);
+}
 
 -- a kind with an id 0 declares it
 declared-zero : (kind : Kind) (ps : List Principal) → list_any (is_holder kind 0) (map (holder_of kind) ps) ≡ has_zero ps
@@ -81,8 +89,7 @@ or_parts false b h = (refl, h)
 
 -- principals by id that do not collide come one after the other
 rank-itself : (kind : Kind) (x y : ℕ) → x < y → ordering_then (nat_cmp (rank_of kind) (rank_of kind)) (nat_cmp x y) ≡ Less
-rank-itself User x y l = nat_cmp-below x y l
-rank-itself Group x y l = nat_cmp-below x y l
+rank-itself kind x y l = grind (arith, tests, nat_cmp-below x y l)
 
 above-holders : (kind : Kind) (p : Principal) (ps : List Principal) → AllByRecursion (λ q. p.id ≤ q.id) ps → list_any (collide p) ps ≡ false
     → AllByRecursion (λ h. holder_cmp (holder_of kind p) h ≡ Less) (map (holder_of kind) ps)
@@ -105,54 +112,80 @@ sorted-holders kind (p ∷ ps) up h =
       sorted-holders kind ps (λ i j d le below. up (suc i) (suc j) d (omega arith) (omega arith)) parts.1,
     )
 
--- a user comes before every group
-before-groups : (p : Principal) (gs : List Principal) → AllByRecursion (λ h. holder_cmp (holder_of User p) h ≡ Less) (map (holder_of Group) gs)
-before-groups p [] = tt
-before-groups p (g ∷ gs) = (refl, before-groups p gs)
+-- a holder comes before every one of a kind behind its own
+before-kind : (k l : Kind) → nat_lt (rank_of k) (rank_of l) ≡ true → (p : Principal) (qs : List Principal)
+    → AllByRecursion (λ h. holder_cmp (holder_of k p) h ≡ Less) (map (holder_of l) qs)
+before-kind k l below p [] = tt
+before-kind k l below p (q ∷ qs) = (less (nat_cmp p.id q.id), before-kind k l below p qs)
+  where
+    less : (o : Ordering) → ordering_then (nat_cmp (rank_of k) (rank_of l)) o ≡ Less
+    less o = ap (λ r. ordering_then r o) (nat_cmp-below (rank_of k) (rank_of l) (grind (arith, tests, below)))
 
 above-append : (h : Holder) (xs ys : List Holder) → AllByRecursion (λ g. holder_cmp h g ≡ Less) xs → AllByRecursion (λ g. holder_cmp h g ≡ Less) ys
     → AllByRecursion (λ g. holder_cmp h g ≡ Less) (xs ++ ys)
 above-append h [] ys p q = q
 above-append h (x ∷ xs) ys p q = (p.0, above-append h xs ys p.1 q)
 
-sorted-append : (us : List Principal) (gs : List Principal) → IsStrictlySortedBy holder_cmp (map (holder_of User) us)
-    → IsStrictlySortedBy holder_cmp (map (holder_of Group) gs) → IsStrictlySortedBy holder_cmp (map (holder_of User) us ++ map (holder_of Group) gs)
+-- holders of one kind stand before those of kinds behind it
+sorted-append : (kind : Kind) (ps : List Principal) (ys : List Holder) → IsStrictlySortedBy holder_cmp (map (holder_of kind) ps)
+    → IsStrictlySortedBy holder_cmp ys → ((p : Principal) → AllByRecursion (λ h. holder_cmp (holder_of kind p) h ≡ Less) ys)
+    → IsStrictlySortedBy holder_cmp (map (holder_of kind) ps ++ ys)
 unfolding IsStrictlySortedBy
-sorted-append [] gs p q = q
-sorted-append (u ∷ us) gs p q =
-    (above-append (holder_of User u) (map (holder_of User) us) (map (holder_of Group) gs) p.0 (before-groups u gs), sorted-append us gs p.1 q)
+sorted-append kind [] ys p q before = q
+sorted-append kind (u ∷ us) ys p q before =
+    (above-append (holder_of kind u) (map (holder_of kind) us) ys p.0 (before u), sorted-append kind us ys p.1 q before)
+
+module _ (s : Setting) (setup : IsLawfulSetup s) where
+  passes : HasPassed s
+  passes = passed s setup.granted
+
+  sorted-kind : (kind : Kind) → IsStrictlySortedBy holder_cmp (declared_in kind s)
+  sorted-kind kind = sorted-holders kind (principals_in kind s) (setup.sorted kind) (passes.single kind)
+
+  sorted-start : IsStrictlySortedBy holder_cmp (start s).holders
+  sorted-start =
+      sorted-append User s.users (declared_in Group s) (sorted-kind User) (sorted-kind Group) (λ p. before-kind User Group refl p s.groups)
+
+  ends-kind : (kind : Kind) → All (λ h. HasEnds (account_of (start s) h)) (declared_in kind s)
+  ends-kind kind =
+      All-map (λ h. HasEnds (account_of (start s) h)) (holder_of kind) (principals_in kind s)
+      (λ k d below. ends-start s kind (slice_index_or (principals_in kind s) k d))
+
+  ends-all : All (λ h. HasEnds (account_of (start s) h)) (start s).holders
+  ends-all = All-append (λ h. HasEnds (account_of (start s) h)) (declared_in User s) (declared_in Group s) (ends-kind User) (ends-kind Group)
+
+  zero-kind : (kind : Kind) → list_any (is_holder kind 0) (declared_in kind s) ≡ true
+  zero-kind kind = declared-zero kind (principals_in kind s) ∙ passes.zero kind
+
+  known-root : AreKnown (start s) root.owners
+  known-root =
+      let users : List Holder = declared_in User s in
+      let groups : List Holder = declared_in Group s in
+      let user : is_declared (start s) User 0 ≡ true =
+      list_any-append (is_holder User 0) users groups ∙ or_left (list_any (is_holder User 0) users) _ (zero-kind User) in
+      let group : is_declared (start s) Group 0 ≡ true =
+      list_any-append (is_holder Group 0) users groups ∙ or_right (list_any (is_holder Group 0) users) _ (zero-kind Group) in
+      each_kind (λ kind. is_known_owner (start s) kind (owner kind root.owners) ≡ true) user group
 
 pub start_is_lawful : StartIsLawful
 unfolding IsStrictlySortedBy
 start_is_lawful s setup =
-    let parts : HasPassed (is_in_range s) (has_duplicate s.users) (has_duplicate s.groups) (has_zero s.users) (has_zero s.groups) =
-    passed (is_in_range s) (has_duplicate s.users) (has_duplicate s.groups) (has_zero s.users) (has_zero s.groups) setup.granted in
     let one : nat_le 1 s.inodes ≡ true =
     third (nat_le 1 s.blocks) (nat_le s.blocks MAX_BLOCKS) (nat_le 1 s.inodes) (nat_le s.inodes MAX_INODES)
-    (are_graces_in_range s.graces) (are_in_range s.users) (are_in_range s.groups) parts.range in
-    let users : List Holder = map (holder_of User) s.users in
-    let groups : List Holder = map (holder_of Group) s.groups in
-    let stands : Holder → Type 0 = λ h. HasEnds (account_of (start s) h) in
-    let user : is_declared (start s) User 0 ≡ true =
-    list_any-append (is_holder User 0) users groups ∙ rw (declared-zero User s.users, parts.user) refl in
-    let group : is_declared (start s) Group 0 ≡ true =
-    list_any-append (is_holder Group 0) users groups ∙ or_right (list_any (is_holder Group 0) users) _ (declared-zero Group s.groups ∙ parts.group) in
+    (are_graces_in_range s.graces) (are_in_range s.users) (are_in_range s.groups) (passes s setup).range in
     record {
       blocks_fit = omega arith;
       inodes_fit = grind (arith, tests, one);
-      ends_stand = All-append stands users groups
-          (All-map stands (holder_of User) s.users (λ k d below. ends-start s User (slice_index_or s.users k d)))
-          (All-map stands (holder_of Group) s.groups (λ k d below. ends-start s Group (slice_index_or s.groups k d)));
+      ends_stand = ends-all s setup;
       next_fits = omega arith;
       parts = record {
         links = refl;
-        holders = sorted-append s.users s.groups (sorted-holders User s.users setup.users_sorted parts.users)
-            (sorted-holders Group s.groups setup.groups_sorted parts.groups);
+        holders = sorted-start s setup;
         inodes = record {
           in_order = (tt, tt);
           fresh = All-cons (λ e. nat_lt e.0 2 ≡ true) (ROOT, root) [] refl (All-nil (λ e. nat_lt e.0 2 ≡ true));
-          owners_known = All-cons (λ inode. has_known_owners (start s) inode ≡ true) root [] (rw (user, group) refl)
-              (All-nil (λ inode. has_known_owners (start s) inode ≡ true));
+          owners_known = All-cons (λ inode. AreKnown (start s) inode.owners) root [] (known-root s setup)
+              (All-nil (λ inode. AreKnown (start s) inode.owners));
           sound = All-cons IsSound root [] (empty-sound root refl) (All-nil IsSound);
           root_stands = refl;
         };

@@ -19,7 +19,7 @@ use Rattle.qplain.specs.declared.bounds.TheConstants.{MAX_LINKS, ROOT}
 use Rattle.qplain.specs.State.{Inode, NameKey, State, inode_at, is_dir, is_directory, name_key_cmp, named}
 use Rattle.qplain.specs.Use.{has_name, has_too_many_links, is_empty, links_of, names_to}
 use Rattle.qplain.specs.Names.{swept, without_name}
-use Rattle.qplain_laws.specs.Laws.{FitsTogether, IsSound, has_known_owners, has_right_names, leads}
+use Rattle.qplain_laws.specs.Laws.{AreKnown, FitsTogether, IsSound, has_right_names, leads}
 use Rattle.qplain_laws.proofs.Filtering.{All-lookup, All-values-filter, sorted-filter}
 use Rattle.qplain_laws.proofs.Orders.{All-remove, sorted-remove, sum-remove, sum-remove-le}
 use Rattle.qplain_laws.proofs.Tables.{name_key_total, same-number}
@@ -89,7 +89,7 @@ module _ (S : State) (names : List (NameKey × ℕ)) where
     inodes = record {
       in_order = sorted-filter (λ (e : ℕ × Inode). has_name T e.0) nat_cmp S.inodes fits.inodes.in_order;
       fresh = All-filter (λ (e : ℕ × Inode). has_name T e.0) (λ e. nat_lt e.0 S.next ≡ true) S.inodes fits.inodes.fresh;
-      owners_known = All-values-filter (λ (e : ℕ × Inode). has_name T e.0) (λ i. has_known_owners S i ≡ true) S.inodes fits.inodes.owners_known;
+      owners_known = All-values-filter (λ (e : ℕ × Inode). has_name T e.0) (λ i. AreKnown S i.owners) S.inodes fits.inodes.owners_known;
       sound = All-values-filter (λ (e : ℕ × Inode). has_name T e.0) IsSound S.inodes fits.inodes.sound;
       root_stands = ap is_dir (stays-swept ROOT refl) ∙ fits.inodes.root_stands;
     };

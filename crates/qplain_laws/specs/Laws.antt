@@ -6,6 +6,7 @@ use Rattle.std.specs.List.{list_any}
 use Rattle.std.specs.List.Sorted.{IsStrictlySortedBy}
 use Rattle.qrules.specs.declared.kind.Kind.{Kind}
 use Rattle.qrules.specs.declared.kind.Kind.TheVariants.{User, Group}
+use Rattle.qrules.specs.Kinds.{is_same_kind}
 use Rattle.qrules.specs.Sort.{Sort, Inodes, Blocks, amount_of, hard_limit, soft_limit, is_over}
 use Rattle.qrules.specs.Account.{Account, HasEnds, count_in, end_in}
 use Rattle.qrules.specs.Charge.{has_ended}
@@ -14,6 +15,7 @@ use Rattle.qrules.specs.declared.limits.Limits.{Limits}
 use Rattle.qblocks.specs.File.{empty_file}
 use Rattle.qplain.specs.declared.call.Call.{Call}
 use Rattle.qplain.specs.declared.call.Call.TheVariants.{Truncate, Link, Unlink, Rmdir, Rename}
+use Rattle.qplain.specs.declared.owners.Owners.{Owners}
 use Rattle.qplain.specs.declared.refusal.Refusal.{Refusal}
 use Rattle.qplain.specs.declared.refusal.Refusal.TheVariants.{ENOSPC, EDQUOT}
 use Rattle.qplain.specs.declared.reply.Reply.TheVariants.{Refused}
@@ -21,16 +23,25 @@ use Rattle.qplain.specs.declared.bounds.TheConstants.{MAX_NUMBER, ROOT}
 use Rattle.qplain.specs.Caller.{Caller, is_superuser}
 use Rattle.qplain.specs.Setups.{IsLawfulSetup, Setting}
 use Rattle.qplain.specs.State.{Holder, Inode, NameKey, State, holder_cmp, inode_at, is_directory, name_key_cmp, named, start}
-use Rattle.qplain.specs.Use.{account_of, has_name, has_too_many_links, names_to, total_of, use_of}
+use Rattle.qplain.specs.Use.{account_of, has_name, has_too_many_links, names_to, owner, total_of, use_of}
 use Rattle.qplain.specs.Walk.{walk}
-use Rattle.qplain.specs.Arguments.{is_declared, is_same_kind}
+use Rattle.qplain.specs.Arguments.{is_declared}
 use Rattle.qplain.specs.Decision.{ends_after, with_ends_of}
 use Rattle.qplain.specs.Quotas.{relimited}
 use Rattle.qplain.specs.Step.{step}
 
--- the inode belongs to a declared user and to a declared group
-abbrev pub has_known_owners : State → Inode → Bool
-has_known_owners S inode = is_declared S User inode.uid && is_declared S Group inode.gid
+-- some principal of the kind is declared
+abbrev pub has_kind : State → Kind → Bool
+has_kind S kind = list_any (λ h. is_same_kind kind h.kind) S.holders
+
+-- an owner of the kind is a declared principal, and there is none only where none of the kind is declared
+abbrev pub is_known_owner : State → Kind → Option ℕ → Bool
+is_known_owner S kind None = not (has_kind S kind)
+is_known_owner S kind (Some id) = is_declared S kind id
+
+-- of each kind the owner is known
+abbrev pub AreKnown : State → Owners → Type 0
+AreKnown S owners = (kind : Kind) → is_known_owner S kind (owner kind owners) ≡ true
 
 -- the name stands in a directory and leads to an inode
 abbrev pub leads : State → NameKey × ℕ → Bool
@@ -49,12 +60,12 @@ pub record IsSound (inode : Inode) : Type 0 where
   pub holds_nothing : inode.dir ≡ true → inode.file ≡ empty_file
   pub in_order : IsStrictlySortedBy nat_cmp inode.file.allocated
 
--- inodes stand once and in order, below the next number; each is sound and belongs to a declared user and group; the
--- root is a directory
+-- inodes stand once and in order, below the next number; each is sound and belongs to declared principals; the root is a
+-- directory
 pub record InodesFit (S : State) : Type 0 where
   pub in_order : IsStrictlySortedBy nat_cmp (keys_of S.inodes)
   pub fresh : All (λ e. nat_lt e.0 S.next ≡ true) S.inodes
-  pub owners_known : All (λ inode. has_known_owners S inode ≡ true) (values_of S.inodes)
+  pub owners_known : All (λ inode. AreKnown S inode.owners) (values_of S.inodes)
   pub sound : All IsSound (values_of S.inodes)
   pub root_stands : is_directory S ROOT ≡ true
 
@@ -138,9 +149,14 @@ GivingBackIsGranted = (S : State) (cred : Caller) (moment : ℕ) (path : List �
     × ((to : List ℕ) → RefusesForNoLimit S cred moment (Link path to))
     × ((to : List ℕ) → RefusesForNoLimit S cred moment (Rename path to))
 
--- in a lawful state the users' uses add up to the totals, and so do the groups'
+-- in a lawful state the uses of all principals of a kind that is declared add up to the totals
 abbrev pub UsesAddUp : Type 0
-UsesAddUp = (S : State) (kind : Kind) (sort : Sort) → IsLawful S → uses_of S kind sort ≡ total_of S sort
+UsesAddUp = (S : State) (kind : Kind) (sort : Sort) → IsLawful S → has_kind S kind ≡ true
+    → uses_of S kind sort ≡ total_of S sort
+
+-- in a lawful state users and groups are declared
+abbrev pub UsersAndGroupsStand : Type 0
+UsersAndGroupsStand = (S : State) → IsLawful S → (has_kind S User ≡ true) × (has_kind S Group ≡ true)
 
 -- in a lawful state the rule of grace ends moves none, so what only looks, or writes nothing, may leave the state
 -- as it is
@@ -202,7 +218,7 @@ AllStayReached = (S : State) (cred : Caller) (moment : ℕ) (call : Call) → Is
 -- what is there is not the caller's
 abbrev pub is_of_others : Caller → Option Inode → Bool
 is_of_others cred None = true
-is_of_others cred (Some inode) = not (cred.uid == inode.uid)
+is_of_others cred (Some inode) = not (cred.uid == inode.owners.uid)
 
 -- what a caller leaves to others: each of their inodes, with what it holds and whose it is, unless its last name has
 -- gone; and each name in a directory of others that leads to an inode of others
@@ -223,11 +239,11 @@ RightsHold = (S : State) (cred : Caller) (moment : ℕ) (call : Call) → IsLawf
 -- still, and its group's or that of one of the caller's groups
 pub record KeepsOwners (cred : Caller) (old new : State) : Type 0 where
   pub made : (number : ℕ) (after : Inode) → inode_at old number ≡ None → inode_at new number ≡ Some after
-      → (after.uid ≡ cred.uid) × (after.gid ≡ cred.gid)
+      → (after.owners.uid ≡ cred.uid) × (after.owners.gid ≡ cred.gid)
   pub user : (number : ℕ) (inode after : Inode) → inode_at old number ≡ Some inode → inode_at new number ≡ Some after
-      → after.uid ≡ inode.uid
+      → after.owners.uid ≡ inode.owners.uid
   pub group : (number : ℕ) (inode after : Inode) → inode_at old number ≡ Some inode → inode_at new number ≡ Some after
-      → (after.gid == inode.gid || list_any (λ group. group == after.gid) (cred.gid ∷ cred.more)) ≡ true
+      → (after.owners.gid == inode.owners.gid || list_any (λ group. group == after.owners.gid) (cred.gid ∷ cred.more)) ≡ true
 
 -- no caller but the superuser makes another user own an inode, or a group that is not one of the caller's
 abbrev pub OwnersHold : Type 0

@@ -1,6 +1,6 @@
 //! The laws of the plain machine, each the contract of a function that does nothing when it runs.
 ghost use Rattle.qplain_laws.specs.Order.{LinksComeFirst, OverwritesAreGranted};
-ghost use Rattle.qplain_laws.specs.Laws.{AllStayReached, EndsAreTheRules, EndsStay, GivingBackIsGranted, LimitsHold, LimitsStay, NewLimitsAreTheRules, NumbersGoOn, OwnersHold, RefusalsChangeNothing, RightsHold, SetupsStay, StartIsLawful, StartIsReached, StepsStayLawful, UsesAddUp};
+ghost use Rattle.qplain_laws.specs.Laws.{AllStayReached, EndsAreTheRules, EndsStay, GivingBackIsGranted, LimitsHold, LimitsStay, NewLimitsAreTheRules, NumbersGoOn, OwnersHold, RefusalsChangeNothing, RightsHold, SetupsStay, StartIsLawful, StartIsReached, StepsStayLawful, UsersAndGroupsStand, UsesAddUp};
 
 /// Totals and inode numbers stay within the bounds, and a grace end stands exactly where use is over its soft limit.
 /// Principals, inodes and names stand once and in order. Every inode has declared owners and as many names as it may, a
@@ -38,9 +38,11 @@ pub fn overwrites_are_granted()
     ensures { OverwritesAreGranted }
 {}
 
-/// In a lawful state the uses of all users add up to the totals of the store, and so do those of all groups.
+/// In a lawful state the uses of all principals of a kind add up to the totals of the store, where any is declared, as
+/// users and groups always are.
 pub fn uses_add_up()
-    ensures { UsesAddUp }
+    ensures uses { UsesAddUp }
+    ensures kinds { UsersAndGroupsStand }
 {}
 
 /// At any moment the rule of grace ends leaves a lawful state as it is.
