@@ -1,9 +1,10 @@
 -- What a recount finds otherwise than it is recorded (quotacheck(8)).
-use Rattle.std.specs.Prelude.{ℕ, Bool, true, false, not, ◌&&◌, ◌==◌, List, ◌++◌, map}
+use Rattle.std.specs.Prelude.{ℕ, Bool, not, ◌&&◌, ◌==◌, List, ◌++◌, map}
 use Rattle.std.specs.List.{filter, find, list_any}
 use Rattle.std.specs.Option.{unwrap_or}
 use Rattle.qrules.specs.declared.kind.Kind.{Kind}
 use Rattle.qrules.specs.declared.kind.Kind.TheVariants.{User, Group}
+use Rattle.qrules.specs.Kinds.{by_kind, is_same_kind}
 use Rattle.qrules.specs.declared.record_row.RecordRow.{RecordRow}
 use Rattle.qaudit.specs.declared.counts.Counts.{Counts}
 use Rattle.qaudit.specs.declared.counts.CountRow.{CountRow}
@@ -21,8 +22,7 @@ counted_of counts id = unwrap_or (find (λ c. c.id == id) counts) (no_use id)
 
 -- the counts of one kind
 abbrev pub counts_in : Kind → Counts → List CountRow
-counts_in User counts = counts.users
-counts_in Group counts = counts.groups
+counts_in kind counts = by_kind counts.users counts.groups kind
 
 -- what is counted of whom a record is for
 abbrev pub counted_for : Counts → RecordRow → CountRow
@@ -35,13 +35,6 @@ is_off counted r = not (r.blocks == counted.blocks && r.inodes == counted.inodes
 -- a record, beside what was counted
 abbrev pub use_difference : Counts → RecordRow → Difference
 use_difference counts r = Uses r.kind r (counted_for counts r)
-
--- whether the kinds are the same
-abbrev pub is_same_kind : Kind → Kind → Bool
-is_same_kind User User = true
-is_same_kind User Group = false
-is_same_kind Group User = false
-is_same_kind Group Group = true
 
 -- some record is for this owner
 abbrev pub has_record : Kind → List RecordRow → ℕ → Bool

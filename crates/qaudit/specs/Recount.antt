@@ -6,6 +6,7 @@ use Rattle.std.specs.Ordering.{nat_cmp}
 use Rattle.qrules.specs.declared.inode_row.InodeRow.{InodeRow}
 use Rattle.qrules.specs.declared.kind.Kind.{Kind}
 use Rattle.qrules.specs.declared.kind.Kind.TheVariants.{User, Group}
+use Rattle.qrules.specs.Kinds.{by_kind}
 use Rattle.qrules.specs.declared.name_row.NameRow.{NameRow}
 use Rattle.qaudit.specs.declared.counts.Counts.{Counts}
 use Rattle.qaudit.specs.declared.counts.CountRow.{CountRow}
@@ -13,8 +14,7 @@ use Rattle.qaudit.specs.declared.counts.LinkRow.{LinkRow}
 
 -- whose the row is
 abbrev pub owner_of : Kind → InodeRow → ℕ
-owner_of User row = row.uid
-owner_of Group row = row.gid
+owner_of kind row = by_kind row.uid row.gid kind
 
 -- the row is this owner's
 abbrev pub is_owned : Kind → ℕ → InodeRow → Bool

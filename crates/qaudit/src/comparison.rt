@@ -5,7 +5,7 @@ ghost use Rattle.std.specs.BTreeSet.{contains};
 ghost use Rattle.std.specs.List.{find};
 ghost use Rattle.std.specs.Option.{option_or};
 ghost use Rattle.std.specs.Ordering.{nat_cmp};
-ghost use Rattle.qaudit.specs.Differences.{differences_of, has_record, is_off, is_same_kind, link_differences, owners_without_record, use_differences};
+ghost use Rattle.qaudit.specs.Differences.{differences_of, has_record, is_off, link_differences, owners_without_record, use_differences};
 
 use crate::owners::count_at;
 use crate::{CountRow, Counts, Difference, LinkRow, NoMemory};
@@ -28,15 +28,6 @@ fn copy_of(alloc: Global, row: &RecordRow) -> Result<RecordRow, NoMemory>
         block_end: row.block_end,
         inode_end: row.inode_end,
     })
-}
-
-fn is_same_kind(one: Kind, other: Kind) -> bool
-    ensures { result ≡ is_same_kind one other }
-{
-    match (one, other) {
-        (Kind::User, Kind::User) | (Kind::Group, Kind::Group) => true,
-        (Kind::User, Kind::Group) | (Kind::Group, Kind::User) => false,
-    }
 }
 
 /// Keeps a count, unless one of its id is kept.
@@ -67,7 +58,7 @@ fn recorded(alloc: Global, kind: Kind, records: &[RecordRow]) -> Result<BTreeSet
 {
     let mut found = BTreeSet::new(alloc);
     for record in records {
-        if is_same_kind(kind, record.kind) {
+        if kind.is_same(record.kind) {
             found.insert(record.id)?;
         }
     }

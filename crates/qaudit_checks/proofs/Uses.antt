@@ -6,7 +6,7 @@ use Rattle.std.proofs.lemmas.Bool.{eqb-true}
 use Rattle.std.proofs.lemmas.List.Sums.{sum_by-cons}
 use Rattle.qrules.specs.declared.inode_row.InodeRow.{InodeRow}
 use Rattle.qrules.specs.declared.kind.Kind.{Kind}
-use Rattle.qrules.specs.declared.kind.Kind.TheVariants.{User, Group}
+use Rattle.qrules.proofs.Ranks.{each_kind}
 use Rattle.qrules.specs.declared.record_row.RecordRow.{RecordRow}
 use Rattle.qrules.specs.Sort.{Inodes, Blocks}
 use Rattle.qplain.specs.State.{Holder, Inode, State}
@@ -74,17 +74,17 @@ counted-own kind rows id =
     ] refl
 
 same_blocks : (S : State) (kind : Kind) (id : ℕ) (e : ℕ × Inode) → blocks_to kind id (inode_row_of S e) ≡ charge_to kind id Blocks e.1
-same_blocks S User id e = refl
-same_blocks S Group id e = refl
+same_blocks S kind id e =
+    each_kind (λ k. blocks_to k id (inode_row_of S e) ≡ charge_to k id Blocks e.1) refl refl kind
 
 same_inodes : (S : State) (kind : Kind) (id : ℕ) (e : ℕ × Inode) → cond (is_owned kind id (inode_row_of S e)) 1 0 ≡ charge_to kind id Inodes e.1
-same_inodes S User id e = refl
-same_inodes S Group id e = refl
+same_inodes S kind id e =
+    each_kind (λ k. cond (is_owned k id (inode_row_of S e)) 1 0 ≡ charge_to k id Inodes e.1) refl refl kind
 
 -- the counts of a kind are those that a recount makes of it
 counts-kind : (kind : Kind) (S : State) → counts_in kind (recount_of (inode_rows S) (name_rows S)) ≡ counts_by kind (inode_rows S)
-counts-kind User S = refl
-counts-kind Group S = refl
+counts-kind kind S =
+    each_kind (λ k. counts_in k (recount_of (inode_rows S) (name_rows S)) ≡ counts_by k (inode_rows S)) refl refl kind
 
 on : (r : RecordRow) (c : CountRow) → c.blocks ≡ r.blocks → c.inodes ≡ r.inodes → is_off c r ≡ false
 on r c blocks inodes = rw (blocks, inodes) (grind (arith, tests))

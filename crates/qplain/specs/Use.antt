@@ -22,7 +22,7 @@ owner kind owners = by_kind (Some owners.uid) (Some owners.gid) kind
 -- there is an id, and it is this one
 abbrev pub is_id : ℕ → Option ℕ → Bool
 is_id id None = false
-is_id id (Some other) = id == other
+is_id id (Some other) = other == id
 
 -- the inode is the principal's
 abbrev pub belongs_to : Kind → ℕ → Inode → Bool

@@ -18,10 +18,10 @@ use Rattle.qplain.specs.Walk.{components, is_too_long, last_name, led_to, parent
 use Rattle.qplain.specs.Arguments.{is_declared, is_holder, is_invalid, paths_of}
 use Rattle.qplain.specs.Attempt.{Attempt, Refuse, Answer, Becomes, at_inode, at_name, at_path, at_reached, in_parent, in_reached, no_change, under}
 use Rattle.qplain.specs.Rights.{is_own, may_give, may_remove, may_write}
-use Rattle.qplain.specs.Names.{create_as, created, link_as, link_to, mkdir_as, rmdir_as, rmdir_at, swept, unless_too_many_links, unlink_as, unlink_at, with_name, without_name}
+use Rattle.qplain.specs.Names.{create_as, created, link_as, link_to, mkdir_as, owners_by, rmdir_as, rmdir_at, swept, unless_too_many_links, unlink_as, unlink_at, with_name, without_name}
 use Rattle.qplain.specs.Renames.{meets, passes, rename_as, rename_from, rename_over, rename_to, renamed}
 use Rattle.qplain.specs.Files.{read_from, stat_at, stat_of, truncate_at, with_inode, write_into}
-use Rattle.qplain.specs.Owners.{chown_at, with_owners}
+use Rattle.qplain.specs.Owners.{chown_at, renewed, with_owners}
 use Rattle.qplain.specs.Quotas.{quota_from, quota_of, with_limits_of}
 use Rattle.qplain.specs.Calls.{attempt, attempt_of, unless}
 use Rattle.qplain.specs.Journal.{change_of}
@@ -177,7 +177,7 @@ attempt_of-none S cred (Create path) =
 attempt_of-none S cred (Mkdir path) =
     in_parent-none S EEXIST (mkdir_as S cred) path refl (λ dir name.
     or (is_some (named S dir name)) EEXIST _ refl
-    (few_links-none (created S (new_directory cred.uid cred.gid) dir name) S.next (record { holders = refl; graces = refl })))
+    (few_links-none (created S (new_directory (owners_by cred)) dir name) S.next (record { holders = refl; graces = refl })))
 attempt_of-none S cred (Write path off bytes) =
     at_path-none S (write_into S cred off bytes) path (λ number inode there.
     or inode.dir EISDIR _ refl (or (not (may_write cred inode)) EACCES _ refl
@@ -211,8 +211,8 @@ attempt_of-none S cred (Rename from to) =
     (sweeps S (with_name (without_name (without_name S dir name) to_dir to_name) to_dir to_name number).names))))
 attempt_of-none S cred (Chown path uid gid) =
     at_path-none S (chown_at S cred uid gid) path (λ number inode there.
-    or (not (may_give cred inode (unwrap_or uid inode.uid) (unwrap_or gid inode.gid))) EPERM _ refl
-    (becomes _ _ (given S number inode (unwrap_or uid inode.uid) (unwrap_or gid inode.gid) there)))
+    or (not (may_give cred inode (renewed uid gid inode.owners))) EPERM _ refl
+    (becomes _ _ (given S number inode (renewed uid gid inode.owners) there)))
 attempt_of-none S cred (SetQuota kind id limits) =
     or (not (is_superuser cred)) EPERM _ refl (or (not (is_declared S kind id)) ESRCH _ refl (becomes _ _ refl))
 attempt_of-none S cred (SetGrace graces) = or (not (is_superuser cred)) EPERM _ refl (becomes _ _ refl)

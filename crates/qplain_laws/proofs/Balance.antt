@@ -7,7 +7,6 @@ use Rattle.std.specs.declared.cmp.Ordering.TheVariants.{Less, Equal, Greater}
 use Rattle.std.specs.Ordering.{is_eq, nat_cmp, ordering_then}
 use Rattle.std.specs.Cmp.{unsigned_ties}
 use Rattle.std.specs.Map.{values_of}
-use Rattle.std.proofs.lemmas.Cmp.{nat_eq_equiv}
 use Rattle.std.proofs.lemmas.List.Sums.{sum_by-cons}
 use Rattle.std.proofs.lemmas.List.Elements.{All-head, All-tail}
 use Rattle.qrules.specs.declared.kind.Kind.{Kind}
@@ -99,22 +98,35 @@ one_share-none false owns w rest e z = z
 
 -- an inode takes nothing of holders that are not its owner
 shares-none : (kind : Kind) (sort : Sort) (inode : Inode) (hs : List Holder)
-    → AllByRecursion (λ h. is_holder kind (owner kind inode) h ≡ false) hs → shares kind sort inode hs ≡ 0
+    → AllByRecursion (λ h. is_held kind (owner kind inode.owners) h ≡ false) hs → shares kind sort inode hs ≡ 0
 shares-none kind sort inode [] none = refl
 shares-none kind sort inode (h ∷ hs) none =
     shares-cons kind sort inode h hs
-    ∙ one_share-none (is_same_kind kind h.kind) (owner kind inode == h.id) (weight sort inode) (shares kind sort inode hs)
+    ∙ one_share-none (is_same_kind kind h.kind) (belongs_to kind h.id inode) (weight sort inode) (shares kind sort inode hs)
     none.0 (shares-none kind sort inode hs none.1)
 
+-- one id alone is this one
+same_id : (o : Option ℕ) (m n : ℕ) → is_id m o ≡ true → is_id n o ≡ true → m ≡ n
+same_id None m n p q = cc
+same_id (Some id) m n p q = grind (arith, tests, p, q)
+
+-- two holders that are one principal's are the same
+pub held-same : (kind : Kind) (id : Option ℕ) (h g : Holder) → is_held kind id h ≡ true → are_same h g ≡ false → is_held kind id g ≡ false
+held-same kind id h g held other = by (is_held kind id g) refl
+  where
+    by : (b : Bool) → is_held kind id g ≡ b → b ≡ false
+    by false e = refl
+    by true e =
+        let ids : h.id ≡ g.id = same_id id h.id g.id (and_second (is_same_kind kind h.kind) _ held) (and_second (is_same_kind kind g.kind) _ e) in
+        let first : is_same_kind kind h.kind ≡ true = and_first (is_same_kind kind h.kind) _ held in
+        let second : is_same_kind kind g.kind ≡ true = and_first (is_same_kind kind g.kind) _ e in
+        grind (arith, tests, ids, first, second, other)
+
 -- the holders after one that is the owner are none
-owner-elsewhere : (kind : Kind) (id : ℕ) (h : Holder) (hs : List Holder) → is_holder kind id h ≡ true
-    → AllByRecursion (λ g. are_same h g ≡ false) hs → AllByRecursion (λ g. is_holder kind id g ≡ false) hs
-owner-elsewhere kind id h hs owns others =
-    let same : kind ≡ h.kind = same_kind kind h.kind (and_first (is_same_kind kind h.kind) (id == h.id) owns) in
-    let equal : id ≡ h.id = grind (arith, tests, and_second (is_same_kind kind h.kind) (id == h.id) owns) in
-    let at_kind : Kind → Type 0 = λ k. AllByRecursion (λ g. is_holder k id g ≡ false) hs in
-    let at_id : ℕ → Type 0 = λ i. AllByRecursion (λ g. is_holder h.kind i g ≡ false) hs in
-    subst at_kind (sym same) (subst at_id (sym equal) others)
+pub held-once : (kind : Kind) (id : Option ℕ) (h : Holder) (hs : List Holder) → is_held kind id h ≡ true
+    → AllByRecursion (λ g. are_same h g ≡ false) hs → AllByRecursion (λ g. is_held kind id g ≡ false) hs
+held-once kind id h [] held others = tt
+held-once kind id h (g ∷ hs) held others = (held-same kind id h g held others.0, held-once kind id h hs held others.1)
 
 one_share-one : (of_kind owns : Bool) (w rest : ℕ) → (of_kind && owns) ≡ true → rest ≡ 0 → one_share of_kind owns w rest ≡ w
 one_share-one true true w rest e z = omega arith
@@ -165,10 +177,7 @@ balance kind sort hs (inode ∷ inodes) distinct known =
 pub held-known : (S : State) (kind : Kind) (id : Option ℕ) → has_kind S kind ≡ true → is_known_owner S kind id ≡ true
     → list_any (is_held kind id) S.holders ≡ true
 held-known S kind None declared known = let clash : not true ≡ true = sym (ap not declared) ∙ known in cc
-held-known S kind (Some id) declared known = ap (λ f. list_any f S.holders) (λ i h. is_same_kind kind h.kind && sides h.id id i) ∙ known
-  where
-    sides : (m n : ℕ) → (m == n) ≡ (n == m)
-    sides m n = nat_eq_equiv.symm m n
+held-known S kind (Some id) declared known = known
 
 pub uses_add_up : UsesAddUp
 uses_add_up S kind sort lawful declared =

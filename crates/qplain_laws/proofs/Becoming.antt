@@ -23,29 +23,29 @@ use Rattle.qplain.specs.Arguments.{has_bad_number, is_declared, is_holder, is_kn
 use Rattle.qplain.specs.Attempt.{Attempt, Refuse, Answer, Becomes, no_change}
 use Rattle.qplain.specs.Rights.{is_member, is_own, is_owner, may_give, may_remove, may_write}
 use Rattle.qplain.specs.Files.{read_from, stat_at, truncate_at, with_file, with_inode, write_into}
-use Rattle.qplain.specs.Names.{create_as, created, link_as, link_to, mkdir_as, rmdir_as, rmdir_at, swept, unless_too_many_links, unlink_as, unlink_at, with_name, without_name}
+use Rattle.qplain.specs.Names.{create_as, created, link_as, link_to, mkdir_as, owners_by, rmdir_as, rmdir_at, swept, unless_too_many_links, unlink_as, unlink_at, with_name, without_name}
 use Rattle.qplain.specs.Renames.{meets, passes, rename_as, rename_from, rename_over, rename_to, renamed}
-use Rattle.qplain.specs.Owners.{chown_at, with_owners}
+use Rattle.qplain.specs.Owners.{chown_at, renewed, with_owners}
 use Rattle.qplain.specs.Quotas.{ask_quota, quota_from, set_quota, set_grace, with_limits_of}
 use Rattle.qplain.specs.Calls.{attempt, attempt_of}
-use Rattle.qplain_laws.specs.Laws.{IsSound, has_known_owners}
+use Rattle.qplain_laws.specs.Laws.{AreKnown, IsSound}
 use Rattle.qplain.specs.Step.{settle, settled, step}
 use Rattle.qplain_laws.proofs.Trying.{OnBecomes, at_name-becomes, at_path-becomes, choice, in_parent-becomes, none-from_not_some, true-from_not, unless-becomes}
 use Rattle.qplain_laws.proofs.Sound.{MayFollow, empty-sound, known-caller, owned-follows, truncated-follows, written-follows}
 
 -- the inode is the caller's, its group the caller's first, and its file empty
 pub record IsOwn (cred : Caller) (inode : Inode) : Type 0 where
-  pub user : inode.uid ≡ cred.uid
-  pub group : inode.gid ≡ cred.gid
+  pub user : inode.owners.uid ≡ cred.uid
+  pub group : inode.owners.gid ≡ cred.gid
   pub empty : inode.file ≡ empty_file
 
 -- the plain results that the calls of a caller may have
 pub record HoldsOfResults (P : State → Type 0) (S : State) (cred : Caller) : Type 0 where
-  pub created : (inode : Inode) (dir : ℕ) (name : List ℕ) → IsOwn cred inode → has_known_owners S inode ≡ true → IsSound inode
+  pub created : (inode : Inode) (dir : ℕ) (name : List ℕ) → IsOwn cred inode → AreKnown S inode.owners → IsSound inode
       → is_directory S dir ≡ true → named S dir name ≡ None → (inode.dir && has_too_many_links (created S inode dir name)) ≡ false
       → P (created S inode dir name)
   pub changed : (number : ℕ) (inode after : Inode) → inode_at S number ≡ Some inode → MayFollow S inode after
-      → may_give cred inode after.uid after.gid ≡ true → P (with_inode S number after)
+      → may_give cred inode after.owners ≡ true → P (with_inode S number after)
   pub removed : (dir : ℕ) (name : List ℕ) (number : ℕ) (inode : Inode) → named S dir name ≡ Some number → inode_at S number ≡ Some inode
       → (inode.dir && not (is_empty S number)) ≡ false → may_remove S cred dir number ≡ true → P (swept (without_name S dir name))
   pub linked : (number : ℕ) (inode : Inode) (dir : ℕ) (name : List ℕ) → inode_at S number ≡ Some inode → inode.dir ≡ false
@@ -91,16 +91,16 @@ neither false b h = (refl, h)
 module _ (P : State → Type 0) (S : State) (cred : Caller) (holds : HoldsOfResults P S cred) where
   create_as-becomes : (dir : ℕ) (name : List ℕ) → is_known S cred ≡ true → is_directory S dir ≡ true → OnBecomes P (create_as S cred dir name)
   create_as-becomes dir name known stands =
-      choice P (is_some (named S dir name)) (Refuse EEXIST) (Becomes (created S (new_file cred.uid cred.gid) dir name) S.next) tt
-      (λ absent. holds.created (new_file cred.uid cred.gid) dir name (record { user = refl; group = refl; empty = refl }) (known-caller S cred known)
-      (empty-sound (new_file cred.uid cred.gid) refl) stands (none-from_not_some (named S dir name) absent) refl)
+      choice P (is_some (named S dir name)) (Refuse EEXIST) (Becomes (created S (new_file (owners_by cred)) dir name) S.next) tt
+      (λ absent. holds.created (new_file (owners_by cred)) dir name (record { user = refl; group = refl; empty = refl }) (known-caller S cred known)
+      (empty-sound (new_file (owners_by cred)) refl) stands (none-from_not_some (named S dir name) absent) refl)
 
   unless_too_many_links-becomes : (new : State) (number : ℕ) → (has_too_many_links new ≡ false → P new) → OnBecomes P (unless_too_many_links new number)
   unless_too_many_links-becomes new number p = choice P (has_too_many_links new) (Refuse EMLINK) (Becomes new number) tt p
 
   mkdir_as-becomes : (dir : ℕ) (name : List ℕ) → is_known S cred ≡ true → is_directory S dir ≡ true → OnBecomes P (mkdir_as S cred dir name)
   mkdir_as-becomes dir name known stands =
-      let inode : Inode = new_directory cred.uid cred.gid in
+      let inode : Inode = new_directory (owners_by cred) in
       choice P (is_some (named S dir name)) (Refuse EEXIST) (unless_too_many_links (created S inode dir name) S.next) tt
       (λ absent. unless_too_many_links-becomes (created S inode dir name) S.next
       (λ few. holds.created inode dir name (record { user = refl; group = refl; empty = refl }) (known-caller S cred known)

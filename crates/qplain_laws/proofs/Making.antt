@@ -21,8 +21,8 @@ use Rattle.qplain.specs.Arguments.{is_declared, is_holder}
 use Rattle.qplain.specs.Attempt.{Attempt, Refuse, Answer, Becomes, no_change}
 use Rattle.qplain.specs.Rights.{is_own, may_give, may_write}
 use Rattle.qplain.specs.Files.{read_from, truncate_at, with_file, with_inode, write_into}
-use Rattle.qplain.specs.Names.{create_as, created, mkdir_as, unless_too_many_links}
-use Rattle.qplain.specs.Owners.{chown_at, with_owners}
+use Rattle.qplain.specs.Names.{create_as, created, mkdir_as, owners_by, unless_too_many_links}
+use Rattle.qplain.specs.Owners.{chown_at, renewed, with_owners}
 use Rattle.qplain.specs.Quotas.{quota_from, relimited, with_limits_of}
 use Rattle.qplain.specs.Calls.{attempt_of}
 use Rattle.qplain_laws.specs.Done.{HasDone, IsChanged, LeadsTo}
@@ -85,16 +85,16 @@ module _ (S : State) (cred : Caller) (lawful : IsLawful S) where
   pub create-done : (path : List ℕ) → OnDone (Has (Create path)) S (attempt_of S cred (Create path))
   create-done path =
       in_parent-done (Has (Create path)) S EEXIST (create_as S cred) path (λ dir name place stands.
-      unless_refused (Has (Create path)) S (is_some (named S dir name)) EEXIST (Becomes (created S (new_file cred.uid cred.gid) dir name) S.next) (λ free.
-      made (new_file cred.uid cred.gid) path dir name place stands free))
+      unless_refused (Has (Create path)) S (is_some (named S dir name)) EEXIST (Becomes (created S (new_file (owners_by cred)) dir name) S.next) (λ free.
+      made (new_file (owners_by cred)) path dir name place stands free))
 
   pub mkdir-done : (path : List ℕ) → OnDone (Has (Mkdir path)) S (attempt_of S cred (Mkdir path))
   mkdir-done path =
       in_parent-done (Has (Mkdir path)) S EEXIST (mkdir_as S cred) path (λ dir name place stands.
-      let T : State = created S (new_directory cred.uid cred.gid) dir name in
+      let T : State = created S (new_directory (owners_by cred)) dir name in
       unless_refused (Has (Mkdir path)) S (is_some (named S dir name)) EEXIST (unless_too_many_links T S.next) (λ free.
       unless_refused (Has (Mkdir path)) S (has_too_many_links T) EMLINK (Becomes T S.next) (λ few.
-      made (new_directory cred.uid cred.gid) path dir name place stands free)))
+      made (new_directory (owners_by cred)) path dir name place stands free)))
 
   -- ---- what is changed
 
@@ -142,9 +142,9 @@ module _ (S : State) (cred : Caller) (lawful : IsLawful S) where
   chown-done path uid gid =
       let P : ℕ → State → Type 0 = Has (Chown path uid gid) in
       at_path-done P S (chown_at S cred uid gid) path (λ number inode leads there.
-      unless_refused P S (not (may_give cred inode (unwrap_or uid inode.uid) (unwrap_or gid inode.gid))) EPERM
-      (Becomes (with_inode S number (with_owners inode (unwrap_or uid inode.uid) (unwrap_or gid inode.gid))) number) (λ may.
-      changed path number inode (λ x. with_owners x (unwrap_or uid x.uid) (unwrap_or gid x.gid)) leads there))
+      unless_refused P S (not (may_give cred inode (renewed uid gid inode.owners))) EPERM
+      (Becomes (with_inode S number (with_owners inode (renewed uid gid inode.owners))) number) (λ may.
+      changed path number inode (λ x. with_owners x (renewed uid gid x.owners)) leads there))
 
   -- ---- limits, graces and looks
 

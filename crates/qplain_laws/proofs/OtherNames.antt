@@ -18,9 +18,9 @@ use Rattle.qplain.specs.Arguments.{is_declared, is_holder, refusal_of_arguments}
 use Rattle.qplain.specs.Attempt.{Attempt, Refuse, Answer, Becomes, no_change}
 use Rattle.qplain.specs.Rights.{is_own, may_give, may_remove, may_write}
 use Rattle.qplain.specs.Files.{read_from, stat_at, truncate_at, with_file, with_inode, write_into}
-use Rattle.qplain.specs.Names.{create_as, created, link_as, link_to, mkdir_as, rmdir_as, rmdir_at, swept, unless_too_many_links, unlink_as, unlink_at, with_name, without_name}
+use Rattle.qplain.specs.Names.{create_as, created, link_as, link_to, mkdir_as, owners_by, rmdir_as, rmdir_at, swept, unless_too_many_links, unlink_as, unlink_at, with_name, without_name}
 use Rattle.qplain.specs.Renames.{meets, passes, rename_as, rename_from, rename_to, renamed}
-use Rattle.qplain.specs.Owners.{chown_at, with_owners}
+use Rattle.qplain.specs.Owners.{chown_at, renewed, with_owners}
 use Rattle.qplain.specs.Quotas.{quota_from, with_limits_of}
 use Rattle.qplain.specs.Calls.{attempt, attempt_of, unless}
 use Rattle.qplain.specs.Step.{settle, settled}
@@ -116,14 +116,14 @@ module _ (S : State) (cred : Caller) (lawful : IsLawful S) (dir : ℕ) (name : L
   attempt_of-stays : (call : Call) → All (Apart S dir name) (changed_paths call) → OnDone (Stays S dir name) S (attempt_of S cred call)
   attempt_of-stays (Create path) apart =
       in_parent-done (Stays S dir name) S EEXIST (create_as S cred) path (λ d nm place stands.
-      unless_refused (Stays S dir name) S (is_some (named S d nm)) EEXIST (Becomes (created S (new_file cred.uid cred.gid) d nm) S.next) (λ free.
-      stays-made S dir name lawful.parts (new_file cred.uid cred.gid) path d nm (All-head (Apart S dir name) path [] apart) place free))
+      unless_refused (Stays S dir name) S (is_some (named S d nm)) EEXIST (Becomes (created S (new_file (owners_by cred)) d nm) S.next) (λ free.
+      stays-made S dir name lawful.parts (new_file (owners_by cred)) path d nm (All-head (Apart S dir name) path [] apart) place free))
   attempt_of-stays (Mkdir path) apart =
       in_parent-done (Stays S dir name) S EEXIST (mkdir_as S cred) path (λ d nm place stands.
-      let T : State = created S (new_directory cred.uid cred.gid) d nm in
+      let T : State = created S (new_directory (owners_by cred)) d nm in
       unless_refused (Stays S dir name) S (is_some (named S d nm)) EEXIST (unless_too_many_links T S.next) (λ free.
       few-stays T S.next
-      (stays-made S dir name lawful.parts (new_directory cred.uid cred.gid) path d nm (All-head (Apart S dir name) path [] apart) place free)))
+      (stays-made S dir name lawful.parts (new_directory (owners_by cred)) path d nm (All-head (Apart S dir name) path [] apart) place free)))
   attempt_of-stays (Write path off bytes) apart = write-stays path off bytes
   attempt_of-stays (Truncate path size) apart = truncate-stays path size
   attempt_of-stays (Read path off len) apart =
@@ -138,8 +138,8 @@ module _ (S : State) (cred : Caller) (lawful : IsLawful S) (dir : ℕ) (name : L
       (All-head (Apart S dir name) to [] (All-tail (Apart S dir name) from (to ∷ []) apart))
   attempt_of-stays (Chown path uid gid) apart =
       at_path-done (Stays S dir name) S (chown_at S cred uid gid) path (λ number inode leads there.
-      unless_refused (Stays S dir name) S (not (may_give cred inode (unwrap_or uid inode.uid) (unwrap_or gid inode.gid))) EPERM
-      (Becomes (with_inode S number (with_owners inode (unwrap_or uid inode.uid) (unwrap_or gid inode.gid))) number) (λ may. refl))
+      unless_refused (Stays S dir name) S (not (may_give cred inode (renewed uid gid inode.owners))) EPERM
+      (Becomes (with_inode S number (with_owners inode (renewed uid gid inode.owners))) number) (λ may. refl))
   attempt_of-stays (SetQuota kind id limits) apart =
       let becomes : Attempt = Becomes (with_limits_of S kind id limits) 0 in
       unless_refused (Stays S dir name) S (not (is_superuser cred)) EPERM (cond (not (is_declared S kind id)) (Refuse ESRCH) becomes) (λ may.

@@ -1,7 +1,6 @@
 -- A write into allocated blocks is refused for no want of space or of quota.
 use Rattle.std.proofs.Common.{◌≡◌, ℕ, ◌+◌, ◌==◌, ◌≤◌, Bool, true, false, not, ◌||◌, nat_lt, cond, List, length, Some, None, Ok, refl, sym, ap, subst, ◌∙◌, arith}
 use Rattle.qrules.specs.declared.kind.Kind.{Kind}
-use Rattle.qrules.specs.declared.kind.Kind.TheVariants.{User, Group}
 use Rattle.qrules.specs.Sort.{Sort, Inodes, Blocks}
 use Rattle.qblocks.specs.File.{File, after_write, is_allocated, touches}
 use Rattle.qblocks.proofs.Indexes.{same_indexes}
@@ -12,7 +11,7 @@ use Rattle.qplain.specs.declared.refusal.Refusal.TheVariants.{EACCES, EFBIG, EIS
 use Rattle.qplain.specs.declared.reply.Reply.TheVariants.{Done}
 use Rattle.qplain.specs.Caller.{Caller}
 use Rattle.qplain.specs.State.{Inode, State, inode_at}
-use Rattle.qplain.specs.Use.{weight}
+use Rattle.qplain.specs.Use.{belongs_to, weight}
 use Rattle.qplain.specs.Walk.{components, walk}
 use Rattle.qplain.specs.Decision.{refusal_between}
 use Rattle.qplain.specs.Attempt.{Attempt, Refuse, Answer, Becomes, no_change}
@@ -69,8 +68,7 @@ module _ (S : State) (cred : Caller) (moment : ℕ) (lawful : IsLawful S) (off :
       part-le false m n l = omega arith
 
       by : (kind : Kind) (id : ℕ) (sort : Sort) → charge_of kind id sort (Some after) ≤ charge_of kind id sort (Some inode)
-      by User id sort = part-le (inode.uid == id) (weight sort after) (weight sort inode) (lighter sort)
-      by Group id sort = part-le (inode.gid == id) (weight sort after) (weight sort inode) (lighter sort)
+      by kind id sort = part-le (belongs_to kind id inode) (weight sort after) (weight sort inode) (lighter sort)
 
   write-no_limit : (number : ℕ) (inode : Inode) → inode_at S number ≡ Some inode → StaysWithin inode.file off (length bytes)
       → NoLimit S cred moment lawful (write_into S cred off bytes number inode)

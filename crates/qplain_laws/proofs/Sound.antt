@@ -6,15 +6,18 @@ use Rattle.std.proofs.lemmas.List.Kept.{IsStrictlySortedBy-filter}
 use Rattle.qblocks.specs.File.{File, after_truncate, after_write, begins_below, empty_file, size_of, with_touched}
 use Rattle.qblocks.proofs.Indexes.{Rises, Rises-with_index}
 use Rattle.std.specs.Option.{unwrap_or}
-use Rattle.std.proofs.lemmas.Bool.{and_from, and_parts}
+use Rattle.std.proofs.lemmas.Bool.{and_parts}
 use Rattle.qrules.specs.declared.kind.Kind.{Kind}
 use Rattle.qrules.specs.declared.kind.Kind.TheVariants.{User, Group}
+use Rattle.qrules.proofs.Ranks.{each_kind}
 use Rattle.qplain.specs.State.{Inode, State}
 use Rattle.qplain.specs.Arguments.{is_declared, is_known, is_undeclared}
 use Rattle.qplain.specs.Caller.{Caller}
 use Rattle.std.specs.List.{list_all}
-use Rattle.qplain.specs.Owners.{with_owners}
-use Rattle.qplain_laws.specs.Laws.{IsSound, has_known_owners}
+use Rattle.qplain.specs.Names.{owners_by}
+use Rattle.qplain.specs.Owners.{renewed, with_owners}
+use Rattle.qplain.specs.Use.{owner}
+use Rattle.qplain_laws.specs.Laws.{AreKnown, IsSound, is_known_owner}
 use Rattle.qplain_laws.specs.Sizes.{IsRightSized}
 use Rattle.qplain_laws.proofs.Orders.{above-zero, rises-sorted, sorted-rises}
 use Rattle.qplain_laws.proofs.RightSized.{right_sized-truncated, right_sized-written}
@@ -23,7 +26,7 @@ use Rattle.qplain_laws.proofs.RightSized.{right_sized-truncated, right_sized-wri
 -- is right-sized
 pub record MayFollow (S : State) (inode changed : Inode) : Type 0 where
   pub dir : changed.dir ≡ inode.dir
-  pub owners : has_known_owners S inode ≡ true → has_known_owners S changed ≡ true
+  pub owners : AreKnown S inode.owners → AreKnown S changed.owners
   pub sound : IsSound inode → IsSound changed
   pub size : IsRightSized S.file_limit inode.file → IsRightSized S.file_limit changed.file
 

@@ -139,6 +139,14 @@ module _ (s : Setting) (setup : IsLawfulSetup s) where
   passes : HasPassed s
   passes = passed s setup.granted
 
+  -- every number of the setup is in its range
+  pub ranges : is_in_range s ≡ true
+  ranges = passes.range
+
+  -- no two principals of a kind collide
+  pub single : (kind : Kind) → has_duplicate (principals_in kind s) ≡ false
+  single kind = passes.single kind
+
   sorted-kind : (kind : Kind) → IsStrictlySortedBy holder_cmp (declared_in kind s)
   sorted-kind kind = sorted-holders kind (principals_in kind s) (setup.sorted kind) (passes.single kind)
 

@@ -1,6 +1,5 @@
 -- What a call that is done has done: where its paths lead before and after, and what stands there.
 use Rattle.std.specs.Prelude.{◌≡◌, ◌⊎◌, ℕ, List, Some, None, Ok, Err}
-use Rattle.std.specs.Option.{unwrap_or}
 use Rattle.qblocks.specs.File.{after_truncate, after_write}
 use Rattle.qplain.specs.declared.call.Call.{Call}
 use Rattle.qplain.specs.declared.call.Call.TheVariants.{Create, Mkdir, Write, Truncate, Link, Unlink, Rmdir, Rename, Chown, SetQuota, SetGrace}
@@ -10,7 +9,8 @@ use Rattle.qplain.specs.declared.reply.Reply.TheVariants.{Done}
 use Rattle.qplain.specs.Caller.{Caller}
 use Rattle.qplain.specs.State.{Inode, State, inode_at, named, new_directory, new_file}
 use Rattle.qplain.specs.Walk.{components, last_name, parent, walk}
-use Rattle.qplain.specs.Owners.{with_owners}
+use Rattle.qplain.specs.Names.{owners_by}
+use Rattle.qplain.specs.Owners.{renewed, with_owners}
 use Rattle.qplain.specs.Step.{step}
 use Rattle.qplain_laws.specs.Changes.{limits_at}
 use Rattle.qplain_laws.specs.Laws.{IsLawful}
@@ -38,9 +38,9 @@ IsChanged old new path number change =
 -- the same inode leaves both, and a call that only asks is never done
 abbrev pub HasDone : Caller → State → Call → ℕ → State → Type 0
 HasDone cred old (Create path) number new =
-    LeadsTo new path number × (inode_at new number ≡ Some (new_file cred.uid cred.gid))
+    LeadsTo new path number × (inode_at new number ≡ Some (new_file (owners_by cred)))
 HasDone cred old (Mkdir path) number new =
-    LeadsTo new path number × (inode_at new number ≡ Some (new_directory cred.uid cred.gid))
+    LeadsTo new path number × (inode_at new number ≡ Some (new_directory (owners_by cred)))
 HasDone cred old (Write path off bytes) number new =
     IsChanged old new path number (λ inode. record inode { file = after_write inode.file off bytes })
 HasDone cred old (Truncate path size) number new =
@@ -51,7 +51,7 @@ HasDone cred old (Rmdir path) number new = LeadsTo old path number × LeadsNowhe
 HasDone cred old (Rename from to) number new =
     LeadsTo old from number × LeadsTo new to number × (LeadsTo old to number ⊎ HasLeft old new from)
 HasDone cred old (Chown path uid gid) number new =
-    IsChanged old new path number (λ inode. with_owners inode (unwrap_or uid inode.uid) (unwrap_or gid inode.gid))
+    IsChanged old new path number (λ inode. with_owners inode (renewed uid gid inode.owners))
 HasDone cred old (SetQuota kind id limits) number new = limits_at new kind id ≡ Some limits
 HasDone cred old (SetGrace graces) number new = new.graces ≡ graces
 HasDone cred old call number new = ⊥

@@ -2,8 +2,9 @@
 use Rattle.std.proofs.Common.{◌≡◌, List, [], ◌∷◌, ◌++◌, length, Result, Ok, Err, IfOk, refl, sym, ap, ◌∙◌, subst}
 use mathlib.Core.List.{IsPrefix}
 use Rattle.qrules.specs.Sort.{Inodes, Blocks}
-use Rattle.qplain.specs.declared.effect.PlacedRow.{PlacedRow}
+use Rattle.qplain.specs.declared.placed_row.PlacedRow.{PlacedRow}
 use Rattle.qplain.specs.declared.entry.Entry.{Entry}
+use Rattle.qplain.specs.Boards.{rows_of, with_rows}
 use Rattle.qplain.specs.Setups.{Setting}
 use Rattle.qplain.specs.State.{State, start}
 use Rattle.qplain.specs.Use.{total_of}
@@ -13,11 +14,11 @@ use Rattle.qstore.specs.Ready.{committed}
 use Rattle.qshare_history.specs.Histories.{Recorded, recorded}
 use Rattle.qshare_history.specs.StoreIds.{Identity}
 use Rattle.qshare_boards.specs.declared.board_change.BoardChange.{BoardChange}
-use Rattle.qshare_boards.specs.Boards.{BringsOn, changed_by, shown_of, with_rows}
+use Rattle.qshare_boards.specs.Boards.{BringsOn, changed_by, shown_of}
 use Rattle.qstore_journaled.specs.declared.next.Next.{Next}
 use Rattle.qstore_journaled.specs.Journaled.{IsStoreOf, Journaled}
 use Rattle.qstore_journaled.specs.Next.{CanFollow}
-use Rattle.qshare.specs.Waiting.{LeadsOn, Waits, rows_of}
+use Rattle.qshare.specs.Waiting.{LeadsOn, Waits}
 
 -- a store's state is what its journal leaves from the setup
 state_is : (setting : Setting) (j : Journaled) → IsStoreOf setting j → j.stored.state ≡ play (start setting) j.journal

@@ -1,16 +1,12 @@
 -- The rows of calls that wait to be published. No public clause cites this module.
 use Rattle.std.specs.Prelude.{◌≡◌, List}
 use Rattle.qrules.specs.declared.board_row.BoardRow.{BoardRow}
-use Rattle.qplain.specs.declared.effect.PlacedRow.{PlacedRow}
+use Rattle.qplain.specs.declared.placed_row.PlacedRow.{PlacedRow}
 use Rattle.qplain.specs.declared.entry.Entry.{Entry}
-use Rattle.qplain.specs.Journal.{board_of}
+use Rattle.qplain.specs.Boards.{rows_of, with_rows}
 use Rattle.qplain.specs.Setups.{Setting}
 use Rattle.qplain.specs.State.{State, start}
-use Rattle.qshare_boards.specs.Boards.{shown_of, with_rows}
-
--- the rows of a state's board
-abbrev pub rows_of : State → List BoardRow
-rows_of S = (board_of S 0).rows
+use Rattle.qshare_boards.specs.Boards.{shown_of}
 
 -- from whatever rows the first list leads to those of the state before, the other leads to those of the state after
 pub record LeadsOn (waiting : List PlacedRow) (before : State) (with_call : List PlacedRow) (after : State)

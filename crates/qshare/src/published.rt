@@ -2,19 +2,16 @@
 ghost use Rattle.std.specs.Prelude.{◌≡◌, ◌≤◌, ◌+◌, vec_len, vec_capacity, IfOk, OnErr};
 ghost use Rattle.qstore.specs.Ready.{committed};
 ghost use Rattle.qstore_journaled.specs.Next.{CanFollow};
-ghost use Rattle.qshare.specs.declared.published.TheConstants.{MOST_ROWS};
+ghost use Rattle.qplain.specs.declared.placed_row.TheConstants.{MAX_CHANGED_ROWS};
 ghost use Rattle.qshare.specs.Waiting.{LeadsOn};
 
 use crate::boards::Boards;
-use qplain::{NoMemory, PlacedRow};
+use qplain::{MAX_CHANGED_ROWS, NoMemory, PlacedRow};
 use qshare_boards::{BoardChange, Publisher};
 use qshare_history::{Prefix, StoreId};
 use qstore_journaled::{JournaledStore, Next};
 use std::alloc::Global;
 use std::sync::Wait;
-
-/// How many rows a call changes at most: those of two users and of two groups.
-const MOST_ROWS: usize = 4;
 
 /// The writing side of the boards, and the rows that the calls since the last publication change, one after the other.
 #[derive(Drop)]
@@ -29,12 +26,12 @@ pub struct Published<S: StoreId, R: Wait + Drop> {
 #[inline(never)]
 fn make_room(waiting: &mut Vec<PlacedRow>) -> Result<(), NoMemory>
     ensures same { waiting.new.items ≡ waiting.old.items }
-    ensures room { IfOk result (λ _. vec_len waiting.new + MOST_ROWS ≤ vec_capacity waiting.new) }
+    ensures room { IfOk result (λ _. vec_len waiting.new + MAX_CHANGED_ROWS ≤ vec_capacity waiting.new) }
 {
     if waiting.is_empty() {
-        waiting.reserve_exact(MOST_ROWS)?;
+        waiting.reserve_exact(MAX_CHANGED_ROWS)?;
     } else {
-        waiting.reserve(MOST_ROWS)?;
+        waiting.reserve(MAX_CHANGED_ROWS)?;
     }
     Ok(())
 }

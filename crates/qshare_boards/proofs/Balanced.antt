@@ -5,29 +5,24 @@ use Rattle.std.proofs.lemmas.List.Elements.{All-map}
 use Rattle.qrules.specs.declared.board_row.BoardRow.{BoardRow}
 use Rattle.qrules.specs.declared.kind.Kind.{Kind}
 use Rattle.qrules.specs.declared.kind.Kind.TheVariants.{User, Group}
+use Rattle.qrules.specs.Kinds.{is_same_kind}
+use Rattle.qrules.proofs.Ranks.{each_kind, same_kind}
 use Rattle.qrules.specs.Sort.{Sort, Inodes, Blocks}
 use Rattle.qrules.specs.Account.{HasEnds, count_in}
 use Rattle.qplain.specs.declared.board.Board.{Board}
 use Rattle.qplain.specs.declared.entry.Entry.{Entry}
 use Rattle.qplain.specs.declared.look_fault.LookFault.{LookFault}
-use Rattle.qplain.specs.Arguments.{is_same_kind}
 use Rattle.qplain.specs.Setups.{IsLawfulSetup, Setting}
 use Rattle.qplain.specs.State.{Holder, State, start}
 use Rattle.qplain.specs.Use.{total_of, use_of}
 use Rattle.qplain.specs.Journal.{play, row_of}
-use Rattle.qplain_laws.specs.Laws.{IsLawful, uses_of}
-use Rattle.qplain_laws.proofs.Balance.{uses_add_up}
+use Rattle.qplain_laws.specs.Laws.{IsLawful, has_kind, uses_of}
+use Rattle.qplain_laws.proofs.Balance.{users_and_groups_stand, uses_add_up}
 use Rattle.qplain_laws.proofs.Tallying.{journals_stay_lawful, size-played}
 use Rattle.qshare_boards.specs.Boards.{shown_of}
 use Rattle.qshare_boards.specs.Laws.{BoardsAreWhole}
 use Rattle.qshare_boards.specs.Looks.{IsBoardAnswer}
 use Rattle.qshare_boards.specs.Whole.{IsWhole, account_in, sum_in}
-
-same_kind : (k l : Kind) → is_same_kind k l ≡ true → k ≡ l
-same_kind User User h = refl
-same_kind User Group h = cc
-same_kind Group User h = cc
-same_kind Group Group h = refl
 
 abbrev told : Sort → BoardRow → ℕ
 told sort r = count_in sort (account_in r)
@@ -64,8 +59,10 @@ boards_are_whole s history setup =
     let S : State = play (start s) history in
     let lawful : IsLawful S = journals_stay_lawful s history setup in
     let sizes = size-played (start s) history in
+    let stand = users_and_groups_stand S lawful in
+    let declared : (kind : Kind) → has_kind S kind ≡ true = each_kind (λ kind. has_kind S kind ≡ true) stand.0 stand.1 in
     let sums : (kind : Kind) (sort : Sort) → sum_in (shown_of (start s) history) kind sort ≡ total_of S sort =
-    λ kind sort. rows_add_up S kind sort S.holders ∙ uses_add_up S kind sort lawful in
+    λ kind sort. rows_add_up S kind sort S.holders ∙ uses_add_up S kind sort lawful (declared kind) in
     record {
       user_blocks = sums User Blocks;
       group_blocks = sums Group Blocks;

@@ -4,11 +4,11 @@ use Rattle.std.specs.List.{find}
 use Rattle.qrules.specs.declared.board_row.BoardRow.{BoardRow}
 use Rattle.qrules.specs.declared.kind.Kind.{Kind}
 use Rattle.qrules.specs.declared.kind.Kind.TheVariants.{User, Group}
+use Rattle.qrules.specs.Kinds.{is_same_kind}
 use Rattle.qrules.specs.Sort.{Sort, Inodes, Blocks}
 use Rattle.qrules.specs.Account.{Account, HasEnds, count_in}
 use Rattle.qplain.specs.declared.board.Board.{Board}
 use Rattle.qplain.specs.declared.entry.Entry.{Entry}
-use Rattle.qplain.specs.Arguments.{is_same_kind}
 use Rattle.qplain.specs.Setups.{Setting}
 use Rattle.qplain.specs.State.{State}
 use Rattle.qshare_boards.specs.Boards.{shown_of}

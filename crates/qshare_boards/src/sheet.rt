@@ -2,7 +2,8 @@
 ghost use Rattle.std.specs.Prelude.{◌≡◌, IfErr, IfOk, None, Some};
 ghost use Rattle.qplain.specs.declared.look_fault.LookFault.TheVariants.{ESRCH, OutOfMemory};
 ghost use Rattle.std.specs.List.{find};
-ghost use Rattle.qshare_boards.specs.Boards.{changed_by, with_row, with_rows};
+ghost use Rattle.qplain.specs.Boards.{with_row, with_rows};
+ghost use Rattle.qshare_boards.specs.Boards.{changed_by};
 ghost use Rattle.qshare_boards.specs.Sheets.{board_in};
 ghost use Rattle.qshare_boards.specs.Whole.{is_row_of, row_in};
 
@@ -58,11 +59,7 @@ fn put_rows(rows: &mut Vec<BoardRow>, all: &[PlacedRow])
 fn is_row_of(row: &BoardRow, kind: Kind, id: u32) -> bool
     ensures { result ≡ is_row_of kind id row.now }
 {
-    let same = match kind {
-        Kind::User => matches!(row.kind, Kind::User),
-        Kind::Group => matches!(row.kind, Kind::Group),
-    };
-    same && row.id == id
+    kind.is_same(row.kind) && row.id == id
 }
 
 /// The row of a user or group, if there is one.

@@ -8,6 +8,7 @@ use Rattle.std.specs.List.Sorted.{IsStrictlySortedBy}
 use Rattle.std.specs.Map.{keys_of, lookup, remove_entry, set_value}
 use Rattle.std.proofs.lemmas.Map.{lookup-remove_entry, lookup-set_value}
 use Rattle.std.proofs.lemmas.Map.Keys.{IsDistinct-from_sorted}
+use Rattle.qplain.specs.declared.owners.Owners.{Owners}
 use Rattle.qplain.specs.State.{Inode, State, inode_at, named, new_file}
 use Rattle.qplain.specs.Use.{links_of}
 use Rattle.qplain.specs.Names.{created, swept, without_name}
@@ -33,20 +34,20 @@ pub links-there : (S : State) (links : List (ℕ × ℕ)) (number : ℕ) (inode 
     → lookup (is_at (nat_cmp number)) links ≡ Some (links_of S number inode.dir)
 links-there S links number inode kept there = kept number ∙ ap (links_at S number) there
 
-module _ (S : State) (links : List (ℕ × ℕ)) (kept : AreLinks S links) (lawful : IsLawful S) (uid gid dir : ℕ)
+module _ (S : State) (links : List (ℕ × ℕ)) (kept : AreLinks S links) (lawful : IsLawful S) (owners : Owners) (dir : ℕ)
     (name : List ℕ) (absent : named S dir name ≡ None) where
   abbrev S1 : State
-  S1 = created S (new_file uid gid) dir name
+  S1 = created S (new_file owners) dir name
 
   old_links : (number : ℕ) (o : Option Inode) → inode_at S number ≡ o → links_at S number o ≡ links_at S1 number o
   old_links number None there = refl
   old_links number (Some inode) there =
-      ap Some (sym (links_of-created-others S (new_file uid gid) dir name lawful.parts absent number inode inode.dir there refl))
+      ap Some (sym (links_of-created-others S (new_file owners) dir name lawful.parts absent number inode inode.dir there refl))
 
   by_slot : (number : ℕ) (b : Bool) → is_at (nat_cmp number) S.next ≡ b
-      → cond b (Some 1) (lookup (is_at (nat_cmp number)) links) ≡ links_at S1 number (cond b (Some (new_file uid gid)) (inode_at S number))
+      → cond b (Some 1) (lookup (is_at (nat_cmp number)) links) ≡ links_at S1 number (cond b (Some (new_file owners)) (inode_at S number))
   by_slot number true at_next =
-      ap Some (sym (links_of-new_file S (new_file uid gid) dir name lawful.parts absent)
+      ap Some (sym (links_of-new_file S (new_file owners) dir name lawful.parts absent)
       ∙ ap (λ n. links_of S1 n false) (sym (same-number number S.next at_next)))
   by_slot number false other = kept number ∙ old_links number (inode_at S number) refl
 
@@ -55,7 +56,7 @@ module _ (S : State) (links : List (ℕ × ℕ)) (kept : AreLinks S links) (lawf
   links-created number =
       lookup-insert_new nat_cmp_total links S.next 1 number (none-kept S links S.next kept (absent-next S lawful))
       ∙ by_slot number (is_at (nat_cmp number) S.next) refl
-      ∙ ap (links_at S1 number) (sym (inode_at-created S (new_file uid gid) dir name number (absent-next S lawful)))
+      ∙ ap (links_at S1 number) (sym (inode_at-created S (new_file owners) dir name number (absent-next S lawful)))
 
 module _ (S : State) (links : List (ℕ × ℕ)) (kept : AreLinks S links) (number : ℕ) (inode after : Inode) (there : inode_at S number ≡ Some inode)
     (same : after.dir ≡ inode.dir) where

@@ -7,6 +7,7 @@ use Rattle.std.specs.List.Sorted.{IsStrictlySortedBy}
 use Rattle.std.specs.Map.{keys_of, lookup, remove_entry, set_value}
 use Rattle.std.proofs.lemmas.Bool.{cases_lt}
 use Rattle.std.proofs.lemmas.Map.{keys-set_value}
+use Rattle.qplain.specs.declared.owners.Owners.{Owners}
 use Rattle.qplain.specs.State.{Inode, State, inode_at, name_key_cmp, named, new_file}
 use Rattle.qplain.specs.Use.{links_of}
 use Rattle.qplain.specs.Names.{created, swept, without_name}
@@ -24,14 +25,14 @@ abbrev pub InOrder : List (ℕ × ℕ) → Type 0
 InOrder links = IsStrictlySortedBy nat_cmp (keys_of links)
 
 -- after a create
-pub tree-created : (S : State) (tree after : RoomyTree) (uid gid dir next : ℕ) (name : List ℕ) → IsTreeOf S tree → S.next ≡ next → IsLawful S
-    → named S dir name ≡ None → after.inodes ≡ insert_entry nat_cmp tree.inodes next (new_file uid gid)
+pub tree-created : (S : State) (tree after : RoomyTree) (owners : Owners) (dir next : ℕ) (name : List ℕ) → IsTreeOf S tree → S.next ≡ next → IsLawful S
+    → named S dir name ≡ None → after.inodes ≡ insert_entry nat_cmp tree.inodes next (new_file owners)
     → after.names ≡ insert_entry name_key_cmp tree.names (dir, name) next → after.links ≡ insert_entry nat_cmp tree.links next 1
-    → IsTreeOf (created S (new_file uid gid) dir name) after
-tree-created S tree after uid gid dir next name is same lawful absent inodes names links = record {
-  inodes = inodes ∙ (λ i. insert_entry nat_cmp (is.inodes i) (sym same i) (new_file uid gid));
+    → IsTreeOf (created S (new_file owners) dir name) after
+tree-created S tree after owners dir next name is same lawful absent inodes names links = record {
+  inodes = inodes ∙ (λ i. insert_entry nat_cmp (is.inodes i) (sym same i) (new_file owners));
   names = names ∙ (λ i. insert_entry name_key_cmp (is.names i) (dir, name) (sym same i));
-  links = subst (AreLinks (created S (new_file uid gid) dir name)) (sym moved) (links-created S tree.links is.links lawful uid gid dir name absent);
+  links = subst (AreLinks (created S (new_file owners) dir name)) (sym moved) (links-created S tree.links is.links lawful owners dir name absent);
   in_order = subst InOrder (sym moved) (sorted-insert nat_cmp_total tree.links S.next 1 is.in_order);
 }
   where

@@ -7,6 +7,7 @@ use Rattle.std.specs.List.Sorted.{IsStrictlySortedBy}
 use Rattle.std.specs.Map.{keys_of, lookup, remove_entry, set_value}
 use Rattle.std.proofs.lemmas.Map.{keys-set_value, lookup-remove_entry, lookup-set_value}
 use Rattle.std.proofs.lemmas.Map.Keys.{IsDistinct-from_sorted}
+use Rattle.qplain.specs.declared.owners.Owners.{Owners}
 use Rattle.qplain.specs.declared.bounds.TheConstants.{MAX_LINKS}
 use Rattle.qplain.specs.Names.{created, swept, without_name}
 use Rattle.qplain.specs.State.{Inode, State, inode_at, is_dir, is_directory, name_key_cmp, named, new_directory}
@@ -43,10 +44,10 @@ lookup-recounted links number old new q there =
     lookup-set_value laws (is_at (nat_cmp number)) (λ x y e. laws.congr number x y e) q new links
     (kept-some (lookup (is_at (nat_cmp number)) links) old there)
 
-module _ (S : State) (links : List (ℕ × ℕ)) (kept : AreLinks S links) (lawful : IsLawful S) (uid gid dir : ℕ) (name : List ℕ)
+module _ (S : State) (links : List (ℕ × ℕ)) (kept : AreLinks S links) (lawful : IsLawful S) (owners : Owners) (dir : ℕ) (name : List ℕ)
     (absent : named S dir name ≡ None) (stands : is_directory S dir ≡ true) where
   abbrev S1 : State
-  S1 = created S (new_directory uid gid) dir name
+  S1 = created S (new_directory owners) dir name
 
   -- the links with one more of the parent
   abbrev counted : List (ℕ × ℕ)
@@ -69,23 +70,23 @@ module _ (S : State) (links : List (ℕ × ℕ)) (kept : AreLinks S links) (lawf
   elsewhere q (Some inode) there other = ap Some (by inode.dir)
     where
       by : (b : Bool) → links_of S q b ≡ links_of S1 q b
-      by true = sym (links_of-created-elsewhere S (new_directory uid gid) dir name lawful.parts absent q (unsigned_ties dir q ∙ other))
-      by false = sym (links_of-created-files S (new_directory uid gid) dir name lawful.parts absent q inode there)
+      by true = sym (links_of-created-elsewhere S (new_directory owners) dir name lawful.parts absent q (unsigned_ties dir q ∙ other))
+      by false = sym (links_of-created-files S (new_directory owners) dir name lawful.parts absent q inode there)
 
   old_links : (q : ℕ) (b : Bool) → is_at (nat_cmp dir) q ≡ b
       → cond b (Some (links_of S dir true + 1)) (lookup (is_at (nat_cmp q)) links) ≡ links_at S1 q (inode_at S q)
   old_links q true at =
       let parent = directory-there (inode_at S dir) stands in
-      ap Some (sym (links_of-created-parent S (new_directory uid gid) dir name lawful.parts absent refl)
+      ap Some (sym (links_of-created-parent S (new_directory owners) dir name lawful.parts absent refl)
       ∙ ap (λ b. links_of S1 dir b) (sym parent.directory))
       ∙ ap (links_at S1 dir) (sym parent.there)
       ∙ ap (λ n. links_at S1 n (inode_at S n)) (same-number dir q at)
   old_links q false other = kept q ∙ elsewhere q (inode_at S q) refl other
 
   by_slot : (q : ℕ) (b : Bool) → is_at (nat_cmp q) S.next ≡ b
-      → cond b (Some 2) (lookup (is_at (nat_cmp q)) counted) ≡ links_at S1 q (cond b (Some (new_directory uid gid)) (inode_at S q))
+      → cond b (Some 2) (lookup (is_at (nat_cmp q)) counted) ≡ links_at S1 q (cond b (Some (new_directory owners)) (inode_at S q))
   by_slot q true at_next =
-      ap Some (sym (links_of-new_directory S (new_directory uid gid) dir name lawful.parts absent stands)
+      ap Some (sym (links_of-new_directory S (new_directory owners) dir name lawful.parts absent stands)
       ∙ ap (λ n. links_of S1 n true) (sym (same-number q S.next at_next)))
   by_slot q false other = counted-at q ∙ old_links q (is_at (nat_cmp dir) q) refl
 
@@ -94,7 +95,7 @@ module _ (S : State) (links : List (ℕ × ℕ)) (kept : AreLinks S links) (lawf
   links-directory q =
       lookup-insert_new nat_cmp_total counted S.next 2 q none-next
       ∙ by_slot q (is_at (nat_cmp q) S.next) refl
-      ∙ ap (links_at S1 q) (sym (inode_at-created S (new_directory uid gid) dir name q (absent-next S lawful)))
+      ∙ ap (links_at S1 q) (sym (inode_at-created S (new_directory owners) dir name q (absent-next S lawful)))
 
 -- ---- the tree
 
@@ -104,19 +105,19 @@ order-recounted links number new in_order =
     subst (IsStrictlySortedBy nat_cmp) (sym (keys-set_value (is_at (nat_cmp number)) links new)) in_order
 
 -- after a mkdir: the tree in between counts one link more of the parent
-pub tree-directory : (S : State) (tree between after : RoomyTree) (uid gid dir next : ℕ) (name : List ℕ) → IsTreeOf S tree → S.next ≡ next → IsLawful S
+pub tree-directory : (S : State) (tree between after : RoomyTree) (owners : Owners) (dir next : ℕ) (name : List ℕ) → IsTreeOf S tree → S.next ≡ next → IsLawful S
     → named S dir name ≡ None → is_directory S dir ≡ true
     → between.inodes ≡ tree.inodes → between.names ≡ tree.names
     → ((links : ℕ) → lookup (is_at (nat_cmp dir)) tree.links ≡ Some links
     → between.links ≡ set_value (is_at (nat_cmp dir)) tree.links (links + 1))
-    → after.inodes ≡ insert_entry nat_cmp between.inodes next (new_directory uid gid)
+    → after.inodes ≡ insert_entry nat_cmp between.inodes next (new_directory owners)
     → after.names ≡ insert_entry name_key_cmp between.names (dir, name) next → after.links ≡ insert_entry nat_cmp between.links next 2
-    → IsTreeOf (created S (new_directory uid gid) dir name) after
-tree-directory S tree between after uid gid dir next name is same lawful absent stands kept_inodes kept_names more inodes names links = record {
-  inodes = inodes ∙ (λ i. insert_entry nat_cmp ((kept_inodes ∙ is.inodes) i) (sym same i) (new_directory uid gid));
+    → IsTreeOf (created S (new_directory owners) dir name) after
+tree-directory S tree between after owners dir next name is same lawful absent stands kept_inodes kept_names more inodes names links = record {
+  inodes = inodes ∙ (λ i. insert_entry nat_cmp ((kept_inodes ∙ is.inodes) i) (sym same i) (new_directory owners));
   names = names ∙ (λ i. insert_entry name_key_cmp ((kept_names ∙ is.names) i) (dir, name) (sym same i));
-  links = subst (AreLinks (created S (new_directory uid gid) dir name)) (sym moved)
-      (links-directory S tree.links is.links lawful uid gid dir name absent stands);
+  links = subst (AreLinks (created S (new_directory owners) dir name)) (sym moved)
+      (links-directory S tree.links is.links lawful owners dir name absent stands);
   in_order = subst InOrder (sym moved)
       (sorted-insert nat_cmp_total counted S.next 2 (order-recounted tree.links dir (links_of S dir true + 1) is.in_order));
 }

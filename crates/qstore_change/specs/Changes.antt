@@ -26,8 +26,8 @@ altered S number change = altered_at S number change (inode_at S number)
 
 -- what a change makes of inodes and names, with the bytes that the call brings
 abbrev pub changed : State → TreeChange → List ℕ → State
-changed S (Create dir name uid gid) bytes = created S (new_file uid gid) dir (string_bytes name)
-changed S (Mkdir dir name uid gid) bytes = created S (new_directory uid gid) dir (string_bytes name)
+changed S (Create dir name owners) bytes = created S (new_file owners) dir (string_bytes name)
+changed S (Mkdir dir name owners) bytes = created S (new_directory owners) dir (string_bytes name)
 changed S (Write number off spare) bytes =
     altered S number (λ inode. record inode { file = after_write inode.file off bytes })
 changed S (Truncate number size) bytes =
@@ -37,7 +37,7 @@ changed S (Rmdir dir path number) bytes = swept (without_name S dir (name_in pat
 changed S (Link dir name number) bytes = with_name S dir (string_bytes name) number
 changed S (Rename dir path to_dir to_name number) bytes =
     renamed S dir (name_in path) to_dir (string_bytes to_name) number
-changed S (Chown number uid gid) bytes = altered S number (λ inode. with_owners inode uid gid)
+changed S (Chown number owners) bytes = altered S number (λ inode. with_owners inode owners)
 
 -- a new file or directory may be put under this name
 pub record CanCreate (S : State) (room : Room) (dir : ℕ) (name : List ℕ) : Type 0 where
@@ -100,8 +100,8 @@ pub record CanChown (S : State) (number : ℕ) : Type 0 where
 
 -- the change may be made, in this state and with this room
 abbrev pub CanChange : State → Room → TreeChange → List ℕ → Type 0
-CanChange S room (Create dir name uid gid) bytes = CanCreate S room dir (string_bytes name)
-CanChange S room (Mkdir dir name uid gid) bytes = CanCreate S room dir (string_bytes name)
+CanChange S room (Create dir name owners) bytes = CanCreate S room dir (string_bytes name)
+CanChange S room (Mkdir dir name owners) bytes = CanCreate S room dir (string_bytes name)
 CanChange S room (Write number off spare) bytes = CanWrite S room number off spare bytes
 CanChange S room (Truncate number size) bytes = CanTruncate S number size
 CanChange S room (Unlink dir path number) bytes = CanUnlink S dir number (name_in path)
@@ -109,4 +109,4 @@ CanChange S room (Rmdir dir path number) bytes = CanRmdir S dir number (name_in 
 CanChange S room (Link dir name number) bytes = CanLink S room dir (string_bytes name) number
 CanChange S room (Rename dir path to_dir to_name number) bytes =
     CanRename S room dir (name_in path) to_dir (string_bytes to_name) number
-CanChange S room (Chown number uid gid) bytes = CanChown S number
+CanChange S room (Chown number owners) bytes = CanChown S number

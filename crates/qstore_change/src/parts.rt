@@ -12,7 +12,7 @@ ghost use Rattle.qstore_walk.specs.Paths.{name_in};
 ghost use Rattle.qstore_change.specs.Changes.{CanCreate, CanLink, CanRename, CanRmdir, CanUnlink};
 
 use crate::replacement::{drop_replaced, led_to, move_node};
-use qplain::Path;
+use qplain::{Owners, Path};
 use qstore_tree::{Node, Tree};
 use qstore_walk::last_of;
 use std::alloc::Global;
@@ -56,17 +56,16 @@ pub(crate) fn add_directory(
     alloc: Global,
     dir: u64,
     name: String,
-    uid: u32,
-    gid: u32,
+    owners: Owners,
 )
     requires { (S : State) × IsTreeOf S tree.old × (S.next ≡ next) × IsLawful S
         × CanCreate S tree.old.room dir (string_bytes name) }
     ensures { (S : State) → IsTreeOf S tree.old → S.next ≡ next → IsLawful S
         → CanCreate S tree.old.room dir (string_bytes name)
-        → IsTreeOf (created S (new_directory uid gid) dir (string_bytes name)) tree.new }
+        → IsTreeOf (created S (new_directory owners) dir (string_bytes name)) tree.new }
 {
     tree.add_link(dir);
-    tree.add_directory(next, dir, name, uid, gid, alloc);
+    tree.add_directory(next, dir, name, owners, alloc);
 }
 
 /// Takes the last name of a path out of a directory, and the empty directory that has it, and its link to its parent.

@@ -7,7 +7,7 @@ ghost use Rattle.qstore_change.specs.Changes.{CanChange, changed};
 
 use crate::parts::{add_directory, add_name, rename, take_directory, take_name};
 use qblocks::Spare;
-use qplain::{Data, Path};
+use qplain::{Data, Owners, Path};
 use qstore_tree::Tree;
 use std::alloc::Global;
 
@@ -18,15 +18,13 @@ pub enum TreeChange {
     Create {
         dir: u64,
         name: String,
-        uid: u32,
-        gid: u32,
+        owners: Owners,
     },
     /// An empty directory is to stand in the directory.
     Mkdir {
         dir: u64,
         name: String,
-        uid: u32,
-        gid: u32,
+        owners: Owners,
     },
     /// The call's bytes are to be written.
     Write {
@@ -69,8 +67,7 @@ pub enum TreeChange {
     /// An inode gets other owners.
     Chown {
         number: u64,
-        uid: u32,
-        gid: u32,
+        owners: Owners,
     },
 }
 
@@ -91,10 +88,9 @@ pub fn make(tree: &mut Tree, next: u64, alloc: Global, change: TreeChange, bytes
         TreeChange::Create {
             dir,
             name,
-            uid,
-            gid,
+            owners,
         } => {
-            tree.add_file(next, dir, name, uid, gid, alloc);
+            tree.add_file(next, dir, name, owners, alloc);
             return next + 1;
         }
         TreeChange::Write { number, off, spare } => {
@@ -106,10 +102,9 @@ pub fn make(tree: &mut Tree, next: u64, alloc: Global, change: TreeChange, bytes
         TreeChange::Mkdir {
             dir,
             name,
-            uid,
-            gid,
+            owners,
         } => {
-            add_directory(tree, next, alloc, dir, name, uid, gid);
+            add_directory(tree, next, alloc, dir, name, owners);
             return next + 1;
         }
         TreeChange::Unlink { dir, path, number } => take_name(tree, dir, &path, number),
@@ -122,7 +117,7 @@ pub fn make(tree: &mut Tree, next: u64, alloc: Global, change: TreeChange, bytes
             to_name,
             number,
         } => rename(tree, dir, &path, to_dir, to_name, number),
-        TreeChange::Chown { number, uid, gid } => tree.set_owners(number, uid, gid),
+        TreeChange::Chown { number, owners } => tree.set_owners(number, owners),
     }
     next
 }

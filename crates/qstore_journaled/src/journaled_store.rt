@@ -2,6 +2,7 @@
 ghost use Rattle.std.specs.Prelude.{◌≡◌, ◌<◌, ◌≤◌, ◌+◌, ◌↔◌, [], length, vec_len, vec_capacity, Err, IfOk};
 ghost use Rattle.std.specs.Bool.{Decides};
 ghost use Rattle.qplain.specs.declared.bounds.TheConstants.{MAX_ENTRIES};
+ghost use Rattle.qplain.specs.declared.placed_row.TheConstants.{MAX_CHANGED_ROWS};
 ghost use Rattle.qplain.specs.declared.call_fault.CallFault.TheVariants.{JournalFull};
 ghost use Rattle.qstore_accounts.specs.Pushed.{IsPushed};
 ghost use Rattle.qstore.specs.Ready.{committed};
@@ -130,12 +131,12 @@ impl JournaledStore {
     }
 
     /// Puts the rows that `commit` of what is ready will change on a board after others, of which there is room for
-    /// four. O(1).
+    /// `MAX_CHANGED_ROWS`. O(1).
     ///
     /// The caller owes that this store had no other `ready` or `commit` since.
     pub fn push_changed_rows(&self, next: &Next, rows: &mut Vec<PlacedRow>)
         requires next { CanFollow self.now next.now }
-        requires room { vec_len rows.old + 4 ≤ vec_capacity rows.old }
+        requires room { vec_len rows.old + MAX_CHANGED_ROWS ≤ vec_capacity rows.old }
         ensures { IsPushed self.now.stored.state rows.old.items rows.new.items
             (committed self.now.stored next.now.ready).0 }
     {

@@ -35,7 +35,7 @@ name_room_in (Directory names) = names.room
 
 -- the inode as the plain machine sees it
 abbrev pub inode_of : Node → Inode
-inode_of n = record { dir = is_dir_content n.content; uid = n.uid; gid = n.gid; file = file_in n.content }
+inode_of n = record { dir = is_dir_content n.content; owners = n.owners; file = file_in n.content }
 
 -- the two are one inode with one link count and the same names, whatever room there is
 pub record IsSameNode (old new : Node) : Type 0 where
@@ -48,8 +48,8 @@ abbrev pub node_row : ℕ → Node → InodeRow
 node_row number n = record {
   ino = number;
   dir = is_dir_content n.content;
-  uid = n.uid;
-  gid = n.gid;
+  uid = n.owners.uid;
+  gid = n.owners.gid;
   blocks = length (file_in n.content).allocated;
   links = n.links;
 }

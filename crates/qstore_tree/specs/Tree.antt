@@ -71,8 +71,8 @@ abbrev pub kept_row : List (ℕ × ℕ) → ℕ × Inode → InodeRow
 kept_row links e = record {
   ino = e.0;
   dir = e.1.dir;
-  uid = e.1.uid;
-  gid = e.1.gid;
+  uid = e.1.owners.uid;
+  gid = e.1.owners.gid;
   blocks = length e.1.file.allocated;
   links = unwrap_or (lookup (is_at (nat_cmp e.0)) links) 0;
 }

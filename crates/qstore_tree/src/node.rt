@@ -7,13 +7,14 @@ ghost use Rattle.std.specs.Map.{lookup};
 ghost use Rattle.qblocks.specs.File.{Adds, MoreBlocks, after_truncate, after_write};
 ghost use Rattle.qblocks.specs.WriteRoom.{IsReadyToPut};
 ghost use Rattle.qplain.specs.State.{new_directory, new_file};
+ghost use Rattle.qplain.specs.Owners.{with_owners};
 ghost use Rattle.qstore_tree.specs.InOrder.{in_order};
 ghost use Rattle.qstore_tree.specs.Names.{LosesName, name_row};
 ghost use Rattle.qstore_tree.specs.Nodes.{IsSameNode, inode_of, is_dir_content, name_room_in, names_in, node_row, roomy_file_in};
 
 use crate::names::Names;
 use qblocks::{BlockFile, MAX_SIZE, Spare};
-use qplain::{Data, NoMemory};
+use qplain::{Data, NoMemory, Owners};
 use qrules::{InodeRow, NameRow};
 use std::alloc::Global;
 
@@ -27,8 +28,7 @@ pub enum Content {
 /// An inode: its owners, the link count that is kept for it, and what it holds.
 #[derive(Drop)]
 pub struct Node {
-    pub uid: u32,
-    pub gid: u32,
+    pub owners: Owners,
     pub links: u64,
     pub content: Content,
 }
@@ -36,28 +36,26 @@ pub struct Node {
 impl Node {
     /// A directory of these owners, with no name in it. It takes no memory. The hashes of its names begin
     /// at the seed.
-    pub(crate) fn new_directory(alloc: Global, seed: u64, uid: u32, gid: u32) -> Node
-        ensures inode { inode_of result ≡ new_directory uid gid }
+    pub(crate) fn new_directory(alloc: Global, seed: u64, owners: Owners) -> Node
+        ensures inode { inode_of result ≡ new_directory owners }
         ensures links { result.links ≡ 2 }
         ensures names { names_in result.content ≡ [] }
     {
         Node {
-            uid,
-            gid,
+            owners,
             links: 2,
             content: Content::Directory(Names::new(alloc, seed)),
         }
     }
 
     /// An empty file of these owners, under one name. It takes no memory.
-    pub fn new_file(alloc: Global, uid: u32, gid: u32) -> Node
-        ensures inode { inode_of result ≡ new_file uid gid }
+    pub fn new_file(alloc: Global, owners: Owners) -> Node
+        ensures inode { inode_of result ≡ new_file owners }
         ensures links { result.links ≡ 1 }
         ensures names { names_in result.content ≡ [] }
     {
         Node {
-            uid,
-            gid,
+            owners,
             links: 1,
             content: Content::File(BlockFile::new(alloc)),
         }
@@ -105,14 +103,13 @@ impl Node {
         }
     }
 
-    /// Gives it to this user and this group.
-    pub(crate) fn set_owners(&mut self, uid: u32, gid: u32)
-        ensures inode { inode_of self.new ≡ record (inode_of self.old) { uid = uid; gid = gid } }
+    /// Gives it to these owners.
+    pub(crate) fn set_owners(&mut self, owners: Owners)
+        ensures inode { inode_of self.new ≡ with_owners (inode_of self.old) owners }
         ensures links { self.new.links ≡ self.old.links }
         ensures names { names_in self.new.content ≡ names_in self.old.content }
     {
-        self.uid = uid;
-        self.gid = gid;
+        self.owners = owners;
     }
 
     /// Sets the size of this file, and gives the number of blocks freed. It takes no memory and always
@@ -206,8 +203,8 @@ impl Node {
         InodeRow {
             ino: number,
             dir,
-            uid: self.uid,
-            gid: self.gid,
+            uid: self.owners.uid,
+            gid: self.owners.gid,
             blocks,
             links: self.links,
         }

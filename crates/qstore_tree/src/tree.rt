@@ -11,7 +11,7 @@ ghost use Rattle.qstore_tree.specs.Nodes.{inode_of, names_in};
 
 use crate::names::Names;
 use crate::node::Node;
-use qplain::{NoMemory, ROOT};
+use qplain::{NoMemory, Owners, ROOT};
 use std::alloc::Global;
 use std::collections::HashMap;
 use std::marker::Model;
@@ -49,7 +49,7 @@ impl Tree {
         ensures links { IfOk result (λ t. t.links ≡ (ROOT, 2) ∷ []) }
     {
         let mut nodes = HashMap::new(alloc);
-        nodes.insert(ROOT, Node::new_directory(alloc, seed, 0, 0))?;
+        nodes.insert(ROOT, Node::new_directory(alloc, seed, Owners { uid: 0, gid: 0 }))?;
         Ok(Tree { nodes, seed })
     }
 

@@ -8,7 +8,7 @@ ghost use Rattle.qstore_tree.specs.Nodes.{inode_of};
 ghost use Rattle.qstore_tree.specs.TreeOf.{IsTreeOf};
 
 use crate::walk::inode;
-use qplain::Cred;
+use qplain::{Cred, Owners};
 use qrules::Kind;
 use qstore_tree::{Node, Tree};
 
@@ -40,16 +40,18 @@ pub fn is_own(cred: &Cred, kind: Kind, id: u32) -> bool
 pub fn may_write(cred: &Cred, node: &Node) -> bool
     ensures { result ≡ may_write cred.now (inode_of node.now) }
 {
-    cred.uid() == 0 || cred.uid() == node.uid
+    cred.uid() == 0 || cred.uid() == node.owners.uid
 }
 
 /// Whether the caller may give the inode these owners: the superuser may; its owner may keep itself, and the group or
 /// one of its own groups.
-pub fn may_give(cred: &Cred, node: &Node, uid: u32, gid: u32) -> bool
-    ensures { result ≡ may_give cred.now (inode_of node.now) uid gid }
+pub fn may_give(cred: &Cred, node: &Node, owners: Owners) -> bool
+    ensures { result ≡ may_give cred.now (inode_of node.now) owners }
 {
     cred.uid() == 0
-        || cred.uid() == node.uid && uid == node.uid && (gid == node.gid || is_member(cred, gid))
+        || cred.uid() == node.owners.uid
+            && owners.uid == node.owners.uid
+            && (owners.gid == node.owners.gid || is_member(cred, owners.gid))
 }
 
 /// Whether an inode is there, and belongs to the caller.
@@ -57,7 +59,7 @@ fn owns(tree: &Tree, cred: &Cred, number: u64) -> bool
     ensures { (S : State) → IsTreeOf S tree.now → result ≡ owns cred.now (inode_at S number) }
 {
     match inode(tree, number) {
-        Some(node) => cred.uid() == node.uid,
+        Some(node) => cred.uid() == node.owners.uid,
         None => false,
     }
 }
@@ -68,7 +70,7 @@ pub fn may_remove(tree: &Tree, cred: &Cred, dir: u64, number: u64, node: &Node) 
     ensures { (S : State) → IsTreeOf S tree.now → inode_at S number ≡ Some (inode_of node.now)
         → result ≡ may_remove S cred.now dir number }
 {
-    cred.uid() == 0 || cred.uid() == node.uid || owns(tree, cred, dir)
+    cred.uid() == 0 || cred.uid() == node.owners.uid || owns(tree, cred, dir)
 }
 
 /// Whether the caller may not take this name away, which leads to an inode of this number, or to none.

@@ -11,8 +11,8 @@ pub fn stat_of(number: u64, node: &Node) -> Stat
     ensures { result ≡ record {
       ino = number;
       dir = (inode_of node.now).dir;
-      uid = node.now.uid;
-      gid = node.now.gid;
+      uid = node.now.owners.uid;
+      gid = node.now.owners.gid;
       size = size_of (file_in node.now.content);
       blocks = length (file_in node.now.content).allocated;
       links = node.now.links;
@@ -25,8 +25,8 @@ pub fn stat_of(number: u64, node: &Node) -> Stat
     Stat {
         ino: number,
         dir,
-        uid: node.uid,
-        gid: node.gid,
+        uid: node.owners.uid,
+        gid: node.owners.gid,
         size,
         blocks,
         links: node.links,

@@ -12,7 +12,7 @@ ghost use Rattle.qstore_tree.specs.Tree.{HasRoomFor, IsSameTree, file_room, name
 use crate::node::Node;
 use crate::tree::Tree;
 use qblocks::{MAX_SIZE, Spare};
-use qplain::{Data, NoMemory};
+use qplain::{Data, NoMemory, Owners};
 use std::alloc::Global;
 
 impl Tree {
@@ -79,21 +79,20 @@ impl Tree {
         number: u64,
         dir: u64,
         name: String,
-        uid: u32,
-        gid: u32,
+        owners: Owners,
         alloc: Global,
     )
         requires room { HasRoomFor self.old dir }
         requires absent { lookup (is_at (nat_cmp number)) self.old.inodes ≡ None }
         requires unnamed { lookup (is_at (name_key_cmp (dir, string_bytes name))) self.old.names ≡ None }
         ensures inodes { self.new.inodes
-            ≡ insert_entry nat_cmp self.old.inodes number (new_file uid gid) }
+            ≡ insert_entry nat_cmp self.old.inodes number (new_file owners) }
         ensures names { self.new.names
             ≡ insert_entry name_key_cmp self.old.names (dir, string_bytes name) number }
         ensures links { self.new.links ≡ insert_entry nat_cmp self.old.links number 1 }
     {
         self.put_name(dir, name, number);
-        self.put_node(number, Node::new_file(alloc, uid, gid));
+        self.put_node(number, Node::new_file(alloc, owners));
     }
 
     /// Puts a new directory under a new number and a new name, for which there is room. The link that it
@@ -103,21 +102,20 @@ impl Tree {
         number: u64,
         dir: u64,
         name: String,
-        uid: u32,
-        gid: u32,
+        owners: Owners,
         alloc: Global,
     )
         requires room { HasRoomFor self.old dir }
         requires absent { lookup (is_at (nat_cmp number)) self.old.inodes ≡ None }
         requires unnamed { lookup (is_at (name_key_cmp (dir, string_bytes name))) self.old.names ≡ None }
         ensures inodes { self.new.inodes
-            ≡ insert_entry nat_cmp self.old.inodes number (new_directory uid gid) }
+            ≡ insert_entry nat_cmp self.old.inodes number (new_directory owners) }
         ensures names { self.new.names
             ≡ insert_entry name_key_cmp self.old.names (dir, string_bytes name) number }
         ensures links { self.new.links ≡ insert_entry nat_cmp self.old.links number 2 }
     {
         self.put_name(dir, name, number);
-        self.put_node(number, Node::new_directory(alloc, self.seed, uid, gid));
+        self.put_node(number, Node::new_directory(alloc, self.seed, owners));
     }
 
     /// Takes a name away, and puts the other for this number, which leads to nothing else then. Where the

@@ -5,11 +5,13 @@ ghost use Rattle.std.specs.BTreeMap.{is_at};
 ghost use Rattle.std.specs.Map.{lookup, remove_entry, set_value};
 ghost use Rattle.qblocks.specs.File.{MoreBlocks, after_truncate};
 ghost use Rattle.qplain.specs.State.{Inode, name_key_cmp};
+ghost use Rattle.qplain.specs.Owners.{with_owners};
 ghost use Rattle.qstore_tree.specs.Room.{KeepsRoom};
 ghost use Rattle.qstore_tree.specs.Tree.{HasNoNames};
 
 use crate::tree::Tree;
 use qblocks::MAX_SIZE;
+use qplain::Owners;
 
 impl Tree {
     /// Takes this name out of the directory, if it is in it. There is no less room then. It takes no memory
@@ -38,16 +40,16 @@ impl Tree {
         self.nodes.remove(&number);
     }
 
-    /// Gives an inode to this user and this group.
-    pub fn set_owners(&mut self, number: u64, uid: u32, gid: u32)
+    /// Gives an inode to these owners.
+    pub fn set_owners(&mut self, number: u64, owners: Owners)
         ensures inodes { (inode : Inode) → lookup (is_at (nat_cmp number)) self.old.inodes ≡ Some inode
             → self.new.inodes ≡ set_value (is_at (nat_cmp number)) self.old.inodes
-            (record inode { uid = uid; gid = gid }) }
+            (with_owners inode owners) }
         ensures names { self.new.names ≡ self.old.names }
         ensures links { self.new.links ≡ self.old.links }
     {
         match self.nodes.get_mut(&number) {
-            Some(node) => node.set_owners(uid, gid),
+            Some(node) => node.set_owners(owners),
             None => {}
         }
     }

@@ -1,5 +1,5 @@
 use Rattle.std.proofs.Common.{◌≡◌, take}
-use Rattle.qshare_boards.specs.Boards.{with_rows}
+use Rattle.qplain.specs.Boards.{with_rows}
 use Rattle.qshare_boards.proofs.sheet.put_rows.Given as goal
 
 abbrev pub invariant-loop-placed : goal.invariant-loop-placed

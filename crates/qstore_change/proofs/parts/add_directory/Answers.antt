@@ -25,5 +25,5 @@ returns c S is next lawful can =
     let x = c.args in
     let e = c.add_link.ensures in
     let put = c.add_directory.ensures in
-    tree-directory S x.tree.now c.add_link.new.self c.add_directory.new.self x.uid x.gid x.dir x.next (string_bytes x.name) is next lawful
+    tree-directory S x.tree.now c.add_link.new.self c.add_directory.new.self x.owners x.dir x.next (string_bytes x.name) is next lawful
     can.absent can.directory e.inodes e.names e.links put.inodes put.names put.links

@@ -22,7 +22,7 @@ returns-in-Create-clause-tree c S is next lawful =
     let m = c.in-Create in
     let e = c.add_file.ensures in
     subst (λ (change : TreeChange). CanChange S x.tree.now.room change x.bytes.now → IsTreeOf (changed S change x.bytes.now) c.add_file.new.self) (sym m.is)
-    (λ can. tree-created S x.tree.now c.add_file.new.self m.uid m.gid m.dir x.next (string_bytes m.name) is next lawful can.absent e.inodes e.names e.links)
+    (λ can. tree-created S x.tree.now c.add_file.new.self m.owners m.dir x.next (string_bytes m.name) is next lawful can.absent e.inodes e.names e.links)
 
 pub returns-in-Write-clause-tree : goal.returns-in-Write-clause-tree
 returns-in-Write-clause-tree c S is next lawful =
@@ -48,7 +48,7 @@ returns-in-Chown-clause-tree c S is next lawful =
     let m = c.in-Chown in
     let e = c.set_owners.ensures in
     subst (λ (change : TreeChange). CanChange S x.tree.now.room change x.bytes.now → IsTreeOf (changed S change x.bytes.now) c.set_owners.new.self) (sym m.is)
-    (λ can. tree-altered S x.tree.now c.set_owners.new.self m.number can.inode (λ i. with_owners i m.uid m.gid)
+    (λ can. tree-altered S x.tree.now c.set_owners.new.self m.number can.inode (λ i. with_owners i m.owners)
     is can.there refl e.inodes e.names e.links)
 
 pub returns-in-Link-clause-tree : goal.returns-in-Link-clause-tree

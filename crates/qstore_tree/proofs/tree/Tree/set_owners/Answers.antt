@@ -6,6 +6,7 @@ use Rattle.std.specs.BTreeMap.{is_at}
 use Rattle.std.specs.Map.{set_value}
 use Rattle.std.specs.Ordering.{nat_cmp}
 use Rattle.qplain.specs.State.{Inode}
+use Rattle.qplain.specs.Owners.{with_owners}
 use Rattle.qstore_tree.proofs.Changed.{HasNone, IsChanged, inode-absent, inode-changed, inodes-set, links-kept, names-kept, seen_of}
 use Rattle.qstore_tree.proofs.tree.Tree.set_owners.Goals as goal
 use Rattle.qstore_tree.proofs.tree.Tree.set_owners.Goals.{in-Some, in-None}
@@ -16,7 +17,7 @@ returns c = elim c.match-get_mut.branch [
       let new : Node = w.set_owners.new.self in
       let change : IsChanged c.args.self.now c.self.inside.nodes (c.get_mut.follows.lender new) c.args.number w.in-Some.node.now new =
       record { seen = c.self.view_is; found = w.in-Some.ensures.value; writes = c.get_mut.follows.holds new } in
-      let owned : Inode → Inode = λ i. record i { uid = c.args.uid; gid = c.args.gid } in
+      let owned : Inode → Inode = λ i. with_owners i c.args.owners in
       record {
         inodes = λ inode is.
             ap (λ a. (seen_of a).inodes) w.self-inside-is ∙ inodes-set change
