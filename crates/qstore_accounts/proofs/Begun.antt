@@ -1,19 +1,22 @@
 -- The kept holders of a new store: each uses nothing, but user 0 and group 0 have the root directory.
-use Rattle.std.proofs.Common.{◌≡◌, ℕ, zero, suc, ◌+◌, Bool, true, false, cond, ◌==◌, List, [], ◌∷◌, ◌++◌, map, All, None, refl, sym, tests, arith, zero-add}
+use Rattle.std.proofs.Common.{◌≡◌, ℕ, zero, suc, ◌+◌, Bool, true, false, cond, ◌==◌, List, [], ◌∷◌, map, All, None, Some, refl, sym, ap, ◌∙◌, tests, arith, zero-add}
 use Rattle.std.proofs.lemmas.List.Elements.{All-cons, All-nil}
 use Rattle.qrules.specs.declared.kind.Kind.{Kind}
 use Rattle.qrules.specs.declared.kind.Kind.TheVariants.{User, Group}
+use Rattle.qrules.specs.Kinds.{by_kind}
+use Rattle.qrules.proofs.Ranks.{each_kind}
 use Rattle.qrules.specs.declared.graces.Graces.{Graces}
 use Rattle.qrules.specs.Sort.{Sort, Inodes, Blocks, is_over}
 use Rattle.qrules.specs.Account.{Account}
 use Rattle.qrules.specs.Grace.{next_end, unused, with_ends}
 use Rattle.qplain.specs.declared.principal.Principal.{Principal}
-use Rattle.qplain.specs.Setups.{Setting}
-use Rattle.qplain.specs.State.{holder_of, root, start}
-use Rattle.qplain.specs.Use.{use_of, weight}
+use Rattle.qplain.specs.Setups.{Setting, principals_in}
+use Rattle.qplain.specs.State.{declared_in, holder_of, root, start}
+use Rattle.qplain.specs.Use.{is_id, owner, use_of, weight}
 use Rattle.qstore_accounts.specs.KeptHolders.{IsCountedIn, holder_in}
 use Rattle.qstore_accounts.specs.Ledgers.{new_holder}
 use Rattle.qstore_accounts.specs.Books.{AreBooksOf}
+use Rattle.qstore_accounts.proofs.Across.{across-same}
 use Rattle.qrules.specs.declared.limits.Limits.{Limits}
 
 -- nothing is over a limit
@@ -52,10 +55,11 @@ module _ (graces : Graces) where
   holders-begun kind [] = refl
   holders-begun kind (p ∷ ps) = λ i. holder-begun kind p (0 == p.id) i ∷ holders-begun kind ps i
 
--- the use in a new store: the root directory is user 0's and group 0's
-use_of-start : (s : Setting) (kind : Kind) (id : ℕ) (sort : Sort) → use_of (start s) kind id sort ≡ cond (0 == id) (weight sort root) 0
-use_of-start s User id sort = zero-add (cond (0 == id) (weight sort root) 0)
-use_of-start s Group id sort = zero-add (cond (0 == id) (weight sort root) 0)
+-- the use in a new store: the root directory is its owners'
+use_of-start : (s : Setting) (kind : Kind) (id : ℕ) (sort : Sort) → owner kind root.owners ≡ Some 0
+    → use_of (start s) kind id sort ≡ cond (0 == id) (weight sort root) 0
+use_of-start s kind id sort owned =
+    zero-add (cond (is_id id (owner kind root.owners)) (weight sort root) 0) ∙ ap (λ o. cond (is_id id o) (weight sort root) 0) owned
 
 module _ (s : Setting) (kind : Kind) (graces : Graces) where
   -- a kept holder of a new store is counted
@@ -66,12 +70,17 @@ module _ (s : Setting) (kind : Kind) (graces : Graces) where
   kept-counted-begun p true blocks inodes = record { blocks = sym blocks; inodes = sym inodes }
   kept-counted-begun p false blocks inodes = record { blocks = sym blocks; inodes = sym inodes }
 
-  -- all kept holders of a new store are counted
-  pub counted-begun : (ps : List Principal) → All (IsCountedIn (start s) kind) (map (new_holder graces) ps)
-  counted-begun [] = All-nil (IsCountedIn (start s) kind)
-  counted-begun (p ∷ ps) =
+  -- all kept holders of a new store are counted, where id 0 of their kind has the root directory
+  counted-kind : owner kind root.owners ≡ Some 0 → (ps : List Principal) → All (IsCountedIn (start s) kind) (map (new_holder graces) ps)
+  counted-kind owned [] = All-nil (IsCountedIn (start s) kind)
+  counted-kind owned (p ∷ ps) =
       All-cons (IsCountedIn (start s) kind) (new_holder graces p) (map (new_holder graces) ps)
-      (kept-counted-begun p (0 == p.id) (use_of-start s kind p.id Blocks) (use_of-start s kind p.id Inodes)) (counted-begun ps)
+      (kept-counted-begun p (0 == p.id) (use_of-start s kind p.id Blocks owned) (use_of-start s kind p.id Inodes owned)) (counted-kind owned ps)
+
+-- as it has of each kind
+pub counted-begun : (s : Setting) (graces : Graces) (kind : Kind) → All (IsCountedIn (start s) kind) (map (new_holder graces) (principals_in kind s))
+counted-begun s graces = each_kind (λ kind. All (IsCountedIn (start s) kind) (map (new_holder graces) (principals_in kind s)))
+    (counted-kind s User graces refl s.users) (counted-kind s Group graces refl s.groups)
 
 -- the books of a new store are those of its state
 pub books-begun : (s : Setting) → AreBooksOf (start s) (record {
@@ -87,9 +96,11 @@ books-begun s = record {
   size = refl;
   most_inodes = refl;
   graces = refl;
-  holders = λ i. sym (holders-begun s.graces User s.users) i ++ sym (holders-begun s.graces Group s.groups) i;
-  users_counted = counted-begun s User s.graces s.users;
-  groups_counted = counted-begun s Group s.graces s.groups;
+  holders = across-same (λ kind. declared_in kind s) (λ kind. map (holder_in kind) (map (new_holder s.graces) (principals_in kind s)))
+      (λ kind. sym (holders-begun s.graces kind (principals_in kind s)));
+  counted = each_kind (λ kind. All (IsCountedIn (start s) kind)
+      (by_kind (map (new_holder s.graces) s.users) (map (new_holder s.graces) s.groups) kind))
+      (counted-begun s s.graces User) (counted-begun s s.graces Group);
   blocks = refl;
   inodes = refl;
 }

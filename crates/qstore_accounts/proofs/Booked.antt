@@ -1,14 +1,15 @@
 -- The books after a bill are those of the new state, with the ends that then stand.
-use Rattle.std.proofs.Common.{◌≡◌, ℕ, ◌+◌, ◌-◌, ◌≤◌, List, [], ◌∷◌, ◌++◌, map, All, Option, None, Some, IfSome, option_map, sym, ap, subst, ◌∙◌, refl, arith}
-use Rattle.std.proofs.lemmas.List.{length-map, map-append}
-use Rattle.std.proofs.lemmas.List.Elements.{All-cons, All-head, All-nil, All-tail}
+use Rattle.std.proofs.Common.{◌≡◌, ◌≢◌, ℕ, ◌+◌, ◌-◌, ◌≤◌, ◌==◌, Bool, true, false, cond, List, map, All, Option, None, Some, IfSome, option_map, sym, ap, subst, ◌∙◌, refl, tests, arith}
+use Rattle.std.proofs.lemmas.List.{length-map}
+use Rattle.std.proofs.lemmas.Option.{same_Some}
 use Rattle.qrules.specs.declared.kind.Kind.{Kind}
 use Rattle.qrules.specs.declared.kind.Kind.TheVariants.{User, Group}
+use Rattle.qrules.proofs.Ranks.{each_kind}
 use Rattle.qrules.specs.declared.record.TheConstants.{MAX_USE}
 use Rattle.qrules.specs.Sort.{Sort, Inodes, Blocks}
 use Rattle.qrules.specs.Account.{HasEnds}
 use Rattle.qplain.specs.declared.principal.TheConstants.{MAX_PRINCIPALS}
-use Rattle.qplain.specs.State.{Holder, Inode, State}
+use Rattle.qplain.specs.State.{Inode, State}
 use Rattle.qplain.specs.Use.{account_of, total_of}
 use Rattle.qplain.specs.Decision.{ends_after, with_ends_of}
 use Rattle.qplain_laws.specs.Laws.{IsLawful}
@@ -19,47 +20,35 @@ use Rattle.qstore_accounts.specs.declared.bill.Postings.{Postings}
 use Rattle.qstore_accounts.specs.declared.claim.Claim.{Claim}
 use Rattle.qstore_accounts.specs.declared.claim.OwnerClaim.{OwnerClaim}
 use Rattle.qstore_accounts.specs.declared.kept_holder.KeptHolder.{KeptHolder}
-use Rattle.qstore_accounts.specs.Bills.{ArePlaced, IsBillFor, IsPlaced, posted, settled}
-use Rattle.qstore_accounts.specs.Books.{AreBooksOf, AreInRange, Books, ledger_in}
+use Rattle.qstore_accounts.specs.Bills.{ArePlaced, IsBillFor, IsPlaced, posted, postings_in, settled}
+use Rattle.qstore_accounts.specs.Books.{AreBooksOf, AreInRange, Books, holders_of, ledger_in}
 use Rattle.qstore_accounts.specs.Claims.{IsShareOf, share_in, weight_in}
-use Rattle.qstore_accounts.specs.KeptHolders.{IsCountedIn, holder_in, holders_in}
+use Rattle.qstore_accounts.specs.KeptHolders.{AreById, IsCountedIn, holder_in}
 use Rattle.qstore_accounts.specs.Replacements.{IsReplacement}
-use Rattle.qstore_accounts.specs.Ledgers.{ArePosted, IsFinal, IsLedgerReplacement}
+use Rattle.qstore_accounts.specs.Ledgers.{ArePosted, IsFinal, IsLedgerReplacement, apart}
 use Rattle.qstore_accounts.specs.Decisions.{IsBillOf}
+use Rattle.std.specs.Option.{option_and_then}
+use Rattle.qstore_accounts.proofs.Across.{All-across, across-same, map-across}
 use Rattle.qstore_accounts.proofs.ById.{by_id-posted}
 use Rattle.qstore_accounts.proofs.Counted.{ends-of-counted}
 use Rattle.qstore_accounts.proofs.Shares.{part}
 use Rattle.qstore_accounts.proofs.Posted.{counted-after, holder_after, holders-after, posted-all}
 
--- what holds of all of two lists holds of all of the first
-all-first : {X : Type 0} (P : X → Type 0) (xs ys : List X) → All P (xs ++ ys) → All P xs
-all-first P [] ys all = All-nil P
-all-first P (x ∷ xs) ys all = All-cons P x xs (All-head P x (xs ++ ys) all) (all-first P xs ys (All-tail P x (xs ++ ys) all))
-
--- and of all of the second
-all-second : {X : Type 0} (P : X → Type 0) (xs ys : List X) → All P (xs ++ ys) → All P ys
-all-second P [] ys all = all
-all-second P (x ∷ xs) ys all = all-second P xs ys (All-tail P x (xs ++ ys) all)
-
 module _ (S : State) (b : Books) (books : AreBooksOf S b) where
-  -- the records of a kind are counted
-  pub ledger-counted : (kind : Kind) → All (IsCountedIn S kind) (ledger_in kind b)
-  ledger-counted User = books.users_counted
-  ledger-counted Group = books.groups_counted
-
-  -- and their ends are where they should be
+  -- the ends of a kind's records are where they should be
   pub ledger-ends : IsLawful S → (kind : Kind) → All (λ o. HasEnds o.account) (ledger_in kind b)
-  ledger-ends lawful kind = by kind
-    where
-      P : Holder → Type 0
-      P h = HasEnds (account_of S h)
+  ledger-ends lawful kind =
+      ends-of-counted S kind (ledger_in kind b) (books.counted kind)
+      (All-across (λ h. HasEnds (account_of S h)) (λ k. map (holder_in k) (ledger_in k b))
+      (subst (All (λ h. HasEnds (account_of S h))) books.holders lawful.ends_stand) kind)
 
-      ends : All P (map (holder_in User) b.users ++ map (holder_in Group) b.groups)
-      ends = subst (All P) books.holders lawful.ends_stand
+-- the records of each kind stand by id
+pub by_id-in : (b : Books) → AreInRange b → (kind : Kind) → AreById (ledger_in kind b)
+by_id-in b is = each_kind (λ kind. AreById (ledger_in kind b)) is.users is.groups
 
-      by : (k : Kind) → All (λ o. HasEnds o.account) (ledger_in k b)
-      by User = ends-of-counted S User b.users books.users_counted (all-first P (map (holder_in User) b.users) (map (holder_in Group) b.groups) ends)
-      by Group = ends-of-counted S Group b.groups books.groups_counted (all-second P (map (holder_in User) b.users) (map (holder_in Group) b.groups) ends)
+-- the records of a kind after a bill
+pub settled-in : (bill : Bill) (b : Books) (kind : Kind) → ledger_in kind (settled bill b) ≡ map (posted (postings_in kind bill)) (ledger_in kind b)
+settled-in bill b = each_kind (λ kind. ledger_in kind (settled bill b) ≡ map (posted (postings_in kind bill)) (ledger_in kind b)) refl refl
 
 -- an inode counts as one at most
 one-inode : (o : Option Inode) → weight_of Inodes o ≤ 1
@@ -85,44 +74,33 @@ module _ (b : Books) (from to : Option Claim) (S S1 : State) (f t : Option Inode
       let few = r.few in
       omega (arith, sum, fits, same, bound, few)
 
-  -- the replacement for the users' records
-  pub users-replaced : IsLedgerReplacement b.users User (option_map (share_in User) from) (option_map (share_in User) to) S S1 f t
-  users-replaced = record {
-    counted = r.books.users_counted;
-    ends = ledger-ends S b r.books r.lawful User;
+  -- the replacement for the records of a kind
+  pub replaced : (kind : Kind)
+      → IsLedgerReplacement (ledger_in kind b) kind (option_and_then (share_in kind) from) (option_and_then (share_in kind) to) S S1 f t
+  replaced kind = record {
+    counted = r.books.counted kind;
+    ends = ledger-ends S b r.books r.lawful kind;
     replaces = r.replaces;
-    lost = r.users_from;
-    gained = r.users_to;
-    few = few-then;
-  }
-
-  -- and for the groups'
-  pub groups-replaced : IsLedgerReplacement b.groups Group (option_map (share_in Group) from) (option_map (share_in Group) to) S S1 f t
-  groups-replaced = record {
-    counted = r.books.groups_counted;
-    ends = ledger-ends S b r.books r.lawful Group;
-    replaces = r.replaces;
-    lost = r.groups_from;
-    gained = r.groups_to;
+    lost = r.lost kind;
+    gained = r.gained kind;
     few = few-then;
   }
 
   module _ (moment : ℕ) (bill : Bill) (is : IsBillOf b from to S S1 moment bill) where
-    users-posted : map (posted bill.users) b.users ≡ map (holder_after S1 moment User) b.users
-    users-posted = posted-all b.users User (option_map (share_in User) from) (option_map (share_in User) to) S S1 f t
-        in_range.users users-replaced moment bill.users is.users
-
-    groups-posted : map (posted bill.groups) b.groups ≡ map (holder_after S1 moment Group) b.groups
-    groups-posted = posted-all b.groups Group (option_map (share_in Group) from) (option_map (share_in Group) to) S S1 f t
-        in_range.groups groups-replaced moment bill.groups is.groups
+    kind-posted : (kind : Kind) → map (posted (postings_in kind bill)) (ledger_in kind b) ≡ map (holder_after S1 moment kind) (ledger_in kind b)
+    kind-posted kind =
+        posted-all (ledger_in kind b) kind (option_and_then (share_in kind) from) (option_and_then (share_in kind) to) S S1 f t
+        (by_id-in b in_range kind) (replaced kind) moment (postings_in kind bill) (is.posted kind)
 
     -- the holders of the posted records are those of the new state
-    holders-then : map (with_ends_of S1 moment) S1.holders ≡ holders_in (map (posted bill.users) b.users) (map (posted bill.groups) b.groups)
+    holders-then : map (with_ends_of S1 moment) S1.holders ≡ holders_of (settled bill b)
     holders-then =
         ap (map (with_ends_of S1 moment)) (r.replaces.holders ∙ r.books.holders)
-        ∙ map-append (with_ends_of S1 moment) (map (holder_in User) b.users) (map (holder_in Group) b.groups)
-        ∙ (λ i. sym (holders-after S1 moment User b.users) i ++ sym (holders-after S1 moment Group b.groups) i)
-        ∙ (λ i. map (holder_in User) (sym users-posted i) ++ map (holder_in Group) (sym groups-posted i))
+        ∙ map-across (with_ends_of S1 moment) (λ kind. map (holder_in kind) (ledger_in kind b))
+        ∙ across-same (λ kind. map (with_ends_of S1 moment) (map (holder_in kind) (ledger_in kind b)))
+        (λ kind. map (holder_in kind) (ledger_in kind (settled bill b)))
+        (λ kind. sym (holders-after S1 moment kind (ledger_in kind b))
+        ∙ ap (map (holder_in kind)) (sym (kind-posted kind) ∙ sym (settled-in bill b kind)))
 
     -- so the books after the bill are those of the new state
     pub books-settled : AreBooksOf (ends_after S1 moment) (settled bill b)
@@ -131,8 +109,8 @@ module _ (b : Books) (from to : Option Claim) (S S1 : State) (f t : Option Inode
       most_inodes = r.books.most_inodes ∙ sym r.replaces.most_inodes;
       graces = r.books.graces ∙ sym r.replaces.graces;
       holders = holders-then;
-      users_counted = subst (All (IsCountedIn (ends_after S1 moment) User)) (sym users-posted) (counted-after S1 moment User b.users);
-      groups_counted = subst (All (IsCountedIn (ends_after S1 moment) Group)) (sym groups-posted) (counted-after S1 moment Group b.groups);
+      counted = λ kind. subst (All (IsCountedIn (ends_after S1 moment) kind)) (sym (kind-posted kind) ∙ sym (settled-in bill b kind))
+          (counted-after S1 moment kind (ledger_in kind b));
       blocks = is.blocks;
       inodes = is.inodes;
     }
@@ -142,35 +120,55 @@ placed-final : (os : List KeptHolder) (kind : Kind) (S1 : State) (moment : ℕ) 
 placed-final os kind S1 moment None final = tt
 placed-final os kind S1 moment (Some q) final = final.slot
 
+-- and so do both of a kind, at two slots
+slots-apart : (from to : Option OwnerClaim) (p q : Option Posting) → option_map (λ r. r.slot) p ≡ option_map (λ s. s.slot) (apart from to)
+    → option_map (λ r. r.slot) q ≡ option_map (λ s. s.slot) to → IfSome p (λ f. IfSome q (λ t. f.slot ≢ t.slot))
+slots-apart from to None q first second = tt
+slots-apart from to (Some f) None first second = tt
+slots-apart None to (Some f) (Some t) first second = λ same. cc
+slots-apart (Some lost) None (Some f) (Some t) first second = λ same. cc
+slots-apart (Some lost) (Some gained) (Some f) (Some t) first second = by (lost.slot == gained.slot) refl first
+  where
+    by : (b : Bool) → (lost.slot == gained.slot) ≡ b → Some f.slot ≡ option_map (λ s. s.slot) (cond b None (Some lost)) → f.slot ≢ t.slot
+    by true e there = λ same. cc
+    by false e there = λ same.
+        let lost_is : f.slot ≡ lost.slot = same_Some f.slot lost.slot there in
+        let gained_is : t.slot ≡ gained.slot = same_Some t.slot gained.slot second in
+        grind (arith, tests, e, lost_is, gained_is, same)
+
 placed-both : (os : List KeptHolder) (kind : Kind) (S1 : State) (moment : ℕ) (from to : Option OwnerClaim) (p : Postings)
     → ArePosted os kind S1 moment from to p → ArePlaced os p
-placed-both os kind S1 moment from to p done =
-    record { from = placed-final os kind S1 moment p.from done.from_final; to = placed-final os kind S1 moment p.to done.to_final }
+placed-both os kind S1 moment from to p done = record {
+  from = placed-final os kind S1 moment p.from done.from_final;
+  to = placed-final os kind S1 moment p.to done.to_final;
+  apart = slots-apart from to p.from p.to done.from_there done.to_there;
+}
 
 -- so a bill is for its books
 pub bill-placed : (b : Books) (from to : Option Claim) (S S1 : State) (moment : ℕ) (bill : Bill) → IsBillOf b from to S S1 moment bill → IsBillFor b bill
-bill-placed b from to S S1 moment bill is = record {
-  users = placed-both b.users User S1 moment (option_map (share_in User) from) (option_map (share_in User) to) bill.users is.users;
-  groups = placed-both b.groups Group S1 moment (option_map (share_in Group) from) (option_map (share_in Group) to) bill.groups is.groups;
-}
+bill-placed b from to S S1 moment bill is = record { users = kind User; groups = kind Group }
+  where
+    kind : (k : Kind) → ArePlaced (ledger_in k b) (postings_in k bill)
+    kind k =
+        placed-both (ledger_in k b) k S1 moment (option_and_then (share_in k) from) (option_and_then (share_in k) to) (postings_in k bill) (is.posted k)
 
 -- what is counted of a claim is what its inode weighs
-pub claim-weight : (os : List KeptHolder) (kind : Kind) (claim : Option Claim) (inode : Option Inode) (sort : Sort)
-    → IsShareOf os kind (option_map (share_in kind) claim) inode → part sort (weight_in claim) ≡ weight_of sort inode
-claim-weight os kind None None Inodes is = refl
-claim-weight os kind None None Blocks is = refl
-claim-weight os kind None (Some inode) sort is = cc
-claim-weight os kind (Some claim) None sort is = cc
-claim-weight os kind (Some claim) (Some inode) Inodes is = is.weight.inodes
-claim-weight os kind (Some claim) (Some inode) Blocks is = is.weight.blocks
+pub claim-weight : (us : List KeptHolder) (claim : Option Claim) (inode : Option Inode) (sort : Sort)
+    → IsShareOf us User (option_and_then (share_in User) claim) inode → part sort (weight_in claim) ≡ weight_of sort inode
+claim-weight us None None Inodes is = refl
+claim-weight us None None Blocks is = refl
+claim-weight us None (Some inode) sort is = cc
+claim-weight us (Some claim) None sort is = cc
+claim-weight us (Some claim) (Some inode) Inodes is = is.weight.inodes
+claim-weight us (Some claim) (Some inode) Blocks is = is.weight.blocks
 
 -- so the total after the bill is that of the new state
 pub total-then : (b : Books) (from to : Option Claim) (S S1 : State) (f t : Option Inode) → IsReplacement b from to S S1 f t → (sort : Sort)
     → total_of S sort + part sort (weight_in to) - part sort (weight_in from) ≡ total_of S1 sort
 total-then b from to S S1 f t r sort =
     let sum = r.replaces.totals sort in
-    let gained = claim-weight b.users User to t sort r.users_to in
-    let lost = claim-weight b.users User from f sort r.users_from in
+    let gained = claim-weight b.users to t sort (r.gained User) in
+    let lost = claim-weight b.users from f sort (r.lost User) in
     omega (arith, sum, gained, lost)
 
 -- the books stay in their ranges after a bill

@@ -1,5 +1,5 @@
 -- KeptHolders whose kept use is the recounted one.
-use Rattle.std.proofs.Common.{◌≡◌, ℕ, List, [], ◌∷◌, ◌++◌, map, sum_by, All, refl, sym, ap, ◌∙◌, subst}
+use Rattle.std.proofs.Common.{◌≡◌, ℕ, List, [], ◌∷◌, map, sum_by, All, refl, sym, ap, ◌∙◌, subst}
 use Rattle.std.specs.Map.{values_of}
 use Rattle.std.proofs.lemmas.List.Elements.{All-cons, All-head, All-nil, All-tail, All-weaker}
 use Rattle.qrules.specs.declared.kind.Kind.{Kind}
@@ -9,10 +9,9 @@ use Rattle.qplain.specs.State.{Holder, State}
 use Rattle.qplain.specs.Use.{account_of, charge_to, use_of}
 use Rattle.qstore_accounts.specs.declared.kept_holder.KeptHolder.{KeptHolder}
 use Rattle.qstore_accounts.specs.Rows.{record_row_of}
-use Rattle.qstore_accounts.specs.KeptHolders.{IsCountedIn, holder_in, holders_in}
+use Rattle.qstore_accounts.specs.KeptHolders.{IsCountedIn, across, holder_in, holders_in}
 use Rattle.qstore_accounts.specs.Ledgers.{holder_row}
-use Rattle.qrules.specs.declared.kind.Kind.TheVariants.{User, Group}
-use Rattle.std.proofs.lemmas.List.{map-append}
+use Rattle.qstore_accounts.proofs.Across.{across-same, map-across}
 
 -- the record of a counted kept holder is its holder's
 pub account_of-counted : (S : State) (kind : Kind) (o : KeptHolder) → IsCountedIn S kind o → account_of S (holder_in kind o) ≡ o.account
@@ -61,8 +60,9 @@ rows-of-counted S kind (o ∷ os) all =
     λ i. here i ∷ rest i
 
 -- the rows of all kept holders are those of all holders
-pub all-rows : (S : State) (us gs : List KeptHolder) → All (IsCountedIn S User) us → All (IsCountedIn S Group) gs
-    → map (holder_row User) us ++ map (holder_row Group) gs ≡ map (record_row_of S) (holders_in us gs)
-all-rows S us gs users groups =
-    (λ i. rows-of-counted S User us users i ++ rows-of-counted S Group gs groups i)
-    ∙ sym (map-append (record_row_of S) (map (holder_in User) us) (map (holder_in Group) gs))
+pub all-rows : (S : State) (ledgers : Kind → List KeptHolder) → ((kind : Kind) → All (IsCountedIn S kind) (ledgers kind))
+    → across (λ kind. map (holder_row kind) (ledgers kind)) ≡ map (record_row_of S) (holders_in ledgers)
+all-rows S ledgers counted =
+    across-same (λ kind. map (holder_row kind) (ledgers kind)) (λ kind. map (record_row_of S) (map (holder_in kind) (ledgers kind)))
+    (λ kind. rows-of-counted S kind (ledgers kind) (counted kind))
+    ∙ sym (map-across (record_row_of S) (λ kind. map (holder_in kind) (ledgers kind)))

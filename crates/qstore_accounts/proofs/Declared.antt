@@ -1,14 +1,20 @@
 -- The kept holders that a setup declares: their order, the one of id 0, and that they use nothing.
-use Rattle.std.proofs.Common.{◌≡◌, ℕ, ◌<◌, ◌≤◌, Bool, true, false, ◌||◌, ◌&&◌, not, cond, ◌==◌, Some, None, nat_eq, eqb, List, [], ◌∷◌, map, length, get_or, refl, arith}
-use Rattle.std.specs.List.{AllByRecursion, IsDistinct, list_any}
+use Rattle.std.proofs.Common.{◌≡◌, ℕ, ◌<◌, ◌≤◌, Bool, true, false, ◌||◌, ◌&&◌, ◌==◌, nat_eq, eqb, nat_le, List, [], ◌∷◌, map, length, get_or, refl, tests, arith}
+use Rattle.std.specs.List.{AllByRecursion, IsDistinct, list_all, list_any}
 use Rattle.std.specs.List.Sorted.{IsNonDecreasing, IsNonDecreasingBy, IsStrictlyIncreasing}
 use Rattle.std.specs.Cmp.Lexicographic.{pointwise}
 use Rattle.std.proofs.lemmas.List.{get_or-map, length-map}
 use Rattle.std.proofs.lemmas.Map.Keys.{IsStrictlyIncreasing-from_distinct}
+use Rattle.qrules.specs.declared.kind.Kind.{Kind}
 use Rattle.qplain.specs.declared.principal.Principal.{Principal}
-use Rattle.qplain.specs.declared.setup.SetupFault.TheVariants.{Range, Duplicate, NoZero}
-use Rattle.qplain.specs.Principals.{collide, has_duplicate, has_zero}
-use Rattle.qplain.specs.Setups.{IsLawfulSetup, Setting, is_in_range}
+use Rattle.qplain.specs.Principals.{are_in_range, collide, has_duplicate, is_principal_in_range}
+use Rattle.qplain.specs.declared.principal.TheConstants.{MAX_PRINCIPALS}
+use Rattle.qplain.specs.declared.setup.TheConstants.{MAX_BLOCKS, MAX_INODES}
+use Rattle.qrules.specs.Range.{are_graces_in_range}
+use Rattle.qrules.proofs.Ranks.{each_kind}
+use Rattle.std.proofs.lemmas.Bool.{and_parts}
+use Rattle.qplain.specs.Setups.{IsLawfulSetup, Setting, principals_in}
+use Rattle.qplain_laws.proofs.Start.{ranges, single}
 
 -- of two that do not hold, the first does not
 pub or-first : (a b : Bool) → (a || b) ≡ false → a ≡ false
@@ -52,31 +58,22 @@ ids-rise-of-setup (p ∷ ps) by_id none = IsStrictlyIncreasing-from_distinct (ma
         let rises : (get_or (p ∷ ps) i p).id ≤ (get_or (p ∷ ps) j p).id = by_id i j p le inside in
         omega arith
 
--- what a setup that is not refused says of its principals
-pub record HasGoodPrincipals (users_twice groups_twice user_zero group_zero : Bool) : Type 0 where
-  pub users : users_twice ≡ false
-  pub groups : groups_twice ≡ false
-  pub user : user_zero ≡ true
-  pub group : group_zero ≡ true
+-- the ids of the principals of a kind rise
+pub kind-ids-rise : (s : Setting) → IsLawfulSetup s → (kind : Kind) → IsStrictlyIncreasing (map (λ p. p.id) (principals_in kind s))
+kind-ids-rise s lawful kind = ids-rise-of-setup (principals_in kind s) (lawful.sorted kind) (single s lawful kind)
 
-good-by : (r d e z w : Bool)
-    → cond (not r) (Some Range) (cond (d || e) (Some Duplicate) (cond (not (z && w)) (Some NoZero) None))
-    ≡ None → HasGoodPrincipals d e z w
-good-by true false false true true h = record { users = refl; groups = refl; user = refl; group = refl }
-good-by false d e z w h = cc
-good-by true true e z w h = cc
-good-by true false true z w h = cc
-good-by true false false false w h = cc
-good-by true false false true false h = cc
+-- there are no more principals than there may be
+few-of : (ps : List Principal) → are_in_range ps ≡ true → length ps ≤ MAX_PRINCIPALS
+few-of ps fits =
+    let counted = (and_parts (nat_le 1 (length ps) && nat_le (length ps) MAX_PRINCIPALS) (list_all is_principal_in_range ps) fits).0 in
+    let few : nat_le (length ps) MAX_PRINCIPALS ≡ true = (and_parts (nat_le 1 (length ps)) (nat_le (length ps) MAX_PRINCIPALS) counted).1 in
+    grind (arith, tests, few)
 
-module _ (s : Setting) (lawful : IsLawfulSetup s) where
-  good : HasGoodPrincipals (has_duplicate s.users) (has_duplicate s.groups) (has_zero s.users) (has_zero s.groups)
-  good = good-by (is_in_range s) (has_duplicate s.users) (has_duplicate s.groups) (has_zero s.users) (has_zero s.groups) lawful.granted
-
-  -- the ids of the users rise
-  pub user-ids-rise : IsStrictlyIncreasing (map (λ p. p.id) s.users)
-  user-ids-rise = ids-rise-of-setup s.users lawful.users_sorted good.users
-
-  -- and so do those of the groups
-  pub group-ids-rise : IsStrictlyIncreasing (map (λ p. p.id) s.groups)
-  group-ids-rise = ids-rise-of-setup s.groups lawful.groups_sorted good.groups
+-- of any kind
+pub kind-few : (s : Setting) → IsLawfulSetup s → (kind : Kind) → length (principals_in kind s) ≤ MAX_PRINCIPALS
+kind-few s lawful =
+    let numbers : Bool =
+    nat_le 1 s.blocks && nat_le s.blocks MAX_BLOCKS && nat_le 1 s.inodes && nat_le s.inodes MAX_INODES && are_graces_in_range s.graces in
+    let groups = and_parts (numbers && are_in_range s.users) (are_in_range s.groups) (ranges s lawful) in
+    let users = and_parts numbers (are_in_range s.users) groups.0 in
+    each_kind (λ kind. length (principals_in kind s) ≤ MAX_PRINCIPALS) (few-of s.users users.1) (few-of s.groups groups.1)

@@ -1,131 +1,118 @@
 -- What is asked of the holders of a state, answered by the kept holders of a kind.
-use Rattle.std.proofs.Common.{◌≡◌, ℕ, zero, suc, Bool, true, false, cond, ◌&&◌, ◌||◌, ◌==◌, List, [], ◌∷◌, ◌++◌, map, All, Bor, Option, Some, None, is_some, find, slice_get, refl, sym, ap, subst, ◌∙◌}
-use Rattle.std.specs.Option.{IfSome, option_map}
+use Rattle.std.proofs.Common.{◌≡◌, ℕ, zero, suc, Bool, true, false, cond, ◌&&◌, ◌||◌, ◌==◌, List, [], ◌∷◌, map, All, Bor, Option, Some, None, is_some, find, slice_get, refl, sym, ap, subst, ◌∙◌}
+use Rattle.std.specs.Option.{IfSome, option_map, option_or}
 use Rattle.std.specs.List.{list_any}
-use Rattle.std.proofs.lemmas.Option.{get_or_from_slice_get, same_Some, slice_get_within}
+use Rattle.std.proofs.lemmas.Option.{get_or_from_slice_get, slice_get_within}
 use Rattle.std.proofs.lemmas.List.Elements.{All-get_or}
-use Rattle.std.proofs.lemmas.List.{append-nil}
+use Rattle.std.proofs.lemmas.List.Folds.{find-append, list_any-append}
 use Rattle.qrules.specs.declared.kind.Kind.{Kind}
 use Rattle.qrules.specs.declared.kind.Kind.TheVariants.{User, Group}
+use Rattle.qrules.specs.Kinds.{is_same_kind}
+use Rattle.qrules.proofs.Ranks.{each_kind}
 use Rattle.qplain.specs.State.{Holder, State}
-use Rattle.qplain.specs.Arguments.{is_holder, is_same_kind}
+use Rattle.qplain.specs.Arguments.{is_holder}
 use Rattle.qstore_accounts.specs.declared.kept_holder.KeptHolder.{KeptHolder}
-use Rattle.qstore_accounts.specs.KeptHolders.{AreById, IsCountedIn, holder_in, holders_in, kept_of}
+use Rattle.qstore_accounts.specs.KeptHolders.{AreById, IsCountedIn, holder_in, holders_in}
 use Rattle.qstore_accounts.specs.Ledgers.{IsHolderAt}
 use Rattle.qstore_accounts.proofs.ById.{by_id-rest, slot-first, slot-later, slot-of}
 use Rattle.qstore_accounts.proofs.Declared.{or-first, or-second}
 
 -- ---- lists one after the other
 
--- a test of two lists
-list_any-append : {X : Type 0} (test : X → Bool) (xs ys : List X) → list_any test (xs ++ ys) ≡ (list_any test xs || list_any test ys)
-list_any-append test [] ys = refl
-list_any-append test (x ∷ xs) ys = ap (λ b. test x || b) (list_any-append test xs ys) ∙ or_assoc (test x) (list_any test xs) (list_any test ys)
-  where
-    or_assoc : (a b c : Bool) → (a || (b || c)) ≡ ((a || b) || c)
-    or_assoc true b c = refl
-    or_assoc false b c = refl
+or-none : {X : Type 0} (o : Option X) → option_or o None ≡ o
+or-none None = refl
+or-none (Some x) = refl
+
+or-false : (a : Bool) → (a || false) ≡ a
+or-false true = refl
+or-false false = refl
 
 -- ---- one kind
 
-module _ (kind other : Kind) (id : ℕ) where
-  -- a holder of the other kind is not the one
-  other-kind : (b c : Bool) → b ≡ false → (b && c) ≡ false
-  other-kind true c apart = cc
-  other-kind false c apart = refl
+module _ (kind : Kind) (id : ℕ) where
+  -- among the holders of one kind
+  any-in : (other : Kind) (os : List KeptHolder)
+      → list_any (is_holder kind id) (map (holder_in other) os) ≡ (is_same_kind kind other && list_any (λ o. id == o.id) os)
+  any-in other [] = none (is_same_kind kind other)
+    where
+      none : (b : Bool) → false ≡ (b && false)
+      none true = refl
+      none false = refl
+  any-in other (o ∷ os) = ap (λ b. is_same_kind kind other && id == o.id || b) (any-in other os) ∙ sym (by (is_same_kind kind other))
+    where
+      by : (b : Bool) → (b && (id == o.id || list_any (λ p. id == p.id) os)) ≡ (b && id == o.id || (b && list_any (λ p. id == p.id) os))
+      by true = refl
+      by false = refl
 
-  -- no holder of the other kind is the one
-  any-other : is_same_kind kind other ≡ false → (os : List KeptHolder) → list_any (is_holder kind id) (map (holder_in other) os) ≡ false
-  any-other apart [] = refl
-  any-other apart (o ∷ os) =
-      ap (λ b. b || list_any (is_holder kind id) (map (holder_in other) os)) (other-kind (is_same_kind kind other) (id == o.id) apart) ∙ any-other apart os
+  find-in : (other : Kind) (os : List KeptHolder) → find (is_holder kind id) (map (holder_in other) os)
+      ≡ cond (is_same_kind kind other) (option_map (holder_in other) (find (λ o. id == o.id) os)) None
+  find-in other [] = none (is_same_kind kind other)
+    where
+      none : (b : Bool) → ◌≡◌ {A = Option Holder} None (cond b None None)
+      none true = refl
+      none false = refl
+  find-in other (o ∷ os) = by (is_same_kind kind other) (id == o.id) (find-in other os)
+    where
+      by : (b c : Bool)
+          → find (is_holder kind id) (map (holder_in other) os) ≡ cond b (option_map (holder_in other) (find (λ p. id == p.id) os)) None
+          → cond (b && c) (Some (holder_in other o)) (find (is_holder kind id) (map (holder_in other) os))
+          ≡ cond b (option_map (holder_in other) (cond c (Some o) (find (λ p. id == p.id) os))) None
+      by true true later = refl
+      by true false later = later
+      by false c later = later
 
-  -- a holder of the kind is the one where its kept holder is
-  any-own : is_same_kind kind kind ≡ true → (os : List KeptHolder) → list_any (is_holder kind id) (map (holder_in kind) os) ≡ list_any (λ o. id == o.id) os
-  any-own same [] = refl
-  any-own same (o ∷ os) = λ i. (same i && id == o.id) || any-own same os i
-
-  -- nor is one found
-  find-other : is_same_kind kind other ≡ false → (os : List KeptHolder) (rest : List Holder)
-      → find (is_holder kind id) (map (holder_in other) os ++ rest) ≡ find (is_holder kind id) rest
-  find-other apart [] rest = refl
-  find-other apart (o ∷ os) rest =
-      ap (λ b. cond b (Some (holder_in other o))
-      (find (is_holder kind id) (map (holder_in other) os ++ rest)))
-      (other-kind (is_same_kind kind other) (id == o.id) apart)
-      ∙ find-other apart os rest
-
-  -- nor after the kept holders of whom none has the id
-  find-absent : is_same_kind kind kind ≡ true → (os : List KeptHolder) (rest : List Holder) → list_any (λ o. id == o.id) os ≡ false
-      → find (is_holder kind id) (map (holder_in kind) os ++ rest) ≡ find (is_holder kind id) rest
-  find-absent same [] rest absent = refl
-  find-absent same (o ∷ os) rest absent =
-      ap (λ b. cond (b && id == o.id) (Some (holder_in kind o)) (find (is_holder kind id) (map (holder_in kind) os ++ rest))) same
-      ∙ ap (λ b. cond b (Some (holder_in kind o))
-      (find (is_holder kind id) (map (holder_in kind) os ++ rest)))
-      (or-first (id == o.id) (list_any (λ p. id == p.id) os) absent)
-      ∙ find-absent same os rest (or-second (id == o.id) (list_any (λ p. id == p.id) os) absent)
-
-  -- the holder of the kept holder at the slot of the id is found
-  find-at : is_same_kind kind kind ≡ true → (os : List KeptHolder) (slot : ℕ) (o : KeptHolder) (rest : List Holder)
-      → AreById os → slice_get os slot ≡ Some o → o.id ≡ id
-      → find (is_holder kind id) (map (holder_in kind) os ++ rest) ≡ Some (holder_in kind o)
-  find-at same [] slot o rest by_id there is = cc
-  find-at same (p ∷ os) zero o rest by_id there is =
-      let own : (id == p.id) ≡ true = slot-first id p os (slot-of (p ∷ os) zero id o there is) in
-      (λ i. cond (same i && own i) (Some (holder_in kind p)) (find (is_holder kind id) (map (holder_in kind) os ++ rest)))
-      ∙ ap (λ q. Some (holder_in kind q)) (same_Some p o there)
-  find-at same (p ∷ os) (suc slot) o rest by_id there is =
-      let apart : (id == p.id) ≡ false = slot-later id p os slot by_id (slot-of os slot id o there is) in
-      (λ i. cond (same i && apart i) (Some (holder_in kind p)) (find (is_holder kind id) (map (holder_in kind) os ++ rest)))
-      ∙ find-at same os slot o rest (by_id-rest p os by_id) there is
-
--- ---- users and groups
+-- ---- all kinds
 
 -- a principal is declared where the kept holders of its kind have its id
-pub declared-kept : (kind : Kind) (id : ℕ) (us gs : List KeptHolder)
-    → list_any (is_holder kind id) (map (holder_in User) us ++ map (holder_in Group) gs) ≡ list_any (λ o. id == o.id) (kept_of kind us gs)
-declared-kept User id us gs =
-    list_any-append (is_holder User id) (map (holder_in User) us) (map (holder_in Group) gs)
-    ∙ (λ i. any-own User User id refl us i || any-other User Group id refl gs i)
-    ∙ or-false (list_any (λ o. id == o.id) us)
+pub declared-kept : (kind : Kind) (id : ℕ) (ledgers : Kind → List KeptHolder)
+    → list_any (is_holder kind id) (holders_in ledgers) ≡ list_any (λ o. id == o.id) (ledgers kind)
+declared-kept kind id ledgers =
+    list_any-append (is_holder kind id) (map (holder_in User) (ledgers User)) (map (holder_in Group) (ledgers Group))
+    ∙ (λ i. any-in kind id User (ledgers User) i || any-in kind id Group (ledgers Group) i)
+    ∙ each_kind (λ k. ((is_same_kind k User && has User) || (is_same_kind k Group && has Group)) ≡ has k) (or-false (has User)) refl kind
   where
-    or-false : (a : Bool) → (a || false) ≡ a
-    or-false true = refl
-    or-false false = refl
-declared-kept Group id us gs =
-    list_any-append (is_holder Group id) (map (holder_in User) us) (map (holder_in Group) gs)
-    ∙ (λ i. any-other Group User id refl us i || any-own Group Group id refl gs i)
+    has : Kind → Bool
+    has k = list_any (λ o. id == o.id) (ledgers k)
 
--- the holder of a principal is that of the kept holder at its slot
-pub find-kept : (kind : Kind) (id : ℕ) (us gs : List KeptHolder) (slot : ℕ) (o : KeptHolder) → AreById (kept_of kind us gs)
-    → slice_get (kept_of kind us gs) slot ≡ Some o → o.id ≡ id
-    → find (is_holder kind id) (map (holder_in User) us ++ map (holder_in Group) gs) ≡ Some (holder_in kind o)
-find-kept User id us gs slot o by_id there is = find-at User User id refl us slot o (map (holder_in Group) gs) by_id there is
-find-kept Group id us gs slot o by_id there is =
-    find-other Group User id refl us (map (holder_in Group) gs)
-    ∙ ap (find (is_holder Group id)) (sym (append-nil (map (holder_in Group) gs)))
-    ∙ find-at Group Group id refl gs slot o [] by_id there is
+-- the holder of a principal is that of the kept holder of its id
+pub find-kept : (kind : Kind) (id : ℕ) (ledgers : Kind → List KeptHolder)
+    → find (is_holder kind id) (holders_in ledgers) ≡ option_map (holder_in kind) (find (λ o. id == o.id) (ledgers kind))
+find-kept kind id ledgers =
+    find-append (is_holder kind id) (map (holder_in User) (ledgers User)) (map (holder_in Group) (ledgers Group))
+    ∙ (λ i. option_or (find-in kind id User (ledgers User) i) (find-in kind id Group (ledgers Group) i))
+    ∙ each_kind (λ k. option_or (cond (is_same_kind k User) (found User) None) (cond (is_same_kind k Group) (found Group) None) ≡ found k)
+    (or-none (found User)) refl kind
+  where
+    found : Kind → Option Holder
+    found k = option_map (holder_in k) (find (λ o. id == o.id) (ledgers k))
 
--- there is no holder of a principal whose id no kept holder has
-pub find-no-kept : (kind : Kind) (id : ℕ) (us gs : List KeptHolder) → list_any (λ o. id == o.id) (kept_of kind us gs) ≡ false
-    → find (is_holder kind id) (map (holder_in User) us ++ map (holder_in Group) gs) ≡ None
-find-no-kept User id us gs absent =
-    find-absent User User id refl us (map (holder_in Group) gs) absent
-    ∙ ap (find (is_holder User id)) (sym (append-nil (map (holder_in Group) gs)))
-    ∙ find-other User Group id refl gs []
-find-no-kept Group id us gs absent =
-    find-other Group User id refl us (map (holder_in Group) gs)
-    ∙ ap (find (is_holder Group id)) (sym (append-nil (map (holder_in Group) gs)))
-    ∙ find-absent Group Group id refl gs [] absent
+-- the kept holder at the slot of the id is the one of the id
+pub find-slot : (id : ℕ) (os : List KeptHolder) (slot : ℕ) (o : KeptHolder) → AreById os → slice_get os slot ≡ Some o → o.id ≡ id
+    → find (λ p. id == p.id) os ≡ Some o
+find-slot id [] slot o by_id there is = cc
+find-slot id (p ∷ os) zero o by_id there is =
+    ap (λ b. cond b (Some p) (find (λ q. id == q.id) os)) (slot-first id p os (slot-of (p ∷ os) zero id o there is)) ∙ there
+find-slot id (p ∷ os) (suc slot) o by_id there is =
+    ap (λ b. cond b (Some p) (find (λ q. id == q.id) os)) (slot-later id p os slot by_id (slot-of os slot id o there is))
+    ∙ find-slot id os slot o (by_id-rest p os by_id) there is
+
+-- none has an id that no kept holder has
+find-absent : (id : ℕ) (os : List KeptHolder) → list_any (λ o. id == o.id) os ≡ false → find (λ o. id == o.id) os ≡ None
+find-absent id [] absent = refl
+find-absent id (o ∷ os) absent =
+    ap (λ b. cond b (Some o) (find (λ p. id == p.id) os)) (or-first (id == o.id) (list_any (λ p. id == p.id) os) absent)
+    ∙ find-absent id os (or-second (id == o.id) (list_any (λ p. id == p.id) os) absent)
 
 -- a kept holder that was found is a holder's
-pub found-kept : (kind : Kind) (id : ℕ) (us gs : List KeptHolder) (result : Option (Bor KeptHolder))
-    → is_some result ≡ list_any (λ o. id == o.id) (kept_of kind us gs)
-    → IfSome result (λ o. (slot : ℕ) × IsHolderAt (kept_of kind us gs) slot id o.now) → IfSome result (λ o. AreById (kept_of kind us gs))
-    → option_map (holder_in kind) (option_map (λ o. o.now) result) ≡ find (is_holder kind id) (holders_in us gs)
-found-kept kind id us gs None declared there by_id = sym (find-no-kept kind id us gs (sym declared))
-found-kept kind id us gs (Some o) declared there by_id = sym (find-kept kind id us gs there.0 o.now by_id there.1.there there.1.same)
+pub found-kept : (kind : Kind) (id : ℕ) (ledgers : Kind → List KeptHolder) (result : Option (Bor KeptHolder))
+    → is_some result ≡ list_any (λ o. id == o.id) (ledgers kind)
+    → IfSome result (λ o. (slot : ℕ) × IsHolderAt (ledgers kind) slot id o.now) → IfSome result (λ o. AreById (ledgers kind))
+    → option_map (holder_in kind) (option_map (λ o. o.now) result) ≡ find (is_holder kind id) (holders_in ledgers)
+found-kept kind id ledgers None declared there by_id =
+    sym (find-kept kind id ledgers ∙ ap (option_map (holder_in kind)) (find-absent id (ledgers kind) (sym declared)))
+found-kept kind id ledgers (Some o) declared there by_id =
+    sym (find-kept kind id ledgers
+    ∙ ap (option_map (holder_in kind)) (find-slot id (ledgers kind) there.0 o.now by_id there.1.there there.1.same))
 
 -- and its use is counted
 pub found-counted : (S : State) (kind : Kind) (id : ℕ) (os : List KeptHolder) (result : Option (Bor KeptHolder)) → All (IsCountedIn S kind) os

@@ -1,4 +1,5 @@
 -- What the proofs of more than one file share: the order of kept holders, what they count, what a bill makes of them.
+pub mod Across
 pub mod ById
 pub mod Search
 pub mod Declared
@@ -13,4 +14,5 @@ pub mod Relimits
 pub mod Booked
 pub mod Refusals
 pub mod Relimited
+pub mod Placing
 pub mod Boards

@@ -9,7 +9,7 @@ use Rattle.qrules.specs.Sort.{Inodes, Blocks}
 use Rattle.qrules.specs.Account.{Account, HasEnds}
 use Rattle.qrules.specs.Grace.{with_ends}
 use Rattle.qplain.specs.State.{Inode, State}
-use Rattle.qplain.specs.Use.{account_of, owner, use_of}
+use Rattle.qplain.specs.Use.{account_of, is_id, owner, use_of}
 use Rattle.qplain.specs.Decision.{ends_after, with_ends_of}
 use Rattle.qplain_laws.specs.Replaces.{is_owned}
 use Rattle.qplain_laws.proofs.Replacing.{account-other}
@@ -19,7 +19,7 @@ use Rattle.qstore_accounts.specs.declared.claim.OwnerClaim.{OwnerClaim}
 use Rattle.qstore_accounts.specs.declared.kept_holder.KeptHolder.{KeptHolder}
 use Rattle.qstore_accounts.specs.Bills.{post, posted}
 use Rattle.qstore_accounts.specs.Claims.{IsShareOf}
-use Rattle.qstore_accounts.specs.KeptHolders.{AreById, IsCountedIn, IsSlotOf, holder_in}
+use Rattle.qstore_accounts.specs.KeptHolders.{AreById, IsCountedIn, IsSlotFor, IsSlotOf, holder_in}
 use Rattle.qstore_accounts.specs.Ledgers.{ArePosted, IsFinal, IsLedgerReplacement, apart, record_after}
 use Rattle.qstore_accounts.proofs.Counted.{account_of-counted}
 use Rattle.qstore_accounts.proofs.Ends.{block_end-same, inode_end-same}
@@ -102,14 +102,21 @@ not-owner : (os : List KeptHolder) (kind : Kind) (S1 : State) (moment : ℕ) (sh
     (o : KeptHolder) → IsShareOf os kind share inode → option_map (λ p. p.slot) q ≡ option_map (λ s. s.slot) share → IfSome q (IsFinal os kind S1 moment)
     → matches q o ≡ false → is_owned kind o.id inode ≡ false
 not-owner os kind S1 moment None None q o is slots final other = refl
-not-owner os kind S1 moment None (Some inode) q o is slots final other = cc
+not-owner os kind S1 moment None (Some inode) q o is slots final other = by (owner kind inode.owners) is
+  where
+    by : (w : Option ℕ) → IsSlotFor os None w → is_id o.id w ≡ false
+    by None is = refl
+    by (Some id) is = cc
 not-owner os kind S1 moment (Some share) None q o is slots final other = cc
 not-owner os kind S1 moment (Some share) (Some inode) None o is slots final other = cc
-not-owner os kind S1 moment (Some share) (Some inode) (Some q) o is slots final other =
-    let slot : q.slot ≡ share.slot = same_Some q.slot share.slot slots in
-    let both : Some q.id ≡ Some (owner kind inode) = sym final.slot ∙ ap (λ n. option_map (λ p. p.id) (slice_get os n)) slot ∙ is.slot in
-    let id : q.id ≡ owner kind inode = same_Some q.id (owner kind inode) both in
-    ap (λ n. n == o.id) (sym id) ∙ other
+not-owner os kind S1 moment (Some share) (Some inode) (Some q) o is slots final other = by (owner kind inode.owners) is.slot
+  where
+    by : (w : Option ℕ) → IsSlotFor os (Some share.slot) w → is_id o.id w ≡ false
+    by None placed = cc
+    by (Some id) placed =
+        let slot : q.slot ≡ share.slot = same_Some q.slot share.slot slots in
+        let both : Some q.id ≡ Some id = sym final.slot ∙ ap (λ n. option_map (λ p. p.id) (slice_get os n)) slot ∙ placed in
+        ap (λ n. n == o.id) (sym (same_Some q.id id both)) ∙ other
 
 -- nor is the inode that is given up, where neither posting has it
 not-loser : (os : List KeptHolder) (kind : Kind) (S1 : State) (moment : ℕ) (from to : Option OwnerClaim) (f : Option Inode) (p q : Option Posting)

@@ -1,9 +1,12 @@
--- The records of a store stand in order: users by id, then groups by id.
-use Rattle.std.proofs.Common.{zero, suc, List, [], ◌∷◌, map, All, refl, inl, inr, arith}
+-- The records of a store stand in order: one kind after the other, each by id.
+use Rattle.std.proofs.Common.{zero, suc, ◌<◌, List, [], ◌∷◌, ◌++◌, map, All, refl, inl, inr, subst, arith}
 use Rattle.std.specs.List.{AllPairs}
+use Rattle.std.proofs.lemmas.List.{append-nil}
 use Rattle.std.proofs.lemmas.List.Elements.{All-append, All-cons, All-nil}
 use Rattle.qrules.specs.declared.kind.Kind.{Kind}
 use Rattle.qrules.specs.declared.kind.Kind.TheVariants.{User, Group}
+use Rattle.qrules.specs.Kinds.{rank_of}
+use Rattle.qplain.specs.State.{Holder}
 use Rattle.qstore_accounts.specs.declared.kept_holder.KeptHolder.{KeptHolder}
 use Rattle.qstore_accounts.specs.KeptHolders.{AreById, holder_in, holders_in}
 use Rattle.qstore_accounts.specs.Rows.{StandsBefore}
@@ -23,26 +26,28 @@ above-holders kind o (p ∷ os) above =
     All-cons (StandsBefore (holder_in kind o)) (holder_in kind p) (map (holder_in kind) os)
     (inr (refl, above.0)) (above-holders kind o os above.1)
 
--- groups come after a user
-groups-after : (o : KeptHolder) (groups : List KeptHolder) → All (StandsBefore (holder_in User o)) (map (holder_in Group) groups)
-groups-after o [] = All-nil (StandsBefore (holder_in User o))
-groups-after o (g ∷ groups) =
-    All-cons (StandsBefore (holder_in User o)) (holder_in Group g) (map (holder_in Group) groups)
-    (inl (refl, refl)) (groups-after o groups)
+-- the holders of a kind come later than those of a kind before it
+kind-after : (kind later : Kind) → rank_of kind < rank_of later → (o : KeptHolder) (os : List KeptHolder)
+    → All (StandsBefore (holder_in kind o)) (map (holder_in later) os)
+kind-after kind later below o [] = All-nil (StandsBefore (holder_in kind o))
+kind-after kind later below o (p ∷ os) =
+    All-cons (StandsBefore (holder_in kind o)) (holder_in later p) (map (holder_in later) os) (inl below) (kind-after kind later below o os)
 
-groups-in_order : (groups : List KeptHolder) → AreById groups → AllPairs StandsBefore (map (holder_in Group) groups)
-groups-in_order [] by_id = λ i j d less within. absurd (omega arith)
-groups-in_order (g ∷ groups) by_id =
-    pairs-cons StandsBefore (holder_in Group g) (map (holder_in Group) groups)
-    (above-holders Group g groups (above-first g groups by_id))
-    (groups-in_order groups (by_id-rest g groups by_id))
+-- the holders of a kind, and behind them those of kinds that come later
+kind-in_order : (kind : Kind) (os : List KeptHolder) (rest : List Holder) → AreById os → ((o : KeptHolder) → All (StandsBefore (holder_in kind o)) rest)
+    → AllPairs StandsBefore rest → AllPairs StandsBefore (map (holder_in kind) os ++ rest)
+kind-in_order kind [] rest by_id behind in_order = in_order
+kind-in_order kind (o ∷ os) rest by_id behind in_order =
+    pairs-cons StandsBefore (holder_in kind o) (map (holder_in kind) os ++ rest)
+    (All-append (StandsBefore (holder_in kind o)) (map (holder_in kind) os) rest (above-holders kind o os (above-first o os by_id)) (behind o))
+    (kind-in_order kind os rest (by_id-rest o os by_id) behind in_order)
 
 -- all holders
-pub in_order-holders : (users groups : List KeptHolder) → AreById users → AreById groups → AllPairs StandsBefore (holders_in users groups)
-in_order-holders [] groups users_by_id groups_by_id = groups-in_order groups groups_by_id
-in_order-holders (u ∷ users) groups users_by_id groups_by_id =
-    let before = StandsBefore (holder_in User u) in
-    let above : All before (holders_in users groups) =
-    All-append before (map (holder_in User) users) (map (holder_in Group) groups)
-    (above-holders User u users (above-first u users users_by_id)) (groups-after u groups) in
-    pairs-cons StandsBefore (holder_in User u) (holders_in users groups) above (in_order-holders users groups (by_id-rest u users users_by_id) groups_by_id)
+pub in_order-holders : (ledgers : Kind → List KeptHolder) → ((kind : Kind) → AreById (ledgers kind)) → AllPairs StandsBefore (holders_in ledgers)
+in_order-holders ledgers by_id =
+    kind-in_order User (ledgers User) (map (holder_in Group) (ledgers Group)) (by_id User)
+    (λ o. kind-after User Group (omega arith) o (ledgers Group)) (last (ledgers Group) (by_id Group))
+  where
+    last : (os : List KeptHolder) → AreById os → AllPairs StandsBefore (map (holder_in Group) os)
+    last os by_id = subst (AllPairs StandsBefore) (append-nil (map (holder_in Group) os))
+        (kind-in_order Group os [] by_id (λ o. All-nil (StandsBefore (holder_in Group o))) (λ i j d less within. absurd (omega arith)))

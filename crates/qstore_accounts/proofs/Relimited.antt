@@ -1,51 +1,30 @@
 -- The books after a bill of new limits are those of the state with these limits.
-use Rattle.std.proofs.Common.{◌≡◌, ℕ, ◌==◌, Bool, true, false, cond, List, ◌++◌, map, All, Option, None, Some, IfSome, option_map, slice_get, sym, ap, subst, ◌∙◌, refl, tests, arith}
-use Rattle.std.proofs.lemmas.List.{map-append}
+use Rattle.std.proofs.Common.{◌≡◌, ℕ, ◌==◌, Bool, true, false, cond, List, map, All, Option, None, Some, IfSome, option_map, slice_get, sym, ap, subst, ◌∙◌, refl, tests, arith}
 use Rattle.std.proofs.lemmas.Option.{same_Some}
 use Rattle.qrules.specs.declared.kind.Kind.{Kind}
+use Rattle.qrules.specs.Kinds.{is_same_kind}
+use Rattle.qrules.proofs.Ranks.{same_kind}
 use Rattle.qrules.specs.declared.kind.Kind.TheVariants.{User, Group}
 use Rattle.qrules.specs.declared.limits.Limits.{Limits}
-use Rattle.qrules.specs.Account.{HasEnds}
+use Rattle.qrules.specs.declared.graces.Graces.{Graces}
 use Rattle.qrules.specs.Grace.{with_limits}
-use Rattle.qplain.specs.State.{Holder, State}
+use Rattle.qplain.specs.State.{State}
 use Rattle.qplain.specs.Quotas.{with_limits_of}
 use Rattle.qplain.specs.Decision.{ends_after, with_ends_of}
 use Rattle.qplain_laws.specs.Laws.{IsLawful}
+use Rattle.qstore_accounts.specs.declared.bill.Bill.{Bill}
 use Rattle.qstore_accounts.specs.declared.bill.Posting.{Posting}
 use Rattle.qstore_accounts.specs.declared.kept_holder.KeptHolder.{KeptHolder}
-use Rattle.qstore_accounts.specs.Bills.{posted, settled}
-use Rattle.qstore_accounts.specs.Books.{AreBooksOf, AreInRange, Books}
-use Rattle.qstore_accounts.specs.KeptHolders.{AreById, IsCountedIn, IsSlotOf, holder_in, holders_in}
-use Rattle.qstore_accounts.proofs.Booked.{ledger-ends}
+use Rattle.qstore_accounts.specs.Bills.{ArePlaced, IsBillFor, IsPlaced, only_in, posted, postings_in, settled}
+use Rattle.qstore_accounts.specs.Books.{AreBooksOf, AreInRange, Books, ledger_in}
+use Rattle.qstore_accounts.specs.KeptHolders.{AreById, IsCountedIn, IsSlotOf, holder_in}
+use Rattle.qstore_accounts.proofs.Booked.{by_id-in, ledger-ends, settled-in}
+use Rattle.qstore_accounts.proofs.Across.{across-same, map-across}
 use Rattle.qstore_accounts.proofs.ById.{post-none}
 use Rattle.qstore_accounts.proofs.Counted.{counted-same}
 use Rattle.qstore_accounts.proofs.Posted.{map-at}
 use Rattle.qstore_accounts.proofs.Relimits.{counted-relimited-ends, holders-relimited, other-holders-relimited, relimited_holder, relimited_kept}
 use Rattle.qstore_accounts.proofs.Shares.{id-there, slot-once}
-
-module _ (S : State) (id : ℕ) (limits : Limits) (moment : ℕ) (us gs : List KeptHolder) (users : All (IsCountedIn S User) us)
-    (groups : All (IsCountedIn S Group) gs)
-    (user_ends : All (λ o. HasEnds o.account) us) (group_ends : All (λ o. HasEnds o.account) gs) where
-  -- two changes of all holders are those of users and of groups
-  split : (f g : Holder → Holder) → map f (map g (holders_in us gs)) ≡ map f (map g (map (holder_in User) us)) ++ map f (map g (map (holder_in Group) gs))
-  split f g = ap (map f) (map-append g (map (holder_in User) us) (map (holder_in Group) gs))
-      ∙ map-append f (map g (map (holder_in User) us)) (map g (map (holder_in Group) gs))
-
-  -- new limits of a user are those of its holder among all holders
-  pub all-holders-relimited-user : holders_in (map (relimited_kept id limits S.graces moment) us) gs
-      ≡ map (with_ends_of (with_limits_of S User id limits) moment) (map (relimited_holder User id limits) (holders_in us gs))
-  all-holders-relimited-user =
-      (λ i. holders-relimited S User id limits moment us users user_ends i
-      ++ sym (other-holders-relimited S User id limits moment Group refl gs groups group_ends) i)
-      ∙ sym (split (with_ends_of (with_limits_of S User id limits) moment) (relimited_holder User id limits))
-
-  -- and so are those of a group
-  pub all-holders-relimited-group : holders_in us (map (relimited_kept id limits S.graces moment) gs)
-      ≡ map (with_ends_of (with_limits_of S Group id limits) moment) (map (relimited_holder Group id limits) (holders_in us gs))
-  all-holders-relimited-group =
-      (λ i. sym (other-holders-relimited S Group id limits moment User refl us users user_ends) i
-      ++ holders-relimited S Group id limits moment gs groups group_ends i)
-      ∙ sym (split (with_ends_of (with_limits_of S Group id limits) moment) (relimited_holder Group id limits))
 
 -- the posting has the record at its slot with new limits
 abbrev pub HasLimits : List KeptHolder → ℕ → Limits → State → ℕ → Posting → Type 0
@@ -80,53 +59,102 @@ posted-limits os slot id limits S moment q by_id there has = by (slice_get os sl
                 ap (λ a. record o { account = a }) (ap (λ p. p.account) is ∙ ap (λ p. with_limits p.account limits S.graces moment) one)
             test false other = refl
 
+-- and stands where its principal does
+pub placed-limits : (os : List KeptHolder) (slot id : ℕ) (limits : Limits) (graces : Graces) (moment : ℕ) (q : Posting) → IsSlotOf os slot id
+    → IfSome (slice_get os slot) (λ o. q ≡ record { slot = slot; id = o.id; account = with_limits o.account limits graces moment })
+    → IsSlotOf os q.slot q.id
+placed-limits os slot id limits graces moment q there has = by (slice_get os slot) refl has
+  where
+    by : (x : Option KeptHolder) → slice_get os slot ≡ x
+        → IfSome x (λ o. q ≡ record { slot = slot; id = o.id; account = with_limits o.account limits graces moment }) → IsSlotOf os q.slot q.id
+    by None none is = let missing = sym (ap (option_map (λ p. p.id)) none) ∙ there in cc
+    by (Some o) found is = subst (λ (p : Posting). IsSlotOf os p.slot p.id) (sym is) (ap (option_map (λ p. p.id)) found)
+
+-- a bill with one posting is for its books, where that stands in its place
+pub placed-only : (b : Books) (kind : Kind) (q : Posting) (bill : Bill) → ((other : Kind) → postings_in other bill ≡ only_in kind q other)
+    → IsSlotOf (ledger_in kind b) q.slot q.id → IsBillFor b bill
+placed-only b kind q bill only there = record { users = placed User; groups = placed Group }
+  where
+    to : (other : Kind) (same : Bool) → is_same_kind kind other ≡ same → IsPlaced (ledger_in other b) (cond same (Some q) None)
+    to other true e = subst (λ k. IsSlotOf (ledger_in k b) q.slot q.id) (same_kind kind other e) there
+    to other false e = tt
+
+    placed : (other : Kind) → ArePlaced (ledger_in other b) (postings_in other bill)
+    placed other = subst (ArePlaced (ledger_in other b)) (sym (only other)) (record { from = tt; to = to other (is_same_kind kind other) refl; apart = tt })
+
 -- no posting of a kind changes none of it
 none-posted : (os : List KeptHolder) → map (posted (record { from = None; to = None })) os ≡ os
 none-posted os = post-none os
 
-module _ (S : State) (b : Books) (books : AreBooksOf S b) (lawful : IsLawful S) (in_range : AreInRange b) (slot id : ℕ) (limits : Limits) (moment : ℕ)
-    (q : Posting) where
-  -- what is kept stays so where only the kept holders changed, and their holders as the state's did
-  kept-along : (kind : Kind) (us gs : List KeptHolder) → map (with_ends_of (with_limits_of S kind id limits) moment)
-      (map (relimited_holder kind id limits) (holders_in b.users b.groups)) ≡ holders_in us gs
-      → All (IsCountedIn (ends_after (with_limits_of S kind id limits) moment) User) us
-      → All (IsCountedIn (ends_after (with_limits_of S kind id limits) moment) Group) gs
-      → AreBooksOf (ends_after (with_limits_of S kind id limits) moment) (record b { users = us; groups = gs })
-  kept-along kind us gs holders users groups = record {
+-- the records of one kind under new limits for one id, and those of any other as they are
+abbrev relimited_in : State → Kind → ℕ → Limits → ℕ → Kind → List KeptHolder → List KeptHolder
+relimited_in S kind id limits moment other os = cond (is_same_kind kind other) (map (relimited_kept id limits S.graces moment) os) os
+
+module _ (S : State) (b : Books) (books : AreBooksOf S b) (lawful : IsLawful S) (in_range : AreInRange b) (kind : Kind) (slot id : ℕ) (limits : Limits)
+    (moment : ℕ) (q : Posting) (bill : Bill) (only : (other : Kind) → postings_in other bill ≡ only_in kind q other)
+    (there : IsSlotOf (ledger_in kind b) slot id) (has : HasLimits (ledger_in kind b) slot limits S moment q) where
+  -- the state after the call
+  abbrev after : State
+  after = ends_after (with_limits_of S kind id limits) moment
+
+  -- what the bill makes of the records of a kind
+  posted-kind : (other : Kind) → map (posted (postings_in other bill)) (ledger_in other b) ≡ relimited_in S kind id limits moment other (ledger_in other b)
+  posted-kind other =
+      ap (λ p. map (posted p) (ledger_in other b)) (only other) ∙ by (is_same_kind kind other) refl
+    where
+      by : (same : Bool) → is_same_kind kind other ≡ same
+          → map (posted (record { from = None; to = cond same (Some q) None })) (ledger_in other b)
+          ≡ cond same (map (relimited_kept id limits S.graces moment) (ledger_in other b)) (ledger_in other b)
+      by true e =
+          let one : kind ≡ other = same_kind kind other e in
+          posted-limits (ledger_in other b) slot id limits S moment q (by_id-in b in_range other)
+          (subst (λ k. IsSlotOf (ledger_in k b) slot id) one there) (subst (λ k. HasLimits (ledger_in k b) slot limits S moment q) one has)
+      by false e = none-posted (ledger_in other b)
+
+  -- they are those of the holders under the new limits, with the ends that then stand
+  holders-kind : (other : Kind) → map (holder_in other) (relimited_in S kind id limits moment other (ledger_in other b))
+      ≡ map (with_ends_of (with_limits_of S kind id limits) moment) (map (relimited_holder kind id limits) (map (holder_in other) (ledger_in other b)))
+  holders-kind other = by (is_same_kind kind other) refl
+    where
+      by : (same : Bool) → is_same_kind kind other ≡ same
+          → map (holder_in other) (cond same (map (relimited_kept id limits S.graces moment) (ledger_in other b)) (ledger_in other b))
+          ≡ map (with_ends_of (with_limits_of S kind id limits) moment) (map (relimited_holder kind id limits) (map (holder_in other) (ledger_in other b)))
+      by true e =
+          subst (λ k. map (holder_in k) (map (relimited_kept id limits S.graces moment) (ledger_in k b))
+          ≡ map (with_ends_of (with_limits_of S kind id limits) moment) (map (relimited_holder kind id limits) (map (holder_in k) (ledger_in k b))))
+          (same_kind kind other e)
+          (holders-relimited S kind id limits moment (ledger_in kind b) (books.counted kind) (ledger-ends S b books lawful kind))
+      by false e =
+          sym (other-holders-relimited S kind id limits moment other e (ledger_in other b) (books.counted other) (ledger-ends S b books lawful other))
+
+  -- and they are counted
+  counted-kind : (other : Kind) → All (IsCountedIn after other) (relimited_in S kind id limits moment other (ledger_in other b))
+  counted-kind other = by (is_same_kind kind other) refl
+    where
+      by : (same : Bool) → is_same_kind kind other ≡ same
+          → All (IsCountedIn after other) (cond same (map (relimited_kept id limits S.graces moment) (ledger_in other b)) (ledger_in other b))
+      by true e =
+          subst (λ k. All (IsCountedIn after k) (map (relimited_kept id limits S.graces moment) (ledger_in k b))) (same_kind kind other e)
+          (counted-relimited-ends S kind id limits moment S.graces (ledger_in kind b) (books.counted kind))
+      by false e = counted-same S after other (ledger_in other b) refl (books.counted other)
+
+  -- so the books after the bill are those of the state after the call
+  pub limits-settled : bill.blocks ≡ b.blocks → bill.inodes ≡ b.inodes → AreBooksOf after (settled bill b)
+  limits-settled blocks inodes = record {
     size = books.size;
     most_inodes = books.most_inodes;
     graces = books.graces;
-    holders = ap (λ hs. map (with_ends_of (with_limits_of S kind id limits) moment) (map (relimited_holder kind id limits) hs)) books.holders ∙ holders;
-    users_counted = users;
-    groups_counted = groups;
-    blocks = books.blocks;
-    inodes = books.inodes;
+    holders = ap (λ hs. map (with_ends_of (with_limits_of S kind id limits) moment) (map (relimited_holder kind id limits) hs)) books.holders
+        ∙ ap (map (with_ends_of (with_limits_of S kind id limits) moment))
+        (map-across (relimited_holder kind id limits) (λ other. map (holder_in other) (ledger_in other b)))
+        ∙ map-across (with_ends_of (with_limits_of S kind id limits) moment)
+        (λ other. map (relimited_holder kind id limits) (map (holder_in other) (ledger_in other b)))
+        ∙ across-same
+        (λ other. map (with_ends_of (with_limits_of S kind id limits) moment)
+        (map (relimited_holder kind id limits) (map (holder_in other) (ledger_in other b))))
+        (λ other. map (holder_in other) (ledger_in other (settled bill b)))
+        (λ other. sym (holders-kind other) ∙ ap (map (holder_in other)) (sym (posted-kind other) ∙ sym (settled-in bill b other)));
+    counted = λ other. subst (All (IsCountedIn after other)) (sym (posted-kind other) ∙ sym (settled-in bill b other)) (counted-kind other);
+    blocks = blocks ∙ books.blocks;
+    inodes = inodes ∙ books.inodes;
   }
-
-  -- new limits of a user
-  pub user-limits : IsSlotOf b.users slot id → HasLimits b.users slot limits S moment q
-      → AreBooksOf (ends_after (with_limits_of S User id limits) moment)
-      (settled (record { users = record { from = None; to = Some q }; groups = record { from = None; to = None }; blocks = b.blocks; inodes = b.inodes }) b)
-  user-limits there has =
-      let users = posted-limits b.users slot id limits S moment q in_range.users there has in
-      subst (λ (k : Books). AreBooksOf (ends_after (with_limits_of S User id limits) moment) k)
-      (λ i. record b { users = sym users i; groups = sym (none-posted b.groups) i })
-      (kept-along User (map (relimited_kept id limits S.graces moment) b.users) b.groups
-      (sym (all-holders-relimited-user S id limits moment b.users b.groups books.users_counted books.groups_counted
-      (ledger-ends S b books lawful User) (ledger-ends S b books lawful Group)))
-      (counted-relimited-ends S User id limits moment S.graces b.users books.users_counted)
-      (counted-same S (ends_after (with_limits_of S User id limits) moment) Group b.groups refl books.groups_counted))
-
-  -- and of a group
-  pub group-limits : IsSlotOf b.groups slot id → HasLimits b.groups slot limits S moment q
-      → AreBooksOf (ends_after (with_limits_of S Group id limits) moment)
-      (settled (record { users = record { from = None; to = None }; groups = record { from = None; to = Some q }; blocks = b.blocks; inodes = b.inodes }) b)
-  group-limits there has =
-      let groups = posted-limits b.groups slot id limits S moment q in_range.groups there has in
-      subst (λ (k : Books). AreBooksOf (ends_after (with_limits_of S Group id limits) moment) k)
-      (λ i. record b { users = sym (none-posted b.users) i; groups = sym groups i })
-      (kept-along Group b.users (map (relimited_kept id limits S.graces moment) b.groups)
-      (sym (all-holders-relimited-group S id limits moment b.users b.groups books.users_counted books.groups_counted
-      (ledger-ends S b books lawful User) (ledger-ends S b books lawful Group)))
-      (counted-same S (ends_after (with_limits_of S Group id limits) moment) User b.users refl books.users_counted)
-      (counted-relimited-ends S Group id limits moment S.graces b.groups books.groups_counted))

@@ -9,11 +9,12 @@ use Rattle.qrules.specs.Account.{Account, HasEnds}
 use Rattle.qrules.specs.Grace.{end_after, with_limits}
 use Rattle.qplain.specs.State.{Holder, State}
 use Rattle.qplain.specs.Use.{account_of}
-use Rattle.qplain.specs.Arguments.{is_holder, is_same_kind}
+use Rattle.qrules.specs.Kinds.{is_same_kind}
+use Rattle.qplain.specs.Arguments.{is_holder}
 use Rattle.qplain.specs.Decision.{ends_after, with_ends_of}
 use Rattle.qplain.specs.Quotas.{relimited, with_limits_of}
 use Rattle.qplain_laws.proofs.Ends.{holders-same, with_ends_of-same}
-use Rattle.qplain_laws.proofs.Start.{same_kind-refl}
+use Rattle.qrules.proofs.Ranks.{same_kind-refl}
 use Rattle.qstore_accounts.specs.declared.kept_holder.KeptHolder.{KeptHolder}
 use Rattle.qstore_accounts.specs.KeptHolders.{IsCountedIn, holder_in}
 use Rattle.qstore_accounts.proofs.Counted.{account_of-counted, counted-same, ends-in-counted}

@@ -6,14 +6,14 @@ use Rattle.qrules.specs.declared.kind.Kind.{Kind}
 use Rattle.qrules.specs.declared.record.TheConstants.{MAX_USE}
 use Rattle.qrules.specs.Sort.{Sort, Inodes, Blocks}
 use Rattle.qplain.specs.State.{Inode, State}
-use Rattle.qplain.specs.Use.{owner, use_of, weight}
+use Rattle.qplain.specs.Use.{belongs_to, is_id, owner, use_of, weight}
 use Rattle.qplain_laws.specs.Replaces.{charge_of, weight_of}
 use Rattle.qplain_laws.proofs.Replacing.{use-le-total}
 use Rattle.qstore_accounts.specs.declared.claim.OwnerClaim.{OwnerClaim}
 use Rattle.qstore_accounts.specs.declared.claim.Weight.{Weight}
 use Rattle.qstore_accounts.specs.declared.kept_holder.KeptHolder.{KeptHolder}
 use Rattle.qstore_accounts.specs.Claims.{IsShareOf, nothing, weight_at}
-use Rattle.qstore_accounts.specs.KeptHolders.{AreById, IsCountedIn, IsSlotOf}
+use Rattle.qstore_accounts.specs.KeptHolders.{AreById, IsCountedIn, IsSlotFor, IsSlotOf}
 use Rattle.qstore_accounts.specs.Ledgers.{IsLedgerReplacement, apart}
 use Rattle.qstore_accounts.proofs.ById.{above-first, above-slot, by_id-rest, slot-below}
 
@@ -49,9 +49,17 @@ pub taken-at : (os : List KeptHolder) (kind : Kind) (share : Option OwnerClaim) 
     → AreById os → IsShareOf os kind share inode → slice_get os slot ≡ Some o → part sort (weight_at share slot) ≡ charge_of kind o.id sort inode
 taken-at os kind None None slot o Inodes by_id is there = refl
 taken-at os kind None None slot o Blocks by_id is there = refl
-taken-at os kind None (Some inode) slot o sort by_id is there = cc
+taken-at os kind None (Some inode) slot o sort by_id is there = by (owner kind inode.owners) is
+  where
+    none : (s : Sort) → part s nothing ≡ 0
+    none Inodes = refl
+    none Blocks = refl
+
+    by : (w : Option ℕ) → IsSlotFor os None w → part sort nothing ≡ cond (is_id o.id w) (weight sort inode) 0
+    by None is = none sort
+    by (Some id) is = cc
 taken-at os kind (Some share) None slot o sort by_id is there = cc
-taken-at os kind (Some share) (Some inode) slot o sort by_id is there = by (share.slot == slot) (owner kind inode == o.id) refl refl
+taken-at os kind (Some share) (Some inode) slot o sort by_id is there = owned (owner kind inode.owners) is.slot
   where
     weighs : (s : Sort) → part s share.weight ≡ weight s inode
     weighs Inodes = is.weight.inodes
@@ -64,23 +72,28 @@ taken-at os kind (Some share) (Some inode) slot o sort by_id is there = by (shar
     own : IsSlotOf os slot o.id
     own = ap (option_map (λ p. p.id)) there
 
-    by : (b c : Bool) → (share.slot == slot) ≡ b → (owner kind inode == o.id) ≡ c
+    by : (id : ℕ) → IsSlotOf os share.slot id → (b c : Bool) → (share.slot == slot) ≡ b → (id == o.id) ≡ c
         → part sort (cond b share.weight nothing) ≡ cond c (weight sort inode) 0
-    by true true e f = weighs sort
-    by false false e f = none sort
-    by true false e f =
+    by id placed true true e f = weighs sort
+    by id placed false false e f = none sort
+    by id placed true false e f =
         let same : share.slot ≡ slot = grind (arith, tests) in
-        let id : o.id ≡ owner kind inode = id-there os slot (owner kind inode) o (subst (λ n. IsSlotOf os n (owner kind inode)) same is.slot) there in
+        let is_id : o.id ≡ id = id-there os slot id o (subst (λ n. IsSlotOf os n id) same placed) there in
         absurd (grind (arith, tests))
-    by false true e f =
-        let id : owner kind inode ≡ o.id = grind (arith, tests) in
-        let same : share.slot ≡ slot = slot-once os share.slot slot o.id by_id (subst (λ n. IsSlotOf os share.slot n) id is.slot) own in
+    by id placed false true e f =
+        let is_id : id ≡ o.id = grind (arith, tests) in
+        let same : share.slot ≡ slot = slot-once os share.slot slot o.id by_id (subst (λ n. IsSlotOf os share.slot n) is_id placed) own in
         absurd (grind (arith, tests))
+
+    owned : (w : Option ℕ) → IsSlotFor os (Some share.slot) w
+        → part sort (cond (share.slot == slot) share.weight nothing) ≡ cond (is_id o.id w) (weight sort inode) 0
+    owned None placed = cc
+    owned (Some id) placed = by id placed (share.slot == slot) (id == o.id) refl refl
 
 -- a principal is charged no more than the inode weighs
 charge-le : (kind : Kind) (id : ℕ) (sort : Sort) (inode : Option Inode) → charge_of kind id sort inode ≤ weight_of sort inode
 charge-le kind id sort None = omega arith
-charge-le kind id sort (Some inode) = by (owner kind inode == id)
+charge-le kind id sort (Some inode) = by (belongs_to kind id inode)
   where
     by : (b : Bool) → cond b (weight sort inode) 0 ≤ weight sort inode
     by true = omega arith
@@ -131,7 +144,11 @@ pub share-below : (os : List KeptHolder) (kind : Kind) (share : Option OwnerClai
     → IfSome share (λ s. s.slot < length os)
 share-below os kind None inode is = tt
 share-below os kind (Some share) None is = cc
-share-below os kind (Some share) (Some inode) is = slot-below os share.slot (owner kind inode) is.slot
+share-below os kind (Some share) (Some inode) is = by (owner kind inode.owners) is.slot
+  where
+    by : (w : Option ℕ) → IsSlotFor os (Some share.slot) w → share.slot < length os
+    by None placed = cc
+    by (Some id) placed = slot-below os share.slot id placed
 
 -- and so is the slot of the one that is given up, where it has another record
 pub apart-below : (os : List KeptHolder) (from to : Option OwnerClaim) → IfSome from (λ s. s.slot < length os)

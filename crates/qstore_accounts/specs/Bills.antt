@@ -1,5 +1,7 @@
 -- What a bill makes of the books.
-use Rattle.std.specs.Prelude.{◌==◌, if◌then◌else◌, List, map, Option, Some, None, IfSome}
+use Rattle.std.specs.Prelude.{◌≢◌, ◌==◌, if◌then◌else◌, List, map, Option, Some, None, IfSome}
+use Rattle.qrules.specs.declared.kind.Kind.{Kind}
+use Rattle.qrules.specs.Kinds.{by_kind, is_same_kind}
 use Rattle.qstore_accounts.specs.declared.bill.Bill.{Bill}
 use Rattle.qstore_accounts.specs.declared.bill.Posting.{Posting}
 use Rattle.qstore_accounts.specs.declared.bill.Postings.{Postings}
@@ -25,6 +27,14 @@ post (Some p) o = if p.id == o.id then record o { account = p.account } else o
 abbrev pub posted : Postings → KeptHolder → KeptHolder
 posted p o = post p.to (post p.from o)
 
+-- the postings of a kind
+abbrev pub postings_in : Kind → Bill → Postings
+postings_in kind bill = by_kind bill.users bill.groups kind
+
+-- this posting for its kind, and none for any other
+abbrev pub only_in : Kind → Posting → Kind → Postings
+only_in kind posting other = record { from = None; to = if is_same_kind kind other then Some posting else None }
+
 -- the books after a bill
 abbrev pub settled : Bill → Books → Books
 settled bill b = record b {
@@ -38,10 +48,11 @@ settled bill b = record b {
 abbrev pub IsPlaced : List KeptHolder → Option Posting → Type 0
 IsPlaced holders posting = IfSome posting (λ p. IsSlotOf holders p.slot p.id)
 
--- both postings of a kind do
+-- both postings of a kind do, and they are of two records
 pub record ArePlaced (holders : List KeptHolder) (p : Postings) : Type 0 where
   pub from : IsPlaced holders p.from
   pub to : IsPlaced holders p.to
+  pub apart : IfSome p.from (λ f. IfSome p.to (λ t. f.slot ≢ t.slot))
 
 -- the bill is for these books
 pub record IsBillFor (b : Books) (bill : Bill) : Type 0 where

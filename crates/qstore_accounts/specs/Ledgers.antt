@@ -4,6 +4,7 @@ use Rattle.std.specs.Option.{option_and_then, option_map}
 use Rattle.std.specs.List.{slice_get}
 use Rattle.qrules.specs.declared.kind.Kind.{Kind}
 use Rattle.qrules.specs.declared.graces.Graces.{Graces}
+use Rattle.qrules.specs.declared.graces.TheConstants.{MAX_GRACE, MAX_MOMENT}
 use Rattle.qrules.specs.declared.record.TheConstants.{MAX_USE}
 use Rattle.qrules.specs.declared.record_row.RecordRow.{RecordRow}
 use Rattle.qrules.specs.Sort.{Sort}
@@ -22,6 +23,12 @@ use Rattle.qstore_accounts.specs.declared.claim.OwnerClaim.{OwnerClaim}
 use Rattle.qstore_accounts.specs.declared.kept_holder.KeptHolder.{KeptHolder}
 use Rattle.qstore_accounts.specs.Claims.{IsShareOf}
 use Rattle.qstore_accounts.specs.KeptHolders.{IsCountedIn, IsSlotOf, holder_in}
+
+-- the moment and the graces by which ends are made are in their ranges
+pub record AreTimesInRange (graces : Graces) (moment : ℕ) : Type 0 where
+  pub time : moment ≤ MAX_MOMENT
+  pub block : graces.block ≤ MAX_GRACE
+  pub inode : graces.inode ≤ MAX_GRACE
 
 -- a declared principal in a new store: id 0 has the root directory, and any other uses nothing
 abbrev pub new_holder : Graces → Principal → KeptHolder

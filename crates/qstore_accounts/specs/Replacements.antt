@@ -1,13 +1,13 @@
 -- A call that asks for its bill: in the new state one inode stands where another stood, or none.
 use Rattle.std.specs.Prelude.{◌≤◌, ◌^◌, Option}
-use Rattle.std.specs.Option.{option_map}
-use Rattle.qrules.specs.declared.kind.Kind.TheVariants.{User, Group}
+use Rattle.std.specs.Option.{option_and_then}
+use Rattle.qrules.specs.declared.kind.Kind.{Kind}
 use Rattle.qrules.specs.Sort.{Blocks}
 use Rattle.qplain.specs.State.{Inode, State}
 use Rattle.qplain_laws.specs.Laws.{IsLawful}
 use Rattle.qplain_laws.specs.Replaces.{Replaces, weight_of}
 use Rattle.qstore_accounts.specs.declared.claim.Claim.{Claim}
-use Rattle.qstore_accounts.specs.Books.{AreBooksOf, Books}
+use Rattle.qstore_accounts.specs.Books.{AreBooksOf, Books, ledger_in}
 use Rattle.qstore_accounts.specs.Claims.{IsShareOf, share_in}
 
 -- for the books: they are those of the old, lawful state, and the claims are what the two inodes take
@@ -15,8 +15,6 @@ pub record IsReplacement (b : Books) (from to : Option Claim) (S S1 : State) (f 
   pub lawful : IsLawful S
   pub books : AreBooksOf S b
   pub replaces : Replaces S S1 f t
-  pub users_from : IsShareOf b.users User (option_map (share_in User) from) f
-  pub users_to : IsShareOf b.users User (option_map (share_in User) to) t
-  pub groups_from : IsShareOf b.groups Group (option_map (share_in Group) from) f
-  pub groups_to : IsShareOf b.groups Group (option_map (share_in Group) to) t
+  pub lost : (kind : Kind) → IsShareOf (ledger_in kind b) kind (option_and_then (share_in kind) from) f
+  pub gained : (kind : Kind) → IsShareOf (ledger_in kind b) kind (option_and_then (share_in kind) to) t
   pub few : weight_of Blocks t ≤ 2 ^ 32

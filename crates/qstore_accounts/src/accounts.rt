@@ -2,6 +2,7 @@
 ghost use Rattle.std.specs.Prelude.{◌≡◌, ℕ, ◌+◌, ◌≤◌, ◌||◌, nat_lt, map, None, Some, Option, IfOk, IfErr, OnOk, IfSome, is_some, option_copied, true};
 ghost use Rattle.std.specs.Option.{option_map, option_or};
 ghost use Rattle.std.specs.List.{AllPairs, find};
+ghost use Rattle.qrules.specs.declared.kind.Kind.{Kind};
 ghost use Rattle.qrules.specs.declared.kind.Kind.TheVariants.{User, Group};
 ghost use Rattle.qrules.specs.Range.{are_graces_in_range};
 ghost use Rattle.qplain.specs.State.{Inode, State, start};
@@ -10,15 +11,14 @@ ghost use Rattle.qplain.specs.Quotas.{with_limits_of};
 ghost use Rattle.qplain.specs.Decision.{ends_after, refusal_between};
 ghost use Rattle.qplain_laws.specs.Laws.{IsLawful};
 ghost use Rattle.qstore_accounts.specs.KeptHolders.{IsCountedIn, IsSlotOf, holder_in};
-ghost use Rattle.qstore_accounts.specs.Claims.{share_in};
 ghost use Rattle.qstore_accounts.specs.Books.{AreBooksOf, AreInRange, ledger_in};
-ghost use Rattle.qstore_accounts.specs.Bills.{IsBillFor, settled};
+ghost use Rattle.qstore_accounts.specs.Bills.{IsBillFor, only_in, postings_in, settled};
 ghost use Rattle.qstore_accounts.specs.Replacements.{IsReplacement};
 ghost use Rattle.qstore_accounts.specs.Ledgers.{refusal_of};
 ghost use Rattle.qstore_accounts.specs.Decisions.{bill_refusal, IsBillOf};
 ghost use Rattle.qstore_accounts.specs.Rows.{StandsBefore, record_row_of};
 
-use crate::bill::{Bill, Postings};
+use crate::bill::{Bill, Posting, Postings};
 use crate::claim::{Claim, share_of, weight_of};
 use crate::kept_holder::KeptHolder;
 use crate::ledger::Ledger;
@@ -214,29 +214,26 @@ impl Accounts {
             → AreBooksOf (ends_after (with_limits_of S kind id limits) moment) (settled result self.now) }
         ensures placed { IsBillFor self.now result }
     {
-        match kind {
-            Kind::User => {
-                let posting = self.users.relimited(slot, limits, self.graces, moment);
-                self.bill_with(Postings::only(posting), Postings::none())
-            }
-            Kind::Group => {
-                let posting = self.groups.relimited(slot, limits, self.graces, moment);
-                self.bill_with(Postings::none(), Postings::only(posting))
-            }
-        }
+        let posting = self
+            .ledger(kind)
+            .relimited(slot, limits, self.graces, moment);
+        self.bill_with(kind, posting)
     }
 
-    /// A bill that leaves the totals.
-    fn bill_with(&self, users: Postings, groups: Postings) -> Bill
-        ensures { result
-            ≡ record { users = users; groups = groups; blocks = self.now.blocks; inodes = self.now.inodes } }
+    /// A bill that leaves the totals and all records but one.
+    fn bill_with(&self, kind: Kind, posting: Posting) -> Bill
+        ensures postings { (other : Kind) → postings_in other result ≡ only_in kind posting other }
+        ensures blocks { result.blocks ≡ self.now.blocks }
+        ensures inodes { result.inodes ≡ self.now.inodes }
     {
-        Bill {
-            users,
-            groups,
-            blocks: self.blocks,
-            inodes: self.inodes,
+        let mut bill = Bill::empty();
+        bill.blocks = self.blocks;
+        bill.inodes = self.inodes;
+        match kind {
+            Kind::User => bill.users = Postings::only(posting),
+            Kind::Group => bill.groups = Postings::only(posting),
         }
+        bill
     }
 
     /// Puts the records and totals of a bill in their places. It takes no memory and always succeeds.

@@ -1,13 +1,8 @@
 //! What a granted call makes of the accounts.
-ghost use Rattle.std.specs.Prelude.{◌≡◌, ◌+◌, ◌++◌, ◌<◌, ◌≤◌, ◌^◌, None, Some, IfSome, vec_len, vec_capacity};
-ghost use Rattle.std.specs.Option.{option_map};
+ghost use Rattle.std.specs.Prelude.{◌≡◌, None, Some};
 ghost use Rattle.qstore_accounts.specs.Bills.{no_bill};
-ghost use Rattle.qstore_accounts.specs.Boards.{placed_row};
-ghost use Rattle.qstore_accounts.specs.Pushed.{placed_in};
 
-use crate::kept_holder::board_row;
-use qplain::PlacedRow;
-use qrules::{Kind, Record};
+use qrules::Record;
 
 /// A record as it will be, and where it stands.
 #[derive(Clone, Copy)]
@@ -68,27 +63,5 @@ impl Postings {
             from: None,
             to: Some(posting),
         }
-    }
-}
-
-/// Puts the row of a posting's record in its place, after N rows of others, after these rows, if there is a
-/// posting.
-pub(crate) fn push_placed(
-    rows: &mut Vec<PlacedRow>,
-    kind: Kind,
-    before: usize,
-    posting: &Option<Posting>,
-)
-    requires room { vec_len rows.old < vec_capacity rows.old }
-    requires place { IfSome posting.now (λ p. before + p.slot < 2 ^ 64) }
-    ensures rows { rows.new.items ≡ rows.old.items ++ placed_in (option_map (placed_row kind before) posting.now) }
-    ensures few { vec_len rows.new ≤ vec_len rows.old + 1 }
-    ensures room { vec_capacity rows.new ≡ vec_capacity rows.old }
-{
-    if let Some(posting) = posting {
-        rows.push_reserved(PlacedRow {
-            place: before + posting.slot,
-            row: board_row(kind, posting.id, &posting.account),
-        });
     }
 }

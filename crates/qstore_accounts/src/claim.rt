@@ -1,7 +1,7 @@
 //! What an inode takes, and from whose records.
 ghost use Rattle.std.specs.Prelude.{◌≡◌, ◌+◌, ◌-◌, ◌==◌};
-ghost use Rattle.std.specs.Option.{option_map};
-ghost use Rattle.qstore_accounts.specs.Claims.{share_in, weight_in, weight_at};
+ghost use Rattle.std.specs.Option.{option_and_then};
+ghost use Rattle.qstore_accounts.specs.Claims.{share_in, slot_in, weight_in, weight_at};
 ghost use Rattle.qstore_accounts.specs.Ledgers.{apart};
 
 use qplain::Change;
@@ -63,20 +63,36 @@ pub(crate) fn weight_of(claim: Option<Claim>) -> Weight
     }
 }
 
-/// What a claim takes of the record of a kind.
-pub(crate) fn share_of(kind: Kind, claim: Option<Claim>) -> Option<OwnerClaim>
-    ensures { result ≡ option_map (share_in kind) claim }
+/// Where the record of the owner of a kind stands, if there is one.
+fn slot_of(kind: Kind, slots: Slots) -> Option<usize>
+    ensures { result ≡ slot_in kind slots }
 {
-    match (kind, claim) {
-        (_, None) => None,
-        (Kind::User, Some(claim)) => Some(OwnerClaim {
-            slot: claim.slots.user,
+    match kind {
+        Kind::User => Some(slots.user),
+        Kind::Group => Some(slots.group),
+    }
+}
+
+/// What a claim takes of the record of a kind, if its inode has an owner of that kind.
+fn share_in(kind: Kind, claim: Claim) -> Option<OwnerClaim>
+    ensures { result ≡ share_in kind claim }
+{
+    match slot_of(kind, claim.slots) {
+        Some(slot) => Some(OwnerClaim {
+            slot,
             weight: claim.weight,
         }),
-        (Kind::Group, Some(claim)) => Some(OwnerClaim {
-            slot: claim.slots.group,
-            weight: claim.weight,
-        }),
+        None => None,
+    }
+}
+
+/// What a claim takes of the record of a kind, where an inode stands or none.
+pub(crate) fn share_of(kind: Kind, claim: Option<Claim>) -> Option<OwnerClaim>
+    ensures { result ≡ option_and_then (share_in kind) claim }
+{
+    match claim {
+        Some(claim) => share_in(kind, claim),
+        None => None,
     }
 }
 

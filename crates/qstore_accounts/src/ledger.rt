@@ -9,13 +9,13 @@ ghost use Rattle.qplain.specs.State.{Inode, State};
 ghost use Rattle.qstore_accounts.specs.KeptHolders.{AreById, IsSlotOf};
 ghost use Rattle.qstore_accounts.specs.Bills.{ArePlaced, post, posted};
 ghost use Rattle.qstore_accounts.specs.Boards.{board_row_of};
-ghost use Rattle.qstore_accounts.specs.Ledgers.{ArePosted, holder_row, IsFinal, IsHolderAt, IsLedgerReplacement, new_holder, refusal_of};
+ghost use Rattle.qstore_accounts.specs.Ledgers.{ArePosted, AreTimesInRange, holder_row, IsFinal, IsHolderAt, IsLedgerReplacement, new_holder, refusal_of};
 
 use crate::bill::{Posting, Postings};
 use crate::claim::{OwnerClaim, apart, weight_at};
 use crate::kept_holder::{KeptHolder, board_row, new_holder};
 use qplain::{NoMemory, Principal, Refusal};
-use qrules::{BoardRow, Graces, Kind, Limits, MAX_GRACE, MAX_MOMENT, RecordRow};
+use qrules::{BoardRow, Graces, Kind, Limits, MAX_GRACE, RecordRow};
 use std::alloc::Global;
 use std::marker::Model;
 
@@ -97,9 +97,7 @@ impl Ledger {
         moment: u64,
     ) -> Posting
         requires slot { slot < length self.now }
-        requires moment { moment ≤ MAX_MOMENT }
-        requires block_grace { graces.block ≤ MAX_GRACE }
-        requires inode_grace { graces.inode ≤ MAX_GRACE }
+        requires times { AreTimesInRange graces moment }
         requires replacement { (kind : Kind) × (S : State) × (S1 : State) × (f : Option Inode) × (t : Option Inode)
             × IsLedgerReplacement self.now kind from to S S1 f t }
         ensures posting { (kind : Kind) (S S1 : State) (f t : Option Inode)
@@ -130,9 +128,7 @@ impl Ledger {
         posting: &mut Option<Posting>,
     )
         requires slot { IfSome share (λ s. s.slot < length self.now) }
-        requires moment { moment ≤ MAX_MOMENT }
-        requires block_grace { graces.block ≤ MAX_GRACE }
-        requires inode_grace { graces.inode ≤ MAX_GRACE }
+        requires times { AreTimesInRange graces moment }
         requires replacement { (kind : Kind) × (S : State) × (S1 : State) × (f : Option Inode) × (t : Option Inode)
             × IsLedgerReplacement self.now kind from to S S1 f t }
         ensures posting { (kind : Kind) (S S1 : State) (f t : Option Inode)
@@ -156,9 +152,7 @@ impl Ledger {
         moment: u64,
         postings: &mut Postings,
     )
-        requires moment { moment ≤ MAX_MOMENT }
-        requires block_grace { graces.block ≤ MAX_GRACE }
-        requires inode_grace { graces.inode ≤ MAX_GRACE }
+        requires times { AreTimesInRange graces moment }
         requires replacement { (kind : Kind) × (S : State) × (S1 : State) × (f : Option Inode) × (t : Option Inode)
             × IsLedgerReplacement self.now kind from to S S1 f t }
         ensures { (kind : Kind) (S S1 : State) (f t : Option Inode)
@@ -184,9 +178,7 @@ impl Ledger {
         moment: u64,
     ) -> Posting
         requires slot { slot < length self.now }
-        requires moment { moment ≤ MAX_MOMENT }
-        requires block_grace { graces.block ≤ MAX_GRACE }
-        requires inode_grace { graces.inode ≤ MAX_GRACE }
+        requires times { AreTimesInRange graces moment }
         ensures posting { IfSome (slice_get self.now slot) (λ o. result
             ≡ record { slot = slot; id = o.id; account = with_limits o.account limits graces moment }) }
     {

@@ -1,22 +1,72 @@
 //! What boards show of the accounts, and what a bill does to them.
-ghost use Rattle.std.specs.Prelude.{◌≡◌, ◌≤◌, ◌+◌, map, vec_len, vec_capacity, IfOk};
+ghost use Rattle.std.specs.Prelude.{◌≡◌, ◌≤◌, ◌<◌, ◌+◌, ◌^◌, ◌++◌, List, length, vec_len, vec_capacity, IfOk};
+ghost use Rattle.qplain.specs.declared.placed_row.PlacedRow.{PlacedRow};
 ghost use Rattle.qplain.specs.State.{State};
-ghost use Rattle.qplain.specs.Journal.{row_of};
+ghost use Rattle.qplain.specs.Boards.{rows_of};
 ghost use Rattle.qstore_accounts.specs.Books.{AreBooksOf};
-ghost use Rattle.qstore_accounts.specs.Bills.{IsBillFor, settled};
+ghost use Rattle.qstore_accounts.specs.Bills.{ArePlaced, IsBillFor, IsPlaced, settled};
+ghost use Rattle.qstore_accounts.specs.Boards.{ArePut, IsPut};
 ghost use Rattle.qstore_accounts.specs.Pushed.{IsPushed};
 
 use crate::accounts::Accounts;
-use crate::bill::{Bill, push_placed};
-use qplain::{NoMemory, PlacedRow};
+use crate::bill::{Bill, Posting, Postings};
+use crate::kept_holder::board_row;
+use crate::ledger::Ledger;
+use qplain::{MAX_CHANGED_ROWS, NoMemory, PlacedRow};
 use qrules::{BoardRow, Kind};
 use std::alloc::Global;
+
+/// Puts the row of a posting's record in its place, after N rows of others, after these rows, if there is a posting
+/// and another record stands there.
+fn push_changed(
+    ledger: &Ledger,
+    kind: Kind,
+    before: usize,
+    posting: &Option<Posting>,
+    rows: &mut Vec<PlacedRow>,
+)
+    requires placed { IsPlaced ledger.now posting.now }
+    requires place { before + length ledger.now < 2 ^ 64 }
+    requires room { vec_len rows.old < vec_capacity rows.old }
+    ensures rows { (placed : List PlacedRow) × (rows.new.items ≡ rows.old.items ++ placed)
+        × IsPut ledger.now kind before posting.now placed }
+    ensures few { vec_len rows.new ≤ vec_len rows.old + 1 }
+    ensures room { vec_capacity rows.new ≡ vec_capacity rows.old }
+{
+    if let Some(posting) = posting {
+        if ledger.at(posting.slot).account != posting.account {
+            rows.push_reserved(PlacedRow {
+                place: before + posting.slot,
+                row: board_row(kind, posting.id, &posting.account),
+            });
+        }
+    }
+}
+
+/// Puts the rows that the postings of a kind change after these rows.
+fn push_changes(
+    ledger: &Ledger,
+    kind: Kind,
+    before: usize,
+    postings: &Postings,
+    rows: &mut Vec<PlacedRow>,
+)
+    requires placed { ArePlaced ledger.now postings.now }
+    requires place { before + length ledger.now < 2 ^ 64 }
+    requires room { vec_len rows.old + 2 ≤ vec_capacity rows.old }
+    ensures rows { (placed : List PlacedRow) × (rows.new.items ≡ rows.old.items ++ placed)
+        × ArePut ledger.now kind before postings.now placed }
+    ensures few { vec_len rows.new ≤ vec_len rows.old + 2 }
+    ensures room { vec_capacity rows.new ≡ vec_capacity rows.old }
+{
+    push_changed(ledger, kind, before, &postings.from, rows);
+    push_changed(ledger, kind, before, &postings.to, rows);
+}
 
 impl Accounts {
     /// The rows of a board: users by id, then groups by id. O(n), as many as are declared.
     pub fn board_rows(&self, alloc: Global) -> Result<Vec<BoardRow>, NoMemory>
-        ensures { IfOk result (λ rows. (S : State) → AreBooksOf S self.now
-            → rows.items ≡ map (row_of S) S.holders) }
+        ensures { IfOk result (λ rows. (S : State) → AreBooksOf S self.now → rows.items ≡ rows_of S) }
     {
         let mut rows = Vec::new(alloc);
         self.users.push_board_rows(Kind::User, &mut rows)?;
@@ -24,17 +74,15 @@ impl Accounts {
         Ok(rows)
     }
 
-    /// Puts the rows that a bill changes on a board after others, of which there is room for four. O(1).
+    /// Puts the rows that a bill changes on a board after others, where there is room for all that may be. O(1).
     pub fn push_changed_rows(&self, bill: &Bill, rows: &mut Vec<PlacedRow>)
         requires placed { IsBillFor self.now bill.now }
-        requires room { vec_len rows.old + 4 ≤ vec_capacity rows.old }
+        requires room { vec_len rows.old + MAX_CHANGED_ROWS ≤ vec_capacity rows.old }
         ensures { (S S1 : State) → AreBooksOf S self.now → AreBooksOf S1 (settled bill.now self.now)
             → IsPushed S rows.old.items rows.new.items S1 }
     {
         let users = self.users.len();
-        push_placed(rows, Kind::User, 0, &bill.users.from);
-        push_placed(rows, Kind::User, 0, &bill.users.to);
-        push_placed(rows, Kind::Group, users, &bill.groups.from);
-        push_placed(rows, Kind::Group, users, &bill.groups.to);
+        push_changes(&self.users, Kind::User, 0, &bill.users, rows);
+        push_changes(&self.groups, Kind::Group, users, &bill.groups, rows);
     }
 }

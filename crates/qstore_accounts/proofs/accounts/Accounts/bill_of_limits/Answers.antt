@@ -1,30 +1,32 @@
-use Rattle.std.proofs.Common.{◌≡◌, subst}
+use Rattle.std.proofs.Common.{◌≡◌, List, ap, subst, ◌∙◌}
 use Rattle.qrules.specs.declared.graces.Graces.{Graces}
 use Rattle.qrules.specs.Grace.{with_limits}
 use Rattle.std.specs.Option.{IfSome}
 use Rattle.std.specs.List.{slice_get}
-use Rattle.qstore_accounts.specs.Kept.{books_of}
-use Rattle.qstore_accounts.proofs.Relimited.{group-limits, user-limits}
+use Rattle.qstore_accounts.specs.declared.kept_holder.KeptHolder.{KeptHolder}
+use Rattle.qstore_accounts.specs.Books.{AreInRange, Books}
+use Rattle.qstore_accounts.proofs.Relimited.{limits-settled, placed-limits, placed-only}
 use Rattle.qstore_accounts.proofs.accounts.Accounts.bill_of_limits.Goals as goal
 
-pub returns-in-User-clause-books : goal.returns-in-User-clause-books
-returns-in-User-clause-books c =
-    rw (c.bill_with.ensures, c.only.ensures, c.none.ensures, c.in-User.is, ← c.self.view_is) (λ S id there lawful books.
+pub returns-clause-books : goal.returns-clause-books
+returns-clause-books c S id there lawful books =
     let x = c.args in
-    let b = books_of c.self.inside in
     let q = c.relimited-posting.result in
-    user-limits S b books lawful c.self.invariant x.slot id x.limits x.moment q there
-    (subst (λ (graces : Graces). IfSome (slice_get b.users x.slot)
-    (λ o. q ≡ record { slot = x.slot; id = o.id; account = with_limits o.account x.limits graces x.moment }))
-    books.graces c.relimited-posting.ensures.posting))
+    let graces = ap (λ (b : Books). b.graces) c.self.view_is ∙ books.graces in
+    limits-settled S x.self.now books lawful (subst AreInRange c.self.view_is c.self.invariant) x.kind x.slot id x.limits x.moment q c.bill_with.result
+    c.bill_with.ensures.postings there
+    (subst (λ (os : List KeptHolder). IfSome (slice_get os x.slot)
+    (λ o. q ≡ record { slot = x.slot; id = o.id; account = with_limits o.account x.limits S.graces x.moment })) c.ledger.ensures
+    (subst (λ (g : Graces). IfSome (slice_get c.ledger.result.now x.slot)
+    (λ o. q ≡ record { slot = x.slot; id = o.id; account = with_limits o.account x.limits g x.moment })) graces c.relimited-posting.ensures.posting))
+    c.bill_with.ensures.blocks c.bill_with.ensures.inodes
 
-pub returns-in-Group-clause-books : goal.returns-in-Group-clause-books
-returns-in-Group-clause-books c =
-    rw (c.bill_with-in-Group.ensures, c.only-in-Group.ensures, c.none-in-Group.ensures, c.in-Group.is, ← c.self.view_is) (λ S id there lawful books.
+pub returns-clause-placed : goal.returns-clause-placed
+returns-clause-placed c =
     let x = c.args in
-    let b = books_of c.self.inside in
-    let q = c.relimited-posting-in-Group.result in
-    group-limits S b books lawful c.self.invariant x.slot id x.limits x.moment q there
-    (subst (λ (graces : Graces). IfSome (slice_get b.groups x.slot)
-    (λ o. q ≡ record { slot = x.slot; id = o.id; account = with_limits o.account x.limits graces x.moment }))
-    books.graces c.relimited-posting-in-Group.ensures.posting))
+    let q = c.relimited-posting.result in
+    placed-only x.self.now x.kind q c.bill_with.result c.bill_with.ensures.postings
+    (placed-limits _ x.slot c.requires.slot.0 x.limits c.self.inside.graces x.moment q c.requires.slot.1
+    (subst (λ (os : List KeptHolder). IfSome (slice_get os x.slot)
+    (λ o. q ≡ record { slot = x.slot; id = o.id; account = with_limits o.account x.limits c.self.inside.graces x.moment })) c.ledger.ensures
+    c.relimited-posting.ensures.posting))

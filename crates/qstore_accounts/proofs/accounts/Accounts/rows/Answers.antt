@@ -1,6 +1,10 @@
 use Rattle.std.proofs.Common.{◌++◌, map, sym, ap, subst, ◌∙◌}
 use Rattle.std.specs.List.{AllPairs}
 use Rattle.qrules.specs.declared.kind.Kind.TheVariants.{User, Group}
+use Rattle.qrules.proofs.Ranks.{each_kind}
+use Rattle.qstore_accounts.specs.KeptHolders.{AreById}
+use Rattle.qstore_accounts.specs.Books.{ledger_in}
+use Rattle.qstore_accounts.specs.Kept.{books_of}
 use Rattle.qstore_accounts.specs.Ledgers.{holder_row}
 use Rattle.qstore_accounts.specs.Rows.{StandsBefore, record_row_of}
 use Rattle.qstore_accounts.proofs.Counted.{all-rows}
@@ -13,11 +17,12 @@ returns-clause-rows c = rw (← c.self.view_is) (λ S books.
     c.in_ok-push_rows-2.ensures.rows
     ∙ ap (λ rows. rows ++ map (holder_row Group) a.groups) (c.in_ok-push_rows.ensures.rows
     ∙ ap (λ rows. rows ++ map (holder_row User) a.users) c.new-rows.ensures.items)
-    ∙ all-rows S a.users a.groups books.users_counted books.groups_counted
+    ∙ all-rows S (λ kind. ledger_in kind (books_of a)) books.counted
     ∙ ap (map (record_row_of S)) (sym books.holders))
 
 pub returns-clause-by_id : goal.returns-clause-by_id
 returns-clause-by_id c = rw (← c.self.view_is) (λ S books.
-    let a = c.self.inside in
+    let b = books_of c.self.inside in
     subst (AllPairs StandsBefore) (sym books.holders)
-    (in_order-holders a.users a.groups c.in_ok-push_rows.ensures.by_id c.in_ok-push_rows-2.ensures.by_id))
+    (in_order-holders (λ kind. ledger_in kind b)
+    (each_kind (λ kind. AreById (ledger_in kind b)) c.in_ok-push_rows.ensures.by_id c.in_ok-push_rows-2.ensures.by_id)))

@@ -2,15 +2,19 @@ use Rattle.std.proofs.Common.{◌≡◌, ℕ, ◌+◌, ◌-◌, List, Option, sy
 use Rattle.qrules.specs.declared.kind.Kind.{Kind}
 use Rattle.qrules.specs.declared.kind.Kind.TheVariants.{User, Group}
 use Rattle.qrules.specs.Sort.{Inodes, Blocks}
+use Rattle.qrules.proofs.Ranks.{each_kind}
 use Rattle.qplain.specs.State.{State}
 use Rattle.qstore_accounts.specs.declared.bill.Postings.{Postings}
 use Rattle.qstore_accounts.specs.declared.claim.OwnerClaim.{OwnerClaim}
 use Rattle.qstore_accounts.specs.declared.kept_holder.KeptHolder.{KeptHolder}
-use Rattle.qstore_accounts.specs.Books.{Books}
+use Rattle.std.specs.Option.{option_and_then}
+use Rattle.qrules.specs.Kinds.{by_kind}
+use Rattle.qstore_accounts.specs.Books.{Books, ledger_in}
+use Rattle.qstore_accounts.specs.Claims.{share_in}
 use Rattle.qstore_accounts.specs.Kept.{books_of}
 use Rattle.qstore_accounts.specs.Replacements.{IsReplacement}
 use Rattle.qstore_accounts.specs.Ledgers.{ArePosted}
-use Rattle.qstore_accounts.proofs.Booked.{groups-replaced, total-then, users-replaced}
+use Rattle.qstore_accounts.proofs.Booked.{replaced, total-then}
 use Rattle.qstore_accounts.proofs.accounts.Accounts.write_bill.Goals as goal
 
 pub write_postings-requires-clause-replacement : goal.write_postings-requires-clause-replacement
@@ -24,7 +28,7 @@ write_postings-requires-clause-replacement c =
       r.2,
       r.3,
       rw (c.share_of-user.ensures, c.share_of-next_user.ensures)
-          (users-replaced (books_of c.self.inside) x.from x.to r.0 r.1 r.2 r.3 c.self.invariant inside),
+          (replaced (books_of c.self.inside) x.from x.to r.0 r.1 r.2 r.3 c.self.invariant inside User),
     )
 
 pub write_postings-requires-2-clause-replacement : goal.write_postings-requires-2-clause-replacement
@@ -38,7 +42,7 @@ write_postings-requires-2-clause-replacement c =
       r.2,
       r.3,
       rw (c.share_of-group.ensures, c.share_of-next_group.ensures)
-          (groups-replaced (books_of c.self.inside) x.from x.to r.0 r.1 r.2 r.3 c.self.invariant inside),
+          (replaced (books_of c.self.inside) x.from x.to r.0 r.1 r.2 r.3 c.self.invariant inside Group),
     )
 
 pub returns-clause-in_range : goal.returns-clause-in_range
@@ -50,20 +54,22 @@ posted-shares : (os : List KeptHolder) (kind : Kind) (S1 : State) (moment : ℕ)
 posted-shares os kind S1 moment p {f} {f1} {t} {t1} from to done = subst (λ s. ArePosted os kind S1 moment s t1 p) from
     (subst (λ s. ArePosted os kind S1 moment f s p) to done)
 
--- the records of both kinds and the totals are those of the new state
+-- the records of all kinds and the totals are those of the new state
 pub returns-clause-bill : goal.returns-clause-bill
 returns-clause-bill c = rw (← c.self.view_is) (λ S S1 f t r.
     let x = c.args in
     let b = books_of c.self.inside in
-    let users = users-replaced b x.from x.to S S1 f t c.self.invariant r in
-    let groups = groups-replaced b x.from x.to S S1 f t c.self.invariant r in
+    let of_kind = replaced b x.from x.to S S1 f t c.self.invariant r in
     let gained = c.weight_of-gained.ensures in
     let lost = c.weight_of-lost.ensures in
     record {
-      users = posted-shares b.users User S1 x.moment c.write_postings.new.postings c.share_of-user.ensures c.share_of-next_user.ensures
-          (c.write_postings.ensures User S S1 f t (rw (c.share_of-user.ensures, c.share_of-next_user.ensures) users) (sym r.books.graces));
-      groups = posted-shares b.groups Group S1 x.moment c.write_postings-2.new.postings c.share_of-group.ensures c.share_of-next_group.ensures
-          (c.write_postings-2.ensures Group S S1 f t (rw (c.share_of-group.ensures, c.share_of-next_group.ensures) groups) (sym r.books.graces));
+      posted = each_kind (λ kind. ArePosted (ledger_in kind b) kind S1 x.moment (option_and_then (share_in kind) x.from)
+          (option_and_then (share_in kind) x.to)
+          (by_kind c.write_postings.new.postings c.write_postings-2.new.postings kind))
+          (posted-shares b.users User S1 x.moment c.write_postings.new.postings c.share_of-user.ensures c.share_of-next_user.ensures
+          (c.write_postings.ensures User S S1 f t (rw (c.share_of-user.ensures, c.share_of-next_user.ensures) (of_kind User)) (sym r.books.graces)))
+          (posted-shares b.groups Group S1 x.moment c.write_postings-2.new.postings c.share_of-group.ensures c.share_of-next_group.ensures
+          (c.write_postings-2.ensures Group S S1 f t (rw (c.share_of-group.ensures, c.share_of-next_group.ensures) (of_kind Group)) (sym r.books.graces)));
       blocks = (λ i. r.books.blocks i + (gained i).blocks - (lost i).blocks) ∙ total-then b x.from x.to S S1 f t r Blocks;
       inodes = (λ i. r.books.inodes i + (gained i).inodes - (lost i).inodes) ∙ total-then b x.from x.to S S1 f t r Inodes;
     })
