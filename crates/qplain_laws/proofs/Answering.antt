@@ -7,6 +7,7 @@ use Rattle.qblocks.specs.File.{read_at}
 use Rattle.qplain.specs.declared.call.Call.{Call}
 use Rattle.qplain.specs.declared.call.Call.TheVariants.{Create, Mkdir, Write, Truncate, Read, Stat as AskStat, Link, Unlink, Rmdir, Rename, Chown, SetQuota, SetGrace, Quota as AskQuota}
 use Rattle.qplain.specs.declared.bounds.TheConstants.{ROOT}
+use Rattle.qplain.specs.declared.owners.Owners.{Owners}
 use Rattle.qplain.specs.declared.refusal.Refusal.{Refusal}
 use Rattle.qplain.specs.declared.refusal.Refusal.TheVariants.{EBUSY, EINVAL, ENAMETOOLONG, ENOENT, ENOTDIR, ENOTEMPTY, EEXIST, EISDIR, EACCES, EFBIG, EMLINK, EPERM, ESRCH}
 use Rattle.qplain.specs.declared.reply.Reply.{Reply}
@@ -55,15 +56,15 @@ sweeps S names = record {
 }
 
 -- other owners leave the totals
-given : (S : State) (number : ℕ) (inode : Inode) (uid gid : ℕ) → inode_at S number ≡ Some inode
-    → KeepsSettings S (with_inode S number (with_owners inode uid gid))
-    × ((sort : Sort) → total_of (with_inode S number (with_owners inode uid gid)) sort ≡ total_of S sort)
-given S number inode uid gid there = (record { holders = refl; graces = refl }, (λ sort. by sort))
+given : (S : State) (number : ℕ) (inode : Inode) (owners : Owners) → inode_at S number ≡ Some inode
+    → KeepsSettings S (with_inode S number (with_owners inode owners))
+    × ((sort : Sort) → total_of (with_inode S number (with_owners inode owners)) sort ≡ total_of S sort)
+given S number inode owners there = (record { holders = refl; graces = refl }, (λ sort. by sort))
   where
-    replaces : Replaces S (with_inode S number (with_owners inode uid gid)) (Some inode) (Some (with_owners inode uid gid))
-    replaces = Replaces-changed S number inode (with_owners inode uid gid) there
+    replaces : Replaces S (with_inode S number (with_owners inode owners)) (Some inode) (Some (with_owners inode owners))
+    replaces = Replaces-changed S number inode (with_owners inode owners) there
 
-    by : (sort : Sort) → total_of (with_inode S number (with_owners inode uid gid)) sort ≡ total_of S sort
+    by : (sort : Sort) → total_of (with_inode S number (with_owners inode owners)) sort ≡ total_of S sort
     by Inodes = let sum = replaces.totals Inodes in omega (arith, sum)
     by Blocks = let sum = replaces.totals Blocks in omega (arith, sum)
 

@@ -1,21 +1,22 @@
 -- What one call changes, and what it leaves as it was.
-use Rattle.std.specs.Prelude.{◌≡◌, ◌≢◌, ℕ, ◌+◌, Bool, true, false, ◌&&◌, ◌==◌, List, [], ◌∷◌, All, Option, Some, None, Ok}
+use Rattle.std.specs.Prelude.{◌≡◌, ◌≢◌, ℕ, ◌+◌, ◌*◌, Bool, true, false, ◌&&◌, ◌==◌, List, [], ◌∷◌, length, All, Option, Some, None, Ok}
 use Rattle.std.specs.List.{find}
 use Rattle.std.specs.Option.{option_map}
 use Rattle.qrules.specs.declared.kind.Kind.{Kind}
+use Rattle.qrules.specs.Kinds.{is_same_kind, kinds}
 use Rattle.qrules.specs.declared.limits.Limits.{Limits}
 use Rattle.qrules.specs.declared.over.Over.{Over}
 use Rattle.qrules.specs.Sort.{Sort, Inodes, Blocks, grace_of}
 use Rattle.qrules.specs.Account.{Account}
 use Rattle.qplain.specs.declared.call.Call.{Call}
 use Rattle.qplain.specs.declared.call.Call.TheVariants.{Create, Mkdir, Read, Stat, Link, Unlink, Rmdir, Rename, Chown, SetQuota, SetGrace, Quota}
+use Rattle.qplain.specs.declared.placed_row.TheConstants.{MAX_CHANGED_ROWS}
 use Rattle.qplain.specs.declared.refusal.Refusal.TheVariants.{EDQUOT}
 use Rattle.qplain.specs.declared.reply.Reply.TheVariants.{Refused}
 use Rattle.qplain.specs.Caller.{Caller, is_superuser}
 use Rattle.qplain.specs.State.{Holder, State, inode_at, named}
 use Rattle.qplain.specs.Use.{account_of, use_of}
 use Rattle.qplain.specs.Walk.{components, last_name, parent}
-use Rattle.qrules.specs.Kinds.{is_same_kind}
 use Rattle.qplain.specs.Arguments.{is_holder}
 use Rattle.qplain.specs.Attempt.{no_change}
 use Rattle.qplain.specs.Journal.{change_of}
@@ -106,6 +107,10 @@ pub record TouchesOnly (old new : State) (call : Call) (number : ℕ) : Type 0 w
 abbrev pub OneInodeIsTouched : Type 0
 OneInodeIsTouched = (S : State) (cred : Caller) (moment : ℕ) (call : Call) → IsLawful S
     → (number : ℕ) × TouchesOnly S (step S cred moment call).0 call number
+
+-- the most rows of a board that a call changes: of each kind the old owner's and the new one's
+abbrev pub TwoRowsOfEachKind : Type 0
+TwoRowsOfEachKind = MAX_CHANGED_ROWS ≡ 2 * length kinds
 
 -- the call only gives, moves or takes names: link, unlink, rmdir or rename
 abbrev pub is_of_names : Call → Bool

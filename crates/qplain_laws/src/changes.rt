@@ -3,7 +3,7 @@ ghost use Rattle.qplain_laws.specs.Bytes.{BytesAreCut, BytesAreRead, BytesAreWri
 ghost use Rattle.qplain_laws.specs.Done.{DoneIsDone};
 ghost use Rattle.qplain_laws.specs.Told.{BytesAreTrue, QuotasAreTrue, StatsAreTrue};
 ghost use Rattle.qplain_laws.specs.Sizes.{FilesStayRightSized, StartIsRightSized};
-ghost use Rattle.qplain_laws.specs.Changes.{AskingChangesNothing, GracesRunOn, NamesCostNothing, OneInodeIsTouched, OtherNamesStay, SettingsStay, SuperuserMeetsNoQuota, TotalsAreMoved};
+ghost use Rattle.qplain_laws.specs.Changes.{AskingChangesNothing, GracesRunOn, NamesCostNothing, OneInodeIsTouched, OtherNamesStay, SettingsStay, SuperuserMeetsNoQuota, TotalsAreMoved, TwoRowsOfEachKind};
 
 /// Read, stat and quota, which only ask, leave the state as it is.
 pub fn asking_changes_nothing()
@@ -27,9 +27,11 @@ pub fn graces_run_on()
 {}
 
 /// From a lawful state a call touches one inode, if any: every other number has what it had, each use rises and falls
-/// by what that one takes and took, and whom it charges as before keeps the record, unless the call sets limits.
+/// by what that one takes and took, and whom it charges as before keeps the record, unless the call sets limits. So of
+/// each kind it changes the records of two principals at most.
 pub fn one_inode_is_touched()
-    ensures { OneInodeIsTouched }
+    ensures touched { OneInodeIsTouched }
+    ensures rows { TwoRowsOfEachKind }
 {}
 
 /// From a lawful state every name leads where it led, but the last names of the paths that a call changes: of a create,
