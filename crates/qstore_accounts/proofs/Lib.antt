@@ -9,6 +9,7 @@ pub mod Holders
 pub mod RecordOrder
 pub mod Begun
 pub mod Shares
+pub mod Claimed
 pub mod Posted
 pub mod Relimits
 pub mod Booked
