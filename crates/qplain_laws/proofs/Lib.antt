@@ -56,6 +56,7 @@ pub mod Sizing
 pub mod Reading
 pub mod Costless
 pub mod LinksFirst
+pub mod RefusalOrder
 pub mod Overwriting
 pub mod NamesApart
 pub mod OtherNames

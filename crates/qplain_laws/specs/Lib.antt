@@ -5,6 +5,7 @@ pub mod Done
 pub mod Told
 pub mod Sizes
 pub mod Bytes
+pub mod Refusals
 pub mod Order
 pub mod Journals
 pub mod Examples

@@ -1,4 +1,5 @@
 //! The laws of the plain machine, each the contract of a function that does nothing when it runs.
+ghost use Rattle.qplain_laws.specs.Refusals.{RefusalsComeInOrder};
 ghost use Rattle.qplain_laws.specs.Order.{LinksComeFirst, OverwritesAreGranted};
 ghost use Rattle.qplain_laws.specs.Laws.{AllStayReached, EndsAreTheRules, EndsStay, GivingBackIsGranted, LimitsHold, LimitsStay, NewLimitsAreTheRules, NumbersGoOn, OwnersHold, RefusalsChangeNothing, RightsHold, SetupsStay, StartIsLawful, StartIsReached, StepsStayLawful, UsersAndGroupsStand, UsesAddUp};
 
@@ -25,6 +26,12 @@ pub fn limits_hold()
 /// quota: whoever is over a limit may give back, and names cost nothing.
 pub fn giving_back_is_granted()
     ensures { GivingBackIsGranted }
+{}
+
+/// Refusals come in the order of the tests of each call: first what is wrong with its arguments, then the first test
+/// that fails; what passes them all is refused only for a limit, and for want of space before any quota.
+pub fn refusals_come_in_order()
+    ensures { RefusalsComeInOrder }
 {}
 
 /// From a lawful state a mkdir that is refused for want of space or of quota had links left in its parent: EMLINK comes

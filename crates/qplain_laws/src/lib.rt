@@ -12,8 +12,8 @@ pub use examples::{
 pub use journals::{changes_are_small, journals_stay_lawful, tallies_add_up};
 pub use laws::{
     ends_stay, giving_back_is_granted, holders_keep_the_rules, inodes_stay_reached, limits_hold,
-    links_come_first, numbers_go_on, overwrites_are_granted, refusals_change_nothing, rights_hold,
-    setups_stay, stores_stay_lawful, uses_add_up,
+    links_come_first, numbers_go_on, overwrites_are_granted, refusals_change_nothing,
+    refusals_come_in_order, rights_hold, setups_stay, stores_stay_lawful, uses_add_up,
 };
 
 mod changes;

@@ -85,11 +85,7 @@ pub fn make(tree: &mut Tree, next: u64, alloc: Global, change: TreeChange, bytes
         → (changed S change bytes.now).next ≡ result }
 {
     match change {
-        TreeChange::Create {
-            dir,
-            name,
-            owners,
-        } => {
+        TreeChange::Create { dir, name, owners } => {
             tree.add_file(next, dir, name, owners, alloc);
             return next + 1;
         }
@@ -99,11 +95,7 @@ pub fn make(tree: &mut Tree, next: u64, alloc: Global, change: TreeChange, bytes
         TreeChange::Truncate { number, size } => {
             tree.truncate(number, size);
         }
-        TreeChange::Mkdir {
-            dir,
-            name,
-            owners,
-        } => {
+        TreeChange::Mkdir { dir, name, owners } => {
             add_directory(tree, next, alloc, dir, name, owners);
             return next + 1;
         }

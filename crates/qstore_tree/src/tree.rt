@@ -49,7 +49,10 @@ impl Tree {
         ensures links { IfOk result (λ t. t.links ≡ (ROOT, 2) ∷ []) }
     {
         let mut nodes = HashMap::new(alloc);
-        nodes.insert(ROOT, Node::new_directory(alloc, seed, Owners { uid: 0, gid: 0 }))?;
+        nodes.insert(
+            ROOT,
+            Node::new_directory(alloc, seed, Owners { uid: 0, gid: 0 }),
+        )?;
         Ok(Tree { nodes, seed })
     }
 

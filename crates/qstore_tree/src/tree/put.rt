@@ -74,14 +74,7 @@ impl Tree {
 
     /// Puts a new file under a new number and a new name, for which there is room. It takes no
     /// memory and always succeeds.
-    pub fn add_file(
-        &mut self,
-        number: u64,
-        dir: u64,
-        name: String,
-        owners: Owners,
-        alloc: Global,
-    )
+    pub fn add_file(&mut self, number: u64, dir: u64, name: String, owners: Owners, alloc: Global)
         requires room { HasRoomFor self.old dir }
         requires absent { lookup (is_at (nat_cmp number)) self.old.inodes ≡ None }
         requires unnamed { lookup (is_at (name_key_cmp (dir, string_bytes name))) self.old.names ≡ None }
