@@ -1,8 +1,9 @@
 -- The plain results of the calls that change inodes, and what stands where then.
-use Rattle.std.proofs.Common.{◌≡◌, ℕ, ◌+◌, ◌^◌, ◌<◌, ◌≤◌, ◌==◌, ⊎_elim, Bool, true, false, not, ◌&&◌, ◌||◌, unwrap_or, nat_lt, cond, List, [], ◌∷◌, length, Option, None, Some, refl, sym, ap, subst, ◌∙◌, arith}
-use Rattle.std.proofs.lemmas.Bool.{cases_lt}
+use Rattle.std.proofs.Common.{◌≡◌, ℕ, ◌+◌, ◌^◌, ◌<◌, ◌≤◌, ◌==◌, ⊎_elim, Bool, true, false, not, ◌&&◌, ◌||◌, nat_lt, cond, List, [], ◌∷◌, length, Option, None, Some, refl, sym, ap, subst, ◌∙◌, arith}
+use Rattle.std.proofs.lemmas.Bool.{and_from, cases_lt}
 use Rattle.qrules.specs.Sort.{Blocks}
 use Rattle.qblocks.specs.File.{Adds, File, MoreBlocks, after_truncate, after_write, blocks_of, with_touched}
+use Rattle.qplain.specs.declared.owners.Owners.{Owners}
 use Rattle.qplain.specs.declared.refusal.Refusal.TheVariants.{EACCES, EFBIG, EISDIR, EPERM}
 use Rattle.qplain.specs.declared.reply.Reply.TheVariants.{Done}
 use Rattle.qrules.specs.declared.kind.Kind.TheVariants.{User, Group}
@@ -11,12 +12,12 @@ use Rattle.qplain.specs.Attempt.{Answer, Becomes, Refuse, at_inode, at_reached, 
 use Rattle.qplain.specs.Caller.{Caller}
 use Rattle.qplain.specs.Files.{truncate_at, with_file, with_inode, write_into}
 use Rattle.qplain.specs.Names.{created, swept, unlink_as, unlink_at, without_name}
-use Rattle.qplain.specs.Owners.{give, with_owners}
+use Rattle.qplain.specs.Owners.{give, renewed, with_owners}
 use Rattle.qplain.specs.Rights.{may_give, may_remove, may_write}
 use Rattle.qplain.specs.State.{Inode, State, inode_at, named, new_directory, new_file}
 use Rattle.qplain.specs.Use.{links_of, weight}
 use Rattle.qplain.specs.Walk.{led_to}
-use Rattle.qplain_laws.specs.Laws.{FitsTogether}
+use Rattle.qplain_laws.specs.Laws.{AreKnown, FitsTogether}
 use Rattle.qplain_laws.proofs.Settling.{absent-next}
 use Rattle.qplain_laws.proofs.Removing.{Replaces-last, Replaces-more, links_of-unlinked}
 use Rattle.qplain_laws.proofs.Replacing.{Replaces-changed, Replaces-created}
@@ -31,11 +32,13 @@ use Rattle.qstore.specs.declared.store.write.Target.{Target}
 use Rattle.qstore.specs.Kept.{state_of, stored_of}
 use Rattle.qstore.specs.FileTypes.{inode_new}
 use Rattle.qstore.specs.Targets.{IsTarget}
-use Rattle.qstore.specs.Decided.{IsAsked, IsClaimed}
-use Rattle.qstore.specs.Requests.{IsConsistent}
+use Rattle.qstore.specs.Decided.{IsAsked}
+use Rattle.qstore.specs.Requests.{IsConsistent, are_declared}
 use Rattle.qstore_change.specs.Changes.{altered, altered_at}
 use Rattle.qstore.specs.Stored.{IsSameStore, Stored}
-use Rattle.qstore.proofs.Deciding.{asked-for, claimed, claimed-again, unclaimed}
+use Rattle.qstore_accounts.specs.Replacements.{IsClaimed}
+use Rattle.qstore_accounts.proofs.Claimed.{claimed, claimed-again, unclaimed}
+use Rattle.qstore.proofs.Deciding.{asked-for}
 
 -- ---- the tests
 
@@ -65,35 +68,40 @@ unlink-becomes S cred dir name number inode led there file may =
     ∙ (λ i. cond (file i) (Refuse EISDIR) (cond (not (may i)) (Refuse EPERM) (Becomes (swept (without_name S dir name)) number)))
 
 -- and a change of owners
-pub give-becomes : (S : State) (cred : Caller) (uid gid number : ℕ) (inode : Inode) → may_give cred inode uid gid ≡ true
-    → give S cred uid gid number inode ≡ Becomes (with_inode S number (with_owners inode uid gid)) number
-give-becomes S cred uid gid number inode may =
-    λ i. cond (not (may i)) (Refuse EPERM) (Becomes (with_inode S number (with_owners inode uid gid)) number)
+pub give-becomes : (S : State) (cred : Caller) (owners : Owners) (number : ℕ) (inode : Inode) → may_give cred inode owners ≡ true
+    → give S cred owners number inode ≡ Becomes (with_inode S number (with_owners inode owners)) number
+give-becomes S cred owners number inode may =
+    λ i. cond (not (may i)) (Refuse EPERM) (Becomes (with_inode S number (with_owners inode owners)) number)
 
 -- and is refused to who may not give it
-pub give-refused : (S : State) (cred : Caller) (uid gid number : ℕ) (inode : Inode) → may_give cred inode uid gid ≡ false
-    → give S cred uid gid number inode ≡ Refuse EPERM
-give-refused S cred uid gid number inode may =
-    λ i. cond (not (may i)) (Refuse EPERM) (Becomes (with_inode S number (with_owners inode uid gid)) number)
+pub give-refused : (S : State) (cred : Caller) (owners : Owners) (number : ℕ) (inode : Inode) → may_give cred inode owners ≡ false
+    → give S cred owners number inode ≡ Refuse EPERM
+give-refused S cred owners number inode may =
+    λ i. cond (not (may i)) (Refuse EPERM) (Becomes (with_inode S number (with_owners inode owners)) number)
+
+-- owners that are known are declared
+pub known-declared : (S : State) (owners : Owners) → AreKnown S owners → are_declared S owners ≡ true
+known-declared S owners known = and_from (is_declared S User owners.uid) (is_declared S Group owners.gid) (known User) (known Group)
 
 -- owners that are named and declared, or that are not named, are declared
-pub named-declared : (S : State) (uid gid : Option ℕ) (u g : ℕ) → (is_undeclared S User uid || is_undeclared S Group gid) ≡ false
-    → (is_declared S User u && is_declared S Group g) ≡ true
-    → (is_declared S User (unwrap_or uid u) && is_declared S Group (unwrap_or gid g)) ≡ true
-named-declared S None None u g none own = own
-named-declared S (Some a) None u g none own = by (is_declared S User a) (is_declared S User u) (is_declared S Group g) none own
+pub named-declared : (S : State) (uid gid : Option ℕ) (owners : Owners) → (is_undeclared S User uid || is_undeclared S Group gid) ≡ false
+    → are_declared S owners ≡ true → are_declared S (renewed uid gid owners) ≡ true
+named-declared S None None owners none own = own
+named-declared S (Some a) None owners none own =
+    by (is_declared S User a) (is_declared S User owners.uid) (is_declared S Group owners.gid) none own
   where
     by : (p q r : Bool) → (not p || false) ≡ false → (q && r) ≡ true → (p && r) ≡ true
     by true true r n o = o
     by true false r n o = cc
     by false q r n o = cc
-named-declared S None (Some b) u g none own = by (is_declared S Group b) (is_declared S User u) (is_declared S Group g) none own
+named-declared S None (Some b) owners none own =
+    by (is_declared S Group b) (is_declared S User owners.uid) (is_declared S Group owners.gid) none own
   where
     by : (p q r : Bool) → not p ≡ false → (q && r) ≡ true → (q && p) ≡ true
     by true true r n o = refl
     by true false r n o = cc
     by false q r n o = cc
-named-declared S (Some a) (Some b) u g none own = by (is_declared S User a) (is_declared S Group b) none
+named-declared S (Some a) (Some b) owners none own = by (is_declared S User a) (is_declared S Group b) none
   where
     by : (p q : Bool) → (not p || not q) ≡ false → (p && q) ≡ true
     by true true n = refl
@@ -161,7 +169,7 @@ pub resized-asked : (s : Stored) → IsConsistent s → (number : ℕ) (inode : 
 resized-asked s whole number inode file there from to blocks claimed is same few =
     changed-asked s whole number inode (record inode { file = file }) there from to claimed
     (subst (λ (c : Claim). IsClaimed s.books (Some c) (Some (record inode { file = file }))) (sym is)
-    (claimed-again s.books from blocks inode (record inode { file = file }) claimed refl refl same))
+    (claimed-again s.books from blocks inode (record inode { file = file }) claimed refl same))
     (omega (arith, same, few))
 
 -- the write of a target
@@ -178,19 +186,19 @@ target-asked s whole cred path off bytes target t to is =
     (target.claim.weight.blocks + target.missing) t.claimed is (omega (arith, more, old)) (omega (arith, few, few_missing))
 
 -- a new inode of the caller's
-pub created-asked : (s : Stored) → IsConsistent s → (dir : ℕ) (name : List ℕ) (slots : Slots) (uid gid : ℕ) (sort : FileType)
-    → HasSlots s.books slots uid gid → (to : Claim) → to ≡ record { slots = slots; weight = record { blocks = 0; inodes = 1 } }
-    → IsAsked s (record { from = None; to = Some to }) 1 (created s.state (inode_new sort uid gid) dir name)
-created-asked s whole dir name slots uid gid sort has to is =
-    asked-for s whole None (Some to) 1 (created s.state (inode_new sort uid gid) dir name) None (Some (inode_new sort uid gid))
-    (Replaces-created s.state (inode_new sort uid gid) dir name (absent-next s.state whole.sound.lawful)) refl (unclaimed s.books)
-    (subst (λ (c : Claim). IsClaimed s.books (Some c) (Some (inode_new sort uid gid))) (sym is) (by sort)) (light sort)
+pub created-asked : (s : Stored) → IsConsistent s → (dir : ℕ) (name : List ℕ) (slots : Slots) (owners : Owners) (sort : FileType)
+    → HasSlots s.books slots owners → (to : Claim) → to ≡ record { slots = slots; weight = record { blocks = 0; inodes = 1 } }
+    → IsAsked s (record { from = None; to = Some to }) 1 (created s.state (inode_new sort owners) dir name)
+created-asked s whole dir name slots owners sort has to is =
+    asked-for s whole None (Some to) 1 (created s.state (inode_new sort owners) dir name) None (Some (inode_new sort owners))
+    (Replaces-created s.state (inode_new sort owners) dir name (absent-next s.state whole.sound.lawful)) refl (unclaimed s.books)
+    (subst (λ (c : Claim). IsClaimed s.books (Some c) (Some (inode_new sort owners))) (sym is) (by sort)) (light sort)
   where
-    by : (k : FileType) → IsClaimed s.books (Some (record { slots = slots; weight = record { blocks = 0; inodes = 1 } })) (Some (inode_new k uid gid))
-    by AFile = claimed s.books slots uid gid 0 (new_file uid gid) has refl refl refl
-    by Directory = claimed s.books slots uid gid 0 (new_directory uid gid) has refl refl refl
+    by : (k : FileType) → IsClaimed s.books (Some (record { slots = slots; weight = record { blocks = 0; inodes = 1 } })) (Some (inode_new k owners))
+    by AFile = claimed s.books slots 0 (new_file owners) has refl
+    by Directory = claimed s.books slots 0 (new_directory owners) has refl
 
-    light : (k : FileType) → weight Blocks (inode_new k uid gid) ≤ 2 ^ 32
+    light : (k : FileType) → weight Blocks (inode_new k owners) ≤ 2 ^ 32
     light AFile = omega arith
     light Directory = omega arith
 

@@ -28,9 +28,8 @@ use Rattle.qstore_accounts.specs.declared.bill.Bill.{Bill}
 use Rattle.qstore_accounts.specs.declared.claim.Claim.{Claim}
 use Rattle.qstore_accounts.specs.declared.claim.Slots.{Slots}
 use Rattle.qstore_accounts.specs.Bills.{IsBillFor, settled}
-use Rattle.qstore_accounts.specs.Books.{AreBooksOf, Books, HasSlots}
-use Rattle.qstore_accounts.specs.KeptHolders.{holders_in}
-use Rattle.qstore_accounts.specs.Replacements.{IsReplacement}
+use Rattle.qstore_accounts.specs.Books.{AreBooksOf, Books, holders_of}
+use Rattle.qstore_accounts.specs.Replacements.{IsClaimed, IsReplacement}
 use Rattle.qstore_accounts.proofs.Booked.{claim-weight}
 use Rattle.qstore_change.specs.declared.tree_change.TreeChange.{TreeChange}
 use Rattle.qstore_change.specs.Changes.{CanChange, changed}
@@ -39,35 +38,13 @@ use Rattle.qstore.specs.declared.ready.Plan.{Plan}
 use Rattle.qstore.specs.declared.ready.Plan.TheVariants.{Nothing, Change, Limits as SetLimits}
 use Rattle.qstore.specs.declared.ready.Ready.{Ready}
 use Rattle.qstore.specs.declared.request.Request.{Request}
-use Rattle.qstore.specs.Decided.{IsAsked, IsBilled, IsClaimed, IsDecided, IsDecision, IsUnbilled}
+use Rattle.qstore.specs.Decided.{IsAsked, IsBilled, IsDecided, IsDecision, IsUnbilled}
 use Rattle.qstore.specs.Ready.{CanCarryOut, IsRefused, billed, effect}
 use Rattle.qstore.specs.Requests.{IsConsistent}
 use Rattle.qstore.specs.Stored.{IsSameStore, Stored}
 use Rattle.qstore.specs.Told.{told}
 
 -- ---- claims
-
--- a claim on the records of an inode's owners, with its blocks, is what it takes
-pub claimed : (b : Books) (slots : Slots) (uid gid blocks : ℕ) (inode : Inode) → HasSlots b slots uid gid → inode.uid ≡ uid → inode.gid ≡ gid
-    → weight Blocks inode ≡ blocks
-    → IsClaimed b (Some (record { slots = slots; weight = record { blocks = blocks; inodes = 1 } })) (Some inode)
-claimed b slots uid gid blocks inode has u g same = record {
-  users = record { slot = has.user ∙ ap Some (sym u); weight = record { blocks = sym same; inodes = refl } };
-  groups = record { slot = has.group ∙ ap Some (sym g); weight = record { blocks = sym same; inodes = refl } };
-}
-
--- another claim on the same records, for an inode of the same owners
-pub claimed-again : (b : Books) (claim : Claim) (blocks : ℕ) (inode after : Inode) → IsClaimed b (Some claim) (Some inode)
-    → after.uid ≡ inode.uid → after.gid ≡ inode.gid → weight Blocks after ≡ blocks
-    → IsClaimed b (Some (record { slots = claim.slots; weight = record { blocks = blocks; inodes = 1 } })) (Some after)
-claimed-again b claim blocks inode after is u g same = record {
-  users = record { slot = is.users.slot ∙ ap Some (sym u); weight = record { blocks = sym same; inodes = refl } };
-  groups = record { slot = is.groups.slot ∙ ap Some (sym g); weight = record { blocks = sym same; inodes = refl } };
-}
-
--- no claim where no inode stands
-pub unclaimed : (b : Books) → IsClaimed b None None
-unclaimed b = record { users = tt; groups = tt }
 
 -- a plain result in which one inode stands where another stood is one that a bill may be asked for
 pub asked-for : (s : Stored) → IsConsistent s → (from to : Option Claim) (given : ℕ) (S1 : State) (f t : Option Inode) → Replaces s.state S1 f t
@@ -80,10 +57,8 @@ asked-for s whole from to given S1 f t replaces next lost gained few = record {
     lawful = whole.sound.lawful;
     books = whole.books;
     replaces = replaces;
-    users_from = lost.users;
-    users_to = gained.users;
-    groups_from = lost.groups;
-    groups_to = gained.groups;
+    lost = lost;
+    gained = gained;
     few = few;
   };
   next = next;
@@ -95,10 +70,10 @@ asked-for s whole from to given S1 f t replaces next lost gained few = record {
 pub told-change : (b : Books) (exchange : Exchange) (S S1 : State) (f t : Option Inode)
     → IsReplacement b exchange.from exchange.to S S1 f t → told exchange ≡ change_between S S1
 told-change b exchange S S1 f t r =
-    let lost_blocks = claim-weight b.users User exchange.from f Blocks r.users_from in
-    let lost_inodes = claim-weight b.users User exchange.from f Inodes r.users_from in
-    let blocks = claim-weight b.users User exchange.to t Blocks r.users_to in
-    let inodes = claim-weight b.users User exchange.to t Inodes r.users_to in
+    let lost_blocks = claim-weight b.users exchange.from f Blocks (r.lost User) in
+    let lost_inodes = claim-weight b.users exchange.from f Inodes (r.lost User) in
+    let blocks = claim-weight b.users exchange.to t Blocks (r.gained User) in
+    let inodes = claim-weight b.users exchange.to t Inodes (r.gained User) in
     (λ i. ◌≡◌-at (blocks i) (lost_blocks i) (inodes i) (lost_inodes i)) ∙ sym (change-after S S1 f t r.replaces)
   where
     ◌≡◌-at : (gained_blocks less_blocks gained_inodes less_inodes : ℕ) → TotalChange
@@ -187,7 +162,7 @@ module _ (old new : Stored) (same : IsSameStore old new) (request : Request) (at
         there : billed new (changed new.state change) ≡ ends_after S1 request.moment
         there =
             (λ i. record (changed (same.state i) change) {
-              holders = holders_in (settled new.bill (same.books i)).users (settled new.bill (same.books i)).groups;
+              holders = holders_of (settled new.bill (same.books i));
             })
             ∙ (λ i. record (made i) { holders = sym left.holders i })
 
@@ -237,6 +212,6 @@ decision-limits old new same request kind id limits lawful super declared books 
     left : billed new new.state ≡ ends_after (with_limits_of old.state kind id limits) request.moment
     left =
         (λ i. record (same.state i) {
-          holders = holders_in (settled new.bill (same.books i)).users (settled new.bill (same.books i)).groups;
+          holders = holders_of (settled new.bill (same.books i));
         })
         ∙ (λ i. record old.state { holders = sym books.holders i })

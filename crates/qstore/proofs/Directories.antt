@@ -1,5 +1,6 @@
 -- Directories that come and go: what is tested, and what stands where then.
 use Rattle.std.proofs.Common.{◌≡◌, ℕ, ◌+◌, Bool, true, not, nat_lt, cond, List, Some, None, refl, sym, ap, ◌∙◌, arith}
+use Rattle.qplain.specs.declared.owners.Owners.{Owners}
 use Rattle.qplain.specs.declared.bounds.TheConstants.{MAX_LINKS}
 use Rattle.qplain.specs.declared.refusal.Refusal.TheVariants.{EMLINK, ENOTDIR, ENOTEMPTY, EPERM}
 use Rattle.qplain.specs.Attempt.{Becomes, Refuse, at_inode, at_reached}
@@ -14,20 +15,22 @@ use Rattle.qplain_laws.proofs.Bounding.{too_many-directory}
 use Rattle.qplain_laws.proofs.Removing.{Replaces-last, one_name}
 use Rattle.qstore_tree.proofs.Directories.{directory-there}
 use Rattle.qstore_accounts.specs.declared.claim.Claim.{Claim}
-use Rattle.qstore.specs.Decided.{IsAsked, IsClaimed}
+use Rattle.qstore_accounts.specs.Replacements.{IsClaimed}
+use Rattle.qstore.specs.Decided.{IsAsked}
 use Rattle.qstore.specs.Requests.{IsConsistent}
 use Rattle.qstore.specs.Stored.{Stored}
-use Rattle.qstore.proofs.Deciding.{asked-for, unclaimed}
+use Rattle.qstore_accounts.proofs.Claimed.{unclaimed}
+use Rattle.qstore.proofs.Deciding.{asked-for}
 
 -- a new directory may stand where its parent's links allow it
-pub mkdir-attempt : (S : State) (uid gid dir : ℕ) (name : List ℕ) (full : Bool) → IsLawful S → named S dir name ≡ None
+pub mkdir-attempt : (S : State) (owners : Owners) (dir : ℕ) (name : List ℕ) (full : Bool) → IsLawful S → named S dir name ≡ None
     → is_directory S dir ≡ true → full ≡ nat_lt MAX_LINKS (links_of S dir true + 1)
-    → unless_too_many_links (created S (new_directory uid gid) dir name) S.next
-    ≡ cond full (Refuse EMLINK) (Becomes (created S (new_directory uid gid) dir name) S.next)
-mkdir-attempt S uid gid dir name full lawful absent stands is =
+    → unless_too_many_links (created S (new_directory owners) dir name) S.next
+    ≡ cond full (Refuse EMLINK) (Becomes (created S (new_directory owners) dir name) S.next)
+mkdir-attempt S owners dir name full lawful absent stands is =
     let parent = directory-there (inode_at S dir) stands in
-    ap (λ b. cond b (Refuse EMLINK) (Becomes (created S (new_directory uid gid) dir name) S.next))
-    (too_many-directory S (new_directory uid gid) parent.inode dir name lawful.parts absent refl parent.there parent.directory ∙ sym is)
+    ap (λ b. cond b (Refuse EMLINK) (Becomes (created S (new_directory owners) dir name) S.next))
+    (too_many-directory S (new_directory owners) parent.inode dir name lawful.parts absent refl parent.there parent.directory ∙ sym is)
 
 -- a removal that passes all tests comes to its plain result
 pub rmdir-becomes : (S : State) (cred : Caller) (dir : ℕ) (name : List ℕ) (number : ℕ) (inode : Inode) → named S dir name ≡ Some number

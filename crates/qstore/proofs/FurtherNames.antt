@@ -7,7 +7,8 @@ use Rattle.qplain_laws.proofs.Replacing.{Replaces-names}
 use Rattle.qstore.specs.Decided.{IsAsked}
 use Rattle.qstore.specs.Requests.{IsConsistent}
 use Rattle.qstore.specs.Stored.{Stored}
-use Rattle.qstore.proofs.Deciding.{asked-for, unclaimed}
+use Rattle.qstore_accounts.proofs.Claimed.{unclaimed}
+use Rattle.qstore.proofs.Deciding.{asked-for}
 
 -- no inode takes the place of another
 pub linked-asked : (s : Stored) → IsConsistent s → (dir : ℕ) (name : List ℕ) (number : ℕ)

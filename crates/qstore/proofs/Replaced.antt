@@ -10,11 +10,13 @@ use Rattle.qplain_laws.proofs.Renaming.{Replaces-held_on, Replaces-moved, Replac
 use Rattle.qstore_accounts.specs.declared.claim.Claim.{Claim}
 use Rattle.qstore_walk.specs.declared.renames.Renaming.{Renaming}
 use Rattle.qstore_walk.proofs.Renamed.{some-inode}
-use Rattle.qstore.specs.Decided.{IsAsked, IsClaimed}
+use Rattle.qstore_accounts.specs.Replacements.{IsClaimed}
+use Rattle.qstore.specs.Decided.{IsAsked}
 use Rattle.qstore.specs.Renamings.{IsRenaming, with_new_name}
 use Rattle.qstore.specs.Requests.{IsConsistent}
 use Rattle.qstore.specs.Stored.{Stored}
-use Rattle.qstore.proofs.Deciding.{asked-for, unclaimed}
+use Rattle.qstore_accounts.proofs.Claimed.{unclaimed}
+use Rattle.qstore.proofs.Deciding.{asked-for}
 
 module _ (s : Stored) (whole : IsConsistent s) (name : List ℕ) (new : Renaming) (r : IsRenaming s.state name new)
     (none_in_it : passes (λ n. not (is_empty s.state n)) new.to.leads_to ≡ false) where

@@ -33,8 +33,8 @@ bounds-altered S number change (Some inode) = record { size = refl; most_inodes 
 
 -- nor does a change
 pub bounds-changed : (S : State) (change : TreeChange) → KeepsBounds S (changed S change)
-bounds-changed S (Create dir name uid gid) = record { size = refl; most_inodes = refl; file_limit = refl; graces = refl }
-bounds-changed S (Mkdir dir name uid gid) = record { size = refl; most_inodes = refl; file_limit = refl; graces = refl }
+bounds-changed S (Create dir name owners) = record { size = refl; most_inodes = refl; file_limit = refl; graces = refl }
+bounds-changed S (Mkdir dir name owners) = record { size = refl; most_inodes = refl; file_limit = refl; graces = refl }
 bounds-changed S (Write number off bytes spare) = bounds-altered S number _ (inode_at S number)
 bounds-changed S (Truncate number size) = bounds-altered S number _ (inode_at S number)
 bounds-changed S (Unlink dir path number) = record { size = refl; most_inodes = refl; file_limit = refl; graces = refl }
@@ -42,7 +42,7 @@ bounds-changed S (Rmdir dir path number) = record { size = refl; most_inodes = r
 bounds-changed S (Link dir name number) = record { size = refl; most_inodes = refl; file_limit = refl; graces = refl }
 bounds-changed S (Rename dir path to_dir to_name number) =
     record { size = refl; most_inodes = refl; file_limit = refl; graces = refl }
-bounds-changed S (Chown number uid gid) = bounds-altered S number _ (inode_at S number)
+bounds-changed S (Chown number owners) = bounds-altered S number _ (inode_at S number)
 
 -- ---- links know neither holders nor graces
 

@@ -1,9 +1,7 @@
 -- What the decision of a call comes to. No public clause cites this module.
 use Rattle.std.specs.Prelude.{◌≡◌, ℕ, ◌+◌, Option, Some, None, Result, IfOk}
-use Rattle.std.specs.Option.{option_map}
 use Rattle.std.specs.Result.{IsOk}
 use Rattle.std.specs.declared.alloc.AllocError.{AllocError}
-use Rattle.qrules.specs.declared.kind.Kind.TheVariants.{User, Group}
 use Rattle.qplain.specs.declared.call.Call.{Call}
 use Rattle.qplain.specs.Attempt.{Attempt}
 use Rattle.qplain.specs.Calls.{attempt_of}
@@ -15,7 +13,6 @@ use Rattle.qstore_accounts.specs.declared.bill.Bill.{Bill}
 use Rattle.qstore_accounts.specs.declared.claim.Claim.{Claim}
 use Rattle.qstore_accounts.specs.Bills.{IsBillFor, settled}
 use Rattle.qstore_accounts.specs.Books.{AreBooksOf, Books}
-use Rattle.qstore_accounts.specs.Claims.{IsShareOf, share_in}
 use Rattle.qstore_accounts.specs.Replacements.{IsReplacement}
 use Rattle.qstore.specs.declared.request.Exchange.{Exchange}
 use Rattle.qstore.specs.declared.ready.Ready.{Ready}
@@ -41,11 +38,6 @@ pub record IsDecision (old new : Stored) (request : Request) (attempt : Attempt)
 abbrev pub IsDecisionOf : Stored → Stored → Request → Call → Result Ready AllocError → Type 0
 IsDecisionOf old new request call result =
     IsDecision old new request (attempt_of old.state request.cred.now call) result
-
--- the claim is what the inode, where one stands, takes of its owners' records
-pub record IsClaimed (b : Books) (claim : Option Claim) (inode : Option Inode) : Type 0 where
-  pub users : IsShareOf b.users User (option_map (share_in User) claim) inode
-  pub groups : IsShareOf b.groups Group (option_map (share_in Group) claim) inode
 
 -- in the new state the inode of one claim stands in the place of the other's, and N numbers were given
 pub record IsAsked (s : Stored) (exchange : Exchange) (given : ℕ) (S1 : State) : Type 0 where

@@ -6,8 +6,7 @@ use Rattle.std.specs.List.Sorted.{IsStrictlySortedBy}
 use Rattle.std.specs.Map.{keys_of}
 use Rattle.qplain.specs.State.{State}
 use Rattle.qstore_tree.specs.TreeOf.{AreLinks}
-use Rattle.qstore_accounts.specs.Books.{AreBooksOf, AreInRange, Books}
-use Rattle.qstore_accounts.specs.KeptHolders.{holders_in}
+use Rattle.qstore_accounts.specs.Books.{AreBooksOf, AreInRange, Books, holders_of}
 use Rattle.qstore.specs.declared.store.Store.TheInside.{Inside}
 use Rattle.qstore.specs.Stored.{IsStorable, Stored}
 
@@ -18,7 +17,7 @@ state_of a = record {
   most_inodes = a.accounts.most_inodes;
   file_limit = a.file_limit;
   graces = a.accounts.graces;
-  holders = holders_in a.accounts.users a.accounts.groups;
+  holders = holders_of a.accounts;
   inodes = a.tree.inodes;
   names = a.tree.names;
   next = a.next;

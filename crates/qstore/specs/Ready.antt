@@ -9,8 +9,7 @@ use Rattle.qplain.specs.declared.reply.Reply.TheVariants.{Refused}
 use Rattle.qplain.specs.State.{State}
 use Rattle.qstore_change.specs.Changes.{CanChange, changed}
 use Rattle.qstore_accounts.specs.Bills.{IsBillFor, settled}
-use Rattle.qstore_accounts.specs.Books.{AreBooksOf}
-use Rattle.qstore_accounts.specs.KeptHolders.{holders_in}
+use Rattle.qstore_accounts.specs.Books.{AreBooksOf, holders_of}
 use Rattle.qstore.specs.declared.ready.Plan.{Plan}
 use Rattle.qstore.specs.declared.ready.Plan.TheVariants.{Nothing, Change, Limits, SetGraces}
 use Rattle.qstore.specs.declared.ready.Ready.{Ready}
@@ -39,7 +38,7 @@ wants_no_memory (Quota kind id) = true
 
 -- the state with the holders that the store's books have after its bill
 abbrev pub billed : Stored → State → State
-billed s S = record S { holders = holders_in (settled s.bill s.books).users (settled s.bill s.books).groups }
+billed s S = record S { holders = holders_of (settled s.bill s.books) }
 
 -- the state that a plan leaves
 abbrev pub effect : Stored → Plan → State

@@ -1,9 +1,12 @@
 -- Who asks, and what each decision rests on. No public clause cites this module.
-use Rattle.std.specs.Prelude.{◌≡◌, ℕ, ◌≤◌, true, false, List, None}
+use Rattle.std.specs.Prelude.{◌≡◌, ℕ, ◌≤◌, true, false, List, None, Bool, ◌&&◌}
 use Rattle.qrules.specs.declared.graces.TheConstants.{MAX_MOMENT}
+use Rattle.qrules.specs.declared.kind.Kind.TheVariants.{User, Group}
+use Rattle.qplain.specs.declared.owners.Owners.{Owners}
 use Rattle.qplain.specs.declared.call.Call.{Call}
-use Rattle.qplain.specs.Arguments.{has_bad_number, refusal_of_arguments}
+use Rattle.qplain.specs.Arguments.{has_bad_number, is_declared, refusal_of_arguments}
 use Rattle.qplain.specs.Caller.{Caller}
+use Rattle.qplain.specs.Names.{owners_by}
 use Rattle.qplain.specs.State.{State, is_directory, named}
 use Rattle.qstore_accounts.specs.declared.claim.Slots.{Slots}
 use Rattle.qstore_accounts.specs.Books.{AreBooksOf, HasSlots}
@@ -18,14 +21,18 @@ pub record IsConsistent (s : Stored) : Type 0 where
 -- the store is consistent, and the caller's records stand in it where the request says
 pub record CanDecide (s : Stored) (request : Request) : Type 0 where
   pub whole : IsConsistent s
-  pub callers : HasSlots s.books request.callers request.cred.now.uid request.cred.now.gid
+  pub callers : HasSlots s.books request.callers (owners_by request.cred.now)
 
 -- the call is written as it may be, at a moment that may be, and the caller's records stand at these slots
 pub record IsChecked (s : Stored) (cred : Caller) (moment : ℕ) (call : Call) (slots : Slots) : Type 0 where
   pub allowed : refusal_of_arguments s.state cred moment call ≡ None
   pub in_range : moment ≤ MAX_MOMENT
-  pub callers : HasSlots s.books slots cred.uid cred.gid
+  pub callers : HasSlots s.books slots (owners_by cred)
   pub numbers : has_bad_number s.state call ≡ false
+
+-- the owners are declared
+abbrev pub are_declared : State → Owners → Bool
+are_declared S owners = is_declared S User owners.uid && is_declared S Group owners.gid
 
 -- the directory is there, and has no such name
 pub record IsFree (S : State) (dir : ℕ) (name : List ℕ) : Type 0 where

@@ -11,8 +11,8 @@ abbrev pub inode_row_of : State → ℕ × Inode → InodeRow
 inode_row_of S e = record {
   ino = e.0;
   dir = e.1.dir;
-  uid = e.1.uid;
-  gid = e.1.gid;
+  uid = e.1.owners.uid;
+  gid = e.1.owners.gid;
   blocks = length e.1.file.allocated;
   links = links_of S e.0 e.1.dir;
 }

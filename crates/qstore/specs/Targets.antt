@@ -9,7 +9,7 @@ use Rattle.qplain.specs.Files.{with_file, write_into}
 use Rattle.qplain.specs.State.{Inode, inode_at}
 use Rattle.qplain.specs.Use.{weight}
 use Rattle.qstore.specs.declared.store.write.Target.{Target}
-use Rattle.qstore.specs.Decided.{IsClaimed}
+use Rattle.qstore_accounts.specs.Replacements.{IsClaimed}
 use Rattle.qstore.specs.Stored.{Stored}
 
 -- the write goes into an inode that is there and a file, and its claim and the new blocks are the target's

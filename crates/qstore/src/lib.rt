@@ -5,7 +5,7 @@ pub(crate) use file_type::FileType;
 pub use qplain::{Call, Change, Cred, Line, NoMemory, Path, Refusal, Reply, Setup, SetupFault};
 pub use ready::Ready;
 pub(crate) use ready::{Decision, Plan};
-pub(crate) use request::{Exchange, Request};
+pub(crate) use request::{Exchange, Request, owners_by};
 pub use store::Store;
 
 mod file_type;

@@ -5,7 +5,7 @@ ghost use Rattle.qrules.specs.declared.kind.Kind.TheVariants.{User, Group};
 ghost use Rattle.qplain.specs.Arguments.{has_bad_number, is_declared, is_undeclared, refusal_of_arguments};
 ghost use Rattle.qstore.specs.Requests.{IsChecked, IsConsistent};
 
-use crate::{Call, Cred, Refusal, Store};
+use crate::{Call, Cred, Refusal, Store, owners_by};
 use qplain::MAX_DATA;
 use qrules::{Kind, MAX_MOMENT};
 use qstore_accounts::Slots;
@@ -75,7 +75,7 @@ impl Store {
         ensures refused { IfErr result (λ refusal. refusal_of_arguments self.now.state cred.now moment call.now
             ≡ Some refusal) }
     {
-        let Some(slots) = self.slots(cred.uid(), cred.gid()) else {
+        let Some(slots) = self.slots(owners_by(cred)) else {
             return Err(Refusal::EINVAL);
         };
         if self.has_fault(cred, moment, call) {

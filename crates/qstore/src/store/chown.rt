@@ -2,12 +2,24 @@
 ghost use Rattle.std.specs.Prelude.{◌≡◌, ◌||◌, false};
 ghost use Rattle.qrules.specs.declared.kind.Kind.TheVariants.{User, Group};
 ghost use Rattle.qplain.specs.Arguments.{is_undeclared};
+ghost use Rattle.qplain.specs.Owners.{renewed};
 ghost use Rattle.qstore.specs.Decided.{IsDecisionOf};
 ghost use Rattle.qstore.specs.Requests.{CanDecide};
 
 use crate::{Call, Exchange, Ready, Refusal, Request, Store};
+use qplain::Owners;
 use qstore_change::TreeChange;
 use qstore_walk::{Found, find, may_give};
+
+/// The owners with those that are named.
+fn renewed(uid: Option<u32>, gid: Option<u32>, owners: Owners) -> Owners
+    ensures { result ≡ renewed uid gid owners }
+{
+    Owners {
+        uid: uid.unwrap_or(owners.uid),
+        gid: gid.unwrap_or(owners.gid),
+    }
+}
 
 impl Store {
     /// Decides other owners of an inode; what is None stays.
@@ -26,13 +38,13 @@ impl Store {
             Ok(found) => found,
             Err(refusal) => return Ready::refused(refusal),
         };
-        let (uid, gid) = (uid.unwrap_or(node.uid), gid.unwrap_or(node.gid));
-        if !may_give(request.cred, node, uid, gid) {
+        let owners = renewed(uid, gid, node.owners);
+        if !may_give(request.cred, node, owners) {
             return Ready::refused(Refusal::EPERM);
         }
         let from = self.claim_of(request, number, node);
-        let to = self.claim(request, uid, gid, from.weight.blocks);
-        let change = TreeChange::Chown { number, uid, gid };
+        let to = self.claim(request, owners, from.weight.blocks);
+        let change = TreeChange::Chown { number, owners };
         let (from, to) = (Some(from), Some(to));
         self.grant(request, number, &Exchange { from, to }, change)
     }

@@ -1,21 +1,20 @@
 //! What an inode takes of its owners' records, and the bill of a change.
-ghost use Rattle.std.specs.Prelude.{◌≡◌, ◌≤◌, ◌&&◌, true, Some, is_some, IfErr, IfSome, OnOk};
+ghost use Rattle.std.specs.Prelude.{◌≡◌, ◌≤◌, true, Some, is_some, IfErr, IfSome, OnOk};
 ghost use Rattle.std.specs.Option.{IsSome};
-ghost use Rattle.qrules.specs.declared.kind.Kind.TheVariants.{User, Group};
 ghost use Rattle.qrules.specs.Sort.{Blocks};
 ghost use Rattle.qplain.specs.State.{Inode, State, inode_at};
 ghost use Rattle.qplain.specs.Use.{weight};
-ghost use Rattle.qplain.specs.Arguments.{is_declared};
 ghost use Rattle.qplain.specs.Attempt.{Becomes};
 ghost use Rattle.qstore_tree.specs.Nodes.{inode_of};
 ghost use Rattle.qstore_accounts.specs.Books.{HasSlots};
+ghost use Rattle.qstore_accounts.specs.Replacements.{IsClaimed};
 ghost use Rattle.qstore_change.specs.Changes.{CanChange, changed};
-ghost use Rattle.qstore.specs.Decided.{IsAsked, IsBilled, IsClaimed, IsDecision, IsUnbilled};
-ghost use Rattle.qstore.specs.Requests.{CanDecide, IsConsistent};
+ghost use Rattle.qstore.specs.Decided.{IsAsked, IsBilled, IsDecision, IsUnbilled};
+ghost use Rattle.qstore.specs.Requests.{CanDecide, IsConsistent, are_declared};
 ghost use Rattle.qstore.specs.Stored.{IsSameStore};
 
 use crate::{Exchange, Ready, Refusal, Request, Store};
-use qplain::MAX_BLOCKS;
+use qplain::{MAX_BLOCKS, Owners};
 use qrules::Kind;
 use qstore_accounts::{Claim, Slots};
 use qstore_change::TreeChange;
@@ -32,16 +31,15 @@ fn blocks_of(node: &Node) -> u64
 }
 
 impl Store {
-    /// Where the records of this user and this group stand, if both are declared.
-    pub(super) fn slots(&self, uid: u32, gid: u32) -> Option<Slots>
-        ensures declared { is_some result
-            ≡ (is_declared self.now.state User uid && is_declared self.now.state Group gid) }
-        ensures slots { IfSome result (λ slots. HasSlots self.now.books slots uid gid) }
+    /// Where the records of these owners stand, if all are declared.
+    pub(super) fn slots(&self, owners: Owners) -> Option<Slots>
+        ensures declared { is_some result ≡ are_declared self.now.state owners }
+        ensures slots { IfSome result (λ slots. HasSlots self.now.books slots owners) }
         ensures whole { IsConsistent self.now }
     {
         match (
-            self.accounts.slot(Kind::User, uid),
-            self.accounts.slot(Kind::Group, gid),
+            self.accounts.slot(Kind::User, owners.uid),
+            self.accounts.slot(Kind::Group, owners.gid),
         ) {
             (Some(user), Some(group)) => Some(Slots { user, group }),
             _ => None,
@@ -49,27 +47,26 @@ impl Store {
     }
 
     /// The same, where those of the caller are found already.
-    fn owners(&self, request: &Request, uid: u32, gid: u32) -> Option<Slots>
+    fn owner_slots(&self, request: &Request, owners: Owners) -> Option<Slots>
         requires { CanDecide self.now request.now }
-        ensures declared { (is_declared self.now.state User uid && is_declared self.now.state Group gid) ≡ true
-            → IsSome result }
-        ensures slots { IfSome result (λ slots. HasSlots self.now.books slots uid gid) }
+        ensures declared { are_declared self.now.state owners ≡ true → IsSome result }
+        ensures slots { IfSome result (λ slots. HasSlots self.now.books slots owners) }
     {
-        if uid == request.cred.uid() && gid == request.cred.gid() {
+        if owners.uid == request.cred.uid() && owners.gid == request.cred.gid() {
             return Some(request.callers);
         }
-        self.slots(uid, gid)
+        self.slots(owners)
     }
 
     /// What an inode of these owners takes that has N blocks.
-    pub(super) fn claim(&self, request: &Request, uid: u32, gid: u32, blocks: u64) -> Claim
+    pub(super) fn claim(&self, request: &Request, owners: Owners, blocks: u64) -> Claim
         requires can { CanDecide self.now request.now }
-        requires declared { (is_declared self.now.state User uid && is_declared self.now.state Group gid) ≡ true }
-        ensures claimed { (inode : Inode) → inode.uid ≡ uid → inode.gid ≡ gid → weight Blocks inode ≡ blocks
+        requires declared { are_declared self.now.state owners ≡ true }
+        ensures claimed { (inode : Inode) → inode.owners ≡ owners → weight Blocks inode ≡ blocks
             → IsClaimed self.now.books (Some result) (Some inode) }
         ensures blocks { result.weight.blocks ≡ blocks }
     {
-        match self.owners(request, uid, gid) {
+        match self.owner_slots(request, owners) {
             Some(slots) => Claim::new(slots, blocks),
             None => unreachable!(),
         }
@@ -84,7 +81,7 @@ impl Store {
         ensures few { result.weight.blocks ≤ MAX_BLOCKS }
     {
         let _ = &self.next;
-        self.claim(request, node.uid, node.gid, blocks_of(node))
+        self.claim(request, node.owners, blocks_of(node))
     }
 
     /// Keeps the bill of a change that makes this exchange and gives N numbers, or refuses it.

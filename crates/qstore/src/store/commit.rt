@@ -1,5 +1,6 @@
 //! What is decided, done, and told as it changes a board. It takes no memory and always succeeds.
 ghost use Rattle.std.specs.Prelude.{◌≡◌, ◌≤◌, ◌+◌, vec_len, vec_capacity};
+ghost use Rattle.qplain.specs.declared.placed_row.TheConstants.{MAX_CHANGED_ROWS};
 ghost use Rattle.qstore.specs.Ready.{CanCarryOut, CanSettle, IsReady, billed, committed, effect};
 ghost use Rattle.qstore_change.specs.Changes.{CanChange, changed};
 ghost use Rattle.qstore_accounts.specs.Pushed.{IsPushed};
@@ -37,12 +38,12 @@ impl Store {
     }
 
     /// Puts the rows that `commit` of a ready call will change on a board after others, of which there is room for
-    /// four. O(1). It is out of line, so that what is ready has no address where a call changes no row.
+    /// `MAX_CHANGED_ROWS`. O(1). It is out of line, so that what is ready has no address where a call changes no row.
     /// The caller owes that this store had no other `ready`, `apply` or `commit` since.
     #[inline(never)]
     pub fn push_changed_rows(&self, ready: &Ready, rows: &mut Vec<PlacedRow>)
         requires ready { IsReady self.now ready.now }
-        requires room { vec_len rows.old + 4 ≤ vec_capacity rows.old }
+        requires room { vec_len rows.old + MAX_CHANGED_ROWS ≤ vec_capacity rows.old }
         ensures { IsPushed self.now.state rows.old.items rows.new.items (committed self.now ready.now).0 }
     {
         match ready.plan {

@@ -1,7 +1,7 @@
 //! To create a file (open(2)).
 ghost use Rattle.std.specs.Prelude.{◌≡◌, string_bytes};
 ghost use Rattle.qplain.specs.Attempt.{Becomes};
-ghost use Rattle.qplain.specs.Names.{created};
+ghost use Rattle.qplain.specs.Names.{created, owners_by};
 ghost use Rattle.qplain.specs.State.{State};
 ghost use Rattle.qstore_tree.specs.Room.{Room};
 ghost use Rattle.qstore_change.specs.Changes.{CanChange, CanCreate, changed};
@@ -9,14 +9,15 @@ ghost use Rattle.qstore.specs.Decided.{IsDecision, IsDecisionOf};
 ghost use Rattle.qstore.specs.FileTypes.{inode_new};
 ghost use Rattle.qstore.specs.Requests.{CanDecide, IsFree};
 
-use crate::{Call, Decision, Exchange, FileType, Ready, Refusal, Request, Store};
+use crate::{Call, Decision, Exchange, FileType, Ready, Refusal, Request, Store, owners_by};
+use qplain::Owners;
 use qstore_accounts::Claim;
 use qstore_change::TreeChange;
 use qstore_walk::last_component;
 
 /// The change by which a new inode comes to stand.
-fn creation(sort: FileType, dir: u64, name: String, uid: u32, gid: u32) -> TreeChange
-    ensures made { (S : State) → changed S result ≡ created S (inode_new sort uid gid) dir (string_bytes name) }
+fn creation(sort: FileType, dir: u64, name: String, owners: Owners) -> TreeChange
+    ensures made { (S : State) → changed S result ≡ created S (inode_new sort owners) dir (string_bytes name) }
     ensures can { (S : State) (room : Room) → CanCreate S room dir (string_bytes name)
         → CanChange S room result }
 {
@@ -24,14 +25,12 @@ fn creation(sort: FileType, dir: u64, name: String, uid: u32, gid: u32) -> TreeC
         FileType::File => TreeChange::Create {
             dir,
             name,
-            uid,
-            gid,
+            owners,
         },
         FileType::Directory => TreeChange::Mkdir {
             dir,
             name,
-            uid,
-            gid,
+            owners,
         },
     }
 }
@@ -63,7 +62,7 @@ impl Store {
         requires can { CanDecide self.old request.now }
         requires free { IsFree self.old.state dir name.now }
         ensures { let cred = request.now.cred.now in IsDecision self.old self.new request.now (Becomes
-            (created self.old.state (inode_new sort cred.uid cred.gid) dir name.now) self.old.state.next) result }
+            (created self.old.state (inode_new sort (owners_by cred)) dir name.now) self.old.state.next) result }
     {
         let (from, to) = (None, Some(Claim::new(request.callers, 0)));
         let exchange = Exchange { from, to };
@@ -73,7 +72,7 @@ impl Store {
         }
         let name = String::from_str(self.alloc, name)?;
         self.tree.make_room(dir)?;
-        let change = creation(sort, dir, name, request.cred.uid(), request.cred.gid());
+        let change = creation(sort, dir, name, owners_by(request.cred));
         Ok(Ready::granted(self.next, &exchange, change))
     }
 }

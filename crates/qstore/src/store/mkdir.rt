@@ -1,5 +1,5 @@
 //! To make a directory (mkdir(2)).
-ghost use Rattle.qplain.specs.Names.{created, unless_too_many_links};
+ghost use Rattle.qplain.specs.Names.{created, owners_by, unless_too_many_links};
 ghost use Rattle.qplain.specs.State.{new_directory};
 ghost use Rattle.qstore.specs.Decided.{IsDecision, IsDecisionOf};
 ghost use Rattle.qstore.specs.Requests.{CanDecide, IsFree};
@@ -28,7 +28,7 @@ impl Store {
         requires can { CanDecide self.old request.now }
         requires free { IsFree self.old.state dir name.now }
         ensures { let cred = request.now.cred.now in IsDecision self.old self.new request.now (unless_too_many_links
-            (created self.old.state (new_directory cred.uid cred.gid) dir name.now) self.old.state.next) result }
+            (created self.old.state (new_directory (owners_by cred)) dir name.now) self.old.state.next) result }
     {
         if has_all_links(self.tree(), dir) {
             return Ok(Ready::refused(Refusal::EMLINK));

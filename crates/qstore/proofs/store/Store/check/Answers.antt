@@ -1,4 +1,5 @@
-use Rattle.std.proofs.Common.{rules, Some, sym, ap, ◌∙◌}
+use Rattle.std.proofs.Common.{rules, sym, subst, ◌∙◌}
+use Rattle.qstore_accounts.specs.Books.{HasSlots}
 use Rattle.qstore.proofs.Arguments.{fine-parts, refusal-faulty, refusal-paths}
 use Rattle.qstore.proofs.store.Store.check.Goals as goal
 
@@ -16,7 +17,7 @@ returns-in-None-clause-checked c =
     record {
       allowed = paths (search rules) (search rules) ∙ sym c.paths_fault.ensures ∙ c.in-None.is;
       in_range = fine.0;
-      callers = record { user = slots.user ∙ ap Some c.uid.ensures; group = slots.group ∙ ap Some c.gid.ensures };
+      callers = subst (HasSlots c.args.self.now.books c.in-Some.slots) c.owners_by.ensures slots;
       numbers = fine.1;
     }
 

@@ -1,11 +1,11 @@
 use Rattle.std.proofs.Common.{◌≡◌, true, ◌&&◌, Some, refl, sym, subst, ◌∙◌, arith}
-use Rattle.qrules.specs.declared.kind.Kind.TheVariants.{User, Group}
-use Rattle.qplain.specs.Arguments.{is_declared}
 use Rattle.qplain.specs.State.{inode_at}
 use Rattle.qstore_tree.specs.Nodes.{inode_of}
 use Rattle.qplain_laws.proofs.Fitting.{known-owners}
 use Rattle.qstore.specs.Kept.{state_of}
+use Rattle.qstore.specs.Requests.{are_declared}
 use Rattle.qstore.specs.Stored.{Stored}
+use Rattle.qstore.proofs.Calls.{known-declared}
 use Rattle.qstore.proofs.Deciding.{weight-fits}
 use Rattle.qstore.proofs.store.Store.claim_of.Goals as goal
 
@@ -14,11 +14,12 @@ claim-requires-clause-declared c =
     let x = c.args in
     let inode = inode_of x.node.now in
     let there = subst (λ (v : Stored). inode_at v.state x.number ≡ Some inode) (sym c.self.view_is) c.requires.there in
-    subst (λ (v : Stored). (is_declared v.state User inode.uid && is_declared v.state Group inode.gid) ≡ true) c.self.view_is
-    (known-owners (state_of c.self.inside) x.number inode c.self.invariant.sound.lawful.parts there)
+    subst (λ (v : Stored). are_declared v.state inode.owners ≡ true) c.self.view_is
+    (known-declared (state_of c.self.inside) inode.owners
+    (known-owners (state_of c.self.inside) x.number inode c.self.invariant.sound.lawful.parts there))
 
 pub returns-clause-claimed : goal.returns-clause-claimed
-returns-clause-claimed c = c.claim.ensures.claimed (inode_of c.args.node.now) refl refl (sym c.blocks_of.ensures)
+returns-clause-claimed c = c.claim.ensures.claimed (inode_of c.args.node.now) refl (sym c.blocks_of.ensures)
 
 pub returns-clause-few : goal.returns-clause-few
 returns-clause-few c =

@@ -1,4 +1,5 @@
 use Rattle.qplain.specs.declared.refusal.Refusal.TheVariants.{EMLINK}
+use Rattle.qplain.specs.Names.{owners_by}
 use Rattle.qstore.proofs.Deciding.{decision-along, decision-refused, same-store}
 use Rattle.qstore.proofs.Directories.{mkdir-attempt}
 use Rattle.qstore.proofs.store.Store.make_directory.Goals as goal
@@ -10,7 +11,7 @@ returns-then-has_all_links c =
     let cred = x.request.now.cred.now in
     let free = c.requires.free in
     decision-refused s s (same-store s) x.request.now _ c.refused.result EMLINK
-    (mkdir-attempt s.state cred.uid cred.gid x.dir x.name.now _ c.requires.can.whole.sound.lawful free.absent free.directory
+    (mkdir-attempt s.state (owners_by cred) x.dir x.name.now _ c.requires.can.whole.sound.lawful free.absent free.directory
     (c.if-has_all_links.ensures s.state c.tree.ensures free.directory))
     c.refused.ensures
 
@@ -21,6 +22,6 @@ returns c =
     let cred = x.request.now.cred.now in
     let free = c.requires.free in
     decision-along s c.make_inode.new.self x.request.now _ _ c.make_inode.result
-    (mkdir-attempt s.state cred.uid cred.gid x.dir x.name.now _ c.requires.can.whole.sound.lawful free.absent free.directory
+    (mkdir-attempt s.state (owners_by cred) x.dir x.name.now _ c.requires.can.whole.sound.lawful free.absent free.directory
     (c.if-has_all_links.ensures s.state c.tree.ensures free.directory))
     c.make_inode.ensures

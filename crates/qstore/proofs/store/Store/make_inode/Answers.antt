@@ -1,6 +1,6 @@
 use Rattle.std.proofs.Common.{rules, ◌≡◌, ℕ, string_bytes, None, Some, refl, sym, ap, subst, ◌∙◌}
 use Rattle.qplain.specs.declared.reply.Reply.TheVariants.{Done}
-use Rattle.qplain.specs.Names.{created}
+use Rattle.qplain.specs.Names.{created, owners_by}
 use Rattle.qplain.specs.State.{State, is_directory, named}
 use Rattle.qstore.specs.declared.request.Exchange.{Exchange}
 use Rattle.qstore.specs.declared.ready.Plan.TheVariants.{Change}
@@ -19,8 +19,8 @@ admit-requires-clause-asked c =
     let x = c.args in
     let q = x.request.now in
     let cred = q.cred.now in (
-      created x.self.now.state (inode_new x.sort cred.uid cred.gid) x.dir x.name.now,
-      created-asked x.self.now c.requires.can.whole x.dir x.name.now q.callers cred.uid cred.gid x.sort c.requires.can.callers c.new.result c.new.ensures,
+      created x.self.now.state (inode_new x.sort (owners_by cred)) x.dir x.name.now,
+      created-asked x.self.now c.requires.can.whole x.dir x.name.now q.callers (owners_by cred) x.sort c.requires.can.callers c.new.result c.new.ensures,
     )
 
 pub returns-in-Err : goal.returns-in-Err
@@ -30,7 +30,7 @@ returns-in-Err c =
     let q = x.request.now in
     let cred = q.cred.now in
     let can = c.requires.can in
-    let asked = created-asked s can.whole x.dir x.name.now q.callers cred.uid cred.gid x.sort can.callers c.new.result c.new.ensures in
+    let asked = created-asked s can.whole x.dir x.name.now q.callers (owners_by cred) x.sort can.callers c.new.result c.new.ensures in
     decision-unbilled s c.admit.new.self c.admit.ensures.same q _ s.state.next 1 _ _ asked refl c.refused.result c.in-Err.refusal
     c.in-Err.ensures.refused c.refused.ensures
 
@@ -41,7 +41,7 @@ returns-in_err-name c =
     let q = x.request.now in
     let cred = q.cred.now in
     let can = c.requires.can in
-    let asked = created-asked s can.whole x.dir x.name.now q.callers cred.uid cred.gid x.sort can.callers c.new.result c.new.ensures in
+    let asked = created-asked s can.whole x.dir x.name.now q.callers (owners_by cred) x.sort can.callers c.new.result c.new.ensures in
     decision-unmade s c.admit.new.self c.admit.ensures.same q _ s.state.next 1 _ _ asked refl _ _ c.in-Ok.ensures.granted c.from_residual.ensures.0
 
 pub returns-in_err-make_room : goal.returns-in_err-make_room
@@ -51,7 +51,7 @@ returns-in_err-make_room c =
     let q = x.request.now in
     let cred = q.cred.now in
     let can = c.requires.can in
-    let asked = created-asked s can.whole x.dir x.name.now q.callers cred.uid cred.gid x.sort can.callers c.new.result c.new.ensures in
+    let asked = created-asked s can.whole x.dir x.name.now q.callers (owners_by cred) x.sort can.callers c.new.result c.new.ensures in
     let same = same-with_room s c.admit.new.self c.self.inside c.make_room.new.self c.admit.ensures.same c.self.view_is c.make_room.ensures.same in
     decision-unmade s _ same q _ s.state.next 1 _ _ asked refl _ _ c.in-Ok.ensures.granted c.from_residual-in_err-make_room.ensures.0
 
@@ -63,7 +63,7 @@ returns c =
     let q = x.request.now in
     let cred = q.cred.now in
     let can = c.requires.can in
-    let asked = created-asked s can.whole x.dir x.name.now q.callers cred.uid cred.gid x.sort can.callers c.new.result c.new.ensures in
+    let asked = created-asked s can.whole x.dir x.name.now q.callers (owners_by cred) x.sort can.callers c.new.result c.new.ensures in
     let exchange : Exchange = record { from = None; to = Some c.new.result } in
     let tree = c.make_room.new.self in
     let same = same-with_room s c.admit.new.self a tree c.admit.ensures.same c.self.view_is c.make_room.ensures.same in
@@ -74,7 +74,7 @@ returns c =
     decision-billed s (stored_of (record a { tree = tree })) same q _ s.state.next 1 exchange _ asked refl _ c.granted.result
     (subst (λ (v : Stored). IsBilled s v.bill q exchange 1) (sym c.self.view_is) c.in-Ok.ensures.granted)
     (c.creation-change.ensures.made s.state
-    ∙ (λ i. created s.state (inode_new x.sort (c.uid.ensures i) (c.gid.ensures i)) x.dir (name i)))
+    ∙ (λ i. created s.state (inode_new x.sort (c.owners_by.ensures i)) x.dir (name i)))
     (c.creation-change.ensures.can (stored_of (record a { tree = tree })).state tree.room (record {
       directory = ap (λ (S : State). is_directory S x.dir) same.state ∙ c.requires.free.directory;
       absent = (λ i. named (same.state i) x.dir (name i)) ∙ c.requires.free.absent;

@@ -1,11 +1,10 @@
-use Rattle.std.proofs.Common.{◌≡◌, ℕ, List, map, None, ◌⊎◌, inl, inr, refl, sym, subst}
+use Rattle.std.proofs.Common.{◌≡◌, List, [], ◌⊎◌, inl, inr, refl, sym, subst, arith}
 use Rattle.std.proofs.lemmas.List.{append-nil}
-use Rattle.qrules.specs.Sort.{Blocks, Inodes}
+use Rattle.std.proofs.lemmas.List.Elements.{All-nil}
 use Rattle.qrules.specs.declared.graces.Graces.{Graces}
-use Rattle.qplain.specs.declared.effect.PlacedRow.{PlacedRow}
-use Rattle.qplain.specs.Journal.{row_of}
+use Rattle.qplain.specs.declared.placed_row.PlacedRow.{PlacedRow}
+use Rattle.qplain.specs.Boards.{IsOther, rows_of}
 use Rattle.qplain.specs.State.{State}
-use Rattle.qplain.specs.Use.{total_of}
 use Rattle.qstore_change.specs.declared.tree_change.TreeChange.{TreeChange}
 use Rattle.qstore_change.specs.Changes.{changed}
 use Rattle.qstore_accounts.specs.Bills.{settled}
@@ -44,18 +43,11 @@ returns-in-Change c =
     c.push_changed_rows.ensures c.args.ready.now.plan c.in-Change.is c.requires.ready.can
 
 -- where no row changes none is pushed
-none-pushed : (S S1 : State) (rows : List PlacedRow) → map (row_of S) S.holders ≡ map (row_of S1) S1.holders → IsPushed S rows rows S1
+none-pushed : (S S1 : State) (rows : List PlacedRow) → rows_of S ≡ rows_of S1 → IsPushed S rows rows S1
 none-pushed S S1 rows same = record {
-  effect = record {
-    user_from = None;
-    user_to = None;
-    group_from = None;
-    group_to = None;
-    blocks = total_of S1 Blocks;
-    inodes = total_of S1 Inodes;
-  };
-  is = record { rows = same; blocks = refl; inodes = refl };
+  placed = [];
   behind = sym (append-nil rows);
+  are = record { leads = same; few = omega arith; others = All-nil (IsOther (rows_of S)) };
 }
 
 -- nor by a plan that changes no record
