@@ -1,5 +1,5 @@
 -- The tests of what is written, in the order in which a store makes them.
-use Rattle.std.proofs.Common.{◌≡◌, ℕ, Bool, true, false, not, ◌&&◌, ◌||◌, nat_lt, cond, Some, None, Option, refl}
+use Rattle.std.proofs.Common.{◌≡◌, ℕ, ◌≤◌, Bool, true, false, not, ◌&&◌, ◌||◌, nat_lt, cond, Some, None, Option, refl, arith, tests}
 use Rattle.std.specs.List.{list_all, list_any}
 use Rattle.qrules.specs.declared.kind.Kind.TheVariants.{User, Group}
 use Rattle.qrules.specs.declared.graces.TheConstants.{MAX_MOMENT}
@@ -37,6 +37,12 @@ by_tests-faulty false true true true false bad long faulty = refl
 by_tests-faulty false true true true true true long faulty = refl
 by_tests-faulty false true true true true false long faulty = cc
 
+unfaulty : (late more bad : Bool) → (late || not more || bad) ≡ false → (late ≡ false) × (bad ≡ false)
+unfaulty true more bad fine = cc
+unfaulty false false bad fine = cc
+unfaulty false true true fine = cc
+unfaulty false true false fine = (refl, refl)
+
 module _ (S : State) (cred : Caller) (moment : ℕ) (call : Call) where
   -- the moment, a further group or a number is none that a call may have
   abbrev is_faulty : Bool
@@ -54,3 +60,10 @@ module _ (S : State) (cred : Caller) (moment : ℕ) (call : Call) where
   refusal-faulty faulty =
       by_tests-faulty (nat_lt MAX_MOMENT moment) (is_declared S User cred.uid) (is_declared S Group cred.gid) (list_all (is_declared S Group) cred.more)
       (list_all is_well_formed (paths_of call)) (has_bad_number S call) (list_any is_too_long (paths_of call)) faulty
+
+  -- without one, the moment and the numbers are ones that a call may have
+  pub fine-parts : is_faulty ≡ false → (moment ≤ MAX_MOMENT) × (has_bad_number S call ≡ false)
+  fine-parts fine =
+      let parts = unfaulty (nat_lt MAX_MOMENT moment) (list_all (is_declared S Group) cred.more) (has_bad_number S call) fine in
+      let early = parts.0 in
+      (grind (arith, tests, early), parts.1)

@@ -31,7 +31,8 @@ use Rattle.qstore.specs.declared.store.write.Target.{Target}
 use Rattle.qstore.specs.Kept.{state_of, stored_of}
 use Rattle.qstore.specs.FileTypes.{inode_new}
 use Rattle.qstore.specs.Targets.{IsTarget}
-use Rattle.qstore.specs.Decided.{IsAsked, IsClaimed, IsConsistent}
+use Rattle.qstore.specs.Decided.{IsAsked, IsClaimed}
+use Rattle.qstore.specs.Requests.{IsConsistent}
 use Rattle.qstore_change.specs.Changes.{altered, altered_at}
 use Rattle.qstore.specs.Stored.{IsSameStore, Stored}
 use Rattle.qstore.proofs.Deciding.{asked-for, claimed, claimed-again, unclaimed}
@@ -116,7 +117,7 @@ more-of-adds file off (byte ∷ rest) blocks adds = adds
 -- a changed inode stands where it stood
 pub changed-asked : (s : Stored) → IsConsistent s → (number : ℕ) (inode after : Inode) → inode_at s.state number ≡ Some inode
     → (from to : Claim) → IsClaimed s.books (Some from) (Some inode) → IsClaimed s.books (Some to) (Some after) → weight Blocks after ≤ 2 ^ 32
-    → IsAsked s (Some from) (Some to) 0 (with_inode s.state number after)
+    → IsAsked s (record { from = Some from; to = Some to }) 0 (with_inode s.state number after)
 changed-asked s whole number inode after there from to lost gained few =
     asked-for s whole (Some from) (Some to) 0 (with_inode s.state number after) (Some inode) (Some after)
     (Replaces-changed s.state number inode after there) (omega arith) lost gained few
@@ -126,7 +127,7 @@ pub unlinked-asked : (s : Stored) → IsConsistent s → (dir : ℕ) (name : Lis
     → inode_at s.state number ≡ Some inode → inode.dir ≡ false
     → (claim : Claim) (to : Option Claim) (links : ℕ) → IsClaimed s.books (Some claim) (Some inode) → weight Blocks inode ≤ 2 ^ 32
     → links ≡ links_of s.state number inode.dir → (1 < links → to ≡ Some claim) → (links ≤ 1 → to ≡ None)
-    → IsAsked s (Some claim) to 0 (swept (without_name s.state dir name))
+    → IsAsked s (record { from = Some claim; to = to }) 0 (swept (without_name s.state dir name))
 unlinked-asked s whole dir name number inode led there file claim to links claimed few kept more last =
     ⊎_elim
     (λ (many : 1 < links).
@@ -156,7 +157,7 @@ pub resized-asked : (s : Stored) → IsConsistent s → (number : ℕ) (inode : 
     → (from to : Claim) (blocks : ℕ) → IsClaimed s.books (Some from) (Some inode)
     → to ≡ record { slots = from.slots; weight = record { blocks = blocks; inodes = 1 } }
     → blocks_of file ≡ blocks → blocks ≤ 2 ^ 32
-    → IsAsked s (Some from) (Some to) 0 (with_file s.state number inode file)
+    → IsAsked s (record { from = Some from; to = Some to }) 0 (with_file s.state number inode file)
 resized-asked s whole number inode file there from to blocks claimed is same few =
     changed-asked s whole number inode (record inode { file = file }) there from to claimed
     (subst (λ (c : Claim). IsClaimed s.books (Some c) (Some (record inode { file = file }))) (sym is)
@@ -167,7 +168,7 @@ resized-asked s whole number inode file there from to blocks claimed is same few
 pub target-asked : (s : Stored) → IsConsistent s → (cred : Caller) (path : List ℕ) (off : ℕ) (bytes : List ℕ) (target : Target)
     (t : IsTarget s cred path off bytes target) (to : Claim)
     → to ≡ record { slots = target.claim.slots; weight = record { blocks = target.claim.weight.blocks + target.missing; inodes = 1 } }
-    → IsAsked s (Some target.claim) (Some to) 0 (with_file s.state target.number t.inode (after_write t.inode.file off bytes))
+    → IsAsked s (record { from = Some target.claim; to = Some to }) 0 (with_file s.state target.number t.inode (after_write t.inode.file off bytes))
 target-asked s whole cred path off bytes target t to is =
     let more = more-of-adds t.inode.file off bytes target.missing t.missing in
     let old = t.blocks in
@@ -179,7 +180,7 @@ target-asked s whole cred path off bytes target t to is =
 -- a new inode of the caller's
 pub created-asked : (s : Stored) → IsConsistent s → (dir : ℕ) (name : List ℕ) (slots : Slots) (uid gid : ℕ) (sort : FileType)
     → HasSlots s.books slots uid gid → (to : Claim) → to ≡ record { slots = slots; weight = record { blocks = 0; inodes = 1 } }
-    → IsAsked s None (Some to) 1 (created s.state (inode_new sort uid gid) dir name)
+    → IsAsked s (record { from = None; to = Some to }) 1 (created s.state (inode_new sort uid gid) dir name)
 created-asked s whole dir name slots uid gid sort has to is =
     asked-for s whole None (Some to) 1 (created s.state (inode_new sort uid gid) dir name) None (Some (inode_new sort uid gid))
     (Replaces-created s.state (inode_new sort uid gid) dir name (absent-next s.state whole.sound.lawful)) refl (unclaimed s.books)

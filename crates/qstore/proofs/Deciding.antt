@@ -1,5 +1,7 @@
 -- What a decision comes to: once for all calls.
-use Rattle.std.proofs.Common.{◌≡◌, ℕ, ◌+◌, ◌-◌, ◌^◌, ◌≤◌, ◌==◌, true, not, cond, List, Option, None, Some, refl, sym, ap, subst, ◌∙◌, arith}
+use Rattle.std.proofs.Common.{◌≡◌, ℕ, ◌+◌, ◌-◌, ◌^◌, ◌≤◌, ◌==◌, true, not, cond, List, Option, None, Some, Result, Ok, Err, refl, sym, ap, subst, ◌∙◌, arith}
+use Rattle.std.specs.declared.alloc.AllocError.{AllocError}
+use Rattle.std.specs.Result.{IsErr}
 use Rattle.qrules.specs.declared.kind.Kind.TheVariants.{User}
 use Rattle.qrules.specs.Sort.{Inodes, Blocks}
 use Rattle.qrules.specs.declared.kind.Kind.{Kind}
@@ -30,13 +32,16 @@ use Rattle.qstore_accounts.specs.Books.{AreBooksOf, Books, HasSlots}
 use Rattle.qstore_accounts.specs.KeptHolders.{holders_in}
 use Rattle.qstore_accounts.specs.Replacements.{IsReplacement}
 use Rattle.qstore_accounts.proofs.Booked.{claim-weight}
+use Rattle.qstore_change.specs.declared.tree_change.TreeChange.{TreeChange}
+use Rattle.qstore_change.specs.Changes.{CanChange, changed}
+use Rattle.qstore.specs.declared.request.Exchange.{Exchange}
 use Rattle.qstore.specs.declared.ready.Plan.{Plan}
 use Rattle.qstore.specs.declared.ready.Plan.TheVariants.{Nothing, Change, Limits as SetLimits}
 use Rattle.qstore.specs.declared.ready.Ready.{Ready}
-use Rattle.qstore_change.specs.declared.tree_change.TreeChange.{TreeChange}
-use Rattle.qstore.specs.Decided.{IsAsked, IsBilled, IsClaimed, IsDecided, IsUnbilled, IsConsistent}
+use Rattle.qstore.specs.declared.request.Request.{Request}
+use Rattle.qstore.specs.Decided.{IsAsked, IsBilled, IsClaimed, IsDecided, IsDecision, IsUnbilled}
 use Rattle.qstore.specs.Ready.{CanCarryOut, IsRefused, billed, effect}
-use Rattle.qstore_change.specs.Changes.{CanChange, changed}
+use Rattle.qstore.specs.Requests.{IsConsistent}
 use Rattle.qstore.specs.Stored.{IsSameStore, Stored}
 use Rattle.qstore.specs.Told.{told}
 
@@ -67,7 +72,7 @@ unclaimed b = record { users = tt; groups = tt }
 -- a plain result in which one inode stands where another stood is one that a bill may be asked for
 pub asked-for : (s : Stored) → IsConsistent s → (from to : Option Claim) (given : ℕ) (S1 : State) (f t : Option Inode) → Replaces s.state S1 f t
     → S1.next ≡ s.state.next + given → IsClaimed s.books from f → IsClaimed s.books to t → weight_of Blocks t ≤ 2 ^ 32
-    → IsAsked s from to given S1
+    → IsAsked s (record { from = from; to = to }) given S1
 asked-for s whole from to given S1 f t replaces next lost gained few = record {
   before = f;
   after = t;
@@ -87,13 +92,13 @@ asked-for s whole from to given S1 f t replaces next lost gained few = record {
 -- ---- what is told
 
 -- the change that is told is the one between the states
-pub told-change : (b : Books) (from to : Option Claim) (S S1 : State) (f t : Option Inode) → IsReplacement b from to S S1 f t
-    → told from to ≡ change_between S S1
-told-change b from to S S1 f t r =
-    let lost_blocks = claim-weight b.users User from f Blocks r.users_from in
-    let lost_inodes = claim-weight b.users User from f Inodes r.users_from in
-    let blocks = claim-weight b.users User to t Blocks r.users_to in
-    let inodes = claim-weight b.users User to t Inodes r.users_to in
+pub told-change : (b : Books) (exchange : Exchange) (S S1 : State) (f t : Option Inode)
+    → IsReplacement b exchange.from exchange.to S S1 f t → told exchange ≡ change_between S S1
+told-change b exchange S S1 f t r =
+    let lost_blocks = claim-weight b.users User exchange.from f Blocks r.users_from in
+    let lost_inodes = claim-weight b.users User exchange.from f Inodes r.users_from in
+    let blocks = claim-weight b.users User exchange.to t Blocks r.users_to in
+    let inodes = claim-weight b.users User exchange.to t Inodes r.users_to in
     (λ i. ◌≡◌-at (blocks i) (lost_blocks i) (inodes i) (lost_inodes i)) ∙ sym (change-after S S1 f t r.replaces)
   where
     ◌≡◌-at : (gained_blocks less_blocks gained_inodes less_inodes : ℕ) → TotalChange
@@ -106,86 +111,94 @@ told-change b from to S S1 f t r =
 
 -- ---- decisions
 
--- what is done is no refusal
-pub done-unrefused : {A : Type 0} (number : ℕ) (change : TotalChange) (reply : Reply) → reply ≡ Done number change → IsRefused reply → A
-done-unrefused number change reply is refused = let same = sym is ∙ refused.1 in cc
-
--- a plain result that is granted is no refusal
-pub granted-unrefused : {A : Type 0} (S S1 : State) (cred : Caller) (moment number : ℕ) → refusal_between S S1 cred moment ≡ None
-    → IsRefused (settle S cred moment (Becomes S1 number)).1 → A
-granted-unrefused S S1 cred moment number none refused =
-    done-unrefused number (change_between S S1) (settle S cred moment (Becomes S1 number)).1
-    (ap (λ (t : State × Reply). t.1) (settle-granted S S1 cred moment number none)) refused
-
--- an answer decides an attempt that is answered so
-pub decided-answered : (old new : Stored) (cred : Caller) (moment : ℕ) (attempt : Attempt) (d : Ready) (reply : Reply)
-    → new.state ≡ old.state → settle old.state cred moment attempt ≡ (old.state, reply) → d.reply ≡ reply → d.plan ≡ Nothing
-    → IsDecided old new cred moment attempt d
-decided-answered old new cred moment attempt d reply state is same plan = record {
-  step = (λ i. (effect new (plan i), same i)) ∙ (λ i. (state i, reply)) ∙ sym is;
-  can = subst (λ (p : Plan). CanCarryOut new p) (sym plan) tt;
-}
-
--- a refusal decides an attempt that is refused so
-pub decided-refused : (old new : Stored) (cred : Caller) (moment : ℕ) (attempt : Attempt) (d : Ready) (r : Refusal)
-    → new.state ≡ old.state → attempt ≡ Refuse r → d.reply ≡ Refused r → d.plan ≡ Nothing → IsDecided old new cred moment attempt d
-decided-refused old new cred moment attempt d r state is reply plan =
-    decided-answered old new cred moment attempt d (Refused r) state (ap (settle old.state cred moment) is) reply plan
-
-module _ (old new : Stored) (same : IsSameStore old new) (cred : Caller) (moment number given : ℕ) (from to : Option Claim)
-    (S1 : State) (asked : IsAsked old from to given S1) where
-  -- a bill that is refused decides the plain result
-  pub decided-unbilled : (attempt : Attempt) (d : Ready) (refusal : Refusal) → attempt ≡ Becomes S1 number
-      → IsUnbilled old cred moment from to given refusal → d.reply ≡ Refused refusal → d.plan ≡ Nothing
-      → IsDecided old new cred moment attempt d
-  decided-unbilled attempt d refusal becomes is reply plan =
-      decided-answered old new cred moment attempt d (Refused refusal) same.state
-      (ap (settle old.state cred moment) becomes ∙ settle-refused old.state S1 cred moment number refusal (is S1 asked)) reply plan
-
-  -- and so does one that is granted
-  pub decided-billed : (attempt : Attempt) (change : TreeChange) (bytes : List ℕ) (d : Ready) → attempt ≡ Becomes S1 number
-      → IsBilled old new.bill cred moment from to given
-      → changed old.state change bytes ≡ S1 → CanChange new.state new.room change bytes
-      → d.reply ≡ Done number (told from to) → d.plan ≡ Change change bytes
-      → IsDecided old new cred moment attempt d
-  decided-billed attempt change bytes d becomes billed_so made can reply plan = record {
-    step =
-        (λ i. (effect new (plan i), reply i))
-        ∙ (λ i. (there i, Done number (told-change old.books from to old.state S1 asked.before asked.after asked.replaced i)))
-        ∙ sym (ap (settle old.state cred moment) becomes ∙ settle-granted old.state S1 cred moment number granted.0);
-    can = subst (λ (p : Plan). CanCarryOut new p) (sym plan)
-        (can, record { placed = subst (λ (b : Books). IsBillFor b new.bill) (sym same.books) billed_so.placed; books = books });
-  }
-    where
-      granted : (refusal_between old.state S1 cred moment ≡ None) × AreBooksOf (ends_after S1 moment) (settled new.bill old.books)
-      granted = billed_so.granted S1 asked
-
-      there : billed new (changed new.state change bytes) ≡ ends_after S1 moment
-      there =
-          (λ i. record (changed (same.state i) change bytes) {
-            holders = holders_in (settled new.bill (same.books i)).users (settled new.bill (same.books i)).groups;
-          })
-          ∙ (λ i. record (made i) { holders = sym granted.1.holders i })
-
-      books : AreBooksOf (billed new (changed new.state change bytes)) (settled new.bill new.books)
-      books = subst (λ (S : State). AreBooksOf S (settled new.bill new.books)) (sym there)
-          (subst (λ (b : Books). AreBooksOf (ends_after S1 moment) (settled new.bill b)) (sym same.books) granted.1)
-
-  -- a plain result whose bill is granted is no refusal
-  pub billed-unrefused : {A : Type 0} (bill : Bill) (attempt : Attempt) → attempt ≡ Becomes S1 number
-      → IsBilled old bill cred moment from to given → IsRefused (settle old.state cred moment attempt).1 → A
-  billed-unrefused bill attempt becomes billed_so refused =
-      granted-unrefused old.state S1 cred moment number (billed_so.granted S1 asked).0
-      (subst (λ (a : Attempt). IsRefused (settle old.state cred moment a).1) becomes refused)
-
 -- the same store
 pub same-store : (s : Stored) → IsSameStore s s
 same-store s = record { state = refl; books = refl }
 
+-- what is done is no refusal
+done-unrefused : {A : Type 0} (number : ℕ) (change : TotalChange) (reply : Reply) → reply ≡ Done number change → IsRefused reply → A
+done-unrefused number change reply is refused = let same = sym is ∙ refused.1 in cc
+
+module _ (old new : Stored) (same : IsSameStore old new) (request : Request) (attempt : Attempt) where
+  -- what the request comes to
+  abbrev settled_so : State × Reply
+  settled_so = settle old.state request.cred.now request.moment attempt
+
+  -- what is made ready is a decision
+  pub decision-ready : (d : Ready) → settled_so ≡ (effect new d.plan, d.reply) → CanCarryOut new d.plan
+      → IsDecision old new request attempt (Ok d)
+  decision-ready d is can = record { same = same; decided = record { step = sym is; can = can }; refused_first = λ refused. refl }
+
+  -- an answer decides a request that is answered so
+  pub decision-answered : (d : Ready) (reply : Reply) → settled_so ≡ (old.state, reply) → d ≡ record { reply = reply; plan = Nothing }
+      → IsDecision old new request attempt (Ok d)
+  decision-answered d reply is made =
+      subst (λ (r : Ready). IsDecision old new request attempt (Ok r)) (sym made)
+      (decision-ready (record { reply = reply; plan = Nothing }) (is ∙ (λ i. (sym same.state i, reply))) tt)
+
+  -- a refusal decides an attempt that is refused so
+  pub decision-refused : (d : Ready) (refusal : Refusal) → attempt ≡ Refuse refusal → d ≡ record { reply = Refused refusal; plan = Nothing }
+      → IsDecision old new request attempt (Ok d)
+  decision-refused d refusal is made =
+      decision-answered d (Refused refusal) (ap (settle old.state request.cred.now request.moment) is) made
+
+  module _ (number given : ℕ) (exchange : Exchange) (S1 : State) (asked : IsAsked old exchange given S1) (becomes : attempt ≡ Becomes S1 number) where
+    -- a bill that is refused decides the plain result
+    pub decision-unbilled : (d : Ready) (refusal : Refusal) → IsUnbilled old request exchange given refusal
+        → d ≡ record { reply = Refused refusal; plan = Nothing } → IsDecision old new request attempt (Ok d)
+    decision-unbilled d refusal is made =
+        decision-answered d (Refused refusal)
+        (ap (settle old.state request.cred.now request.moment) becomes
+        ∙ settle-refused old.state S1 request.cred.now request.moment number refusal (is S1 asked)) made
+
+    -- where one is granted, it is no refusal
+    is-done : (bill : Bill) → IsBilled old bill request exchange given
+        → settled_so ≡ (ends_after S1 request.moment, Done number (change_between old.state S1))
+    is-done bill billed_so =
+        ap (settle old.state request.cred.now request.moment) becomes
+        ∙ settle-granted old.state S1 request.cred.now request.moment number (billed_so.granted S1 asked).0
+
+    -- so memory may be wanting then
+    pub decision-unmade : (bill : Bill) (result : Result Ready AllocError) → IsBilled old bill request exchange given → IsErr result
+        → IsDecision old new request attempt result
+    decision-unmade bill (Ok d) billed_so wanting = cc
+    decision-unmade bill (Err fault) billed_so wanting = record {
+      same = same;
+      decided = tt;
+      refused_first =
+          done-unrefused number (change_between old.state S1) settled_so.1 (ap (λ (t : State × Reply). t.1) (is-done bill billed_so));
+    }
+
+    -- and a bill that is granted decides it
+    pub decision-billed : (change : TreeChange) (d : Ready) → IsBilled old new.bill request exchange given
+        → changed old.state change ≡ S1 → CanChange new.state new.room change
+        → d ≡ record { reply = Done number (told exchange); plan = Change change }
+        → IsDecision old new request attempt (Ok d)
+    decision-billed change d billed_so made can is =
+        subst (λ (r : Ready). IsDecision old new request attempt (Ok r)) (sym is)
+        (decision-ready (record { reply = Done number (told exchange); plan = Change change })
+        (is-done new.bill billed_so
+        ∙ (λ i. (sym there i, Done number (sym (told-change old.books exchange old.state S1 asked.before asked.after asked.replaced) i))))
+        (can, record { placed = subst (λ (b : Books). IsBillFor b new.bill) (sym same.books) billed_so.placed; books = books }))
+      where
+        left : AreBooksOf (ends_after S1 request.moment) (settled new.bill old.books)
+        left = (billed_so.granted S1 asked).1
+
+        there : billed new (changed new.state change) ≡ ends_after S1 request.moment
+        there =
+            (λ i. record (changed (same.state i) change) {
+              holders = holders_in (settled new.bill (same.books i)).users (settled new.bill (same.books i)).groups;
+            })
+            ∙ (λ i. record (made i) { holders = sym left.holders i })
+
+        books : AreBooksOf (billed new (changed new.state change)) (settled new.bill new.books)
+        books = subst (λ (S : State). AreBooksOf S (settled new.bill new.books)) (sym there)
+            (subst (λ (b : Books). AreBooksOf (ends_after S1 request.moment) (settled new.bill b)) (sym same.books) left)
+
 -- a decision along an equal attempt
-pub decided-along : (old new : Stored) (cred : Caller) (moment : ℕ) (attempt other : Attempt) (d : Ready) → attempt ≡ other
-    → IsDecided old new cred moment attempt d → IsDecided old new cred moment other d
-decided-along old new cred moment attempt other d same is = subst (λ a. IsDecided old new cred moment a d) same is
+pub decision-along : (old new : Stored) (request : Request) (attempt other : Attempt) (result : Result Ready AllocError) → attempt ≡ other
+    → IsDecision old new request other result → IsDecision old new request attempt result
+decision-along old new request attempt other result same is = subst (λ a. IsDecision old new request a result) (sym same) is
 
 -- what an inode that is there weighs is within the size
 pub weight-fits : (S : State) (number : ℕ) (inode : Inode) → inode_at S number ≡ Some inode → IsLawful S → weight Blocks inode ≤ S.size
@@ -203,25 +216,25 @@ bytes-unrefused S cred moment attempt bytes is refused =
     cc
 
 -- new limits that the superuser sets of a declared principal
-pub decided-limits : (old new : Stored) → IsSameStore old new → (cred : Caller) (moment : ℕ) (kind : Kind) (id : ℕ) (limits : Limits)
-    → IsLawful old.state → (cred.uid == 0) ≡ true → is_declared old.state kind id ≡ true
-    → AreBooksOf (ends_after (with_limits_of old.state kind id limits) moment) (settled new.bill old.books) → IsBillFor old.books new.bill
-    → IsDecided old new cred moment (set_quota old.state cred kind id limits) (record { reply = Done 0 no_change; plan = SetLimits })
-decided-limits old new same cred moment kind id limits lawful super declared books placed = record {
-  step =
-      (λ i. (left i, Done 0 no_change))
-      ∙ sym ((λ i. settle old.state cred moment
-      (cond (not (super i)) (Refuse EPERM)
-      (cond (not (declared i)) (Refuse ESRCH) (Becomes (with_limits_of old.state kind id limits) 0))))
-      ∙ settle-with_limits_of old.state kind id limits cred moment lawful.blocks_fit lawful.inodes_fit lawful.next_fits);
-  can = record {
-    placed = subst (λ (b : Books). IsBillFor b new.bill) (sym same.books) placed;
-    books = subst (λ (S : State). AreBooksOf S (settled new.bill new.books)) (sym left)
-        (subst (λ (b : Books). AreBooksOf (ends_after (with_limits_of old.state kind id limits) moment) (settled new.bill b)) (sym same.books) books);
-  };
-}
+pub decision-limits : (old new : Stored) → IsSameStore old new → (request : Request) (kind : Kind) (id : ℕ) (limits : Limits)
+    → IsLawful old.state → (request.cred.now.uid == 0) ≡ true → is_declared old.state kind id ≡ true
+    → AreBooksOf (ends_after (with_limits_of old.state kind id limits) request.moment) (settled new.bill old.books) → IsBillFor old.books new.bill
+    → IsDecision old new request (set_quota old.state request.cred.now kind id limits) (Ok (record { reply = Done 0 no_change; plan = SetLimits }))
+decision-limits old new same request kind id limits lawful super declared books placed =
+    decision-ready old new same request (set_quota old.state request.cred.now kind id limits) (record { reply = Done 0 no_change; plan = SetLimits })
+    ((λ i. settle old.state request.cred.now request.moment
+    (cond (not (super i)) (Refuse EPERM)
+    (cond (not (declared i)) (Refuse ESRCH) (Becomes (with_limits_of old.state kind id limits) 0))))
+    ∙ settle-with_limits_of old.state kind id limits request.cred.now request.moment lawful.blocks_fit lawful.inodes_fit lawful.next_fits
+    ∙ (λ i. (sym left i, Done 0 no_change)))
+    (record {
+      placed = subst (λ (b : Books). IsBillFor b new.bill) (sym same.books) placed;
+      books = subst (λ (S : State). AreBooksOf S (settled new.bill new.books)) (sym left)
+          (subst (λ (b : Books). AreBooksOf (ends_after (with_limits_of old.state kind id limits) request.moment) (settled new.bill b)) (sym same.books)
+          books);
+    })
   where
-    left : billed new new.state ≡ ends_after (with_limits_of old.state kind id limits) moment
+    left : billed new new.state ≡ ends_after (with_limits_of old.state kind id limits) request.moment
     left =
         (λ i. record (same.state i) {
           holders = holders_in (settled new.bill (same.books i)).users (settled new.bill (same.books i)).groups;

@@ -14,7 +14,8 @@ use Rattle.qplain_laws.proofs.Bounding.{too_many-directory}
 use Rattle.qplain_laws.proofs.Removing.{Replaces-last, one_name}
 use Rattle.qstore_tree.proofs.Directories.{directory-there}
 use Rattle.qstore_accounts.specs.declared.claim.Claim.{Claim}
-use Rattle.qstore.specs.Decided.{IsAsked, IsClaimed, IsConsistent}
+use Rattle.qstore.specs.Decided.{IsAsked, IsClaimed}
+use Rattle.qstore.specs.Requests.{IsConsistent}
 use Rattle.qstore.specs.Stored.{Stored}
 use Rattle.qstore.proofs.Deciding.{asked-for, unclaimed}
 
@@ -41,7 +42,7 @@ rmdir-becomes S cred dir name number inode led there directory may empty =
 -- where a directory goes, nothing stands
 pub removed-asked : (s : Stored) → IsConsistent s → (dir : ℕ) (name : List ℕ) (number : ℕ) (inode : Inode) → named s.state dir name ≡ Some number
     → inode_at s.state number ≡ Some inode → inode.dir ≡ true → (claim : Claim) → IsClaimed s.books (Some claim) (Some inode)
-    → IsAsked s (Some claim) None 0 (swept (without_name s.state dir name))
+    → IsAsked s (record { from = Some claim; to = None }) 0 (swept (without_name s.state dir name))
 removed-asked s whole dir name number inode led there directory claim claimed =
     let fits = whole.sound.lawful.parts in
     asked-for s whole (Some claim) None 0 (swept (without_name s.state dir name)) (Some inode) None

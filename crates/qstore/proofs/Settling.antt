@@ -32,17 +32,17 @@ bounds-altered S number change None = bounds-same S
 bounds-altered S number change (Some inode) = record { size = refl; most_inodes = refl; file_limit = refl; graces = refl }
 
 -- nor does a change
-pub bounds-changed : (S : State) (change : TreeChange) (bytes : List ℕ) → KeepsBounds S (changed S change bytes)
-bounds-changed S (Create dir name uid gid) bytes = record { size = refl; most_inodes = refl; file_limit = refl; graces = refl }
-bounds-changed S (Mkdir dir name uid gid) bytes = record { size = refl; most_inodes = refl; file_limit = refl; graces = refl }
-bounds-changed S (Write number off spare) bytes = bounds-altered S number _ (inode_at S number)
-bounds-changed S (Truncate number size) bytes = bounds-altered S number _ (inode_at S number)
-bounds-changed S (Unlink dir path number) bytes = record { size = refl; most_inodes = refl; file_limit = refl; graces = refl }
-bounds-changed S (Rmdir dir path number) bytes = record { size = refl; most_inodes = refl; file_limit = refl; graces = refl }
-bounds-changed S (Link dir name number) bytes = record { size = refl; most_inodes = refl; file_limit = refl; graces = refl }
-bounds-changed S (Rename dir path to_dir to_name number) bytes =
+pub bounds-changed : (S : State) (change : TreeChange) → KeepsBounds S (changed S change)
+bounds-changed S (Create dir name uid gid) = record { size = refl; most_inodes = refl; file_limit = refl; graces = refl }
+bounds-changed S (Mkdir dir name uid gid) = record { size = refl; most_inodes = refl; file_limit = refl; graces = refl }
+bounds-changed S (Write number off bytes spare) = bounds-altered S number _ (inode_at S number)
+bounds-changed S (Truncate number size) = bounds-altered S number _ (inode_at S number)
+bounds-changed S (Unlink dir path number) = record { size = refl; most_inodes = refl; file_limit = refl; graces = refl }
+bounds-changed S (Rmdir dir path number) = record { size = refl; most_inodes = refl; file_limit = refl; graces = refl }
+bounds-changed S (Link dir name number) = record { size = refl; most_inodes = refl; file_limit = refl; graces = refl }
+bounds-changed S (Rename dir path to_dir to_name number) =
     record { size = refl; most_inodes = refl; file_limit = refl; graces = refl }
-bounds-changed S (Chown number uid gid) bytes = bounds-altered S number _ (inode_at S number)
+bounds-changed S (Chown number uid gid) = bounds-altered S number _ (inode_at S number)
 
 -- ---- links know neither holders nor graces
 

@@ -3,7 +3,9 @@ pub mod Stored
 pub mod Ready
 pub mod Rows
 pub mod Told
+pub mod Requests
 pub mod Decided
 pub mod Targets
 pub mod FileTypes
+pub mod Renamings
 pub mod Kept

@@ -44,7 +44,7 @@ billed s S = record S { holders = holders_in (settled s.bill s.books).users (set
 -- the state that a plan leaves
 abbrev pub effect : Stored → Plan → State
 effect s Nothing = s.state
-effect s (Change change bytes) = billed s (changed s.state change bytes)
+effect s (Change change) = billed s (changed s.state change)
 effect s Limits = billed s s.state
 effect s (SetGraces graces) = record s.state { graces = graces }
 
@@ -60,8 +60,8 @@ pub record CanSettle (s : Stored) (S : State) : Type 0 where
 -- the store is as the plan needs it
 abbrev pub CanCarryOut : Stored → Plan → Type 0
 CanCarryOut s Nothing = Unit {0}
-CanCarryOut s (Change change bytes) =
-    CanChange s.state s.room change bytes × CanSettle s (changed s.state change bytes)
+CanCarryOut s (Change change) =
+    CanChange s.state s.room change × CanSettle s (changed s.state change)
 CanCarryOut s Limits = CanSettle s s.state
 CanCarryOut s (SetGraces graces) = are_graces_in_range graces ≡ true
 

@@ -1,13 +1,13 @@
 //! A call that is decided, and what is left to do.
-ghost use Rattle.std.specs.Prelude.{◌≡◌, false, []};
+ghost use Rattle.std.specs.Prelude.{◌≡◌, false};
 ghost use Rattle.qplain.specs.Journal.{board_of};
 ghost use Rattle.qstore.specs.Ready.{committed};
 ghost use Rattle.qstore.specs.Stored.{Stored};
 ghost use Rattle.qstore.specs.Told.{told};
 
-use qplain::{Data, Refusal, Reply};
+use crate::{Exchange, NoMemory, Refusal, Reply};
 use qrules::Graces;
-use qstore_accounts::{Claim, change_of};
+use qstore_accounts::change_of;
 use qstore_change::TreeChange;
 
 /// What a granted call still has to do.
@@ -15,8 +15,8 @@ use qstore_change::TreeChange;
 pub(crate) enum Plan {
     /// The reply is all.
     Nothing,
-    /// Inodes or names change, and the accounts by the store's bill. The bytes are a write's, which its call shares.
-    Change { change: TreeChange, bytes: Data },
+    /// Inodes or names change, and the accounts by the store's bill.
+    Change { change: TreeChange },
     /// A record gets other limits, by the store's bill.
     Limits,
     /// The graces are to be these.
@@ -30,11 +30,13 @@ pub struct Ready {
     pub(crate) plan: Plan,
 }
 
+/// A call that is decided, or out of memory, which comes after all refusals.
+pub(crate) type Decision = Result<Ready, NoMemory>;
+
 impl Ready {
     /// Nothing is to be done beyond this reply.
     pub(crate) fn answer(reply: Reply) -> Ready
-        ensures reply { result.reply ≡ reply }
-        ensures plan { result.plan ≡ Plan.Nothing }
+        ensures { result ≡ record { reply = reply; plan = Plan.Nothing } }
     {
         Ready {
             reply,
@@ -44,39 +46,18 @@ impl Ready {
 
     /// The call is refused.
     pub(crate) fn refused(refusal: Refusal) -> Ready
-        ensures reply { result.reply ≡ Reply.Refused refusal }
-        ensures plan { result.plan ≡ Plan.Nothing }
+        ensures { result ≡ record { reply = Reply.Refused refusal; plan = Plan.Nothing } }
     {
         Ready::answer(Reply::Refused(refusal))
     }
 
-    /// The call is granted: the inode of one claim comes to stand in the place of the other's.
-    pub(crate) fn granted(
-        number: u64,
-        from: Option<Claim>,
-        to: Option<Claim>,
-        change: TreeChange,
-    ) -> Ready
-        ensures reply { result.reply ≡ Reply.Done number (told from to) }
-        ensures plan { result.plan ≡ Plan.Change change [] }
-    {
-        Ready::granted_with(number, from, to, change, Data::fill(0, 0))
-    }
-
-    /// The call is granted, and these bytes come into the inode.
-    pub(crate) fn granted_with(
-        number: u64,
-        from: Option<Claim>,
-        to: Option<Claim>,
-        change: TreeChange,
-        bytes: Data,
-    ) -> Ready
-        ensures reply { result.reply ≡ Reply.Done number (told from to) }
-        ensures plan { result.plan ≡ Plan.Change change bytes }
+    /// The call is granted.
+    pub(crate) fn granted(number: u64, exchange: &Exchange, change: TreeChange) -> Ready
+        ensures { result ≡ record { reply = Reply.Done number (told exchange.now); plan = Plan.Change change } }
     {
         Ready {
-            reply: Reply::Done(number, change_of(from, to)),
-            plan: Plan::Change { change, bytes },
+            reply: Reply::Done(number, change_of(exchange.from, exchange.to)),
+            plan: Plan::Change { change },
         }
     }
 

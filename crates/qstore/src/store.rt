@@ -1,24 +1,22 @@
 //! The store: its parts, and one call from its decision to its commit.
-ghost use Rattle.std.specs.Prelude.{◌≡◌, ◌<◌, ◌≤◌, ◌^◌, true, false, [], All, IfOk, OnOk, OnErr};
+ghost use Rattle.std.specs.Prelude.{◌≡◌, ◌<◌, ◌^◌, true, false, All, IfOk, OnOk, OnErr};
 ghost use Rattle.std.specs.Result.{IsOk};
 ghost use Rattle.qrules.specs.Sort.{Blocks, Inodes};
 ghost use Rattle.qplain.specs.State.{State, start};
 ghost use Rattle.qplain.specs.Use.{total_of};
 ghost use Rattle.qplain.specs.Caller.{is_superuser};
 ghost use Rattle.qplain.specs.Arguments.{has_bad_number};
-ghost use Rattle.qplain.specs.Calls.{attempt_of};
-ghost use Rattle.qplain.specs.Step.{settle, step};
+ghost use Rattle.qplain.specs.Step.{step};
 ghost use Rattle.qplain_laws.specs.Laws.{IsLawful, PassesNoLimit};
 ghost use Rattle.qstore_tree.specs.TreeOf.{IsTreeOf};
-ghost use Rattle.qstore_accounts.specs.Books.{HasSlots};
 ghost use Rattle.qstore.specs.Stored.{IsSameStore, IsStorable, Stored};
-ghost use Rattle.qstore.specs.Decided.{IsDecided, IsConsistent};
+ghost use Rattle.qstore.specs.Decided.{IsDecisionOf};
+ghost use Rattle.qstore.specs.Requests.{CanDecide};
 ghost use Rattle.qstore.specs.Ready.{CanCarryOut, IsReady, IsRefused, committed, wants_no_memory};
 
-use crate::ready::{Plan, Ready};
-use qplain::{Call, Cred, FILE_LIMIT, NoMemory, Reply, Setup};
-use qrules::MAX_MOMENT;
-use qstore_accounts::{Accounts, Bill, Slots};
+use crate::{Call, Cred, Decision, NoMemory, Plan, Ready, Reply, Request, Setup};
+use qplain::FILE_LIMIT;
+use qstore_accounts::{Accounts, Bill};
 use qstore_tree::Tree;
 use std::alloc::Global;
 use std::marker::Model;
@@ -113,7 +111,7 @@ impl Store {
     }
 
     /// Decides a call, and makes every growth that it needs.
-    fn decide(&mut self, cred: &Cred, moment: u64, call: &Call) -> Result<Ready, NoMemory>
+    fn decide(&mut self, cred: &Cred, moment: u64, call: &Call) -> Decision
         ensures same { IsSameStore self.old self.new }
         ensures step { IfOk result (λ r. committed self.new r ≡ step self.old.state cred.now moment call.now) }
         ensures can { IfOk result (λ r. CanCarryOut self.new r.plan) }
@@ -125,55 +123,48 @@ impl Store {
             Ok(callers) => callers,
             Err(refusal) => return Ok(Ready::refused(refusal)),
         };
-        self.decide_lawful(cred, callers, moment, call)
+        let request = Request {
+            cred,
+            callers,
+            moment,
+        };
+        self.decide_lawful(&request, call)
     }
 
     /// Decides a call that is written as it may be, and makes every growth that it needs.
-    fn decide_lawful(
-        &mut self,
-        cred: &Cred,
-        callers: Slots,
-        moment: u64,
-        call: &Call,
-    ) -> Result<Ready, NoMemory>
-        requires callers { HasSlots self.old.books callers cred.now.uid cred.now.gid }
-        requires whole { IsConsistent self.old }
-        requires moment { moment ≤ MAX_MOMENT }
+    fn decide_lawful(&mut self, request: &Request, call: &Call) -> Decision
+        requires can { CanDecide self.old request.now }
         requires numbers { has_bad_number self.old.state call.now ≡ false }
-        ensures same { IsSameStore self.old self.new }
-        ensures decided { IfOk result (IsDecided self.old self.new cred.now moment
-            (attempt_of self.old.state cred.now call.now)) }
-        ensures refused_first { IsRefused (settle self.old.state cred.now moment
-            (attempt_of self.old.state cred.now call.now)).1 → IsOk result }
+        ensures decided { IsDecisionOf self.old self.new request.now call.now result }
         ensures answered { wants_no_memory call.now ≡ true → IsOk result }
     {
         match call {
-            Call::Create { path } => self.decide_create(cred, callers, moment, path.text()),
-            Call::Mkdir { path } => self.decide_mkdir(cred, callers, moment, path.text()),
+            Call::Create { path } => self.decide_create(request, path.text()),
+            Call::Mkdir { path } => self.decide_mkdir(request, path.text()),
             Call::Write { path, off, bytes } => {
-                self.decide_write(cred, callers, moment, path.text(), *off, bytes)
+                self.decide_write(request, path.text(), *off, bytes)
             }
             Call::Truncate { path, size } => {
-                Ok(self.decide_truncate(cred, callers, moment, path.text(), *size))
+                Ok(self.decide_truncate(request, path.text(), *size))
             }
             Call::Read { path, off, len } => {
                 Ok(Ready::answer(self.decide_read(path.text(), *off, *len)?))
             }
             Call::Stat { path } => Ok(Ready::answer(self.decide_stat(path.text()))),
-            Call::Link { from, to } => self.decide_link(cred, moment, from.text(), to.text()),
-            Call::Unlink { path } => self.decide_unlink(cred, callers, moment, path),
-            Call::Rmdir { path } => self.decide_rmdir(cred, callers, moment, path),
-            Call::Rename { from, to } => {
-                self.decide_rename(cred, callers, moment, from, to.text())
-            }
+            Call::Link { from, to } => self.decide_link(request, from.text(), to.text()),
+            Call::Unlink { path } => self.decide_unlink(request, path),
+            Call::Rmdir { path } => self.decide_rmdir(request, path),
+            Call::Rename { from, to } => self.decide_rename(request, from, to.text()),
             Call::Chown { path, uid, gid } => {
-                Ok(self.decide_chown(cred, callers, moment, path.text(), *uid, *gid))
+                Ok(self.decide_chown(request, path.text(), *uid, *gid))
             }
             Call::SetQuota { kind, id, limits } => {
-                Ok(self.decide_set_quota(cred, moment, *kind, *id, *limits))
+                Ok(self.decide_set_quota(request, *kind, *id, *limits))
             }
-            Call::SetGrace { graces } => Ok(self.decide_set_grace(cred, *graces)),
-            Call::Quota { kind, id } => Ok(Ready::answer(self.decide_quota(cred, *kind, *id))),
+            Call::SetGrace { graces } => Ok(self.decide_set_grace(request, *graces)),
+            Call::Quota { kind, id } => {
+                Ok(Ready::answer(self.decide_quota(request.cred, *kind, *id)))
+            }
         }
     }
 
@@ -188,7 +179,7 @@ impl Store {
     /// dropped: the room of a create, a mkdir or a link serves the next of them in its directory, a write's blocks go
     /// with it, and what is left in its file is taken out by that file's next write.
     #[inline(always)]
-    pub fn ready(&mut self, cred: &Cred, moment: u64, call: &Call) -> Result<Ready, NoMemory>
+    pub fn ready(&mut self, cred: &Cred, moment: u64, call: &Call) -> Decision
         ensures state { self.new.state ≡ self.old.state }
         ensures step { IfOk result (λ r. committed self.new r ≡ step self.old.state cred.now moment call.now) }
         ensures ready { IfOk result (IsReady self.new) }

@@ -24,20 +24,20 @@ altered_at S number change (Some inode) = with_inode S number (change inode)
 abbrev pub altered : State → ℕ → (Inode → Inode) → State
 altered S number change = altered_at S number change (inode_at S number)
 
--- what a change makes of inodes and names, with the bytes that the call brings
-abbrev pub changed : State → TreeChange → List ℕ → State
-changed S (Create dir name uid gid) bytes = created S (new_file uid gid) dir (string_bytes name)
-changed S (Mkdir dir name uid gid) bytes = created S (new_directory uid gid) dir (string_bytes name)
-changed S (Write number off spare) bytes =
+-- what a change makes of inodes and names
+abbrev pub changed : State → TreeChange → State
+changed S (Create dir name uid gid) = created S (new_file uid gid) dir (string_bytes name)
+changed S (Mkdir dir name uid gid) = created S (new_directory uid gid) dir (string_bytes name)
+changed S (Write number off bytes spare) =
     altered S number (λ inode. record inode { file = after_write inode.file off bytes })
-changed S (Truncate number size) bytes =
+changed S (Truncate number size) =
     altered S number (λ inode. record inode { file = after_truncate inode.file size })
-changed S (Unlink dir path number) bytes = swept (without_name S dir (name_in path))
-changed S (Rmdir dir path number) bytes = swept (without_name S dir (name_in path))
-changed S (Link dir name number) bytes = with_name S dir (string_bytes name) number
-changed S (Rename dir path to_dir to_name number) bytes =
+changed S (Unlink dir path number) = swept (without_name S dir (name_in path))
+changed S (Rmdir dir path number) = swept (without_name S dir (name_in path))
+changed S (Link dir name number) = with_name S dir (string_bytes name) number
+changed S (Rename dir path to_dir to_name number) =
     renamed S dir (name_in path) to_dir (string_bytes to_name) number
-changed S (Chown number uid gid) bytes = altered S number (λ inode. with_owners inode uid gid)
+changed S (Chown number uid gid) = altered S number (λ inode. with_owners inode uid gid)
 
 -- a new file or directory may be put under this name
 pub record CanCreate (S : State) (room : Room) (dir : ℕ) (name : List ℕ) : Type 0 where
@@ -99,14 +99,14 @@ pub record CanChown (S : State) (number : ℕ) : Type 0 where
   pub there : inode_at S number ≡ Some inode
 
 -- the change may be made, in this state and with this room
-abbrev pub CanChange : State → Room → TreeChange → List ℕ → Type 0
-CanChange S room (Create dir name uid gid) bytes = CanCreate S room dir (string_bytes name)
-CanChange S room (Mkdir dir name uid gid) bytes = CanCreate S room dir (string_bytes name)
-CanChange S room (Write number off spare) bytes = CanWrite S room number off spare bytes
-CanChange S room (Truncate number size) bytes = CanTruncate S number size
-CanChange S room (Unlink dir path number) bytes = CanUnlink S dir number (name_in path)
-CanChange S room (Rmdir dir path number) bytes = CanRmdir S dir number (name_in path)
-CanChange S room (Link dir name number) bytes = CanLink S room dir (string_bytes name) number
-CanChange S room (Rename dir path to_dir to_name number) bytes =
+abbrev pub CanChange : State → Room → TreeChange → Type 0
+CanChange S room (Create dir name uid gid) = CanCreate S room dir (string_bytes name)
+CanChange S room (Mkdir dir name uid gid) = CanCreate S room dir (string_bytes name)
+CanChange S room (Write number off bytes spare) = CanWrite S room number off spare bytes
+CanChange S room (Truncate number size) = CanTruncate S number size
+CanChange S room (Unlink dir path number) = CanUnlink S dir number (name_in path)
+CanChange S room (Rmdir dir path number) = CanRmdir S dir number (name_in path)
+CanChange S room (Link dir name number) = CanLink S room dir (string_bytes name) number
+CanChange S room (Rename dir path to_dir to_name number) =
     CanRename S room dir (name_in path) to_dir (string_bytes to_name) number
-CanChange S room (Chown number uid gid) bytes = CanChown S number
+CanChange S room (Chown number uid gid) = CanChown S number

@@ -28,10 +28,11 @@ pub enum TreeChange {
         uid: u32,
         gid: u32,
     },
-    /// The call's bytes are to be written.
+    /// These bytes are to be written, which the call shares.
     Write {
         number: u64,
         off: u64,
+        bytes: Data,
         spare: Spare,
     },
     /// A file is to have another size.
@@ -77,15 +78,14 @@ pub enum TreeChange {
 /// Makes a change of inodes and names in a tree, and gives the number of the next inode.
 ///
 /// It takes no memory and always succeeds: all room is made beforehand, and `alloc` is what a new directory keeps for
-/// its later growth. `bytes` are those that the call brings, of which only a write knows any. What a use of blocks or
-/// inodes comes to is not its business.
-pub fn make(tree: &mut Tree, next: u64, alloc: Global, change: TreeChange, bytes: &Data) -> u64
+/// its later growth. What a use of blocks or inodes comes to is not its business.
+pub fn make(tree: &mut Tree, next: u64, alloc: Global, change: TreeChange) -> u64
     requires can { (S : State) × IsTreeOf S tree.old × (S.next ≡ next) × IsLawful S
-        × CanChange S tree.old.room change bytes.now }
+        × CanChange S tree.old.room change }
     ensures tree { (S : State) → IsTreeOf S tree.old → S.next ≡ next → IsLawful S
-        → CanChange S tree.old.room change bytes.now → IsTreeOf (changed S change bytes.now) tree.new }
-    ensures next { (S : State) → S.next ≡ next → CanChange S tree.old.room change bytes.now
-        → (changed S change bytes.now).next ≡ result }
+        → CanChange S tree.old.room change → IsTreeOf (changed S change) tree.new }
+    ensures next { (S : State) → S.next ≡ next → CanChange S tree.old.room change
+        → (changed S change).next ≡ result }
 {
     match change {
         TreeChange::Create {
@@ -97,8 +97,13 @@ pub fn make(tree: &mut Tree, next: u64, alloc: Global, change: TreeChange, bytes
             tree.add_file(next, dir, name, uid, gid, alloc);
             return next + 1;
         }
-        TreeChange::Write { number, off, spare } => {
-            tree.put(number, off, bytes, spare);
+        TreeChange::Write {
+            number,
+            off,
+            bytes,
+            spare,
+        } => {
+            tree.put(number, off, &bytes, spare);
         }
         TreeChange::Truncate { number, size } => {
             tree.truncate(number, size);

@@ -1,14 +1,12 @@
 //! What is wrong with a call as it is written, and where the caller's records stand.
-ghost use Rattle.std.specs.Prelude.{◌≡◌, not, nat_lt, ◌||◌, ◌≤◌, false, None, Some, is_some, IfOk, IfErr};
+ghost use Rattle.std.specs.Prelude.{◌≡◌, not, nat_lt, ◌||◌, Some, is_some, IfOk, IfErr};
 ghost use Rattle.std.specs.List.{list_all};
 ghost use Rattle.qrules.specs.declared.kind.Kind.TheVariants.{User, Group};
 ghost use Rattle.qplain.specs.Arguments.{has_bad_number, is_declared, is_undeclared, refusal_of_arguments};
-ghost use Rattle.qstore_accounts.specs.Books.{HasSlots};
-ghost use Rattle.qstore.specs.Decided.{IsConsistent};
-ghost use Rattle.qstore.specs.Stored.{IsStorable};
+ghost use Rattle.qstore.specs.Requests.{IsChecked, IsConsistent};
 
-use crate::store::Store;
-use qplain::{Call, Cred, MAX_DATA, Refusal};
+use crate::{Call, Cred, Refusal, Store};
+use qplain::MAX_DATA;
 use qrules::{Kind, MAX_MOMENT};
 use qstore_accounts::Slots;
 use qstore_walk::paths_fault;
@@ -72,12 +70,8 @@ impl Store {
 
     /// Where the caller's records stand, or the refusal of a call for what is written.
     pub(super) fn check(&self, cred: &Cred, moment: u64, call: &Call) -> Result<Slots, Refusal>
-        ensures granted { IfOk result (λ slots. refusal_of_arguments self.now.state cred.now moment call.now ≡ None) }
-        ensures moment { IfOk result (λ slots. moment ≤ MAX_MOMENT) }
-        ensures slots { IfOk result (λ slots. HasSlots self.now.books slots cred.now.uid cred.now.gid) }
+        ensures checked { IfOk result (IsChecked self.now cred.now moment call.now) }
         ensures whole { IsConsistent self.now }
-        ensures numbers { IfOk result (λ slots. has_bad_number self.now.state call.now ≡ false) }
-        ensures sound { IsStorable self.now.state }
         ensures refused { IfErr result (λ refusal. refusal_of_arguments self.now.state cred.now moment call.now
             ≡ Some refusal) }
     {

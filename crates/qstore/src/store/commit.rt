@@ -5,9 +5,8 @@ ghost use Rattle.qstore_change.specs.Changes.{CanChange, changed};
 ghost use Rattle.qstore_accounts.specs.Pushed.{IsPushed};
 ghost use Rattle.qstore.specs.Stored.{IsStorable};
 
-use crate::ready::{Plan, Ready};
-use crate::store::Store;
-use qplain::{Data, PlacedRow};
+use crate::{Plan, Ready, Store};
+use qplain::PlacedRow;
 use qstore_change::{TreeChange, make};
 
 impl Store {
@@ -20,20 +19,20 @@ impl Store {
     {
         match plan {
             Plan::Nothing => {}
-            Plan::Change { change, bytes } => self.commit_change(change, &bytes),
+            Plan::Change { change } => self.commit_change(change),
             Plan::Limits => self.accounts.settle(&self.bill),
             Plan::SetGraces { graces } => self.accounts.set_graces(graces),
         }
     }
 
     /// Makes a change of inodes and names, and settles the store's bill.
-    fn commit_change(&mut self, change: TreeChange, bytes: &Data)
-        requires can { CanChange self.old.state self.old.room change bytes.now }
-        requires settles { CanSettle self.old (changed self.old.state change bytes.now) }
-        requires sound { IsStorable (billed self.old (changed self.old.state change bytes.now)) }
-        ensures { self.new.state ≡ billed self.old (changed self.old.state change bytes.now) }
+    fn commit_change(&mut self, change: TreeChange)
+        requires can { CanChange self.old.state self.old.room change }
+        requires settles { CanSettle self.old (changed self.old.state change) }
+        requires sound { IsStorable (billed self.old (changed self.old.state change)) }
+        ensures { self.new.state ≡ billed self.old (changed self.old.state change) }
     {
-        self.next = make(&mut self.tree, self.next, self.alloc, change, bytes);
+        self.next = make(&mut self.tree, self.next, self.alloc, change);
         self.accounts.settle(&self.bill);
     }
 

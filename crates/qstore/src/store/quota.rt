@@ -3,8 +3,8 @@ ghost use Rattle.std.specs.Prelude.{◌≡◌, ℕ};
 ghost use Rattle.qplain.specs.Quotas.{ask_quota};
 ghost use Rattle.qplain.specs.Step.{settle};
 
-use crate::store::Store;
-use qplain::{Cred, Quota, Refusal, Reply};
+use crate::{Cred, Refusal, Reply, Store};
+use qplain::Quota;
 use qrules::Kind;
 use qstore_accounts::KeptHolder;
 use qstore_walk::is_own;

@@ -7,8 +7,8 @@ ghost use Rattle.qplain.specs.Files.{read_from};
 ghost use Rattle.qplain.specs.Step.{settle};
 ghost use Rattle.qstore.specs.Ready.{IsRefused};
 
-use crate::store::Store;
-use qplain::{NoMemory, Refusal, Reply, SharedItems};
+use crate::{NoMemory, Refusal, Reply, Store};
+use qplain::SharedItems;
 use qstore_tree::Content;
 use qstore_walk::find;
 

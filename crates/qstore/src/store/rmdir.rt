@@ -1,79 +1,38 @@
 //! To take an empty directory away (rmdir(2)).
-ghost use Rattle.std.specs.Prelude.{◌≡◌, ◌≤◌, true, [], Some, IfOk};
-ghost use Rattle.std.specs.Result.{IsOk};
-ghost use Rattle.qplain.specs.declared.refusal.Refusal.TheVariants.{EBUSY};
-ghost use Rattle.qplain.specs.Attempt.{in_parent};
+ghost use Rattle.std.specs.Prelude.{◌≡◌, true, Some, None};
 ghost use Rattle.qplain.specs.Names.{rmdir_as};
 ghost use Rattle.qplain.specs.State.{is_directory, named};
-ghost use Rattle.qplain.specs.Step.{settle};
-ghost use Rattle.qplain.specs.Use.{is_empty};
 ghost use Rattle.qstore_walk.specs.Paths.{name_in};
-ghost use Rattle.qstore_accounts.specs.Books.{HasSlots};
-ghost use Rattle.qstore.specs.Decided.{IsDecided, IsConsistent};
-ghost use Rattle.qstore.specs.Ready.{IsRefused};
-ghost use Rattle.qstore.specs.Stored.{IsSameStore};
+ghost use Rattle.qstore.specs.Decided.{IsDecision, IsDecisionOf};
+ghost use Rattle.qstore.specs.Requests.{CanDecide};
 
-use crate::file_type::FileType;
-use crate::ready::Ready;
-use crate::store::Store;
-use qplain::{Cred, NoMemory, Path, Refusal};
-use qrules::MAX_MOMENT;
-use qstore_accounts::Slots;
+use crate::{Call, Decision, Exchange, FileType, Path, Ready, Refusal, Request, Store};
 use qstore_tree::Content;
 use qstore_walk::{inode, is_empty, last_component, may_remove};
 
 impl Store {
     /// Decides that a directory goes.
-    pub(super) fn decide_rmdir(
-        &mut self,
-        cred: &Cred,
-        callers: Slots,
-        moment: u64,
-        path: &Path,
-    ) -> Result<Ready, NoMemory>
-        requires callers { HasSlots self.old.books callers cred.now.uid cred.now.gid }
-        requires whole { IsConsistent self.old }
-        requires moment { moment ≤ MAX_MOMENT }
-        ensures same { IsSameStore self.old self.new }
-        ensures decided { IfOk result (IsDecided self.old self.new cred.now moment
-            (in_parent self.old.state EBUSY (rmdir_as self.old.state cred.now) path.now)) }
-        ensures refused_first { IsRefused (settle self.old.state cred.now moment
-            (in_parent self.old.state EBUSY (rmdir_as self.old.state cred.now) path.now)).1 → IsOk result }
+    pub(super) fn decide_rmdir(&mut self, request: &Request, path: &Path) -> Decision
+        requires { CanDecide self.old request.now }
+        ensures { IsDecisionOf self.old self.new request.now (Call.Rmdir path.now) result }
     {
         let last = match last_component(self.tree(), path.text(), Refusal::EBUSY) {
             Ok(last) => last,
             Err(refusal) => return Ok(Ready::refused(refusal)),
         };
         match last.leads_to {
-            Some(number) => {
-                self.take_directory(cred, callers, moment, path, last.dir, last.name, number)
-            }
+            Some(number) => self.take_directory(request, path, last.dir, number),
             None => Ok(Ready::refused(Refusal::ENOENT)),
         }
     }
 
-    /// Decides that the last name of the path goes, which leads to this number.
-    fn take_directory(
-        &mut self,
-        cred: &Cred,
-        callers: Slots,
-        moment: u64,
-        path: &Path,
-        dir: u64,
-        name: &str,
-        number: u64,
-    ) -> Result<Ready, NoMemory>
-        requires callers { HasSlots self.old.books callers cred.now.uid cred.now.gid }
-        requires whole { IsConsistent self.old }
-        requires moment { moment ≤ MAX_MOMENT }
-        requires last { name_in path.now ≡ name.now }
+    /// Decides that the last name of the path goes out of the directory, where it leads to this number.
+    fn take_directory(&mut self, request: &Request, path: &Path, dir: u64, number: u64) -> Decision
+        requires can { CanDecide self.old request.now }
         requires directory { is_directory self.old.state dir ≡ true }
-        requires led { named self.old.state dir name.now ≡ Some number }
-        ensures same { IsSameStore self.old self.new }
-        ensures decided { IfOk result (IsDecided self.old self.new cred.now moment
-            (rmdir_as self.old.state cred.now dir name.now)) }
-        ensures refused_first { IsRefused (settle self.old.state cred.now moment
-            (rmdir_as self.old.state cred.now dir name.now)).1 → IsOk result }
+        requires led { named self.old.state dir (name_in path.now) ≡ Some number }
+        ensures { IsDecision self.old self.new request.now
+            (rmdir_as self.old.state request.now.cred.now dir (name_in path.now)) result }
     {
         let tree = self.tree();
         let Some(node) = inode(tree, number) else {
@@ -82,21 +41,19 @@ impl Store {
         let Content::Directory(_) = &node.content else {
             return Ok(Ready::refused(Refusal::ENOTDIR));
         };
-        if !may_remove(tree, cred, dir, number, node) {
+        if !may_remove(tree, request.cred, dir, number, node) {
             return Ok(Ready::refused(Refusal::EPERM));
         }
         if !is_empty(tree, number) {
             return Ok(Ready::refused(Refusal::ENOTEMPTY));
         }
-        let claim = self.claim_of(cred, callers, number, node);
+        let (from, to) = (Some(self.claim_of(request, number, node)), None);
         self.grant_removal(
-            cred,
-            moment,
+            request,
             path,
             dir,
             number,
-            claim,
-            None,
+            &Exchange { from, to },
             FileType::Directory,
         )
     }

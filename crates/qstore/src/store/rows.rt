@@ -8,8 +8,7 @@ ghost use Rattle.qplain.specs.State.{name_key_cmp};
 ghost use Rattle.qplain.specs.Journal.{row_of};
 ghost use Rattle.qstore.specs.Rows.{StandsBefore, inode_row_of, name_row_of, record_row_of};
 
-use crate::store::Store;
-use qplain::NoMemory;
+use crate::{NoMemory, Store};
 use qrules::{BoardRow, InodeRow, NameRow, RecordRow};
 
 impl Store {

@@ -1,24 +1,21 @@
 //! To set the graces (quotactl(2), Q_SETINFO; setquota(8)).
-ghost use Rattle.std.specs.Prelude.{◌≡◌, ℕ, [], true};
+ghost use Rattle.std.specs.Prelude.{◌≡◌, true};
 ghost use Rattle.qrules.specs.Range.{are_graces_in_range};
-ghost use Rattle.qplain.specs.Quotas.{set_grace};
-ghost use Rattle.qstore.specs.Decided.{IsDecided};
-ghost use Rattle.qstore.specs.Stored.{IsStorable};
+ghost use Rattle.qstore.specs.Decided.{IsDecisionOf};
+ghost use Rattle.qstore.specs.Requests.{CanDecide};
 
-use crate::ready::{Plan, Ready};
-use crate::store::Store;
-use qplain::{Cred, NO_CHANGE, Refusal, Reply};
+use crate::{Call, Plan, Ready, Refusal, Reply, Request, Store};
+use qplain::NO_CHANGE;
 use qrules::Graces;
 
 impl Store {
     /// Decides the setting of the graces. No end that stands moves.
-    pub(super) fn decide_set_grace(&self, cred: &Cred, graces: Graces) -> Ready
+    pub(super) fn decide_set_grace(&self, request: &Request, graces: Graces) -> Ready
+        requires can { CanDecide self.now request.now }
         requires range { are_graces_in_range graces ≡ true }
-        requires sound { IsStorable self.now.state }
-        ensures { (moment : ℕ) → IsDecided self.now self.now cred.now moment
-            (set_grace self.now.state cred.now graces) result }
+        ensures { IsDecisionOf self.now self.now request.now (Call.SetGrace graces) (Ok result) }
     {
-        if cred.uid() != 0 {
+        if request.cred.uid() != 0 {
             return Ready::refused(Refusal::EPERM);
         }
         Ready {

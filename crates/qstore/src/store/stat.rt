@@ -5,8 +5,7 @@ ghost use Rattle.qplain.specs.Attempt.{at_path};
 ghost use Rattle.qplain.specs.Files.{stat_at};
 ghost use Rattle.qplain.specs.Step.{settle};
 
-use crate::store::Store;
-use qplain::Reply;
+use crate::{Reply, Store};
 use qstore_walk::{find, stat_of};
 
 impl Store {

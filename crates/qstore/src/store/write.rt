@@ -1,20 +1,14 @@
 //! To write into a file (write(2)).
 ghost use Rattle.std.specs.Prelude.{◌≡◌, ℕ, ◌+◌, ◌≤◌, nat_lt, length, IfOk, IfErr};
-ghost use Rattle.std.specs.Result.{IsOk};
-ghost use Rattle.qplain.specs.Attempt.{at_path};
-ghost use Rattle.qplain.specs.Files.{write_into};
+ghost use Rattle.qplain.specs.Calls.{attempt_of};
 ghost use Rattle.qplain.specs.Step.{settle};
-ghost use Rattle.qstore_accounts.specs.Books.{HasSlots};
-ghost use Rattle.qstore.specs.Decided.{IsDecided, IsConsistent};
-ghost use Rattle.qstore.specs.Ready.{IsRefused};
-ghost use Rattle.qstore.specs.Stored.{IsSameStore};
+ghost use Rattle.qstore.specs.Decided.{IsDecisionOf};
+ghost use Rattle.qstore.specs.Requests.{CanDecide};
 ghost use Rattle.qstore.specs.Targets.{IsTarget};
 
-use crate::ready::Ready;
-use crate::store::Store;
-use qplain::{Cred, Data, MAX_DATA, NO_CHANGE, NoMemory, Refusal, Reply};
-use qrules::MAX_MOMENT;
-use qstore_accounts::{Claim, Slots};
+use crate::{Call, Decision, Exchange, Ready, Refusal, Reply, Request, Store};
+use qplain::{Data, MAX_DATA, NO_CHANGE};
+use qstore_accounts::Claim;
 use qstore_change::TreeChange;
 use qstore_tree::Content;
 use qstore_walk::{Found, find, may_write};
@@ -31,25 +25,17 @@ impl Store {
     /// Decides a write, and makes room for it.
     pub(super) fn decide_write(
         &mut self,
-        cred: &Cred,
-        callers: Slots,
-        moment: u64,
+        request: &Request,
         path: &str,
         off: u64,
         bytes: &Data,
-    ) -> Result<Ready, NoMemory>
-        requires callers { HasSlots self.old.books callers cred.now.uid cred.now.gid }
-        requires whole { IsConsistent self.old }
-        requires moment { moment ≤ MAX_MOMENT }
+    ) -> Decision
+        requires can { CanDecide self.old request.now }
         requires few { length bytes.now ≤ MAX_DATA }
-        ensures same { IsSameStore self.old self.new }
-        ensures decided { IfOk result (IsDecided self.old self.new cred.now moment
-            (at_path self.old.state (write_into self.old.state cred.now off bytes.now) path.now)) }
-        ensures refused_first { IsRefused (settle self.old.state cred.now moment
-            (at_path self.old.state (write_into self.old.state cred.now off bytes.now) path.now)).1 → IsOk result }
+        ensures { IsDecisionOf self.old self.new request.now (Call.Write path.now off bytes.now) result }
     {
-        match self.target(cred, callers, path, off, bytes) {
-            Ok(target) => self.decide_put(cred, moment, path, off, bytes, target),
+        match self.target(request, path, off, bytes) {
+            Ok(target) => self.decide_put(request, path, off, bytes, target),
             Err(reply) => Ok(Ready::answer(reply)),
         }
     }
@@ -63,20 +49,12 @@ impl Store {
     }
 
     /// The file that the path leads to, if the write comes so far, or else its reply.
-    fn target(
-        &self,
-        cred: &Cred,
-        callers: Slots,
-        path: &str,
-        off: u64,
-        bytes: &Data,
-    ) -> Result<Target, Reply>
-        requires callers { HasSlots self.now.books callers cred.now.uid cred.now.gid }
-        requires whole { IsConsistent self.now }
+    fn target(&self, request: &Request, path: &str, off: u64, bytes: &Data) -> Result<Target, Reply>
+        requires can { CanDecide self.now request.now }
         requires few { length bytes.now ≤ MAX_DATA }
-        ensures granted { IfOk result (IsTarget self.now cred.now path.now off bytes.now) }
-        ensures refused { IfErr result (λ reply. (moment : ℕ) → settle self.now.state cred.now moment
-            (at_path self.now.state (write_into self.now.state cred.now off bytes.now) path.now)
+        ensures granted { IfOk result (IsTarget self.now request.now.cred.now path.now off bytes.now) }
+        ensures refused { IfErr result (λ reply. (moment : ℕ) → settle self.now.state request.now.cred.now moment
+            (attempt_of self.now.state request.now.cred.now (Call.Write path.now off bytes.now))
             ≡ (self.now.state, reply)) }
     {
         let Found { number, node } = match find(self.tree(), path) {
@@ -86,7 +64,7 @@ impl Store {
         let Content::File(file) = &node.content else {
             return Err(Reply::Refused(Refusal::EISDIR));
         };
-        if !may_write(cred, node) {
+        if !may_write(request.cred, node) {
             return Err(Reply::Refused(Refusal::EACCES));
         }
         if bytes.is_empty() {
@@ -98,7 +76,7 @@ impl Store {
         }
         Ok(Target {
             number,
-            claim: self.claim_of(cred, callers, number, node),
+            claim: self.claim_of(request, number, node),
             missing: file.missing(off, len),
         })
     }
@@ -106,35 +84,31 @@ impl Store {
     /// Makes room for a write that passed all tests but those of space and quota, if it is granted.
     fn decide_put(
         &mut self,
-        cred: &Cred,
-        moment: u64,
+        request: &Request,
         path: &str,
         off: u64,
         bytes: &Data,
         target: Target,
-    ) -> Result<Ready, NoMemory>
-        requires whole { IsConsistent self.old }
-        requires moment { moment ≤ MAX_MOMENT }
-        requires target { IsTarget self.old cred.now path.now off bytes.now target }
-        ensures same { IsSameStore self.old self.new }
-        ensures decided { IfOk result (IsDecided self.old self.new cred.now moment
-            (at_path self.old.state (write_into self.old.state cred.now off bytes.now) path.now)) }
-        ensures refused_first { IsRefused (settle self.old.state cred.now moment
-            (at_path self.old.state (write_into self.old.state cred.now off bytes.now) path.now)).1 → IsOk result }
+    ) -> Decision
+        requires can { CanDecide self.old request.now }
+        requires target { IsTarget self.old request.now.cred.now path.now off bytes.now target }
+        ensures { IsDecisionOf self.old self.new request.now (Call.Write path.now off bytes.now) result }
     {
-        let Target {
-            number,
-            claim,
-            missing,
-        } = target;
+        let (number, claim, missing) = (target.number, target.claim, target.missing);
         let from = Some(claim);
         let to = Some(Claim::new(claim.slots, claim.weight.blocks + missing));
-        match self.admit(cred, moment, from, to, 0) {
+        let exchange = Exchange { from, to };
+        match self.admit(request, &exchange, 0) {
             Ok(()) => {}
             Err(refusal) => return Ok(Ready::refused(refusal)),
         }
         let spare = self.tree.ready_write(number, off, bytes.len(), missing)?;
-        let change = TreeChange::Write { number, off, spare };
-        Ok(Ready::granted_with(number, from, to, change, bytes.copy()?))
+        let change = TreeChange::Write {
+            number,
+            off,
+            bytes: bytes.copy()?,
+            spare,
+        };
+        Ok(Ready::granted(number, &exchange, change))
     }
 }

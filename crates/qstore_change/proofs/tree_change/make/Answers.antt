@@ -21,7 +21,7 @@ returns-in-Create-clause-tree c S is next lawful =
     let x = c.args in
     let m = c.in-Create in
     let e = c.add_file.ensures in
-    subst (λ (change : TreeChange). CanChange S x.tree.now.room change x.bytes.now → IsTreeOf (changed S change x.bytes.now) c.add_file.new.self) (sym m.is)
+    subst (λ (change : TreeChange). CanChange S x.tree.now.room change → IsTreeOf (changed S change) c.add_file.new.self) (sym m.is)
     (λ can. tree-created S x.tree.now c.add_file.new.self m.uid m.gid m.dir x.next (string_bytes m.name) is next lawful can.absent e.inodes e.names e.links)
 
 pub returns-in-Write-clause-tree : goal.returns-in-Write-clause-tree
@@ -29,8 +29,8 @@ returns-in-Write-clause-tree c S is next lawful =
     let x = c.args in
     let m = c.in-Write in
     let e = c.put.ensures in
-    subst (λ (change : TreeChange). CanChange S x.tree.now.room change x.bytes.now → IsTreeOf (changed S change x.bytes.now) c.put.new.self) (sym m.is)
-    (λ can. tree-altered S x.tree.now c.put.new.self m.number can.inode (λ i. record i { file = after_write i.file m.off x.bytes.now })
+    subst (λ (change : TreeChange). CanChange S x.tree.now.room change → IsTreeOf (changed S change) c.put.new.self) (sym m.is)
+    (λ can. tree-altered S x.tree.now c.put.new.self m.number can.inode (λ i. record i { file = after_write i.file m.off m.bytes })
     is can.there refl e.inodes e.names e.links)
 
 pub returns-in-Truncate-clause-tree : goal.returns-in-Truncate-clause-tree
@@ -38,7 +38,7 @@ returns-in-Truncate-clause-tree c S is next lawful =
     let x = c.args in
     let m = c.in-Truncate in
     let e = c.truncate.ensures in
-    subst (λ (change : TreeChange). CanChange S x.tree.now.room change x.bytes.now → IsTreeOf (changed S change x.bytes.now) c.truncate.new.self) (sym m.is)
+    subst (λ (change : TreeChange). CanChange S x.tree.now.room change → IsTreeOf (changed S change) c.truncate.new.self) (sym m.is)
     (λ can. tree-altered S x.tree.now c.truncate.new.self m.number can.file.inode (λ i. record i { file = after_truncate i.file m.size })
     is can.file.there refl e.inodes e.names e.links)
 
@@ -47,7 +47,7 @@ returns-in-Chown-clause-tree c S is next lawful =
     let x = c.args in
     let m = c.in-Chown in
     let e = c.set_owners.ensures in
-    subst (λ (change : TreeChange). CanChange S x.tree.now.room change x.bytes.now → IsTreeOf (changed S change x.bytes.now) c.set_owners.new.self) (sym m.is)
+    subst (λ (change : TreeChange). CanChange S x.tree.now.room change → IsTreeOf (changed S change) c.set_owners.new.self) (sym m.is)
     (λ can. tree-altered S x.tree.now c.set_owners.new.self m.number can.inode (λ i. with_owners i m.uid m.gid)
     is can.there refl e.inodes e.names e.links)
 
@@ -55,12 +55,12 @@ pub returns-in-Link-clause-tree : goal.returns-in-Link-clause-tree
 returns-in-Link-clause-tree c S is next lawful =
     let x = c.args in
     let m = c.in-Link in
-    subst (λ (change : TreeChange). CanChange S x.tree.now.room change x.bytes.now → IsTreeOf (changed S change x.bytes.now) c.add_name.new.tree) (sym m.is)
+    subst (λ (change : TreeChange). CanChange S x.tree.now.room change → IsTreeOf (changed S change) c.add_name.new.tree) (sym m.is)
     (λ can. c.add_name.ensures S is lawful can)
 
 pub returns-in-Rename-clause-tree : goal.returns-in-Rename-clause-tree
 returns-in-Rename-clause-tree c S is next lawful =
     let x = c.args in
     let m = c.in-Rename in
-    subst (λ (change : TreeChange). CanChange S x.tree.now.room change x.bytes.now → IsTreeOf (changed S change x.bytes.now) c.rename.new.tree) (sym m.is)
+    subst (λ (change : TreeChange). CanChange S x.tree.now.room change → IsTreeOf (changed S change) c.rename.new.tree) (sym m.is)
     (λ can. c.rename.ensures S is lawful can)

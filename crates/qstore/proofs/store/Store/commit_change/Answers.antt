@@ -16,8 +16,8 @@ invariant_of-self c =
     let made = c.make-self-inside in
     let new : Inside = record a { accounts = c.settle.new.self; tree = made.new.tree; next = made.result } in
     let next = ap (λ (t : Stored). t.state.next) view in
-    let can = subst (λ (r : Room). CanChange s.state r x.change x.bytes.now) (ap (λ (t : Stored). t.room) view) c.requires.can in
+    let can = subst (λ (r : Room). CanChange s.state r x.change) (ap (λ (t : Stored). t.room) view) c.requires.can in
     let lawful = subst (λ (t : Stored). IsLawful t.state) c.self.view_is c.self.invariant.sound.lawful in
     let tree = made.ensures.tree s.state (tree-kept s a view c.self.invariant) next lawful can in
-    counted-billed s a new (changed s.state x.change x.bytes.now) view (bounds-changed s.state x.change x.bytes.now)
+    counted-billed s a new (changed s.state x.change) view (bounds-changed s.state x.change)
     c.self.invariant refl c.settle.ensures tree (made.ensures.next s.state next can) c.requires.settles c.requires.sound

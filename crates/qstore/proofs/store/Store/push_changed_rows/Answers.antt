@@ -29,11 +29,11 @@ module _ (s : Stored) (a : Inside) (is : s ≡ stored_of a) (counted : IsCounted
       (subst (λ (t : Stored). AreBooksOf t.state a.accounts) (sym is) counted.books)
       (subst (λ (t : Stored). AreBooksOf (billed s T) (settled t.bill t.books)) is can.books)
 
-  of-plan : (plan : Plan) → ((change : TreeChange) × (bytes : List ℕ) × plan ≡ Change change bytes) ⊎ (plan ≡ Limits)
+  of-plan : (plan : Plan) → ((change : TreeChange) × plan ≡ Change change) ⊎ (plan ≡ Limits)
       → CanCarryOut s plan → IsPushed s.state rows longer (effect s plan)
-  of-plan plan (inl (change, bytes, same)) can =
+  of-plan plan (inl (change, same)) can =
       subst (λ (p : Plan). IsPushed s.state rows longer (effect s p)) (sym same)
-      (of-bill (changed s.state change bytes) (subst (λ (p : Plan). CanCarryOut s p) same can).1)
+      (of-bill (changed s.state change) (subst (λ (p : Plan). CanCarryOut s p) same can).1)
   of-plan plan (inr same) can =
       subst (λ (p : Plan). IsPushed s.state rows longer (effect s p)) (sym same)
       (of-bill s.state (subst (λ (p : Plan). CanCarryOut s p) same can))

@@ -1,55 +1,37 @@
-use Rattle.std.proofs.Common.{◌≡◌, ◌==◌, not, None, Some, ap, refl, sym, ◌∙◌, arith}
-use Rattle.qplain.specs.Renames.{passes}
-use Rattle.qplain.specs.State.{inode_at, named}
-use Rattle.qplain.specs.Use.{is_empty}
+use Rattle.std.proofs.Common.{◌≡◌, None, Some, ap, refl, sym, ◌∙◌, arith}
+use Rattle.qplain.specs.State.{inode_at}
 use Rattle.qplain_laws.proofs.Finding.{led-there}
 use Rattle.qstore_tree.specs.Nodes.{inode_of, is_dir_content}
 use Rattle.qstore.proofs.Replaced.{directory-asked, file-asked, moved-asked}
 use Rattle.qstore.proofs.store.Store.replaced.Goals as goal
 
 pub returns-in_default : goal.returns-in_default
-returns-in_default c name inode led there =
-    let s = c.args.self.now in
-    let new = c.args.new.now in
-    let r = c.requires in
-    let to : named s.state new.to.dir new.to.name.now ≡ new.to.leads_to = sym r.leads_to in
-    moved-asked s r.whole new.dir name new.number inode new.to.dir new.to.name.now led there r.directory
-    (ap (passes (λ n. n == new.number)) to ∙ r.other) (ap (passes (λ n. not (is_empty s.state n))) to ∙ r.empty) (to ∙ c.in_default.is)
+returns-in_default c name r = moved-asked c.args.self.now c.requires.can.whole name c.args.new.now r c.requires.empty c.in_default.is
 
 pub unreachable-requires : goal.unreachable-requires
 unreachable-requires c =
     let S = c.args.self.now.state in
     let to = c.args.new.now.to in
     let none : inode_at S c.in-Some.number ≡ None = sym (c.in_default-inode.ensures.there S c.tree.ensures) in
-    led-there S c.requires.whole.sound.lawful to.dir to.name.now c.in-Some.number (sym c.requires.leads_to ∙ c.in-Some.is) none
+    led-there S c.requires.can.whole.sound.lawful to.dir to.name.now c.in-Some.number (sym c.requires.renaming.1.leads_to ∙ c.in-Some.is) none
 
 pub returns-in-Directory : goal.returns-in-Directory
-returns-in-Directory c name inode led there =
+returns-in-Directory c name r =
     let s = c.args.self.now in
-    let new = c.args.new.now in
-    let r = c.requires in
-    let to : named s.state new.to.dir new.to.name.now ≡ new.to.leads_to = sym r.leads_to in
     let replaced = inode_of c.in-Some-inode.node.now in
-    let there_too : inode_at s.state c.in-Some.number ≡ Some replaced = sym (c.in-Some-inode.ensures.there s.state c.tree.ensures) in
+    let there : inode_at s.state c.in-Some.number ≡ Some replaced = sym (c.in-Some-inode.ensures.there s.state c.tree.ensures) in
     let blocks = c.claim_of-claim.ensures.blocks in
     let few = c.claim_of-claim.ensures.few in
-    directory-asked s r.whole new.dir name new.number inode new.to.dir new.to.name.now led there r.directory
-    (ap (passes (λ n. n == new.number)) to ∙ r.other) (ap (passes (λ n. not (is_empty s.state n))) to ∙ r.empty)
-    c.in-Some.number replaced (to ∙ c.in-Some.is) there_too c.claim_of-claim.result None c.claim_of-claim.ensures.claimed
-    (omega (arith, blocks, few)) (ap is_dir_content c.in-Directory.is) refl
+    directory-asked s c.requires.can.whole name c.args.new.now r c.requires.empty c.in-Some.number replaced c.in-Some.is there
+    c.claim_of-claim.result None c.claim_of-claim.ensures.claimed (omega (arith, blocks, few)) (ap is_dir_content c.in-Directory.is) refl
 
 pub returns-in-File : goal.returns-in-File
-returns-in-File c name inode led there =
+returns-in-File c name r =
     let s = c.args.self.now in
-    let new = c.args.new.now in
-    let r = c.requires in
-    let to : named s.state new.to.dir new.to.name.now ≡ new.to.leads_to = sym r.leads_to in
     let node = c.in-Some-inode.node.now in
-    let there_too : inode_at s.state c.in-Some.number ≡ Some (inode_of node) = sym (c.in-Some-inode.ensures.there s.state c.tree.ensures) in
+    let there : inode_at s.state c.in-Some.number ≡ Some (inode_of node) = sym (c.in-Some-inode.ensures.there s.state c.tree.ensures) in
     let blocks = c.claim_of-claim.ensures.blocks in
     let few = c.claim_of-claim.ensures.few in
-    file-asked s r.whole new.dir name new.number inode new.to.dir new.to.name.now led there r.directory
-    (ap (passes (λ n. n == new.number)) to ∙ r.other) (ap (passes (λ n. not (is_empty s.state n))) to ∙ r.empty)
-    c.in-Some.number (inode_of node) (to ∙ c.in-Some.is) there_too c.claim_of-claim.result c.left_of-left.result c.claim_of-claim.ensures.claimed
-    (omega (arith, blocks, few)) node.links (ap is_dir_content c.in-File.is) (c.in-Some-inode.ensures.links s.state c.tree.ensures)
-    c.left_of-left.ensures.more c.left_of-left.ensures.last
+    file-asked s c.requires.can.whole name c.args.new.now r c.requires.empty c.in-Some.number (inode_of node) c.in-Some.is there
+    c.claim_of-claim.result c.left_of-to.result c.claim_of-claim.ensures.claimed (omega (arith, blocks, few)) node.links
+    (ap is_dir_content c.in-File.is) (c.in-Some-inode.ensures.links s.state c.tree.ensures) c.left_of-to.ensures.more c.left_of-to.ensures.last

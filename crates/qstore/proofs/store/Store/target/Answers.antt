@@ -10,54 +10,60 @@ pub returns-in-Err-clause-refused : goal.returns-in-Err-clause-refused
 returns-in-Err-clause-refused c moment =
     let x = c.args in
     let S = x.self.now.state in
-    ap (settle S x.cred.now moment) (c.in-Err.ensures.fault S c.tree.ensures (write_into S x.cred.now x.off x.bytes.now))
+    let cred = x.request.now.cred.now in
+    ap (settle S cred moment) (c.in-Err.ensures.fault S c.tree.ensures (write_into S cred x.off x.bytes.now))
 
 pub returns-in_default-clause-refused : goal.returns-in_default-clause-refused
 returns-in_default-clause-refused c moment =
     let x = c.args in
     let S = x.self.now.state in
-    let found = c.in-Ok.ensures.found S c.tree.ensures (write_into S x.cred.now x.off x.bytes.now) in
+    let cred = x.request.now.cred.now in
+    let found = c.in-Ok.ensures.found S c.tree.ensures (write_into S cred x.off x.bytes.now) in
     let dir : (inode_of c.in-Ok.found.node.now).dir ≡ true = ap is_dir_content c.in_default.is in
-    ap (settle S x.cred.now moment) found ∙ (search (rules, dir))
+    ap (settle S cred moment) found ∙ (search (rules, dir))
 
 pub returns-then-not-may_write-clause-refused : goal.returns-then-not-may_write-clause-refused
 returns-then-not-may_write-clause-refused c moment =
     let x = c.args in
     let S = x.self.now.state in
-    let found = c.in-Ok.ensures.found S c.tree.ensures (write_into S x.cred.now x.off x.bytes.now) in
+    let cred = x.request.now.cred.now in
+    let found = c.in-Ok.ensures.found S c.tree.ensures (write_into S cred x.off x.bytes.now) in
     let file : (inode_of c.in-Ok.found.node.now).dir ≡ false = ap is_dir_content c.in-File.is in
-    let may : may_write x.cred.now (inode_of c.in-Ok.found.node.now) ≡ false = search rules in
-    ap (settle S x.cred.now moment) found ∙ (search (rules, file, may))
+    let may : may_write cred (inode_of c.in-Ok.found.node.now) ≡ false = search rules in
+    ap (settle S cred moment) found ∙ (search (rules, file, may))
 
 pub returns-then-is_empty-clause-refused : goal.returns-then-is_empty-clause-refused
 returns-then-is_empty-clause-refused c moment =
     let x = c.args in
     let S = x.self.now.state in
-    let found = c.in-Ok.ensures.found S c.tree.ensures (write_into S x.cred.now x.off x.bytes.now) in
+    let cred = x.request.now.cred.now in
+    let found = c.in-Ok.ensures.found S c.tree.ensures (write_into S cred x.off x.bytes.now) in
     let file : (inode_of c.in-Ok.found.node.now).dir ≡ false = ap is_dir_content c.in-File.is in
-    let may : may_write x.cred.now (inode_of c.in-Ok.found.node.now) ≡ true = search rules in
+    let may : may_write cred (inode_of c.in-Ok.found.node.now) ≡ true = search rules in
     let none : (length x.bytes.now == 0) ≡ true = sym c.is_empty.ensures ∙ c.if-is_empty.true in
-    ap (settle S x.cred.now moment) found ∙ (search (rules, file, may, none))
+    ap (settle S cred moment) found ∙ (search (rules, file, may, none))
 
 pub returns-then-is_past_limit-clause-refused : goal.returns-then-is_past_limit-clause-refused
 returns-then-is_past_limit-clause-refused c moment =
     let x = c.args in
     let S = x.self.now.state in
-    let found = c.in-Ok.ensures.found S c.tree.ensures (write_into S x.cred.now x.off x.bytes.now) in
+    let cred = x.request.now.cred.now in
+    let found = c.in-Ok.ensures.found S c.tree.ensures (write_into S cred x.off x.bytes.now) in
     let file : (inode_of c.in-Ok.found.node.now).dir ≡ false = ap is_dir_content c.in-File.is in
-    let may : may_write x.cred.now (inode_of c.in-Ok.found.node.now) ≡ true = search rules in
+    let may : may_write cred (inode_of c.in-Ok.found.node.now) ≡ true = search rules in
     let some : (length x.bytes.now == 0) ≡ false = sym c.is_empty.ensures ∙ c.if-is_empty.false in
     let past : nat_lt S.file_limit (x.off + length x.bytes.now) ≡ true = search rules in
-    ap (settle S x.cred.now moment) found ∙ (search (rules, file, may, some, past))
+    ap (settle S cred moment) found ∙ (search (rules, file, may, some, past))
 
 pub returns-clause-granted : goal.returns-clause-granted
 returns-clause-granted c =
     let x = c.args in
     let S = x.self.now.state in
+    let cred = x.request.now.cred.now in
     let inode = inode_of c.in-Ok.found.node.now in
-    let found = c.in-Ok.ensures.found S c.tree.ensures (write_into S x.cred.now x.off x.bytes.now) in
+    let found = c.in-Ok.ensures.found S c.tree.ensures (write_into S cred x.off x.bytes.now) in
     let file : inode.dir ≡ false = ap is_dir_content c.in-File.is in
-    let may : may_write x.cred.now inode ≡ true = search rules in
+    let may : may_write cred inode ≡ true = search rules in
     let some : (length x.bytes.now == 0) ≡ false = sym c.is_empty.ensures ∙ c.if-is_empty.false in
     let low : nat_lt S.file_limit (x.off + length x.bytes.now) ≡ false = search rules in
     record {
@@ -70,14 +76,15 @@ returns-clause-granted c =
       missing = search rules;
       few_missing = c.missing.ensures.bound;
       bound = grind (arith, tests, low);
-      becomes = found ∙ write-becomes S x.cred.now x.off x.bytes.now c.in-Ok.found.number inode file may some low;
+      becomes = found ∙ write-becomes S cred x.off x.bytes.now c.in-Ok.found.number inode file may some low;
     }
 
 pub missing-requires : goal.missing-requires
 missing-requires c =
     let x = c.args in
     let S = x.self.now.state in
+    let cred = x.request.now.cred.now in
     let low : nat_lt S.file_limit (x.off + length x.bytes.now) ≡ false = search rules in
-    let bound = c.requires.whole.sound.file_bound in
+    let bound = c.requires.can.whole.sound.file_bound in
     let len = c.len-len.ensures in
     grind (arith, tests, low, bound, len)
