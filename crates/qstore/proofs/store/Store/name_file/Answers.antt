@@ -30,7 +30,8 @@ returns-in_err-name c =
     let s = c.args.self.now in
     let new = c.args.new.now in
     let asked = linked-asked s c.requires.can.whole new.dir new.name.now new.number in
-    decision-unmade s c.admit.new.self c.admit.ensures.same c.args.request.now _ new.number 0 _ _ asked refl _ _ c.in-Ok.ensures.granted c.from_residual.ensures.0
+    decision-unmade s c.admit.new.self c.admit.ensures.same c.args.request.now _ new.number 0 _ _ asked refl _ _ c.in-Ok.ensures.granted
+    c.from_residual.ensures.0
 
 pub returns-in_err-make_name_room : goal.returns-in_err-make_name_room
 returns-in_err-make_name_room c =

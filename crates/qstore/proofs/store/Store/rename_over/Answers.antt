@@ -23,6 +23,9 @@ returns-in-Some-rename_fault c inode there =
     (sym (c.rename_fault.ensures s.state c.tree-tree.ensures found_there r.directory) ∙ c.in-Some-rename_fault.is))
     c.refused.ensures
 
+pub grant_rename-requires-clause-asked : goal.grant_rename-requires-clause-asked
+grant_rename-requires-clause-asked c = c.replaced-exchange.ensures (name_in c.args.from.now) c.requires.renaming
+
 pub grant_rename-requires-clause-can : goal.grant_rename-requires-clause-can
 grant_rename-requires-clause-can c room enough =
     let x = c.args in

@@ -14,11 +14,11 @@ grant_removal-requires-clause-asked c =
     let node = c.in-Some.node.now in
     let there : inode_at s.state x.number ≡ Some (inode_of node) = sym (c.in-Some.ensures.there s.state c.tree-tree.ensures) in
     let claim = c.claim_of-claim.ensures in
-    let left = c.left_of.ensures in
+    let left = c.left_of-to.ensures in
     let few = claim.few in
     let blocks = claim.blocks in
     unlinked-asked s c.requires.can.whole x.dir (name_in x.path.now) x.number (inode_of node) c.requires.led there (ap is_dir_content c.in-File.is)
-    c.claim_of-claim.result c.left_of.result node.links claim.claimed (omega (arith, blocks, few))
+    c.claim_of-claim.result c.left_of-to.result node.links claim.claimed (omega (arith, blocks, few))
     (c.in-Some.ensures.links s.state c.tree-tree.ensures) left.more left.last
 
 pub grant_removal-requires-clause-can : goal.grant_removal-requires-clause-can
