@@ -8,8 +8,7 @@ use Rattle.qstore_change.specs.declared.tree_change.TreeChange.{TreeChange}
 use Rattle.qstore_change.specs.declared.tree_change.TreeChange.TheVariants.{Create, Mkdir, Write, Truncate, Unlink, Rmdir, Link, Rename, Chown}
 use Rattle.qstore_change.specs.Changes.{altered_at, changed}
 use Rattle.qstore_accounts.specs.Bills.{settled}
-use Rattle.qstore_accounts.specs.Books.{AreBooksOf, AreInRange, Books}
-use Rattle.qstore_accounts.specs.KeptHolders.{holders_in}
+use Rattle.qstore_accounts.specs.Books.{AreBooksOf, AreInRange, Books, holders_of}
 use Rattle.qstore_accounts.proofs.Booked.{in_range-settled}
 use Rattle.qstore.specs.declared.store.Store.TheInside.{Inside}
 use Rattle.qstore.specs.Kept.{IsCounted, state_of, stored_of}
@@ -94,7 +93,7 @@ module _ (s : Stored) (a new : Inside) (T : State) (is : s ≡ stored_of a) (kee
         most_inodes = most i;
         file_limit = limits i;
         graces = graces i;
-        holders = holders_in (settled-here i).users (settled-here i).groups;
+        holders = holders_of (settled-here i);
         inodes = tree.inodes i;
         names = tree.names i;
         next = sym next i;
@@ -107,6 +106,6 @@ module _ (s : Stored) (a new : Inside) (T : State) (is : s ≡ stored_of a) (kee
         sound = sound;
         books = subst (AreBooksOf (billed s T)) (sym settled-here) can.books;
         in_range = subst AreInRange (sym settles) (in_range-settled a.accounts a.bill counted.in_range);
-        links = links-held T (holders_in (settled s.bill s.books).users (settled s.bill s.books).groups) new.tree.links tree.links;
+        links = links-held T (holders_of (settled s.bill s.books)) new.tree.links tree.links;
         in_order = tree.in_order;
       })
