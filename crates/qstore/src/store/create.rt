@@ -22,16 +22,8 @@ fn creation(sort: FileType, dir: u64, name: String, owners: Owners) -> TreeChang
         → CanChange S room result }
 {
     match sort {
-        FileType::File => TreeChange::Create {
-            dir,
-            name,
-            owners,
-        },
-        FileType::Directory => TreeChange::Mkdir {
-            dir,
-            name,
-            owners,
-        },
+        FileType::File => TreeChange::Create { dir, name, owners },
+        FileType::Directory => TreeChange::Mkdir { dir, name, owners },
     }
 }
 
