@@ -62,7 +62,8 @@ pub record HoldsOfResults (P : State → Type 0) (S : State) (cred : Caller) : T
 -- who may write into an inode may leave it to its owners
 owners-kept : (cred : Caller) (inode : Inode) → may_write cred inode ≡ true → may_give cred inode inode.owners ≡ true
 owners-kept cred inode may =
-    by (is_superuser cred) (is_owner cred inode) (inode.owners.uid == inode.owners.uid) (inode.owners.gid == inode.owners.gid) (is_member cred inode.owners.gid) may (itself inode.owners.uid)
+    by (is_superuser cred) (is_owner cred inode) (inode.owners.uid == inode.owners.uid) (inode.owners.gid == inode.owners.gid)
+    (is_member cred inode.owners.gid) may (itself inode.owners.uid)
     (itself inode.owners.gid)
   where
     itself : (n : ℕ) → (n == n) ≡ true

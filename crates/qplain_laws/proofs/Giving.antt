@@ -30,7 +30,8 @@ record Keeps (cred : Caller) (inode after : Inode) : Type 0 where
 keeps-itself : (cred : Caller) (inode after : Inode) → Some inode ≡ Some after → Keeps cred inode after
 keeps-itself cred inode after same =
     let equal : inode ≡ after = cc in
-    subst (Keeps cred inode) equal (record { user = refl; group = or_left (inode.owners.gid == inode.owners.gid) (has cred inode.owners.gid) (itself inode.owners.gid) })
+    subst (Keeps cred inode) equal
+    (record { user = refl; group = or_left (inode.owners.gid == inode.owners.gid) (has cred inode.owners.gid) (itself inode.owners.gid) })
   where
     itself : (n : ℕ) → (n == n) ≡ true
     itself n = grind (arith, tests)

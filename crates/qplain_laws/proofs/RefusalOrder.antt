@@ -259,6 +259,6 @@ refusals_come_in_order S cred moment call =
       first = λ r is. settled-first S cred moment (first_refusal_of S cred moment call) (attempt S cred moment call) r decides is;
       limits = λ none r told. settled-limits S cred moment (first_refusal_of S cred moment call) (attempt S cred moment call) r decides none told;
       space = λ new number is full.
-          ap (λ a. (settle S cred moment a).1) is
-          ∙ ap (λ b. (settled S new number moment (cond b (Some ENOSPC) (cond (is_superuser cred) None (first_refusal (fault_of_holder S new moment) S.holders)))).1) full;
+          let charge : Option Refusal = cond (is_superuser cred) None (first_refusal (fault_of_holder S new moment) S.holders) in
+          ap (λ a. (settle S cred moment a).1) is ∙ ap (λ b. (settled S new number moment (cond b (Some ENOSPC) charge)).1) full;
     }

@@ -60,8 +60,8 @@ pub record IsSound (inode : Inode) : Type 0 where
   pub holds_nothing : inode.dir ≡ true → inode.file ≡ empty_file
   pub in_order : IsStrictlySortedBy nat_cmp inode.file.allocated
 
--- inodes stand once and in order, below the next number; each is sound and belongs to declared principals; the root is a
--- directory
+-- inodes stand once and in order, below the next number; each is sound and belongs to declared principals; the root
+-- is a directory
 pub record InodesFit (S : State) : Type 0 where
   pub in_order : IsStrictlySortedBy nat_cmp (keys_of S.inodes)
   pub fresh : All (λ e. nat_lt e.0 S.next ≡ true) S.inodes
@@ -243,7 +243,8 @@ pub record KeepsOwners (cred : Caller) (old new : State) : Type 0 where
   pub user : (number : ℕ) (inode after : Inode) → inode_at old number ≡ Some inode → inode_at new number ≡ Some after
       → after.owners.uid ≡ inode.owners.uid
   pub group : (number : ℕ) (inode after : Inode) → inode_at old number ≡ Some inode → inode_at new number ≡ Some after
-      → (after.owners.gid == inode.owners.gid || list_any (λ group. group == after.owners.gid) (cred.gid ∷ cred.more)) ≡ true
+      → (after.owners.gid == inode.owners.gid
+      || list_any (λ group. group == after.owners.gid) (cred.gid ∷ cred.more)) ≡ true
 
 -- no caller but the superuser makes another user own an inode, or a group that is not one of the caller's
 abbrev pub OwnersHold : Type 0

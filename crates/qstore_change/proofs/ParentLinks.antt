@@ -105,7 +105,8 @@ order-recounted links number new in_order =
     subst (IsStrictlySortedBy nat_cmp) (sym (keys-set_value (is_at (nat_cmp number)) links new)) in_order
 
 -- after a mkdir: the tree in between counts one link more of the parent
-pub tree-directory : (S : State) (tree between after : RoomyTree) (owners : Owners) (dir next : ℕ) (name : List ℕ) → IsTreeOf S tree → S.next ≡ next → IsLawful S
+pub tree-directory : (S : State) (tree between after : RoomyTree) (owners : Owners) (dir next : ℕ) (name : List ℕ)
+    → IsTreeOf S tree → S.next ≡ next → IsLawful S
     → named S dir name ≡ None → is_directory S dir ≡ true
     → between.inodes ≡ tree.inodes → between.names ≡ tree.names
     → ((links : ℕ) → lookup (is_at (nat_cmp dir)) tree.links ≡ Some links
