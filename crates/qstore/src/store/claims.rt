@@ -10,8 +10,7 @@ ghost use Rattle.qplain.specs.Attempt.{Becomes};
 ghost use Rattle.qstore_tree.specs.Nodes.{inode_of};
 ghost use Rattle.qstore_accounts.specs.Books.{HasSlots};
 ghost use Rattle.qstore_change.specs.Changes.{CanChange, changed};
-ghost use Rattle.qstore.specs.Decided.{IsAsked, IsBilled, IsClaimed, IsDecision, IsUnbilled};
-ghost use Rattle.qstore.specs.Requests.{CanDecide, IsConsistent};
+ghost use Rattle.qstore.specs.Decided.{CanDecide, IsAsked, IsBilled, IsClaimed, IsConsistent, IsDecision, IsUnbilled};
 ghost use Rattle.qstore.specs.Stored.{IsSameStore};
 
 use crate::{Exchange, Ready, Refusal, Request, Store};

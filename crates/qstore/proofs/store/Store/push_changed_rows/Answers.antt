@@ -1,4 +1,4 @@
-use Rattle.std.proofs.Common.{◌≡◌, ℕ, List, map, None, ◌⊎◌, inl, inr, refl, sym, subst}
+use Rattle.std.proofs.Common.{◌≡◌, List, map, None, ◌⊎◌, inl, inr, refl, sym, subst}
 use Rattle.std.proofs.lemmas.List.{append-nil}
 use Rattle.qrules.specs.Sort.{Blocks, Inodes}
 use Rattle.qrules.specs.declared.graces.Graces.{Graces}
