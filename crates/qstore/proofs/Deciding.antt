@@ -16,7 +16,7 @@ use Rattle.qplain.specs.declared.reply.Reply.{Reply}
 use Rattle.qplain.specs.declared.reply.Reply.TheVariants.{Bytes, Done, Refused}
 use Rattle.qplain.specs.Attempt.{Answer, Attempt, Becomes, Refuse, no_change}
 use Rattle.qplain.specs.Caller.{Caller}
-use Rattle.qplain.specs.Decision.{ends_after, refusal_between}
+use Rattle.qplain.specs.Decision.{ends_after}
 use Rattle.qplain.specs.State.{Inode, State, inode_at}
 use Rattle.qplain.specs.Step.{change_between, settle}
 use Rattle.qplain.specs.Use.{weight}
@@ -34,11 +34,10 @@ use Rattle.qstore_accounts.proofs.Booked.{claim-weight}
 use Rattle.qstore_change.specs.declared.tree_change.TreeChange.{TreeChange}
 use Rattle.qstore_change.specs.Changes.{CanChange, changed}
 use Rattle.qstore.specs.declared.request.Exchange.{Exchange}
-use Rattle.qstore.specs.declared.ready.Plan.{Plan}
 use Rattle.qstore.specs.declared.ready.Plan.TheVariants.{Nothing, Change, Limits as SetLimits}
 use Rattle.qstore.specs.declared.ready.Ready.{Ready}
 use Rattle.qstore.specs.declared.request.Request.{Request}
-use Rattle.qstore.specs.Decided.{IsAsked, IsBilled, IsDecided, IsDecision, IsUnbilled}
+use Rattle.qstore.specs.Decided.{IsAsked, IsBilled, IsDecision, IsUnbilled}
 use Rattle.qstore.specs.Ready.{CanCarryOut, IsRefused, billed, effect}
 use Rattle.qstore.specs.Requests.{IsConsistent}
 use Rattle.qstore.specs.Stored.{IsSameStore, Stored}

@@ -1,4 +1,4 @@
--- What the decision of a call comes to. No public clause cites this module.
+-- What the decision of a call comes to, and, handed on, what it rests on. No public clause cites this module.
 use Rattle.std.specs.Prelude.{◌≡◌, ℕ, ◌+◌, Option, Some, None, Result, IfOk}
 use Rattle.std.specs.Result.{IsOk}
 use Rattle.std.specs.declared.alloc.AllocError.{AllocError}
@@ -17,6 +17,7 @@ use Rattle.qstore_accounts.specs.Replacements.{IsReplacement}
 use Rattle.qstore.specs.declared.request.Exchange.{Exchange}
 use Rattle.qstore.specs.declared.ready.Ready.{Ready}
 use Rattle.qstore.specs.declared.request.Request.{Request}
+pub use Rattle.qstore.specs.Requests.{CanDecide, IsChecked, IsConsistent, IsFree}
 use Rattle.qstore.specs.Ready.{CanCarryOut, IsRefused, committed}
 use Rattle.qstore.specs.Stored.{IsSameStore, Stored}
 

@@ -10,8 +10,7 @@ ghost use Rattle.qplain.specs.Step.{step};
 ghost use Rattle.qplain_laws.specs.Laws.{IsLawful, PassesNoLimit};
 ghost use Rattle.qstore_tree.specs.TreeOf.{IsTreeOf};
 ghost use Rattle.qstore.specs.Stored.{IsSameStore, IsStorable, Stored};
-ghost use Rattle.qstore.specs.Decided.{IsDecisionOf};
-ghost use Rattle.qstore.specs.Requests.{CanDecide};
+ghost use Rattle.qstore.specs.Decided.{CanDecide, IsDecisionOf};
 ghost use Rattle.qstore.specs.Ready.{CanCarryOut, IsReady, IsRefused, committed, wants_no_memory};
 
 use crate::{Call, Cred, Decision, NoMemory, Plan, Ready, Reply, Request, Setup};

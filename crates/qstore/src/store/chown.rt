@@ -3,8 +3,7 @@ ghost use Rattle.std.specs.Prelude.{◌≡◌, ◌||◌, false};
 ghost use Rattle.qrules.specs.declared.kind.Kind.TheVariants.{User, Group};
 ghost use Rattle.qplain.specs.Arguments.{is_undeclared};
 ghost use Rattle.qplain.specs.Owners.{renewed};
-ghost use Rattle.qstore.specs.Decided.{IsDecisionOf};
-ghost use Rattle.qstore.specs.Requests.{CanDecide};
+ghost use Rattle.qstore.specs.Decided.{CanDecide, IsDecisionOf};
 
 use crate::{Call, Exchange, Ready, Refusal, Request, Store};
 use qplain::Owners;

@@ -9,8 +9,8 @@ ghost use Rattle.qstore_tree.specs.Nodes.{inode_of};
 ghost use Rattle.qstore_accounts.specs.Books.{HasSlots};
 ghost use Rattle.qstore_accounts.specs.Replacements.{IsClaimed};
 ghost use Rattle.qstore_change.specs.Changes.{CanChange, changed};
-ghost use Rattle.qstore.specs.Decided.{IsAsked, IsBilled, IsDecision, IsUnbilled};
-ghost use Rattle.qstore.specs.Requests.{CanDecide, IsConsistent, are_declared};
+ghost use Rattle.qstore.specs.Decided.{CanDecide, IsAsked, IsBilled, IsConsistent, IsDecision, IsUnbilled};
+ghost use Rattle.qstore.specs.Requests.{are_declared};
 ghost use Rattle.qstore.specs.Stored.{IsSameStore};
 
 use crate::{Exchange, Ready, Refusal, Request, Store};

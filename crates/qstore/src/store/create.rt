@@ -5,9 +5,8 @@ ghost use Rattle.qplain.specs.Names.{created, owners_by};
 ghost use Rattle.qplain.specs.State.{State};
 ghost use Rattle.qstore_tree.specs.Room.{Room};
 ghost use Rattle.qstore_change.specs.Changes.{CanChange, CanCreate, changed};
-ghost use Rattle.qstore.specs.Decided.{IsDecision, IsDecisionOf};
+ghost use Rattle.qstore.specs.Decided.{CanDecide, IsDecision, IsDecisionOf, IsFree};
 ghost use Rattle.qstore.specs.FileTypes.{inode_new};
-ghost use Rattle.qstore.specs.Requests.{CanDecide, IsFree};
 
 use crate::{Call, Decision, Exchange, FileType, Ready, Refusal, Request, Store, owners_by};
 use qplain::Owners;

@@ -2,8 +2,7 @@
 ghost use Rattle.qplain.specs.Attempt.{Becomes};
 ghost use Rattle.qplain.specs.Names.{with_name};
 ghost use Rattle.qstore_tree.specs.TreeOf.{IsFile};
-ghost use Rattle.qstore.specs.Decided.{IsDecision, IsDecisionOf};
-ghost use Rattle.qstore.specs.Requests.{CanDecide, IsFree};
+ghost use Rattle.qstore.specs.Decided.{CanDecide, IsDecision, IsDecisionOf, IsFree};
 
 use crate::{Call, Decision, Exchange, Ready, Request, Store};
 use qstore_change::TreeChange;

@@ -7,9 +7,8 @@ ghost use Rattle.qplain.specs.Use.{is_empty};
 ghost use Rattle.qstore_tree.specs.Room.{Room, name_room};
 ghost use Rattle.qstore_walk.specs.Paths.{name_in};
 ghost use Rattle.qstore_change.specs.Changes.{CanRename};
-ghost use Rattle.qstore.specs.Decided.{IsAsked, IsDecision, IsDecisionOf};
+ghost use Rattle.qstore.specs.Decided.{CanDecide, IsAsked, IsDecision, IsDecisionOf};
 ghost use Rattle.qstore.specs.Renamings.{IsRenaming, with_new_name};
-ghost use Rattle.qstore.specs.Requests.{CanDecide};
 
 use crate::store::unlink::left_of;
 use crate::{Call, Decision, Exchange, Path, Ready, Reply, Request, Store};

@@ -3,8 +3,7 @@ ghost use Rattle.std.specs.Prelude.{◌≡◌, true, Some, None};
 ghost use Rattle.qplain.specs.Names.{rmdir_as};
 ghost use Rattle.qplain.specs.State.{is_directory, named};
 ghost use Rattle.qstore_walk.specs.Paths.{name_in};
-ghost use Rattle.qstore.specs.Decided.{IsDecision, IsDecisionOf};
-ghost use Rattle.qstore.specs.Requests.{CanDecide};
+ghost use Rattle.qstore.specs.Decided.{CanDecide, IsDecision, IsDecisionOf};
 
 use crate::{Call, Decision, Exchange, FileType, Path, Ready, Refusal, Request, Store};
 use qstore_tree::Content;

@@ -1,8 +1,7 @@
 //! To set the graces (quotactl(2), Q_SETINFO; setquota(8)).
 ghost use Rattle.std.specs.Prelude.{◌≡◌, true};
 ghost use Rattle.qrules.specs.Range.{are_graces_in_range};
-ghost use Rattle.qstore.specs.Decided.{IsDecisionOf};
-ghost use Rattle.qstore.specs.Requests.{CanDecide};
+ghost use Rattle.qstore.specs.Decided.{CanDecide, IsDecisionOf};
 
 use crate::{Call, Plan, Ready, Refusal, Reply, Request, Store};
 use qplain::NO_CHANGE;

@@ -1,6 +1,5 @@
 //! To set limits (quotactl(2), Q_SETQUOTA; setquota(8)).
-ghost use Rattle.qstore.specs.Decided.{IsDecisionOf};
-ghost use Rattle.qstore.specs.Requests.{CanDecide};
+ghost use Rattle.qstore.specs.Decided.{CanDecide, IsDecisionOf};
 
 use crate::{Call, Plan, Ready, Refusal, Reply, Request, Store};
 use qplain::NO_CHANGE;

@@ -1,6 +1,5 @@
 //! To cut a file off, or to let it grow (truncate(2)).
-ghost use Rattle.qstore.specs.Decided.{IsDecisionOf};
-ghost use Rattle.qstore.specs.Requests.{CanDecide};
+ghost use Rattle.qstore.specs.Decided.{CanDecide, IsDecisionOf};
 
 use crate::{Call, Exchange, Ready, Refusal, Request, Store};
 use qstore_accounts::Claim;

@@ -6,9 +6,8 @@ ghost use Rattle.qplain.specs.State.{State, named};
 ghost use Rattle.qstore_tree.specs.Room.{Room};
 ghost use Rattle.qstore_walk.specs.Paths.{name_in};
 ghost use Rattle.qstore_change.specs.Changes.{CanChange, changed};
-ghost use Rattle.qstore.specs.Decided.{IsAsked, IsDecision, IsDecisionOf};
+ghost use Rattle.qstore.specs.Decided.{CanDecide, IsAsked, IsDecision, IsDecisionOf};
 ghost use Rattle.qstore.specs.FileTypes.{CanRemove};
-ghost use Rattle.qstore.specs.Requests.{CanDecide};
 
 use crate::{Call, Decision, Exchange, FileType, Path, Ready, Refusal, Request, Store};
 use qstore_accounts::Claim;

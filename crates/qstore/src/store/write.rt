@@ -2,8 +2,7 @@
 ghost use Rattle.std.specs.Prelude.{◌≡◌, ℕ, ◌+◌, ◌≤◌, nat_lt, length, IfOk, IfErr};
 ghost use Rattle.qplain.specs.Calls.{attempt_of};
 ghost use Rattle.qplain.specs.Step.{settle};
-ghost use Rattle.qstore.specs.Decided.{IsDecisionOf};
-ghost use Rattle.qstore.specs.Requests.{CanDecide};
+ghost use Rattle.qstore.specs.Decided.{CanDecide, IsDecisionOf};
 ghost use Rattle.qstore.specs.Targets.{IsTarget};
 
 use crate::{Call, Decision, Exchange, Ready, Refusal, Reply, Request, Store};

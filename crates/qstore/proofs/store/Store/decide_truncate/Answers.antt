@@ -1,4 +1,4 @@
-use Rattle.std.proofs.Common.{rules, ◌≡◌, ◌-◌, true, false, nat_lt, Some, refl, sym, ap, subst, ◌∙◌, tests, arith}
+use Rattle.std.proofs.Common.{rules, ◌≡◌, ◌-◌, true, false, nat_lt, Some, sym, ap, subst, ◌∙◌, tests, arith}
 use Rattle.qblocks.specs.File.{File, MoreBlocks, after_truncate, blocks_of}
 use Rattle.qstore.specs.Decided.{IsAsked}
 use Rattle.qplain.specs.Attempt.{Becomes}

@@ -1,4 +1,4 @@
-use Rattle.std.proofs.Common.{◌≡◌, ◌==◌, ◌&&◌, not, Some, refl, sym, ap, ◌∙◌}
+use Rattle.std.proofs.Common.{◌≡◌, ◌==◌, ◌&&◌, not, Some, sym, ap, ◌∙◌}
 use Rattle.qplain.specs.Renames.{passes}
 use Rattle.qplain.specs.State.{inode_at, is_directory, named}
 use Rattle.qplain.specs.Use.{is_empty}
@@ -62,9 +62,6 @@ returns c inode there =
     new.to.dir new.to.name.now new.to.leads_to r.led there found_there r.directory r.leads_to r.other
     (sym (c.rename_fault.ensures S c.tree-tree.ensures found_there r.directory) ∙ c.in-None.is))
     c.grant_rename.ensures
-
-pub replaced-exchange-requires-clause-renaming : goal.replaced-exchange-requires-clause-renaming
-replaced-exchange-requires-clause-renaming c = (name_in c.args.from.now, c.requires.renaming)
 
 pub replaced-exchange-requires-clause-empty : goal.replaced-exchange-requires-clause-empty
 replaced-exchange-requires-clause-empty c =
