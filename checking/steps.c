@@ -49,6 +49,7 @@ int open(const char *path, int flags, ...) {
 }
 
 ssize_t write(int to, const void *bytes, size_t size) { return stops() ? -1 : syscall(SYS_write, to, bytes, size); }
+ssize_t __write(int to, const void *bytes, size_t size) { return write(to, bytes, size); }
 int fsync(int file) { return stops() ? -1 : syscall(SYS_fsync, file); }
 int fchmod(int file, mode_t mode) { return stops() ? -1 : syscall(SYS_fchmod, file, mode); }
 int unlink(const char *path) { return stops() ? -1 : syscall(SYS_unlinkat, AT_FDCWD, path, 0); }
