@@ -96,9 +96,10 @@ def long_journals(work):
         refused = call(run_with_journal("/dev/full", script))
         yield f"a journal of {lines} entries to a full device", refused, (4, out, FULL[1])
         shell = ["bash", "-c", 'ulimit -f 1 && exec "$@"', "bash", ROOT / "quotafs"]
+        file.write_bytes(b"before\n")
         done = subprocess.run([*shell, *run_with_journal(file, script)], capture_output=True, timeout=60)
         answer = done.returncode, done.stdout, done.stderr, content(file)
-        yield f"a journal of {lines} entries to a file at its limit", answer, (4, out, FULL[1], journal[:1024])
+        yield f"a journal of {lines} entries to a file at its limit", answer, (4, out, FULL[1], b"before\n")
 
 
 def checks(work):

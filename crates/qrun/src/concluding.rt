@@ -37,7 +37,7 @@ fn check_own(
 }
 
 /// Checks the looks against the journal, and makes the outcome with these transcripts.
-pub(crate) fn conclude(
+pub(crate) fn make_outcome(
     alloc: Global,
     store: JournaledStore,
     transcripts: Vec<Transcript>,

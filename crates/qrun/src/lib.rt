@@ -5,6 +5,7 @@ pub use gate::{Gate, NoGate};
 pub use options::Options;
 pub use run_fault::RunFault;
 pub use runs::run_scripts;
+pub use worker_end::{WorkerEnd, conclude};
 
 mod concluding;
 mod crew;
@@ -16,3 +17,4 @@ mod runs;
 mod telling;
 mod watcher;
 mod worker;
+mod worker_end;

@@ -7,7 +7,7 @@ ghost use Rattle.qrun.specs.Crews.{CanRun, IsCrew, IsRun};
 ghost use Rattle.qrun.specs.RunFaults.{IsFaultOf};
 ghost use Rattle.qrun.specs.Watching.{seats_for};
 
-use crate::concluding::conclude;
+use crate::concluding::make_outcome;
 use crate::crew::{Played, play_all};
 use crate::gate::Gate;
 use crate::options::Options;
@@ -63,7 +63,7 @@ where
     let (own, transcripts) = tell_all(alloc, scripts, works)?;
     let (shares, looks) = hand_in(alloc, own, watch)?;
     match shared.end(rt, shares) {
-        Ok(store) => conclude(alloc, store, transcripts, looks, seed),
+        Ok(store) => make_outcome(alloc, store, transcripts, looks, seed),
         Err(_) => unreachable!(),
     }
 }

@@ -1,3 +1,5 @@
 pub mod Jobs
 pub mod Endings
+pub mod Held
+pub mod Overwritten
 pub mod TextReplays

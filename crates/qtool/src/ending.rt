@@ -3,6 +3,7 @@ ghost use Rattle.std.specs.Prelude.{◌≡◌, ◌⊎◌, true};
 ghost use Rattle.qtool.specs.Endings.{IsStatus, IsUntouchedAt};
 ghost use Rattle.qtool.specs.declared.ending.Ending.TheVariants.{Output};
 
+use crate::overwriting::Overwritten;
 use crate::{ConfigFault, TextFault};
 use qtext::{Piece, RefusedWrite, put, put_pieces};
 use std::io::Write;
@@ -12,6 +13,8 @@ use std::io::Write;
 pub(crate) enum Ending {
     /// What `clap` says of the command line; help, or the version, is for the output.
     Line { help: bool, text: String },
+    /// The journal would be written over what the run reads, or over its output.
+    Overwrites(Overwritten),
     /// No file of that name can be read.
     File(String),
     /// What is wrong with the configuration.
@@ -82,6 +85,7 @@ impl Ending {
     fn put_line<E: Write>(&self, err: &mut E) -> Result<(), RefusedWrite> {
         match self {
             Ending::Line { text, .. } => put(err, text.as_bytes()),
+            Ending::Overwrites(what) => put_overwritten(err, *what),
             Ending::File(name) => put_named(err, b"cannot read ", name.as_bytes()),
             Ending::Config(fault) => put_config(err, fault),
             Ending::TooManyScripts => put_fault(err, b"at most 16 scripts"),
@@ -94,6 +98,23 @@ impl Ending {
             Ending::Memory => put_fault(err, b"memory"),
             Ending::Output => put_fault(err, b"output"),
         }
+    }
+}
+
+/// Writes a fault of the command line: which of its files the journal names.
+fn put_overwritten<E: Write>(err: &mut E, what: Overwritten) -> Result<(), RefusedWrite> {
+    put(err, b"error: the journal would be written over ")?;
+    match what {
+        Overwritten::Config => put(err, b"the configuration\n"),
+        Overwritten::Script(number) => put_pieces(
+            err,
+            &[
+                Piece::Text(b"script "),
+                Piece::Number(number),
+                Piece::Text(b"\n"),
+            ],
+        ),
+        Overwritten::Output => put(err, b"the output\n"),
     }
 }
 

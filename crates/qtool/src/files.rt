@@ -1,3 +1,7 @@
+//! Files by name, as the program asks for them.
+ghost use Rattle.std.specs.Prelude.{◌≡◌, ℕ, List, [], Option, None, Some, IfOk, IsSome, OnErr, OnOk};
+ghost use Rattle.qtool.specs.Held.{IsKept};
+
 use std::io::Write;
 
 /// Why a file is not to be had.
@@ -9,14 +13,36 @@ pub enum FileFault {
     Memory,
 }
 
-/// Files by name, as the program asks for them.
+/// Files by name, as the program asks for them. A file is written as a draft, which stands under no name that anybody
+/// asks for, until it is kept: so under its name there is the whole of it, or what was there before.
 pub trait Files {
-    type Out: Write + Drop;
+    /// What stands under each name, a text or nothing, where these files tell it.
+    ghost held: { Self → Option (List ℕ → Option (List ℕ)) } = { λ _. None };
+
+    type Draft: Write + Drop;
 
     /// The bytes of a file. An Err gives none of them.
     fn read(&mut self, name: &str) -> Result<Vec<u8>, FileFault>;
 
-    /// A new file to be written to, in the place of one of that name. An Err gives no file to write to, and leaves open
-    /// what then stands under the name.
-    fn create(&mut self, name: &str) -> Result<Self::Out, FileFault>;
+    /// Whether both are names of one file, so that what is written to one takes the other away.
+    fn is_same(&mut self, name: &str, other: &str) -> bool;
+
+    /// Whether the output goes to the file of that name, so that what is written to it takes the output away.
+    fn is_output(&mut self, name: &str) -> bool;
+
+    /// An empty draft for a file of that name.
+    fn draft(&mut self, name: &str) -> Result<Self::Draft, FileFault>
+        ensures empty { IfOk result (λ draft. IsSome (held self.old) → Self.Draft.contents draft ≡ Some []) }
+        ensures same { held self.new ≡ held self.old };
+
+    /// Puts a draft under the name that it was made for, in the place of what stands there. An Err leaves that as it
+    /// was, and nothing of the draft.
+    fn keep(&mut self, draft: Self::Draft, name: &str) -> Result<(), FileFault>
+        ensures kept { (text : List ℕ) → Self.Draft.contents draft ≡ Some text
+            → OnOk result (IsKept (held self.old) (held self.new) name.now text) }
+        ensures err { OnErr result (held self.new ≡ held self.old) };
+
+    /// Takes a draft away.
+    fn give_up(&mut self, draft: Self::Draft)
+        ensures same { held self.new ≡ held self.old };
 }

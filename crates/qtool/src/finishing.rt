@@ -1,9 +1,10 @@
 //! What came of a run, written out: its outcome, and then its journal.
-ghost use Rattle.std.specs.Prelude.{◌≡◌, Err, IfOk, IfErr, IsSome};
+ghost use Rattle.std.specs.Prelude.{◌≡◌, Err, IfOk, IfErr, IfSome, IsSome, OnErr, OnOk};
 ghost use Rattle.std.specs.Io.KnownBytes.{Appends};
 ghost use Rattle.qtext.specs.Written.{AppendsFront, Writes};
 ghost use Rattle.qtext_outcome.specs.Outcomes.{outcome_text};
 ghost use Rattle.qtext_files.specs.Spelling.{CanBeRead, journal_spelling};
+ghost use Rattle.qtool.specs.Held.{IsKept};
 ghost use Rattle.qtool.specs.declared.finishing.Refuser.TheVariants.{Output};
 
 use crate::{Files, Journal, Outcome};
@@ -17,7 +18,7 @@ use std::io::Write;
 pub enum Refuser {
     /// The output.
     Output,
-    /// The file for the journal: it cannot be made, or refuses.
+    /// The file for the journal: a draft cannot be made, refuses, or cannot be kept.
     Journal,
 }
 
@@ -44,22 +45,29 @@ fn finish_journal<W: Write>(journal: &Journal, out: &mut W) -> Result<(), Refuse
     Ok(())
 }
 
-/// Makes a file of that name, and writes the journal to it.
+/// Writes the journal as a draft, and keeps that under the name. A draft that refuses is given up.
+#[tactic(auto, using(crate::proofs::Drafts::written_whole))]
 fn keep_journal<F: Files>(journal: &Journal, files: &mut F, name: &str) -> Result<(), RefusedWrite>
-    ensures { IfOk result (λ _. CanBeRead journal.now) }
+    ensures again { IfOk result (λ _. CanBeRead journal.now) }
+    ensures kept { OnOk result (IsKept (F.held files.old) (F.held files.new) name.now (journal_spelling journal.now)) }
+    ensures err { OnErr result (F.held files.new ≡ F.held files.old) }
 {
-    match files.create(name) {
-        Ok(mut file) => finish_journal(journal, &mut file),
-        Err(_) => Err(RefusedWrite),
+    let Ok(mut draft) = files.draft(name) else {
+        return Err(RefusedWrite);
+    };
+    if finish_journal(journal, &mut draft).is_err() {
+        files.give_up(draft);
+        return Err(RefusedWrite);
     }
+    files.keep(draft, name).map_err(|_| RefusedWrite)
 }
 
 /// Writes what came of a run to the output, with the report at the moment, and flushes it; and then, where a file is
-/// named for it, writes the journal to a new file of that name, and flushes that.
+/// named for it, writes the journal as a draft, flushes that, and keeps it under the name.
 ///
-/// An output that refuses leaves no journal: no file is made. Where the journal is refused, the outcome stands whole in
-/// the output, and of the journal there may be nothing, or some beginning. A program that is ended in between leaves
-/// the same.
+/// An output that refuses leaves no journal: no draft is made. Where the journal is refused, the outcome stands whole in
+/// the output, and under the name there is what was there before. A program that is ended in between leaves the same,
+/// and may leave the draft.
 pub fn write_run<F: Files, O: Write>(
     outcome: &Outcome,
     at: u64,
@@ -73,6 +81,11 @@ pub fn write_run<F: Files, O: Write>(
         → AppendsFront (O.contents out.old) (O.contents out.new) (outcome_text outcome.now at) }
     ensures no_file { result ≡ Err Output → files.new ≡ files.old }
     ensures again { IfOk result (λ _. IsSome journal.entry → CanBeRead outcome.now.journal) }
+
+    // Where files tell what they hold, as the machine's do not.
+    ensures kept { IfOk result (λ _. IfSome journal.entry (λ name.
+        IsKept (F.held files.old) (F.held files.new) name.now (journal_spelling outcome.now.journal))) }
+    ensures as_before { IfErr result (λ _. F.held files.new ≡ F.held files.old) }
 {
     if finish_outcome(outcome, at, out).is_err() {
         return Err(Refuser::Output);

@@ -10,7 +10,7 @@ pub use qplain::{
     Board, CallFault, Entry, Journal, Line, LookFault, MAX_LINES, Receipt, Script, Setup,
     Transcript,
 };
-pub use qrun::{Gate, NoGate, Options, RunFault};
+pub use qrun::{Gate, NoGate, Options, RunFault, WorkerEnd, conclude};
 pub use qrun_replay::{Outcome, ReplayFault};
 pub use qstore::Store;
 pub use qtext::{TextFault, TextKind};
@@ -24,6 +24,7 @@ pub use text_replay::{TextReplayFault, replay_text};
 mod ending;
 mod files;
 mod finishing;
+mod overwriting;
 mod program;
 mod runs;
 mod text_replay;

@@ -6,6 +6,7 @@ ghost use Rattle.qtool.specs.Jobs.{HasBatch, HasScript, HasSeats};
 ghost use Rattle.qtool.specs.declared.ending.Ending.TheVariants.{Output, TooManyScripts, TooManyWithBoards};
 
 use crate::ending::Ending;
+use crate::overwriting::test_journal;
 use crate::{
     Config, ConfigFault, FileFault, Files, FromText, Job, LineFault, NoGate, Options, Outcome,
     Refuser, RunFault, Script, TextFault, TextKind, TextReplayFault, replay_text, run_with,
@@ -198,8 +199,9 @@ fn do_job<F: Files, O: Write, R: Threads + Wait + Sync>(
                 batch: *batch,
             };
             let names = scripts.as_slice();
-            let outcome = run_of(rt, alloc, seed, config.as_str(), names, options, files)?;
             let journal = journal.as_ref().map(String::as_str);
+            test_journal(files, journal, config.as_str(), names).map_err(Ending::Overwrites)?;
+            let outcome = run_of(rt, alloc, seed, config.as_str(), names, options, files)?;
             finish(outcome, *at, journal, files, out)
         }
         Job::Replay { config, journal } => {
@@ -213,10 +215,11 @@ fn do_job<F: Files, O: Write, R: Threads + Wait + Sync>(
 /// name, runs the scripts or plays the journal, writes what came of it to the output and then, where it is asked for,
 /// the journal of the run to a file, and answers the exit status.
 ///
-/// The first fault ends it with one line on the error output: 2 for the command line, the configuration, a script or a
-/// journal, 3 out of memory and for a journal that does not fit, 4 for an output or a file for the journal that
-/// refuses, also when it is flushed. Help and the version go to the output, with 0. The line is flushed, so that a
-/// buffered error output gets it by one write.
+/// The first fault ends it with one line on the error output: 2 for the command line, also where the journal would be
+/// written over the configuration, a script or the output, for the configuration, a script or a journal, 3 out of
+/// memory and for a journal that does not fit, 4 for an output or a file for the journal that refuses, also when it is
+/// flushed. Help and the version go to the output, with 0. The line is flushed, so that a buffered error output gets it
+/// by one write.
 ///
 /// The program ends after it, so the memory of a run is not given back.
 ///

@@ -1,46 +1,20 @@
 //! Runs scripts of calls on a shared store of files in memory, with user and group disk quotas.
 #![tactic(auto)]
 
-use qtool::{FileFault, Files, tool};
-use std::fs::{self, File};
+use machine_files::MachineFiles;
+use qtool::tool;
 use std::io::{self, BufWriter, ErrorKind};
 use std::process::ExitCode;
 use std::random::RandomSource;
+
+mod draft;
+mod machine_files;
 
 /// As much of the output, and of a file, is gathered before it is written, in bytes.
 const OUTPUT_BUFFER: usize = 262_144;
 
 /// As long a fault line goes out by one write, in bytes, so that lines of runs beside each other do not mix.
 const LINE_BUFFER: usize = 32_768;
-
-/// The machine's files.
-#[derive(Drop)]
-struct MachineFiles<'a> {
-    rt: &'a HostRuntime,
-}
-
-fn fault_of(error: &io::Error) -> FileFault {
-    if error.kind() == ErrorKind::OutOfMemory {
-        FileFault::Memory
-    } else {
-        FileFault::Fails
-    }
-}
-
-impl Files for MachineFiles<'_> {
-    type Out = BufWriter<File>;
-
-    fn read(&mut self, name: &str) -> Result<Vec<u8>, FileFault> {
-        fs::read(self.rt, name).map_err(|error| fault_of(&error))
-    }
-
-    fn create(&mut self, name: &str) -> Result<BufWriter<File>, FileFault> {
-        let file = fs::create(self.rt, name).map_err(|error| fault_of(&error))?;
-        BufWriter::with_capacity(self.rt.alloc(), OUTPUT_BUFFER, file).map_err(|error| fault_of(
-            &error,
-        ))
-    }
-}
 
 /// The words of the command line.
 fn words(rt: &HostRuntime) -> io::Result<Vec<String>> {

@@ -41,18 +41,37 @@ quotafs journal 1 workers 1
 1 0 0:0 stat /a => stat 2 file 0 0 1 1 1
 ";
 
-/// The files `a.toml`, `s.txt` and `s.journal`, for one of which memory may be wanted and not there. Each new file takes
-/// N bytes, and may refuse to be flushed.
+/// The files `a.toml`, `s.txt` and `s.journal`, for one of which memory may be wanted and not there. Each draft takes N
+/// bytes, and may refuse to be flushed, or to be kept. The output goes to `out`.
 #[derive(Drop)]
 pub(crate) struct MemoryFiles<'a> {
     pub(crate) alloc: Global,
     pub(crate) short: &'a str,
     pub(crate) left: usize,
     pub(crate) flushes: bool,
+    pub(crate) keeps: bool,
+    /// What was kept last, and how many drafts there are that were neither kept nor given up.
+    pub(crate) kept: Option<Vec<u8>>,
+    pub(crate) drafts: u64,
+}
+
+impl<'a> MemoryFiles<'a> {
+    /// Files that take each journal.
+    pub(crate) fn new(alloc: Global, short: &'a str) -> MemoryFiles<'a> {
+        MemoryFiles {
+            alloc,
+            short,
+            left: JOURNAL.len(),
+            flushes: true,
+            keeps: true,
+            kept: None,
+            drafts: 0,
+        }
+    }
 }
 
 impl Files for MemoryFiles<'_> {
-    type Out = Short;
+    type Draft = Short;
 
     fn read(&mut self, name: &str) -> Result<Vec<u8>, FileFault> {
         if name == self.short {
@@ -67,11 +86,33 @@ impl Files for MemoryFiles<'_> {
         Vec::from_slice(self.alloc, bytes).map_err(|_| FileFault::Memory)
     }
 
-    fn create(&mut self, name: &str) -> Result<Short, FileFault> {
+    fn is_same(&mut self, name: &str, other: &str) -> bool {
+        name == other
+    }
+
+    fn is_output(&mut self, name: &str) -> bool {
+        name == "out"
+    }
+
+    fn draft(&mut self, name: &str) -> Result<Short, FileFault> {
         if name == self.short {
             return Err(FileFault::Memory);
         }
+        self.drafts = self.drafts.wrapping_add(1);
         Ok(Short::new(self.alloc, self.left, self.flushes))
+    }
+
+    fn keep(&mut self, draft: Short, _name: &str) -> Result<(), FileFault> {
+        self.drafts = self.drafts.wrapping_sub(1);
+        if !self.keeps {
+            return Err(FileFault::Fails);
+        }
+        self.kept = Some(draft.taken);
+        Ok(())
+    }
+
+    fn give_up(&mut self, _draft: Short) {
+        self.drafts = self.drafts.wrapping_sub(1);
     }
 }
 
@@ -83,13 +124,7 @@ pub(crate) fn told_into<O: Write, R: Threads + Wait + Sync>(
     short: &str,
     out: &mut O,
 ) -> Result<(u8, Vec<u8>), AllocError> {
-    let files = MemoryFiles {
-        alloc,
-        short,
-        left: JOURNAL.len(),
-        flushes: true,
-    };
-    told_over(rt, alloc, line, files, out)
+    told_over(rt, alloc, line, &mut MemoryFiles::new(alloc, short), out)
 }
 
 /// The same over these files.
@@ -97,7 +132,7 @@ pub(crate) fn told_over<O: Write, R: Threads + Wait + Sync>(
     rt: &R,
     alloc: Global,
     line: &str,
-    mut files: MemoryFiles<'_>,
+    files: &mut MemoryFiles<'_>,
     out: &mut O,
 ) -> Result<(u8, Vec<u8>), AllocError> {
     let mut words = Vec::new(alloc);
@@ -105,6 +140,6 @@ pub(crate) fn told_over<O: Write, R: Threads + Wait + Sync>(
         words.push(String::from_str(alloc, word)?)?;
     }
     let mut err = Vec::new(alloc);
-    let status = tool(rt, alloc, 7, &words, &mut files, out, &mut err);
+    let status = tool(rt, alloc, 7, &words, files, out, &mut err);
     Ok((status, err))
 }

@@ -53,33 +53,58 @@ fn help_and_flushes_may_be_refused(rt: HostRuntime) -> Result<(), AllocError> {
     Ok(())
 }
 
-/// The status of a run, after whose outcome the file for the journal takes N bytes.
-fn status_of_journal<R: Threads + Wait + Sync>(
+/// Whether a run over these files ends as it must, where its journal is or is not to be had: the outcome is out, and the
+/// journal is kept whole or not at all. No draft is left.
+fn ends_well<R: Threads + Wait + Sync>(
     rt: &R,
     alloc: Global,
-    left: usize,
-    flushes: bool,
-) -> Result<(u8, Vec<u8>), AllocError> {
-    let files = MemoryFiles {
-        alloc,
-        short: "",
-        left,
-        flushes,
-    };
+    files: &mut MemoryFiles<'_>,
+    is_kept: bool,
+) -> Result<bool, AllocError> {
     let mut out = Vec::new(alloc);
     let (status, _) = told_over(rt, alloc, RUN_WITH_JOURNAL, files, &mut out)?;
-    Ok((status, out))
+    let kept = match &files.kept {
+        Some(text) => is_kept && text.as_slice() == JOURNAL,
+        None => !is_kept,
+    };
+    let wanted = if is_kept { 0 } else { 4 };
+    Ok(status == wanted && kept && files.drafts == 0 && out.as_slice() == OUTCOME)
 }
 
 #[test]
-fn a_journal_that_is_refused_leaves_the_outcome_whole(rt: HostRuntime) -> Result<(), AllocError> {
+fn a_journal_is_kept_whole_or_not_at_all(rt: HostRuntime) -> Result<(), AllocError> {
+    let alloc = rt.alloc();
     for left in 0..JOURNAL.len() + 1 {
-        let taken = left == JOURNAL.len();
-        for flushes in [false, true] {
-            let (status, out) = status_of_journal(&rt, rt.alloc(), left, flushes)?;
-            assert_eq!(rt; status, if taken && flushes { 0 } else { 4 });
-            assert_eq!(rt; out.as_slice(), OUTCOME);
+        for (flushes, keeps) in [(true, true), (false, true), (true, false)] {
+            let mut files = MemoryFiles::new(alloc, "");
+            files.left = left;
+            files.flushes = flushes;
+            files.keeps = keeps;
+            let is_kept = left == JOURNAL.len() && flushes && keeps;
+            assert!(rt; ends_well(&rt, alloc, &mut files, is_kept)?, "at {left}");
         }
+    }
+    Ok(())
+}
+
+#[test]
+fn a_journal_is_written_over_nothing_of_the_run(rt: HostRuntime) -> Result<(), AllocError> {
+    for (name, what) in [
+        ("a.toml", "the configuration"),
+        ("s.txt", "script 1"),
+        ("other.txt", "script 2"),
+        ("out", "the output"),
+    ] {
+        let alloc = rt.alloc();
+        let line = format!(in alloc;
+            "quotafs run --config a.toml --journal {name} s.txt other.txt"
+        )?;
+        let mut out = Vec::new(alloc);
+        let (status, err) = told_into(&rt, alloc, line.as_str(), "", &mut out)?;
+        let told = format!(in alloc; "error: the journal would be written over {what}\n")?;
+        assert_eq!(rt; status, 2);
+        assert_eq!(rt; err.as_slice(), told.as_bytes());
+        assert!(rt; out.is_empty());
     }
     Ok(())
 }

@@ -12,8 +12,8 @@ use Rattle.qrun.proofs.Told.{all_there, as_many, lines_told}
 use Rattle.qrun.proofs.Watched.{all_front, all_seats_there, as_many_looks, calls_counted, looks_lawful}
 use Rattle.qrun.proofs.runs.play_and_end.Goals as goal
 
-pub conclude-requires-clause-told : goal.conclude-requires-clause-told
-conclude-requires-clause-told g c =
+pub make_outcome-requires-clause-told : goal.make_outcome-requires-clause-told
+make_outcome-requires-clause-told g c =
     let played =
     played_of g.S.StoreId.id.setting c.deref.result.now c.args.scripts.items c.args.options.boards c.in_ok-works.field-0
     (record { works = c.works.inside.works.items; watch = c.works.inside.watch }) c.deref.ensures.value c.works.view_is c.in_ok-works.ensures in
@@ -39,8 +39,8 @@ conclude-requires-clause-told g c =
           c.in_ok-shares.ensures.shares calls);
     }
 
-pub conclude-requires-clause-lawful : goal.conclude-requires-clause-lawful
-conclude-requires-clause-lawful g c =
+pub make_outcome-requires-clause-lawful : goal.make_outcome-requires-clause-lawful
+make_outcome-requires-clause-lawful g c =
     let played =
     played_of g.S.StoreId.id.setting c.deref.result.now c.args.scripts.items c.args.options.boards c.in_ok-works.field-0
     (record { works = c.works.inside.works.items; watch = c.works.inside.watch }) c.deref.ensures.value c.works.view_is c.in_ok-works.ensures in
@@ -80,7 +80,7 @@ returns g c =
     let lines = lines_told 1 scripts c.in_ok-own.own.items c.in_ok-own.transcripts.items c.in_ok-own.ensures in
     let many : length looks ≡ boards =
     ap length c.in_ok-shares.ensures.looks ∙ as_many_looks (start g.S.StoreId.id.setting) (length scripts) boards c.works.inside.watch played.1 in
-    is_run g.S.StoreId.id.setting scripts boards looks c.conclude.result many
-    (subst (λ ls. IfOk c.conclude.result (IsOutcomeOf g.S.StoreId.id.setting ls)) lines
-    (subst (λ s. IfOk c.conclude.result (IsOutcomeOf s (lines_of c.in_ok-own.transcripts.items))) c.in-Ok.ensures.setting c.conclude.ensures.outcome))
-    c.conclude.ensures.looks c.conclude.ensures.fault
+    is_run g.S.StoreId.id.setting scripts boards looks c.make_outcome.result many
+    (subst (λ ls. IfOk c.make_outcome.result (IsOutcomeOf g.S.StoreId.id.setting ls)) lines
+    (subst (λ s. IfOk c.make_outcome.result (IsOutcomeOf s (lines_of c.in_ok-own.transcripts.items))) c.in-Ok.ensures.setting c.make_outcome.ensures.outcome))
+    c.make_outcome.ensures.looks c.make_outcome.ensures.fault

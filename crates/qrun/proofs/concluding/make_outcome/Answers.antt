@@ -1,7 +1,7 @@
 use Rattle.std.proofs.Common.{◌≡◌, length, sym, ap, ◌∙◌}
 use Rattle.qrun.specs.Told.{lines_of}
 use Rattle.qrun.proofs.Told.{gathered_told, one_of}
-use Rattle.qrun.proofs.concluding.conclude.Goals as goal
+use Rattle.qrun.proofs.concluding.make_outcome.Goals as goal
 
 pub outcome_of-requires-clause-each : goal.outcome_of-requires-clause-each
 outcome_of-requires-clause-each c =

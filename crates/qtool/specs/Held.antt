@@ -1,0 +1,10 @@
+-- What files hold, where they tell it: under each name a text, or nothing. Of files that do not (`None`), as the
+-- machine's, this holds whatever they hold, and so says nothing.
+use Rattle.std.specs.Prelude.{◌≡◌, ◌≢◌, ℕ, List, Option, Some, None}
+
+-- under this name stands this text, and under any other what stood there
+abbrev pub IsKept : Option (List ℕ → Option (List ℕ)) → Option (List ℕ → Option (List ℕ)) → List ℕ → List ℕ → Type 0
+IsKept None new name text = Unit {0}
+IsKept (Some old) None name text = ⊥
+IsKept (Some old) (Some new) name text =
+    (new name ≡ Some text) × ((other : List ℕ) → other ≢ name → new other ≡ old other)

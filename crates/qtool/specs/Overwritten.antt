@@ -1,0 +1,10 @@
+-- What a journal must not be written over.
+use Rattle.std.specs.Prelude.{ℕ, ◌≤◌}
+use Rattle.qtool.specs.declared.overwriting.Overwritten.{Overwritten}
+use Rattle.qtool.specs.declared.overwriting.Overwritten.TheVariants.{Config, Script, Output}
+
+-- a script that is told is one of so many, numbered from 1
+abbrev pub IsOneOf : ℕ → Overwritten → Type 0
+IsOneOf scripts Config = Unit {0}
+IsOneOf scripts (Script number) = (1 ≤ number) × (number ≤ scripts)
+IsOneOf scripts Output = Unit {0}

@@ -1,0 +1,52 @@
+//! What the journal of a run must not be written over.
+ghost use Rattle.std.specs.Prelude.{◌≤◌, IfErr, IfSome, length};
+ghost use Rattle.qtool.specs.Overwritten.{IsOneOf};
+
+use crate::Files;
+
+/// What a journal would be written over: what the run reads, or what it prints to.
+#[derive(Clone, Copy, Debug, PartialEq, Eq)]
+pub(crate) enum Overwritten {
+    Config,
+    /// The script of that number, from 1.
+    Script(u64),
+    Output,
+}
+
+/// The first of the scripts, numbered from 1, that is the file of this name, where one is.
+fn script_under<F: Files>(files: &mut F, name: &str, scripts: &[String]) -> Option<u64>
+    ensures { IfSome result (λ number. (1 ≤ number) × (number ≤ length scripts.now)) }
+{
+    let mut number = 0u64;
+    for script in scripts {
+        number += 1;
+        if files.is_same(name, script.as_str()) {
+            return Some(number);
+        }
+    }
+    None
+}
+
+/// Tests that the journal, where one is asked for, is written over nothing that the run reads or prints to.
+pub(crate) fn test_journal<F: Files>(
+    files: &mut F,
+    journal: Option<&str>,
+    config: &str,
+    scripts: &[String],
+) -> Result<(), Overwritten>
+    ensures { IfErr result (IsOneOf (length scripts.now)) }
+{
+    let Some(name) = journal else {
+        return Ok(());
+    };
+    if files.is_same(name, config) {
+        return Err(Overwritten::Config);
+    }
+    if let Some(number) = script_under(files, name, scripts) {
+        return Err(Overwritten::Script(number));
+    }
+    if files.is_output(name) {
+        return Err(Overwritten::Output);
+    }
+    Ok(())
+}

@@ -1,0 +1,62 @@
+//! The machine's files.
+
+use crate::draft::Draft;
+use qtool::{FileFault, Files};
+use std::fs;
+use std::io::{self, ErrorKind};
+use std::os::unix::fs::MetadataExt;
+
+/// The name under which the system has what standard output goes to.
+const OUTPUT: &str = "/proc/self/fd/1";
+
+/// The machine's files.
+#[derive(Drop)]
+pub(crate) struct MachineFiles<'a> {
+    pub(crate) rt: &'a HostRuntime,
+}
+
+fn fault_of(error: &io::Error) -> FileFault {
+    if error.kind() == ErrorKind::OutOfMemory {
+        FileFault::Memory
+    } else {
+        FileFault::Fails
+    }
+}
+
+/// Whether both names lead to one regular file. What is written to a device or a FIFO takes nothing away.
+fn are_one_file(rt: &HostRuntime, name: &str, other: &str) -> bool {
+    match (fs::metadata(rt, name), fs::metadata(rt, other)) {
+        (Ok(left), Ok(right)) => {
+            left.is_file() && left.dev() == right.dev() && left.ino() == right.ino()
+        }
+        _ => false,
+    }
+}
+
+impl Files for MachineFiles<'_> {
+    type Draft = Draft;
+
+    fn read(&mut self, name: &str) -> Result<Vec<u8>, FileFault> {
+        fs::read(self.rt, name).map_err(|error| fault_of(&error))
+    }
+
+    fn is_same(&mut self, name: &str, other: &str) -> bool {
+        are_one_file(self.rt, name, other)
+    }
+
+    fn is_output(&mut self, name: &str) -> bool {
+        are_one_file(self.rt, name, OUTPUT)
+    }
+
+    fn draft(&mut self, name: &str) -> Result<Draft, FileFault> {
+        Draft::new(self.rt, name).map_err(|error| fault_of(&error))
+    }
+
+    fn keep(&mut self, draft: Draft, _name: &str) -> Result<(), FileFault> {
+        draft.keep(self.rt).map_err(|error| fault_of(&error))
+    }
+
+    fn give_up(&mut self, draft: Draft) {
+        draft.give_up(self.rt);
+    }
+}
