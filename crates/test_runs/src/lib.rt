@@ -11,6 +11,8 @@ mod given;
 #[cfg(test)]
 mod looks;
 #[cfg(test)]
+mod refused;
+#[cfg(test)]
 mod seats;
 #[cfg(test)]
 mod turns;

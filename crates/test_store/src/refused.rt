@@ -8,7 +8,7 @@ use crate::asks::Told::{Bytes, Done, File, Freed, Record};
 use crate::asks::{Row, call, caller, new_store, reply};
 use Way::{Apply, Commit};
 use qplain::{Call, Cred, NoMemory, Reply};
-use qrules::Kind;
+use qrules::{InodeRow, NameRow, RecordRow};
 use qstore::Store;
 use std::alloc::Global;
 use std::io::Print;
@@ -50,31 +50,30 @@ fn answer(root: &Cred, store: &mut Store, way: Way, call: &Call) -> Result<Reply
     }
 }
 
-/// What can be seen of a store without memory: its totals, `/a`, and the two records.
+/// All that can be seen of a store but the bytes of its files: its totals, its rows, and `/a`.
 #[derive(PartialEq, Drop)]
 struct Seen {
     blocks: u64,
     inodes: u64,
+    records: Vec<RecordRow>,
+    inode_rows: Vec<InodeRow>,
+    names: Vec<NameRow>,
     file: Reply,
-    user: Reply,
-    group: Reply,
 }
 
-fn quota(kind: Kind, id: u32) -> Call {
-    Call::Quota { kind, id }
-}
-
-fn look(root: &Cred, store: &mut Store, stat: &Call) -> Result<Seen, NoMemory> {
+fn look(rt: &impl Print, root: &Cred, store: &mut Store, stat: &Call) -> Result<Seen, NoMemory> {
     Ok(Seen {
         blocks: store.blocks(),
         inodes: store.inodes(),
+        records: again(rt, || store.record_rows())?,
+        inode_rows: again(rt, || store.inode_rows())?,
+        names: again(rt, || store.name_rows())?,
         file: store.apply(root, 0, stat)?,
-        user: store.apply(root, 0, &quota(Kind::User, 0))?,
-        group: store.apply(root, 0, &quota(Kind::Group, 7))?,
     })
 }
 
-/// The reply to a call. Where an allocation is refused, the store is to look as before, and is asked once more.
+/// The reply to a call. Where an allocation is refused, the store is to look as before, also when the call is made ready
+/// then and dropped, and is asked once more.
 fn insist(
     rt: &(impl Abort + Print),
     root: &Cred,
@@ -83,12 +82,14 @@ fn insist(
     way: Way,
     call: &Call,
 ) -> Result<Reply, NoMemory> {
-    let before = look(root, store, stat)?;
+    let before = look(rt, root, store, stat)?;
     match answer(root, store, way, call) {
         Ok(given) => Ok(given),
         Err(_) => {
             tell_refused(rt);
-            assert!(rt; look(root, store, stat)? == before);
+            assert!(rt; look(rt, root, store, stat)? == before);
+            drop(store.ready(root, 0, call)?);
+            assert!(rt; look(rt, root, store, stat)? == before);
             answer(root, store, way, call)
         }
     }
@@ -110,15 +111,6 @@ fn ask(
     let given = insist(rt, &root, store, &stat, way, &call)?;
     assert!(rt; given == told, "at {asked:?}");
     Ok(())
-}
-
-/// How many record rows, inode rows and name rows a store has, the last in order and in any order.
-fn count_rows(rt: &impl Print, store: &Store) -> Result<(usize, usize, usize, usize), NoMemory> {
-    let records = again(rt, || store.record_rows())?;
-    let inodes = again(rt, || store.inode_rows())?;
-    let names = again(rt, || store.name_rows())?;
-    let unordered = again(rt, || store.name_rows_unordered())?;
-    Ok((records.len(), inodes.len(), names.len(), unordered.len()))
 }
 
 const ROWS: [(Way, Row<'static>); 24] = [
@@ -155,7 +147,10 @@ fn a_refused_call_changes_nothing(rt: HostRuntime) -> Result<(), NoMemory> {
     for (way, row) in ROWS {
         ask(&rt, alloc, &mut store, way, row)?;
     }
-    assert_eq!(rt; count_rows(&rt, &store)?, (3, 5, 5, 5));
-    assert_eq!(rt; (store.blocks(), store.inodes()), (0, 5));
+    let unordered = again(&rt, || store.name_rows_unordered())?;
+    assert_eq!(rt;
+        (unordered.len(), store.blocks(), store.inodes()),
+        (5, 0, 5)
+    );
     Ok(())
 }

@@ -6,7 +6,7 @@ use qrules::{InodeRow, Kind, Limits, NameRow, PrincipalName, RecordRow};
 use std::alloc::{AllocError, Global};
 
 /// An inode of a user and of group 0.
-fn inode(ino: u64, dir: bool, uid: u32, blocks: u32, links: u64) -> InodeRow {
+pub(crate) fn inode(ino: u64, dir: bool, uid: u32, blocks: u32, links: u64) -> InodeRow {
     InodeRow {
         ino,
         dir,
@@ -18,7 +18,7 @@ fn inode(ino: u64, dir: bool, uid: u32, blocks: u32, links: u64) -> InodeRow {
 }
 
 /// A record without a name and without limits.
-fn record(
+pub(crate) fn record(
     alloc: Global,
     kind: Kind,
     id: u32,

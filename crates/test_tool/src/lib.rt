@@ -10,6 +10,8 @@ mod memory_files;
 #[cfg(test)]
 mod outputs;
 #[cfg(test)]
+mod refused;
+#[cfg(test)]
 mod reports;
 #[cfg(test)]
 mod short;

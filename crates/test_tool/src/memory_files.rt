@@ -17,7 +17,8 @@ user = [{ id = 0, name = "root" }]
 group = [{ id = 0, name = "root" }]
 "#;
 
-const SCRIPT: &[u8] = b"0 0:0 create /a\n0 0:0 write /a 0 78\n0 0:0 stat /a\n";
+/// The script of one worker.
+pub(crate) const SCRIPT: &[u8] = b"0 0:0 create /a\n0 0:0 write /a 0 78\n0 0:0 stat /a\n";
 
 /// What becomes of the script.
 pub(crate) const OUTCOME: &[u8] = b"\

@@ -20,9 +20,9 @@ fn what_was_made_ready_is_put(rt: HostRuntime) -> Result<(), NoMemory> {
     let mut file = BlockFile::new(rt.alloc());
     let dropped = file.ready(100, 200_000)?;
     drop(dropped);
-    let spare = file.ready(65530, 12)?;
+    let spare = file.ready(65_530, 12)?;
     assert_eq!(rt; file.allocated(), 0);
-    assert_eq!(rt; file.put(65530, Input::Bytes(b"abcdefghijkl"), spare), 2);
+    assert_eq!(rt; file.put(65_530, Input::Bytes(b"abcdefghijkl"), spare), 2);
     assert!(rt; file.read(65534, 3)?.as_slice() == b"efg".as_slice());
     Ok(())
 }
@@ -40,34 +40,59 @@ fn tell_refused(rt: &impl Print) {
     let _ = println!(rt; "an allocation was refused");
 }
 
+/// Writes to an empty file.
+fn write_first(rt: &(impl Abort + Print), file: &mut BlockFile) -> Result<(), NoMemory> {
+    if file.write(0, Input::Bytes(b"abc")).is_err() {
+        tell_refused(rt);
+        check(rt, file, 0, b"")?;
+        assert_eq!(rt; file.write(0, Input::Bytes(b"abc"))?, 1);
+    }
+    Ok(())
+}
+
+/// Makes a write ready and puts it. After a refusal what is made ready once more is dropped first, which leaves nothing.
+fn put_second(rt: &(impl Abort + Print), file: &mut BlockFile) -> Result<(), NoMemory> {
+    let spare = match file.ready(65_530, 12) {
+        Ok(spare) => spare,
+        Err(_) => {
+            tell_refused(rt);
+            check(rt, file, 1, b"abc")?;
+            drop(file.ready(65_530, 12)?);
+            check(rt, file, 1, b"abc")?;
+            file.ready(65_530, 12)?
+        }
+    };
+    assert_eq!(rt; file.put(65_530, Input::Bytes(b"abcdefghijkl"), spare), 2);
+    Ok(())
+}
+
+/// Writes where blocks are, and behind them.
+fn write_third(rt: &(impl Abort + Print), file: &mut BlockFile) -> Result<(), NoMemory> {
+    if file.write(69_630, Input::Bytes(b"wxyz")).is_err() {
+        tell_refused(rt);
+        assert_eq!(rt; (file.allocated(), file.size()), (3, 65_542));
+        assert!(rt; file.read(65_530, 99)?.as_slice() == b"abcdefghijkl".as_slice());
+        file.write(69_630, Input::Bytes(b"wxyz"))?;
+    }
+    assert_eq!(rt; (file.allocated(), file.size()), (4, 69_634));
+    Ok(())
+}
+
 // Run with the Nth allocation refused: the refused call leaves the file as it was, and the same
 // call then succeeds.
 #[test]
 fn a_refused_call_changes_nothing(rt: HostRuntime) -> Result<(), NoMemory> {
     let mut file = BlockFile::new(rt.alloc());
-    if file.write(0, Input::Bytes(b"abc")).is_err() {
-        tell_refused(&rt);
-        check(&rt, &file, 0, b"")?;
-        assert_eq!(rt; file.write(0, Input::Bytes(b"abc"))?, 1);
-    }
-    if file.ready(65530, 12).is_err() {
-        tell_refused(&rt);
-        check(&rt, &file, 1, b"abc")?;
-        let _spare = file.ready(65530, 12)?;
-    }
-    if file.write(65530, Input::Bytes(b"abcdefghijkl")).is_err() {
-        tell_refused(&rt);
-        check(&rt, &file, 1, b"abc")?;
-        assert_eq!(rt; file.write(65530, Input::Bytes(b"abcdefghijkl"))?, 2);
-    }
-    let bytes = match file.read(65534, 3) {
+    write_first(&rt, &mut file)?;
+    put_second(&rt, &mut file)?;
+    write_third(&rt, &mut file)?;
+    let bytes = match file.read(69_629, 9) {
         Ok(bytes) => bytes,
         Err(_) => {
             tell_refused(&rt);
-            file.read(65534, 3)?
+            file.read(69_629, 9)?
         }
     };
-    assert!(rt; bytes.as_slice() == b"efg".as_slice());
-    assert_eq!(rt; file.allocated(), 3);
+    assert!(rt; bytes.as_slice() == b"\0wxyz".as_slice());
     Ok(())
 }
