@@ -123,7 +123,7 @@ where
                         running.push_reserved(handle);
                         ends.push_reserved(WorkerEnd::Done);
                     }
-                    Err(_) => {
+                    Err(_refused) => {
                         ends.push_reserved(WorkerEnd::NotStarted);
                         conclude(&ends)?;
                     }
