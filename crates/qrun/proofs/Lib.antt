@@ -1,6 +1,6 @@
 -- What stands among other things in order, a worker's own entries, one more line of its script, transcripts put together,
--- receipts counted, seats by their places, the watcher's share, what faults tell, the ends of workers, and what a run
--- comes to.
+-- receipts counted, seats by their places, the watcher's share, what faults tell, and what a run comes
+-- to.
 pub mod Subsequences
 pub mod Owning
 pub mod Working
@@ -10,5 +10,4 @@ pub mod Counting
 pub mod Seating
 pub mod Watched
 pub mod Naming
-pub mod Ends
 pub mod Running

@@ -24,6 +24,10 @@ last_by n false = (omega arith, omega arith)
 pub watcher_fits : (n boards : ℕ) → IfSome (watcher_for n boards) (λ s. (0 < s.worker) × (s.worker ≤ seats_for n boards))
 watcher_fits n boards = last_by n (boards == 0)
 
+-- the thread of the seat after those that were started
+pub names_seat : (n scripts before own : ℕ) → own ≡ before + 1 → before < scripts → scripts ≤ n → IsFaultOf n (NotStarted own)
+names_seat n scripts before own next low few = (omega (arith, next), omega (arith, next, low, few))
+
 -- a fault that is handed on
 pub names_on : {T : Type 0} (n : ℕ) (r : Result T RunFault) (fault : RunFault) → IsErrAnd r (λ e. e ≡ fault) → IsFaultOf n fault
     → IfErr r (IsFaultOf n)

@@ -12,7 +12,6 @@ use crate::options::Options;
 use crate::run_fault::RunFault;
 use crate::watcher::{Watch, watch_all};
 use crate::worker::{Work, Worker, play, worker_of};
-use crate::worker_end::{WorkerEnd, conclude};
 use qplain::{Line, NoMemory, Script};
 use qshare::{Boards, Seat, Shared};
 use qshare_boards::Viewer;
@@ -81,8 +80,7 @@ fn crew_of<'a, S: StoreId, B: Boards<S>, V: Drop, G: Gate, R: Wait>(
 /// Plays each script in a thread of its own; once all are started the watcher looks, in its own, and all are joined.
 /// All room for answers and looks is made before the first start.
 ///
-/// Where a start is refused, no later one is made, and those before are waited for; the worker is named, which is the
-/// least that was not started.
+/// Where a start is refused, no later one is made, and those before are waited for; the worker is named.
 pub(crate) fn play_all<S, B, V, G, R>(
     rt: &R,
     alloc: Global,
@@ -113,20 +111,12 @@ where
                 (vec_capacity looks) }
             ensures { ArePlayed S.id.setting scripts.entry.now options.boards result }
         {
-            let many = workers.len();
-            let mut running = Vec::with_capacity(alloc, many)?;
-            let mut ends = Vec::with_capacity(alloc, many)?;
+            let mut running = Vec::with_capacity(alloc, workers.len())?;
             for worker in workers {
                 let plays = worker.plays();
                 match scope.spawn_with(plays, move || play(worker)) {
-                    Ok(handle) => {
-                        running.push_reserved(handle);
-                        ends.push_reserved(WorkerEnd::Done);
-                    }
-                    Err(_refused) => {
-                        ends.push_reserved(WorkerEnd::NotStarted);
-                        conclude(&ends)?;
-                    }
+                    Ok(handle) => running.push_reserved(handle),
+                    Err(_) => return Err(RunFault::NotStarted(plays.worker)),
                 }
             }
             let watch = watch_all(rt, watcher, looks, lines_in(scripts), options.boards)?;

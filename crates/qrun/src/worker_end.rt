@@ -7,9 +7,9 @@ use crate::run_fault::RunFault;
 /// How a worker has ended.
 #[derive(Clone, Copy, Debug, PartialEq, Eq)]
 pub enum WorkerEnd {
-    /// It was started, and is joined before the run is told.
+    /// It was started, and has been joined.
     Done,
-    /// Its thread was refused, or another was before it.
+    /// Its thread was refused, or that of another before it.
     NotStarted,
 }
 

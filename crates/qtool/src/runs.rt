@@ -25,7 +25,7 @@ use std::thread::Threads;
 ///
 /// The caller owes 1 to 16 scripts, and with boards at most 15. The hashes of names begin at `seed`, which may be any
 /// number; nothing of the outcome depends on it. O(lines), and what each call takes. After an Err all workers that were
-/// started have been joined, and the store is given up; NotStarted names one of the threads that the run would have.
+/// started have been joined, and the store is given up; NotStarted names the first of the threads that was refused.
 pub fn run_with<G: Gate + Sync, R: Threads + Wait + Sync>(
     rt: &R,
     alloc: Global,

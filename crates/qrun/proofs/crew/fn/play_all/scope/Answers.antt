@@ -4,9 +4,7 @@ use Rattle.std.specs.Vec.Iter.{into_iter_items}
 use Rattle.qplain.specs.State.{start}
 use Rattle.qrun.specs.Watching.{IsWatchOf, seats_for}
 use Rattle.qrun.specs.Work.{IsWork}
-use Rattle.qrun.specs.WorkerEnds.{AreDone}
-use Rattle.qrun.proofs.Ends.{done_further, names_one, none_refused}
-use Rattle.qrun.proofs.Naming.{scripts_fit, watcher_fits}
+use Rattle.qrun.proofs.Naming.{names_seat, scripts_fit, watcher_fits}
 use Rattle.qrun.proofs.Running.{not_played}
 use Rattle.qrun.proofs.Seating.{ready_after, ready_first, ready_here, ready_next}
 use Rattle.qrun.proofs.crew.fn.play_all.scope.Goals as goal
@@ -14,27 +12,22 @@ use Rattle.qrun.proofs.crew.fn.play_all.scope.Goals as goal
 pub loop-worker-init : goal.loop-worker-init
 loop-worker-init g c =
     let room = c.in_ok-running.ensures in
-    let ends = c.in_ok-ends.ensures in
     let all = c.into_iter-worker-iterator.ensures.into_iter_gives in (
       ready_first c.captures.scripts.now c.in_ok-running.running.len (into_iter_items c.into_iter-worker-iterator.result)
           c.captures.workers.items room.len all.0 c.requires.ready.workers_are,
-      omega (arith, room.len, room.capacity, all.1, c.len-many.ensures, c.captures.workers.ok.0),
+      omega (arith, room.len, room.capacity, all.1, c.len.ensures, c.captures.workers.ok.0),
       λ k d lines less. absurd (omega (arith, less, room.len)),
       refl,
       c.requires.ready.room_is.0,
       c.requires.ready.room_is.1,
-      omega (arith, room.len, ends.len),
-      omega (arith, ends.len, ends.capacity, all.1, c.len-many.ensures, c.captures.workers.ok.0),
-      λ k d less. absurd (omega (arith, less, ends.len, c.in_ok-ends.ends.ok.0)),
     )
 
-pub loop-worker-preserved-in-Ok : goal.loop-worker-preserved-in-Ok
-loop-worker-preserved-in-Ok g c =
+pub loop-worker-preserved : goal.loop-worker-preserved
+loop-worker-preserved g c =
     let running = c.loop-worker.running in
     let handle = c.in-Ok.handle in
     let scripts = c.captures.scripts.now in
     let pushed = c.push_reserved.ensures in
-    let ended = c.push_reserved-in-in-Ok.ensures in
     let ready = ready_here scripts running.len (into_iter_items c.loop-worker.worker-iterator) c.in-Some.worker (into_iter_items c.next.new.self)
     c.in-Some.ensures.steps.0 c.loop-worker.invariant.0 in
     let next = ready_next scripts running.len c.in-Some.worker (into_iter_items c.next.new.self) ready in (
@@ -59,16 +52,7 @@ loop-worker-preserved-in-Ok g c =
       c.loop-worker.invariant.3,
       c.loop-worker.invariant.4,
       c.loop-worker.invariant.5,
-      omega (arith, pushed.len, ended.len, c.loop-worker.invariant.6),
-      omega (arith, ended.len, ended.capacity, c.in-Some.ensures.steps.1, c.loop-worker.invariant.7),
-      subst AreDone (sym ended.items) (done_further c.loop-worker.ends.items c.loop-worker.invariant.8),
     )
-
-pub loop-worker-preserved-in_ok : goal.loop-worker-preserved-in_ok
-loop-worker-preserved-in_ok g c =
-    let ends = c.loop-worker.ends.items in
-    let refused = c.push_reserved-in-Err.ensures in
-    absurd (none_refused ends (subst AreDone refused.items (c.conclude.ensures.ok.0 refl)))
 
 pub returns-in-Ok-join_promised : goal.returns-in-Ok-join_promised
 returns-in-Ok-join_promised g c =
@@ -93,20 +77,16 @@ returns-in-Ok-join_promised g c =
       subst (λ w. IsWatchOf (start g.S.StoreId.id.setting) boards w c.in_ok-watch.watch) c.requires.ready.watcher_is looked,
     )
 
-pub returns-in_err : goal.returns-in_err
-returns-in_err g c =
+pub returns-in-Err : goal.returns-in-Err
+returns-in-Err g c =
     let scripts = c.captures.scripts.now in
-    let boards = c.captures.options-boards in
     let running = c.loop-worker.running in
     let n = length scripts in
     let ready = ready_here scripts running.len (into_iter_items c.loop-worker.worker-iterator) c.in-Some.worker (into_iter_items c.next.new.self)
     c.in-Some.ensures.steps.0 c.loop-worker.invariant.0 in
     let next = ready_next scripts running.len c.in-Some.worker (into_iter_items c.next.new.self) ready in
-    let ends = c.push_reserved-in-Err.new.self in
-    let few : length ends.items ≤ seats_for n boards =
-    omega (arith, c.push_reserved-in-Err.ensures.len, ends.ok.0, c.loop-worker.invariant.6, next.0, scripts_fit n boards) in
-    not_played g.S.StoreId.id.setting scripts boards c.from_residual-in_err.result c.in_err.field-0.0
-    c.from_residual-in_err.ensures.1 (names_one (seats_for n boards) ends.items c.in_err.field-0.0 c.in_err.ensures.err few)
+    names_seat (seats_for n c.captures.options-boards) n running.len c.plays-plays.result.worker (c.plays-plays.ensures.0 ∙ (next.1 []).worker_is) next.0
+    (scripts_fit n c.captures.options-boards)
 
 pub returns-in_err-watch : goal.returns-in_err-watch
 returns-in_err-watch g c =

@@ -2,7 +2,6 @@ use Rattle.std.proofs.Common.{◌≡◌, ℕ, ◌+◌, ◌<◌, ◌≤◌, List,
 use Rattle.std.specs.Vec.{vec_capacity, vec_len}
 use Rattle.std.specs.Vec.Iter.{into_iter_items, into_iter_len}
 use Rattle.qplain.specs.declared.line.Line.{Line}
-use Rattle.qrun.specs.WorkerEnds.{AreDone}
 use Rattle.qrun.proofs.Seating.{AreReadyFrom}
 use Rattle.qrun.proofs.crew.fn.play_all.scope.Given as goal
 
@@ -15,5 +14,3 @@ invariant-loop-worker g l =
     × ((slice_index_or l.running.items k d).promise.lines.now ≡ slice_index_or l.scripts k lines))
     × (l.watcher ≡ l.initial.watcher)
     × (vec_len l.looks ≡ 0) × (l.options-boards ≤ vec_capacity l.looks)
-    × (vec_len l.ends ≡ vec_len l.running) × (vec_len l.ends + into_iter_len l.worker-iterator ≤ vec_capacity l.ends)
-    × AreDone l.ends.items
