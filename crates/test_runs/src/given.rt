@@ -1,9 +1,10 @@
-//! What the tests begin with. An Err says what was wanted, where there was no memory for it.
+//! What the tests begin with.
 use qplain::{Line, Script, Setup};
 use qrules::Items;
 use qtext_config::Config;
 use qtext_files::FromText;
 use std::alloc::Global;
+use std::test::Fail;
 
 /// Ten blocks and six inodes, and nobody has a limit.
 const CONFIG: &str = "size = '40k'
@@ -15,32 +16,32 @@ group = [{ id = 0, name = 'root' }]
 ";
 
 /// The setup of a small store.
-pub(crate) fn setup(alloc: Global) -> Result<Setup, &'static str> {
+pub(crate) fn setup(alloc: Global) -> Result<Setup, Fail> {
     match Config::read(alloc, CONFIG) {
         Ok(config) => Ok(config.setup),
-        Err(_) => Err("the configuration"),
+        Err(_) => Err(Fail::from("the configuration")),
     }
 }
 
 /// A script.
-pub(crate) fn script(alloc: Global, text: &[u8]) -> Result<Script, &'static str> {
+pub(crate) fn script(alloc: Global, text: &[u8]) -> Result<Script, Fail> {
     match Script::read(alloc, text) {
         Ok(script) => Ok(script),
-        Err(_) => Err("the script"),
+        Err(_) => Err(Fail::from("the script")),
     }
 }
 
 /// The lines of a script.
-pub(crate) fn lines(alloc: Global, text: &[u8]) -> Result<Items<Line>, &'static str> {
+pub(crate) fn lines(alloc: Global, text: &[u8]) -> Result<Items<Line>, Fail> {
     Ok(script(alloc, text)?.into_lines())
 }
 
 /// The line of a script of one line.
-pub(crate) fn line(alloc: Global, text: &[u8]) -> Result<Line, &'static str> {
+pub(crate) fn line(alloc: Global, text: &[u8]) -> Result<Line, Fail> {
     let mut lines = lines(alloc, text)?.into_vec();
     match lines.pop() {
         Some(line) => Ok(line),
-        None => Err("a line"),
+        None => Err(Fail::from("a line")),
     }
 }
 

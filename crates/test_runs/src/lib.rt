@@ -11,8 +11,6 @@ mod given;
 #[cfg(test)]
 mod looks;
 #[cfg(test)]
-mod refused;
-#[cfg(test)]
 mod seats;
 #[cfg(test)]
 mod turns;

@@ -25,11 +25,9 @@ enum Story {
     Dropped,
 }
 
-/// Makes a file.
-pub(crate) const CREATE: &[u8] = b"0 1001:0 create /a\n";
+const CREATE: &[u8] = b"0 1001:0 create /a\n";
 
-/// Writes a block of it.
-pub(crate) const WRITE: &[u8] = b"0 1001:0 write /a 0 78\n";
+const WRITE: &[u8] = b"0 1001:0 write /a 0 78\n";
 
 const STAT: &[u8] = b"0 1001:0 stat /a\n";
 
@@ -40,7 +38,7 @@ fn board<S: StoreId>(seat: &mut Seat<S, Viewer<S>>) -> Result<(u64, u64, u64), L
 }
 
 /// The version, the blocks and the inodes of a record that a seat is shown.
-pub(crate) fn record<S: StoreId>(
+fn record<S: StoreId>(
     seat: &mut Seat<S, Viewer<S>>,
     kind: Kind,
     id: u32,
@@ -60,7 +58,7 @@ fn told(answer: &Result<Receipt, CallFault>) -> Option<(u64, bool)> {
 }
 
 /// Makes a call of a seat.
-pub(crate) fn call<S: StoreId, B: Boards<S>, W: Wait>(
+fn call<S: StoreId, B: Boards<S>, W: Wait>(
     rt: &W,
     shared: &Shared<S, B>,
     seat: &mut Seat<S, Viewer<S>>,
@@ -71,7 +69,7 @@ pub(crate) fn call<S: StoreId, B: Boards<S>, W: Wait>(
 }
 
 /// Makes a call of a seat under the lock that is held, where there is room for it.
-pub(crate) fn apply<S: StoreId, B: Boards<S>, W: Wait>(
+fn apply<S: StoreId, B: Boards<S>, W: Wait>(
     rt: &W,
     held: &mut Held<'_, S, B>,
     seat: &mut Seat<S, Viewer<S>>,
