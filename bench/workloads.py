@@ -59,7 +59,7 @@ def refusals():
     """16 kinds of refusals, one of them of 64 KiB of data."""
     calls = [
         "create file", "create /" + "n" * 256, "stat /file00009", "stat /file00001/name", "create /file00001",
-        "write /file00002 0 0123", "read / 0 1", "fill /file00002 0 65536 ab", "write /file00001 1073741824 0123",
+        "write /file00002 0 0123", "read / 0 1", "fill /file00002 0 65536 ab", "write /file00001 1099511627776 0123",
         "setquota user 1000 400 800 100 200", "setgrace 1000 1000", "quota user 0", "quota group 0", "setgrace 0 1000",
         "read /file00001 0 65537", "stat /file00001/",
     ]

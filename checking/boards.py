@@ -141,7 +141,7 @@ def crowd(work, *options):
     (status, out, err), journal, again = run(work, scripts, "--boards", "1000", *options)
     rest, looks = parted(out)
     whole = looks and len(looks) == 1_000 and all(map(SHOWN.fullmatch, looks)) and are_lawful(looks, journal)
-    head = journal.startswith(b"quotafs journal 1 workers 15\n") and journal.count(b"\n") == 1 + 15 * 4_096
+    head = journal.startswith(b"quotafs journal 2 workers 15\n") and journal.count(b"\n") == 1 + 15 * 4_096
     versions = {look.split()[1] for look in looks} if looks else set()
     return bool(whole and head and comes_again((status, rest, err), again)), versions
 

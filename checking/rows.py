@@ -34,7 +34,7 @@ WITHOUT = {
     (3, b"", b"quotafs: no reader\n"): "no reader",
     **{(3, b"", b"quotafs: worker %d not started\n" % worker): "not started" for worker in (1, 2)},
 }
-HEAD = b"quotafs journal 1 workers 1\n"
+HEAD = b"quotafs journal 2 workers 1\n"
 
 
 def call(words, program=BUILT, folder=ROOT, **further):

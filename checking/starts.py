@@ -1,7 +1,13 @@
-"""Starts of threads that are refused: the worker is named, no later one is started, and nothing is printed."""
+"""Starts of threads that are refused: the worker is named, no later one is started, and nothing is printed. And starts
+that are not to be refused, where there is little address space."""
 import subprocess
+from collections import Counter
 
+from outputs import limited
 from rows import CHECKING, EMPTY, EXAMPLE, ROOT, preloaded
+
+LIMIT = 200 * 1024  # KiB of address space in which 16 workers have to start
+RUNS = 20
 
 
 def built(work):
@@ -16,6 +22,24 @@ def refused(library, scripts, boards, number):
     return preloaded(library, words, ROOT, "START_TELL", START_NUMBER=str(number))
 
 
+def own_files(worker):
+    """A script of 254 lines: files of a directory of its own, each made, written, looked at and taken away."""
+    calls = [f"mkdir /{worker}"]
+    for path in (f"/{worker}/{file}" for file in range(63)):
+        calls += [f"create {path}", f"fill {path} 0 4096 61", f"stat {path}", f"unlink {path}"]
+    return "".join(f"0 0:0 {call}\n" for call in [*calls, f"rmdir /{worker}"])
+
+
+def with_little_space(work):
+    """How 16 workers end, run after run, where the address space has a limit: by ./quotafs, as a user has it."""
+    scripts = [work / f"little.{worker}" for worker in range(1, 17)]
+    for worker, script in enumerate(scripts, 1):
+        script.write_text(own_files(worker))
+    words = [ROOT / "quotafs", "run", "--config", ROOT / "examples/farm.toml", *scripts]
+    ends = Counter(limited(f"-v {LIMIT}", words) for _ in range(RUNS))
+    yield f"16 scripts under {LIMIT} KiB of address space", ends, Counter({(0, b""): RUNS})
+
+
 def checks(work):
     """Each check's name, and whether what it says holds."""
     library = built(work)
@@ -26,3 +50,4 @@ def checks(work):
         yield f"{scripts} scripts, {boards} boards: each start refused", answers, wanted
         (status, _, err), told = refused(library, scripts, boards, threads + 1)
         yield f"{scripts} scripts, {boards} boards: no start more", (status, err, told), (0, b"", b"")
+    yield from with_little_space(work)

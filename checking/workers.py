@@ -9,7 +9,6 @@ from pathlib import Path
 from rows import EMPTY, EXAMPLE, FAILED, HEAD, WITHOUT, Case, call, journal_of, played
 
 DONE, NO_SPACE = b"done %d blocks +0 -0 inodes +1 -0", b"refused ENOSPC"
-FULL = b"- failed JournalFull\n"
 TWO = HEAD.replace(b"workers 1", b"workers 2")
 
 
@@ -83,6 +82,7 @@ class Workers(Case):
 
 def two_workers(work):
     """Two workers beside each other, each allocation of whom is refused in turn."""
+    yield Workers("six files", work, SIX_FILES)
     yield Workers("files apart", work, [
         b"0 1001:0,100 create /a\n1 1001:0,100 write /a 0 78\n2 1001:0,100 stat /a\n3 1001:0,100 unlink /a\n",
         b"0 0:0 mkdir /d\n0 0:0 create /d/e\n1 0:0 fill /d/e 0 8192 7a\n2 0:0 read /d/e 8190 4\n3 0:0 link /d/e /f\n"])
@@ -119,6 +119,7 @@ def checks(work):
         b"create /a", b"write /a 0 78", b"stat /a", b"unlink /a"])
     answer, _, again = run(work, [calls] * 16)
     yield "16 scripts of 4,096 lines", comes_again(answer, again), True
-    answer, journal, again = run(work, [b"0 0:0 stat /\n" * 32_769] * 2)
-    told = answer[1].count(FULL), journal.count(b"\n"), comes_again(answer, again)
-    yield "two scripts of 32,769 lines", told, (2, 65_537, True)
+    for scripts, lines, *batch in [(2, 32_769), (2, 32_769, "--batch", "64"), (16, 65_536)]:
+        answer, journal, again = run(work, [b"0 0:0 stat /\n" * lines] * scripts, *batch)
+        told = answer[1].count(b"- failed "), journal.count(b"\n"), comes_again(answer, again)
+        yield f"{scripts} scripts of {lines:,} lines{' in batches' * bool(batch)}", told, (0, 1 + scripts * lines, True)

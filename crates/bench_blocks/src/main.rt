@@ -10,7 +10,8 @@ use std::io;
 
 const CHUNK: u64 = 65536;
 
-const GIB: u64 = 1 << 30;
+/// The size of the largest file.
+const LARGEST: u64 = 1 << 40;
 
 const FILL: Input = Input::Fill {
     count: CHUNK,
@@ -99,6 +100,33 @@ fn write_bytes_far_apart(file: &mut BlockFile, times: u64) -> Result<u64, NoMemo
         fresh = fresh.wrapping_add(file.write(at * CHUNK + 7, Input::Bytes(b"z"))?);
     }
     Ok(fresh)
+}
+
+#[inline(never)]
+fn write_bytes_at_the_front(file: &mut BlockFile, times: u64) -> Result<u64, NoMemory>
+    requires { times ≤ 2 ^ 20 }
+{
+    let mut fresh = 0u64;
+    for i in 0..times {
+        fresh = fresh.wrapping_add(file.write(i * CHUNK, Input::Bytes(b"z"))?);
+    }
+    Ok(fresh)
+}
+
+#[inline(never)]
+fn write_bytes_at_the_far_end(file: &mut BlockFile, times: u64) -> Result<u64, NoMemory>
+    requires { times ≤ 2 ^ 20 }
+{
+    let mut fresh = 0u64;
+    for i in 0..times {
+        fresh = fresh.wrapping_add(file.write(LARGEST - (times - i) * CHUNK, Input::Bytes(b"z"))?);
+    }
+    Ok(fresh)
+}
+
+#[inline(never)]
+fn truncate_far_blocks(file: &mut BlockFile) -> u64 {
+    file.truncate(2 * BLOCK_SIZE)
 }
 
 #[inline(never)]
@@ -244,7 +272,7 @@ fn bytes(rt: &impl Print, alloc: Global) -> io::Result<()> {
 
 fn holes(rt: &impl Print, alloc: Global) -> io::Result<()> {
     let mut file = BlockFile::new(alloc);
-    let few = file.write(GIB - 1, Input::Bytes(b"z"))?;
+    let few = file.write(LARGEST - 1, Input::Bytes(b"z"))?;
     let freed = freed_by_truncate_of_holes(&file, 1000);
     let gone = truncate_holes(&mut file);
     println!(rt; "{few} block behind holes: {freed} by 1000 cuts, {gone} freed")?;
@@ -253,8 +281,18 @@ fn holes(rt: &impl Print, alloc: Global) -> io::Result<()> {
     println!(rt; "{many} blocks dropped")
 }
 
+fn ends(rt: &impl Print, alloc: Global) -> io::Result<()> {
+    let mut near = BlockFile::new(alloc);
+    let front = write_bytes_at_the_front(&mut near, 1000)?;
+    let mut far = BlockFile::new(alloc);
+    let back = write_bytes_at_the_far_end(&mut far, 1000)?;
+    let freed = truncate_far_blocks(&mut far);
+    println!(rt; "{front} new blocks at the front, {back} at the far end, {freed} freed")
+}
+
 fn main(rt: HostRuntime) -> io::Result<()> {
     chunks(&rt, rt.alloc())?;
     bytes(&rt, rt.alloc())?;
-    holes(&rt, rt.alloc())
+    holes(&rt, rt.alloc())?;
+    ends(&rt, rt.alloc())
 }

@@ -1,4 +1,4 @@
-//! One sparse file in memory, in blocks of 4096 bytes.
+//! One sparse file in memory, in blocks of 4096 bytes; and values in a row that have several owners.
 #![tactic(auto)]
 
 mod block;
@@ -8,11 +8,13 @@ mod input;
 mod room;
 mod row;
 mod rows;
+mod shared_items;
 mod span;
 mod spare;
 
 pub use block::BLOCK_SIZE;
 pub use file::{BlockFile, MAX_SIZE};
 pub use input::Input;
+pub use shared_items::SharedItems;
 pub use spare::Spare;
 pub use std::alloc::AllocError as NoMemory;

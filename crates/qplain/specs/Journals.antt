@@ -1,11 +1,14 @@
 -- What always holds of a journal: its workers, and the entries that each of them may have.
 use Rattle.std.specs.Prelude.{ℕ, ◌<◌, ◌≤◌, List, length, All}
-use Rattle.qplain.specs.declared.bounds.TheConstants.{MAX_ENTRIES, MAX_WORKERS}
+use Rattle.qplain.specs.declared.bounds.TheConstants.{MAX_WORKERS}
+use Rattle.qplain.specs.declared.edition.Edition.{Edition}
 use Rattle.qplain.specs.declared.entry.Entry.{Entry}
+use Rattle.qplain.specs.Editions.{max_entries_of}
 use Rattle.qplain.specs.Held.{HasLawfulStat}
 
--- how many workers there were, and their entries in the order of the journal
+-- the edition, how many workers there were, and their entries in the order of the journal
 pub record Written : Type 0 where
+  pub edition : Edition
   pub workers : ℕ
   pub entries : List Entry
 
@@ -17,8 +20,8 @@ IsWorkers workers = (0 < workers) × (workers ≤ MAX_WORKERS)
 abbrev pub IsEntryOf : ℕ → Entry → Type 0
 IsEntryOf workers e = (0 < e.worker) × (e.worker ≤ workers) × HasLawfulStat e.reply
 
--- such entries, no more than a journal may have, of 1 to 16 workers
+-- such entries, no more than a journal of its edition may have, of 1 to 16 workers
 pub record IsJournal (j : Written) : Type 0 where
   pub workers : IsWorkers j.workers
-  pub few : length j.entries ≤ MAX_ENTRIES
+  pub few : length j.entries ≤ max_entries_of j.edition
   pub each : All (IsEntryOf j.workers) j.entries

@@ -1,6 +1,7 @@
 -- In reading order: plain values, then the plain machine. A module that no public clause cites says so.
 pub mod Caller
 pub mod Paths
+pub mod Editions
 pub mod Principals
 pub mod Setups
 pub mod CallFaults

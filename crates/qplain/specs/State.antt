@@ -13,7 +13,8 @@ use Rattle.qrules.specs.declared.graces.Graces.{Graces}
 use Rattle.qblocks.specs.File.{File, empty_file}
 use Rattle.qplain.specs.declared.owners.Owners.{Owners}
 use Rattle.qplain.specs.declared.principal.Principal.{Principal}
-use Rattle.qplain.specs.declared.bounds.TheConstants.{FILE_LIMIT, ROOT}
+use Rattle.qplain.specs.declared.bounds.TheConstants.{ROOT}
+use Rattle.qplain.specs.Editions.{file_limit_of}
 use Rattle.qplain.specs.Setups.{Setting, principals_in}
 
 -- a user or a group with its limits, and for each sort the moment at which its grace ends, where one runs
@@ -99,12 +100,13 @@ holder_of kind p = record {
 abbrev pub declared_in : Kind → Setting → List Holder
 declared_in kind s = map (holder_of kind) (principals_in kind s)
 
--- a new store has the root directory, no name and the next number 2; users come before groups
+-- a new store has the file limit of its edition, the root directory, no name and the next number 2; users come before
+-- groups
 abbrev pub start : Setting → State
 start s = record {
   size = s.blocks;
   most_inodes = s.inodes;
-  file_limit = FILE_LIMIT;
+  file_limit = file_limit_of s.edition;
   graces = s.graces;
   holders = declared_in User s ++ declared_in Group s;
   inodes = (ROOT, root) ∷ [];

@@ -4,7 +4,7 @@ ghost use Rattle.std.specs.Prelude.{◌≡◌, IfOk};
 use crate::{Data, NoMemory, Path};
 use qrules::{Graces, Kind, Limits};
 
-/// What is asked of the store. Offsets, sizes and lengths are in bytes, and any number may be written: the store judges.
+/// What is asked of the store. Offsets, sizes and lengths are in bytes, and the store judges them, whatever they are.
 #[derive(Debug, PartialEq, Eq, Drop)]
 pub enum Call {
     /// Makes an empty file.
@@ -45,8 +45,8 @@ pub enum Call {
         from: Path,
         to: Path,
     },
-    /// Takes a file's name away, and with its last name the file and all that it takes. ENOENT comes before EISDIR, which
-    /// the root is too, and that before EPERM (unlink(2)).
+    /// Takes a file's name away, and with its last name the file and all that it takes. ENOENT comes before EISDIR,
+    /// which the root is too, and that before EPERM (unlink(2)).
     Unlink {
         path: Path,
     },

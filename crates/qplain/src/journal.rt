@@ -1,15 +1,16 @@
 //! Journals: what workers called and what they were answered.
 ghost use Rattle.std.specs.Prelude.{◌≡◌, ◌≤◌, length};
-ghost use Rattle.qplain.specs.declared.bounds.TheConstants.{MAX_ENTRIES};
+ghost use Rattle.qplain.specs.Editions.{max_entries_of};
 
-use crate::Entry;
+use crate::{Edition, Entry};
 use qrules::Items;
 use std::marker::Model;
 
-/// What happened to a store: how many workers there were, from 1 to 16, and their entries in order, at most 65,536. Each
-/// entry is of one of the workers, and a stat of a directory tells of no bytes and no blocks.
+/// What happened to a store: its edition, how many workers there were, 1 to 16, and their entries in order, at most
+/// 65,536 in edition 1 and 1,048,576 in edition 2. A stat of a directory tells of no bytes and no blocks.
 #[derive(Debug, PartialEq, Eq, Drop)]
 pub struct Journal {
+    edition: Edition,
     workers: u64,
     entries: Items<Entry>,
 }
@@ -19,22 +20,33 @@ impl Model for Journal {
 
     ghost Value = { Written };
 
-    ghost view = { λ j. record { workers = j.workers; entries = j.entries } };
+    ghost view = { λ j. record { edition = j.edition; workers = j.workers; entries = j.entries } };
 
-    ghost invariant = { λ j. IsJournal (record { workers = j.workers; entries = j.entries }) };
+    ghost invariant = { λ j. IsJournal (record { edition = j.edition; workers = j.workers; entries = j.entries }) };
 
-    ghost inverse = { λ j. record { workers = j.workers; entries = j.entries } };
+    ghost inverse = { λ j. record { edition = j.edition; workers = j.workers; entries = j.entries } };
 }
 
 impl Journal {
     ghost use Rattle.qplain.specs.Journals.{IsJournal};
 
-    /// A journal of 1 to 16 workers with at most 65,536 entries, each of one of them.
-    pub fn new(workers: u64, entries: Items<Entry>) -> Self
-        requires { IsJournal (record { workers = workers; entries = entries }) }
-        ensures { result ≡ record { workers = workers; entries = entries } }
+    /// A journal of 1 to 16 workers with no more entries than its edition lets it have, each of one of them.
+    pub fn new(edition: Edition, workers: u64, entries: Items<Entry>) -> Self
+        requires { IsJournal (record { edition = edition; workers = workers; entries = entries }) }
+        ensures { result ≡ record { edition = edition; workers = workers; entries = entries } }
     {
-        Journal { workers, entries }
+        Journal {
+            edition,
+            workers,
+            entries,
+        }
+    }
+
+    /// The edition of the rules by which it is played.
+    pub fn edition(&self) -> Edition
+        ensures { result ≡ self.now.edition }
+    {
+        self.edition
     }
 
     /// How many workers there were, from 1 to 16.
@@ -44,10 +56,10 @@ impl Journal {
         self.workers
     }
 
-    /// The entries, in their order, at most 65,536.
+    /// The entries, in their order, at most as many as the edition lets a journal have.
     pub fn entries(&self) -> &[Entry]
         ensures entries { result.now ≡ self.now.entries }
-        ensures few { length result.now ≤ MAX_ENTRIES }
+        ensures few { length result.now ≤ max_entries_of self.now.edition }
         ensures lawful { IsJournal self.now }
     {
         self.entries.as_slice()

@@ -1,16 +1,17 @@
-//! The plain values of calls and replies, and the plain machine that the store is checked against, over `qrules` and `qblocks`.
+//! The plain values of calls and replies, and the plain machine that the store is checked against.
 #![tactic(auto)]
 
 pub use board::Board;
 pub use bounds::{
     FILE_LIMIT, MAX_DATA, MAX_ENTRIES, MAX_LINES, MAX_LINKS, MAX_NAME, MAX_NUMBER, MAX_PATH,
-    MAX_WORKERS, ROOT,
+    MAX_WORKERS, OLD_FILE_LIMIT, OLD_MAX_ENTRIES, ROOT,
 };
 pub use call::Call;
 pub use call_fault::CallFault;
 pub use change::{Change, NO_CHANGE};
 pub use cred::{Cred, MAX_MORE_GROUPS};
 pub use data::Data;
+pub use edition::Edition;
 pub use entry::Entry;
 pub use journal::Journal;
 pub use line::Line;
@@ -19,14 +20,13 @@ pub use owners::Owners;
 pub use path::Path;
 pub use placed_row::{MAX_CHANGED_ROWS, PlacedRow};
 pub use principal::{MAX_PRINCIPALS, Principal, is_principal_name};
-pub use qblocks::NoMemory;
+pub use qblocks::{NoMemory, SharedItems};
 pub use quota::Quota;
 pub use receipt::Receipt;
 pub use refusal::Refusal;
 pub use reply::Reply;
 pub use script::Script;
 pub use setup::{MAX_BLOCKS, MAX_INODES, Setup, SetupFault};
-pub use shared_items::SharedItems;
 pub use stat::Stat;
 pub use tallies::Tallies;
 pub use transcript::Transcript;
@@ -38,6 +38,7 @@ mod call_fault;
 mod change;
 mod cred;
 mod data;
+mod edition;
 mod entry;
 mod journal;
 mod line;
@@ -52,7 +53,6 @@ mod refusal;
 mod reply;
 mod script;
 mod setup;
-mod shared_items;
 mod stat;
 mod tallies;
 mod transcript;

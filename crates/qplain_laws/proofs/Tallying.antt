@@ -5,6 +5,7 @@ use Rattle.std.proofs.lemmas.List.Elements.{All-nil, All-cons}
 use Rattle.std.proofs.lemmas.List.Sums.{sum_by-cons, sum_by-le, sum_by_push}
 use Rattle.qrules.specs.Sort.{Inodes, Blocks}
 use Rattle.qrules.specs.Range.{are_graces_in_range}
+use Rattle.qplain.specs.declared.bounds.TheConstants.{MAX_ENTRIES}
 use Rattle.qplain.specs.declared.call.Call.{Call}
 use Rattle.qplain.specs.declared.change.Change.{Change}
 use Rattle.qplain.specs.declared.entry.Entry.{Entry}
@@ -178,7 +179,7 @@ tally-one_more journal e = λ i. record {
 }
 
 -- such a tally takes such a change
-added : (t : Tallies) (c : Change) (calls : ℕ) → calls ≤ 65536 → IsTallyOf MAX_BLOCKS MAX_INODES calls t → IsWithin MAX_BLOCKS MAX_INODES c → CanCount t c
+added : (t : Tallies) (c : Change) (calls : ℕ) → calls ≤ MAX_ENTRIES → IsTallyOf MAX_BLOCKS MAX_INODES calls t → IsWithin MAX_BLOCKS MAX_INODES c → CanCount t c
 added t c calls few of_t of_c = record {
   blocks_charged = omega (arith, few, of_t.blocks_charged, of_c.blocks_charged);
   blocks_released = omega (arith, few, of_t.blocks_released, of_c.blocks_released);
@@ -189,7 +190,7 @@ added t c calls few of_t of_c = record {
 
 -- so does that of a legal journal of a store within the bounds of setups, and of its next call
 pub room-after : (S : State) (journal : List Entry) (cred : Caller) (moment : ℕ) (call : Call) → IsLawful S → S.size ≤ MAX_BLOCKS
-    → S.most_inodes ≤ MAX_INODES → IsLegal S journal → length journal ≤ 65536
+    → S.most_inodes ≤ MAX_INODES → IsLegal S journal → length journal ≤ MAX_ENTRIES
     → CanCount (tally_of journal) (change_of (step (play S journal) cred moment call).1)
 room-after S journal cred moment call lawful few_blocks few_inodes legal few =
     let after : State = play S journal in
@@ -204,7 +205,7 @@ room-after S journal cred moment call lawful few_blocks few_inodes legal few =
 
 -- so does that of a legal journal from a new store of a lawful setup
 pub tallies_have_room : (s : Setting) (journal : List Entry) (cred : Caller) (moment : ℕ) (call : Call) → IsLawfulSetup s
-    → IsLegal (start s) journal → length journal ≤ 65536
+    → IsLegal (start s) journal → length journal ≤ MAX_ENTRIES
     → CanCount (tally_of journal) (change_of (step (play (start s) journal) cred moment call).1)
 tallies_have_room s journal cred moment call setup legal few =
     let bounds = setup-small s setup in

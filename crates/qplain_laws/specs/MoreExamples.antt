@@ -50,10 +50,10 @@ GrownAgain = Plays
 abbrev pub MayTruncate : Type 0
 MayTruncate = Plays
     ((line 0 bob (Truncate (codes "a") 0), Refused EINVAL) ∷ (line 0 bob (Truncate (codes "/a") 0), Refused ENOENT)
-    ∷ (line 0 bob (Truncate (codes "/") (2 ^ 30 + 1)), Refused EISDIR) ∷ (line 0 bob create_a, done 2 0 1)
+    ∷ (line 0 bob (Truncate (codes "/") (2 ^ 40 + 1)), Refused EISDIR) ∷ (line 0 bob create_a, done 2 0 1)
     ∷ (line 0 bob (fill_a 0 1), done 2 1 0) ∷ (line 0 bob (Truncate (codes "/a/b") 0), Refused ENOTDIR)
-    ∷ (line 0 ann (Truncate (codes "/a") (2 ^ 30 + 1)), Refused EACCES)
-    ∷ (line 0 bob (Truncate (codes "/a") (2 ^ 30 + 1)), Refused EFBIG)
+    ∷ (line 0 ann (Truncate (codes "/a") (2 ^ 40 + 1)), Refused EACCES)
+    ∷ (line 0 bob (Truncate (codes "/a") (2 ^ 40 + 1)), Refused EFBIG)
     ∷ (line 0 root_caller (Truncate (codes "/a") 0), less 2 1 0)
     ∷ (line 0 bob (AskQuota User 1001), record_of 0 1 0 0 None) ∷ [])
 

@@ -1,5 +1,5 @@
 //! Worked examples of the plain machine: each clause is one, and holds by computation.
-ghost use Rattle.qplain_laws.specs.Examples.{BoardOfJournal, CreateWriteStat, EmptyWrite, EntriesOfWorker, ExampleIsGranted, GraceHasEnded, GraceRuns, GracesMoveNone, HardLimit, JournalIsLegal, LimitsAnew, Paths, ReadOverAHole, Rights, SixInodes, SpaceBeforeQuota, SuperuserPasses, TallyOfJournal, UnknownCallers, WhoseLimitFirst, WriteOverAnEdge};
+ghost use Rattle.qplain_laws.specs.Examples.{BoardOfJournal, CreateWriteStat, Editions, EmptyWrite, EntriesOfWorker, ExampleIsGranted, GraceHasEnded, GraceRuns, GracesMoveNone, HardLimit, JournalIsLegal, LimitsAnew, Paths, ReadOverAHole, Rights, SixInodes, SpaceBeforeQuota, SuperuserPasses, TallyOfJournal, UnknownCallers, WhoseLimitFirst, WriteOverAnEdge};
 ghost use Rattle.qplain_laws.specs.MoreExamples.{EndsMove, GrownAgain, InodesGivenBack, LastName, MayGive, MayTruncate, MayUnlink, NoNumberAgain, OnlyWhatRises, OtherGroup, Shorter, ShorterByBytes};
 ghost use Rattle.qplain_laws.specs.EdgeExamples.{BothLimitsAtOnce, ExactlyFull, InsideAFile, LargestLimits, LongestTexts, TwoGraces};
 ghost use Rattle.qplain_laws.specs.NameExamples.{DirectoriesGo, DirectoriesMove, FurtherNames, MayLink, MayMakeDirectories, MayRemoveDirectories, MayRename, NamesMove, NewDirectories};
@@ -17,6 +17,7 @@ pub fn worked_examples()
     ensures limits_anew { LimitsAnew }
     ensures graces_move_none { GracesMoveNone }
     ensures empty_write { EmptyWrite }
+    ensures editions { Editions }
     ensures read_over_a_hole { ReadOverAHole }
     ensures unknown_callers { UnknownCallers }
     ensures paths { Paths }

@@ -12,10 +12,9 @@ use Rattle.qplain.specs.declared.receipt.Receipt.{Receipt}
 use Rattle.qplain.specs.declared.transcript.Transcript.{Transcript}
 use Rattle.qplain.specs.Journal.{entries_of}
 use Rattle.qplain.specs.Transcripts.{Belongs, journaled_lines}
-use Rattle.qplain.specs.declared.bounds.TheConstants.{MAX_ENTRIES}
+use Rattle.qplain.specs.declared.edition.Edition.TheVariants.{Two}
 use Rattle.qshare_history.specs.Shares.{AreThere, HandedIn}
-use Rattle.qshare_history.proofs.Prefixes.{prefix_length}
-use Rattle.qrun_replay.specs.Runs.{AreTranscriptsOf, IsFullBehind, IsFullOf, IsOutcomeOf}
+use Rattle.qrun_replay.specs.Runs.{AreTranscriptsOf, IsOutcomeOf}
 use Rattle.qplain.specs.Setups.{Setting}
 use Rattle.qplain.specs.State.{start}
 use Rattle.qaudit_checks.specs.LawfulBoards.{AreLawful, boards_in}
@@ -24,7 +23,7 @@ use Rattle.qrun_replay.specs.declared.outcome.Outcome.{Outcome}
 use Rattle.qrun_replay.specs.Left.{IsLeftOf, IsOneOf}
 use Rattle.qrun_replay.proofs.Coming.{alone}
 use Rattle.qrun.specs.Told.{AreAllTold, AreTold, AreToldFrom, IsTold, lines_of}
-use Rattle.qrun.specs.Work.{HasSeenFull}
+use Rattle.qrun.proofs.NeverFull.{IsNeverFull, never_full}
 
 pub none_told : (worker : ℕ) → AreToldFrom worker [] [] []
 unfolding AreToldFrom
@@ -83,23 +82,14 @@ there_from worker (l ∷ scripts) (s ∷ shares) [] told k from less = absurd to
 pub all_there : (scripts : List (List Line)) (shares : List HandedIn) (ts : List Transcript) → AreTold scripts shares ts → AreThere shares (length scripts)
 all_there scripts shares ts told k positive few = there_from 1 scripts shares ts told k positive (omega (arith, few))
 
--- who was told of a full journal has seen a beginning of this one, which is no longer than it may be
-full_of : (journal seen : List Entry) (answers : List (Result Receipt CallFault)) → IsPrefix seen journal → length journal ≤ MAX_ENTRIES
-    → All (HasSeenFull seen) answers → All (IsFullOf journal) answers
-full_of journal seen answers begins few all k d less told =
-    let behind : MAX_ENTRIES ≤ length seen = all k d less (subst IsFullBehind (sym told) tt) in
-    let grown : length seen ≤ length journal = prefix_length seen journal begins in
-    omega (arith, few, behind, grown)
-
 -- the transcripts are those of the scripts, where their receipts stand for the workers' own entries
 pub transcripts_from : (worker : ℕ) (scripts : List (List Line)) (shares : List HandedIn) (ts : List Transcript) (journal : List Entry)
     → AreToldFrom worker scripts shares ts
-    → All (λ s. IsPrefix s.seen journal) shares → length journal ≤ MAX_ENTRIES
-    → All (λ t. journaled_lines t.worker t.lines t.answers ≡ entries_of journal t.worker) ts
+    → All IsNeverFull ts → All (λ t. journaled_lines t.worker t.lines t.answers ≡ entries_of journal t.worker) ts
     → AreTranscriptsOf worker scripts journal ts
 unfolding AreToldFrom AreTranscriptsOf
-transcripts_from worker [] [] [] journal told seen few own = tt
-transcripts_from worker (lines ∷ scripts) (s ∷ shares) (t ∷ ts) journal told seen few own =
+transcripts_from worker [] [] [] journal told never own = tt
+transcripts_from worker (lines ∷ scripts) (s ∷ shares) (t ∷ ts) journal told never own =
     let one = told.0 in
     let mine : journaled_lines t.worker t.lines t.answers ≡ entries_of journal t.worker =
     All-head (λ (t : Transcript). journaled_lines t.worker t.lines t.answers ≡ entries_of journal t.worker) t ts own in (
@@ -108,16 +98,15 @@ transcripts_from worker (lines ∷ scripts) (s ∷ shares) (t ∷ ts) journal to
         lines_are = one.lines_are;
         each = one.work.each;
         own = rw (sym one.worker_is, sym one.lines_are) mine;
-        full = full_of journal s.seen t.answers (All-head (λ (s : HandedIn). IsPrefix s.seen journal) s shares seen) few one.work.are.full;
-        first = one.work.are.first;
+        never_full = All-head IsNeverFull t ts never;
       },
-      transcripts_from (worker + 1) scripts shares ts journal told.1 (All-tail (λ (s : HandedIn). IsPrefix s.seen journal) s shares seen) few
+      transcripts_from (worker + 1) scripts shares ts journal told.1 (All-tail IsNeverFull t ts never)
           (All-tail (λ (t : Transcript). journaled_lines t.worker t.lines t.answers ≡ entries_of journal t.worker) t ts own),
     )
-transcripts_from worker [] (s ∷ shares) ts journal told seen few own = absurd told
-transcripts_from worker [] [] (t ∷ ts) journal told seen few own = absurd told
-transcripts_from worker (l ∷ scripts) [] ts journal told seen few own = absurd told
-transcripts_from worker (l ∷ scripts) (s ∷ shares) [] journal told seen few own = absurd told
+transcripts_from worker [] (s ∷ shares) ts journal told never own = absurd told
+transcripts_from worker [] [] (t ∷ ts) journal told never own = absurd told
+transcripts_from worker (l ∷ scripts) [] ts journal told never own = absurd told
+transcripts_from worker (l ∷ scripts) (s ∷ shares) [] journal told never own = absurd told
 
 -- the scripts are the transcripts' lines
 pub lines_told : (worker : ℕ) (scripts : List (List Line)) (shares : List HandedIn) (ts : List Transcript) → AreToldFrom worker scripts shares ts
@@ -198,9 +187,10 @@ one_of scripts shares ts journal told belong k d less =
 
 -- what is left of a store whose journal was checked against what was told, and against what looks were given
 pub gathered_told : (setting : Setting) (journal : List Entry) (ts : List Transcript) (looks : List (Result Board LookFault))
-    (workers : ℕ) (o : Outcome) → AreAllTold journal ts → AreLawful (start setting) journal (boards_in looks)
+    (workers : ℕ) (o : Outcome) → setting.edition ≡ Two → AreAllTold journal ts → AreLawful (start setting) journal (boards_in looks)
     → workers ≡ length ts → IsLeftOf setting journal workers ts looks o → IsOutcomeOf setting (lines_of ts) o
-gathered_told setting journal ts looks workers o all lawful many left =
+gathered_told setting journal ts looks workers o edition all lawful many left =
     let shares = all.told.shares in
-    alone setting (lines_of ts) journal workers ts looks o left (many ∙ (as_many 1 (lines_of ts) shares ts all.told.told).1)
-    (transcripts_from 1 (lines_of ts) shares ts journal all.told.told all.told.seen left.few all.gathered.own) all.gathered.belong lawful
+    let never = never_full journal ts all in
+    alone setting (lines_of ts) journal workers ts looks o edition left (many ∙ (as_many 1 (lines_of ts) shares ts all.told.told).1)
+    (transcripts_from 1 (lines_of ts) shares ts journal all.told.told never all.gathered.own) all.gathered.belong lawful

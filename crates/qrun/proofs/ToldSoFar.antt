@@ -1,5 +1,6 @@
 -- What workers have done, told one after the other.
-use Rattle.std.proofs.Common.{◌≡◌, ℕ, suc, ◌+◌, ◌<◌, List, [], ◌∷◌, ◌++◌, length, slice_index_or, refl, sym, subst, ◌∙◌, append-nil, append_assoc, length-append, arith}
+use Rattle.std.proofs.Common.{◌≡◌, ℕ, suc, ◌+◌, ◌<◌, ◌≤◌, List, [], ◌∷◌, ◌++◌, length, slice_index_or, refl, sym, subst, ◌∙◌, append-nil, append_assoc, length-append, arith}
+use Rattle.qplain.specs.declared.bounds.TheConstants.{MAX_LINES}
 use Rattle.qplain.specs.declared.line.Line.{Line}
 use Rattle.qplain.specs.declared.transcript.Transcript.{Transcript}
 use Rattle.qshare_history.specs.Shares.{HandedIn}
@@ -48,15 +49,15 @@ told_first scripts works all = record {
 
 -- one transcript more
 pub told_next : (scripts : List (List Line)) (shares : List HandedIn) (ts : List Transcript) (lines : List Line)
-    (rest : List (List Line)) (d : Done) (left : List Done)
+    (rest : List (List Line)) (d : Done) (left : List Done) → length lines ≤ MAX_LINES
     → IsToldSoFar scripts shares ts (lines ∷ rest) (d ∷ left)
     → IsToldSoFar scripts (shares ++ d.share ∷ []) (ts ++ record { worker = d.share.worker; lines = lines; answers = d.answers } ∷ []) rest left
 unfolding AreWorksFrom
-told_next scripts shares ts lines rest d left so_far = record {
+told_next scripts shares ts lines rest d left few so_far = record {
   before = so_far.before ++ lines ∷ [];
   parts = append_assoc so_far.before (lines ∷ []) rest ∙ so_far.parts;
   told = one_more_told 1 so_far.before shares ts lines d.share _ so_far.told
-      (record { worker_is = so_far.works.0.worker_is; lines_are = refl; work = so_far.works.0 });
+      (record { worker_is = so_far.works.0.worker_is; lines_are = refl; few = few; work = so_far.works.0 });
   works = subst (λ w. AreWorksFrom w rest left) (omega (arith, length-append so_far.before (lines ∷ []))) so_far.works.1;
 }
 

@@ -18,17 +18,14 @@ use Rattle.qplain.specs.Setups.{Setting}
 use Rattle.qshare.specs.Calls.{IsAt, IsCalled, IsHeldCall, StaysHeld}
 use Rattle.qshare.specs.Holds.{Holding}
 use Rattle.qshare.specs.Seats.{HasSeenOn, Seated}
-use Rattle.qrun_replay.specs.Runs.{FullIsToldFirst, IsFullBehind}
 use Rattle.qrun.specs.Work.{AreAnswers, HasAnswers, HasSeenFull, IsSubsequence}
 use Rattle.qrun.proofs.Owning.{none_answered, one_more_answered, own_grown, own_told}
 use Rattle.qrun.proofs.Subsequences.{none_among}
 
 no_answers : (worker : ℕ) (lines : List Line) (seen : List Entry) → AreAnswers worker lines seen 0 []
-unfolding FullIsToldFirst
 no_answers worker lines seen = record {
   few = omega arith;
   full = All-nil (HasSeenFull seen);
-  first = tt;
   own = subst (λ told. IsSubsequence told (entries_of seen worker)) (sym (none_answered worker lines)) (none_among (entries_of seen worker));
   counted = ap length (sym (none_answered worker lines));
 }
@@ -45,26 +42,12 @@ pub next_line : (lines : List Line) (k n : ℕ) (line d : Line) → line ≡ get
 next_line lines k n line d is less same =
     subst (λ i. slice_get lines i ≡ Some line) (sym same) (slice_get-get_or lines k d less ∙ ap (λ l. Some l) (sym is))
 
--- a further answer tells of a full journal where the journal is full after one before it
-first_push : (answers : List (Result Receipt CallFault)) (answer : Result Receipt CallFault) → FullIsToldFirst answers
-    → All (λ a. IsFullBehind a → answer ≡ Err JournalFull) answers → FullIsToldFirst (answers ++ answer ∷ [])
-unfolding FullIsToldFirst
-first_push [] answer first behind = (λ full. All-nil (λ a. a ≡ Err JournalFull), tt)
-first_push (a ∷ later) answer first behind =
-    let Then : Result Receipt CallFault → Type 0 = λ a. IsFullBehind a → answer ≡ Err JournalFull in (
-      λ full. All-push (λ a. a ≡ Err JournalFull) later answer (first.0 full) (All-head Then a later behind full),
-      first_push later answer first.1 (All-tail Then a later behind),
-    )
-
--- who is answered so has seen as much
-now_seen : (seen : List Entry) (worker : ℕ) (line : Line) (answer : Result Receipt CallFault)
-    → IfOk answer (λ r. IsAt seen r.place (entry_of worker line r.reply))
-    → IfErr answer (λ f. f ≡ JournalFull → length seen ≡ MAX_ENTRIES) → HasSeenFull seen answer
-now_seen seen worker line (Ok r) stands full behind =
-    let long : length seen ≡ length stands.0 + suc (length stands.1) = ap length stands.2 ∙ length-append stands.0 (entry_of worker line r.reply ∷ stands.1) in
-    omega (arith, long, stands.3, behind)
-now_seen seen worker line (Err JournalFull) stands full behind = omega (arith, full refl)
-now_seen seen worker line (Err OutOfMemory) stands full behind = absurd behind
+-- who is told of a full journal has seen one
+now_seen : (seen : List Entry) (answer : Result Receipt CallFault) → IfErr answer (λ f. f ≡ JournalFull → length seen ≡ MAX_ENTRIES)
+    → HasSeenFull seen answer
+now_seen seen (Ok r) full told = absurd (cc told)
+now_seen seen (Err JournalFull) full told = omega (arith, full refl)
+now_seen seen (Err OutOfMemory) full told = absurd (cc told)
 
 -- who is there stands below the length
 below_of : {X : Type 0} (xs : List X) (i : ℕ) (x : X) → slice_get xs i ≡ Some x → i < length xs
@@ -107,18 +90,16 @@ pub one_more : (worker : ℕ) (lines : List Line) (old new : List Entry) (calls 
     → AreAnswers worker lines old calls answers → slice_get lines (length answers) ≡ Some line → IsPrefix old new
     → IfOk answer (λ r. IsAt new r.place (entry_of worker line r.reply)) → IfOk answer (λ r. length old < r.place)
     → IfOk answer (λ r. later ≡ calls + 1) → OnErr answer (later ≡ calls)
-    → IfErr answer (λ f. f ≡ JournalFull → length new ≡ MAX_ENTRIES)
-    → (MAX_ENTRIES ≤ length old → answer ≡ Err JournalFull) → after ≡ answers ++ answer ∷ []
+    → IfErr answer (λ f. f ≡ JournalFull → length new ≡ MAX_ENTRIES) → after ≡ answers ++ answer ∷ []
     → AreAnswers worker lines new later after
-one_more worker lines old new calls later answers after line answer so_far there more stands behind one none full stays is =
+one_more worker lines old new calls later answers after line answer so_far there more stands behind one none full is =
     let longer : length (answers ++ answer ∷ []) ≡ length answers + 1 = length-append answers (answer ∷ []) in
     let grown : length old ≤ length new = prefix_length old new more in
     let low : length answers < length lines = below_of lines (length answers) line there in
     subst (AreAnswers worker lines new later) (sym is) (record {
       few = omega (arith, longer, low);
       full = All-push (HasSeenFull new) answers answer (λ k d less behind. le_trans (so_far.full k d less behind) grown)
-          (now_seen new worker line answer stands full);
-      first = first_push answers answer so_far.first (λ k d less behind. stays (so_far.full k d less behind));
+          (now_seen new answer full);
       own = own_more worker lines answers line there answer old new so_far.own more stands behind;
       counted = counted_more worker lines answers line there answer calls later so_far.counted one none;
     })
@@ -127,16 +108,16 @@ one_more worker lines old new calls later answers after line answer so_far there
 pub one_more_called : (setting : Setting) (lines : List Line) (old new : Seated) (answers after : List (Result Receipt CallFault))
     (line : Line) (answer : Result Receipt CallFault) → HasAnswers lines old answers → slice_get lines (length answers) ≡ Some line
     → HasSeenOn setting old new → IfOk answer (IsCalled line old new) → OnErr answer (new.tally ≡ old.tally)
-    → IfErr answer (λ f. (f ≡ JournalFull) ↔ (length new.seen ≡ MAX_ENTRIES))
-    → (MAX_ENTRIES ≤ length old.seen → answer ≡ Err JournalFull) → after ≡ answers ++ answer ∷ [] → HasAnswers lines new after
-one_more_called setting lines old new answers after line (Ok r) so_far there seen called kept full stays is =
+    → IfErr answer (λ f. (f ≡ JournalFull) ↔ (length new.seen ≡ MAX_ENTRIES)) → after ≡ answers ++ answer ∷ []
+    → HasAnswers lines new after
+one_more_called setting lines old new answers after line (Ok r) so_far there seen called kept full is =
     subst (λ w. AreAnswers w lines new.seen new.tally.calls after) (sym seen.worker)
     (one_more old.worker lines old.seen new.seen old.tally.calls new.tally.calls answers after line (Ok r) so_far there seen.begins
-    called.stands called.later (ap (λ t. t.calls) called.tally) tt tt stays is)
-one_more_called setting lines old new answers after line (Err fault) so_far there seen called kept full stays is =
+    called.stands called.later (ap (λ t. t.calls) called.tally) tt tt is)
+one_more_called setting lines old new answers after line (Err fault) so_far there seen called kept full is =
     subst (λ w. AreAnswers w lines new.seen new.tally.calls after) (sym seen.worker)
     (one_more old.worker lines old.seen new.seen old.tally.calls new.tally.calls answers after line (Err fault) so_far there seen.begins
-    tt tt tt (ap (λ t. t.calls) kept) full.0 stays is)
+    tt tt tt (ap (λ t. t.calls) kept) full.0 is)
 
 -- one more answer under a lock that is held, where this much is journaled
 pub one_more_held : (setting : Setting) (lines : List Line) (old new : Holding) (before behind : Seated)
@@ -148,20 +129,15 @@ pub one_more_held : (setting : Setting) (lines : List Line) (old new : Holding) 
     → AreAnswers behind.worker lines new.journal behind.tally.calls after
 one_more_held setting lines old new before behind answers after line (Ok r) so_far there called held same full is =
     let journal = called.journaled.journal in
-    let long : length new.journal ≡ length old.journal + 1 =
-    ap length journal ∙ length-append old.journal (entry_of before.worker line r.reply ∷ []) in
     subst (λ w. AreAnswers w lines new.journal behind.tally.calls after) (sym (ap (λ s. s.worker) called.seat))
     (one_more before.worker lines old.journal new.journal before.tally.calls behind.tally.calls answers after line (Ok r) so_far there
     (entry_of before.worker line r.reply ∷ [], sym journal) (old.journal, [], journal, called.journaled.place)
-    (omega (arith, called.journaled.place)) (ap (λ t. t.calls) called.journaled.tally) tt tt
-    (λ full. absurd (omega (arith, full, long, held.few))) is)
+    (omega (arith, called.journaled.place)) (ap (λ t. t.calls) called.journaled.tally) tt tt is)
 one_more_held setting lines old new before behind answers after line (Err fault) so_far there called held same full is =
     let as_was : new.journal ≡ old.journal = ap (λ h. h.journal) same.0 in
-    let few : length old.journal ≤ MAX_ENTRIES = subst (λ (j : List Entry). length j ≤ MAX_ENTRIES) as_was held.few in
     subst (λ s. AreAnswers s.worker lines new.journal s.tally.calls after) (sym same.1)
     (one_more before.worker lines old.journal new.journal before.tally.calls before.tally.calls answers after line (Err fault) so_far there
-    ([], append-nil old.journal ∙ sym as_was) tt tt tt refl (λ told. ap length as_was ∙ full.0 (ap Err told))
-    (λ long. full.1 (omega (arith, long, few))) is)
+    ([], append-nil old.journal ∙ sym as_was) tt tt tt refl (λ told. ap length as_was ∙ full.0 (ap Err told)) is)
 
 -- there is room for all further lines
 pub room_left : (old new : Holding) (before behind : Seated) (line : Line) (answer : Result Receipt CallFault) (lines made : ℕ)
@@ -182,7 +158,6 @@ pub seen_more : (worker : ℕ) (lines : List Line) (calls : ℕ) (old new : List
 seen_more worker lines calls old new answers so_far more = record {
   few = so_far.few;
   full = λ k d less behind. le_trans (so_far.full k d less behind) (prefix_length old new more);
-  first = so_far.first;
   own = own_grown worker old new (journaled_lines worker lines answers) more so_far.own;
   counted = so_far.counted;
 }

@@ -1,6 +1,7 @@
 -- What workers have done, told as transcripts. No public clause cites this module.
-use Rattle.std.specs.Prelude.{◌≡◌, ℕ, ◌+◌, ◌<◌, ◌≤◌, List, [], ◌∷◌, length, map, All}
+use Rattle.std.specs.Prelude.{◌≡◌, ℕ, ◌+◌, ◌<◌, ◌≤◌, List, [], ◌∷◌, length, map, sum_by, All}
 use mathlib.Core.List.{IsPrefix}
+use Rattle.qplain.specs.declared.bounds.TheConstants.{MAX_ENTRIES, MAX_LINES}
 use Rattle.qplain.specs.declared.entry.Entry.{Entry}
 use Rattle.qplain.specs.declared.line.Line.{Line}
 use Rattle.qplain.specs.declared.transcript.Transcript.{Transcript}
@@ -9,10 +10,12 @@ use Rattle.qaudit_checks.specs.Gathered.{IsGathered}
 use Rattle.qshare.specs.declared.opening.TheConstants.{MAX_SEATS}
 use Rattle.qrun.specs.Work.{IsWork}
 
--- a worker's transcript: its script, and the answers that its share stands beside
+-- a worker's transcript: its script, which is no longer than a script may be, and the answers that its share stands
+-- beside
 pub record IsTold (worker : ℕ) (lines : List Line) (share : HandedIn) (t : Transcript) : Type 0 where
   pub worker_is : t.worker ≡ worker
   pub lines_are : t.lines ≡ lines
+  pub few : length lines ≤ MAX_LINES
   pub work : IsWork worker lines (record { share = share; answers = t.answers })
 
 -- worker by worker, from this number on
@@ -33,14 +36,17 @@ AreTold = AreToldFrom 1
 abbrev pub lines_of : List Transcript → List (List Line)
 lines_of ts = map (λ t. t.lines) ts
 
--- the transcripts of workers, each of whom has seen a beginning of this journal
+-- the transcripts of workers, each of whom has seen a beginning of this journal; they have counted each of its entries
 pub record AreToldOf (journal : List Entry) (ts : List Transcript) : Type 0 where
   pub shares : List HandedIn
   pub told : AreTold (lines_of ts) shares ts
   pub seen : All (λ s. IsPrefix s.seen journal) shares
+  pub counted : sum_by (λ s. s.tally.calls) shares ≡ length journal
 
--- so they are of as many workers as a run may have, and tell of all the journal's entries, each of its own
+-- so they are of as many workers as a run may have, and tell of all the journal's entries, which are no more than it
+-- may have, each of its own
 pub record AreAllTold (journal : List Entry) (ts : List Transcript) : Type 0 where
   pub workers : (0 < length ts) × (length ts ≤ MAX_SEATS)
   pub told : AreToldOf journal ts
+  pub few : length journal ≤ MAX_ENTRIES
   pub gathered : IsGathered journal ts

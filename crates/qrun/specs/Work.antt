@@ -1,6 +1,7 @@
 -- What workers have done when their scripts are played. No public clause cites this module.
-use Rattle.std.specs.Prelude.{◌≡◌, ℕ, ◌+◌, ◌<◌, ◌≤◌, ◌⊎◌, List, [], ◌∷◌, length, All, Result, slice_index_or}
+use Rattle.std.specs.Prelude.{◌≡◌, ℕ, ◌+◌, ◌<◌, ◌≤◌, ◌⊎◌, List, [], ◌∷◌, length, All, Result, Err, slice_index_or}
 use Rattle.qplain.specs.declared.call_fault.CallFault.{CallFault}
+use Rattle.qplain.specs.declared.call_fault.CallFault.TheVariants.{JournalFull}
 use Rattle.qplain.specs.declared.entry.Entry.{Entry}
 use Rattle.qplain.specs.declared.line.Line.{Line}
 use Rattle.qplain.specs.declared.receipt.Receipt.{Receipt}
@@ -11,7 +12,6 @@ use mathlib.Core.List.{IsPrefix}
 use Rattle.qshare_history.specs.Shares.{HandedIn}
 use Rattle.qshare.specs.Holds.{Holding}
 use Rattle.qshare.specs.Seats.{Seated}
-use Rattle.qrun_replay.specs.Runs.{FullIsToldFirst, IsFullBehind}
 
 -- a worker's share, and its answers
 pub record Done : Type 0 where
@@ -36,7 +36,7 @@ pub record ArePrepared (scripts : List (List Line)) (workers : List Prepared) : 
 
 -- who is told of a full journal has seen one
 abbrev pub HasSeenFull : List Entry → Result Receipt CallFault → Type 0
-HasSeenFull seen answer = IsFullBehind answer → MAX_ENTRIES ≤ length seen
+HasSeenFull seen answer = answer ≡ Err JournalFull → MAX_ENTRIES ≤ length seen
 
 -- these stand among those, in their order
 unfoldable pub IsSubsequence : {X : Type 0} → List X → List X → Type 0
@@ -44,13 +44,12 @@ IsSubsequence [] ys = Unit {0}
 IsSubsequence (x ∷ xs) [] = ⊥
 IsSubsequence (x ∷ xs) (y ∷ ys) = ((x ≡ y) × IsSubsequence xs ys) ⊎ IsSubsequence (x ∷ xs) ys
 
--- the answers to the first lines of a worker who has seen this much: once the journal is full, each further one is told
--- so; the receipts are entries of its own, in their order, and as many calls were counted
+-- the answers to the first lines of a worker who has seen this much: the receipts are entries of its own, in their
+-- order, and as many calls were counted
 pub record AreAnswers (worker : ℕ) (lines : List Line) (seen : List Entry) (calls : ℕ)
     (answers : List (Result Receipt CallFault)) : Type 0 where
   pub few : length answers ≤ length lines
   pub full : All (HasSeenFull seen) answers
-  pub first : FullIsToldFirst answers
   pub own : IsSubsequence (journaled_lines worker lines answers) (entries_of seen worker)
   pub counted : calls ≡ length (journaled_lines worker lines answers)
 

@@ -1,5 +1,6 @@
 //! The outcome of a run whose threads have done their work.
 ghost use Rattle.std.specs.Prelude.{◌≡◌, IfErr, IfOk};
+ghost use Rattle.qplain.specs.declared.edition.Edition.TheVariants.{Two};
 ghost use Rattle.qplain.specs.State.{start};
 ghost use Rattle.qaudit_checks.specs.LawfulBoards.{AreLawful, boards_in};
 ghost use Rattle.qrun_replay.specs.Runs.{IsOutcomeOf};
@@ -44,6 +45,7 @@ pub(crate) fn make_outcome(
     looks: Vec<Look>,
     seed: u64,
 ) -> Result<Outcome, RunFault>
+    requires edition { store.setting.edition ≡ Two }
     requires told { AreAllTold store.journal transcripts.items }
     requires lawful { AreLawful (start store.setting) store.journal (boards_in looks.items) }
     ensures outcome { IfOk result (IsOutcomeOf store.setting (lines_of transcripts.items)) }

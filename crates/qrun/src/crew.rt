@@ -12,6 +12,8 @@ use crate::options::Options;
 use crate::run_fault::RunFault;
 use crate::watcher::{Watch, watch_all};
 use crate::worker::{Work, Worker, play, worker_of};
+use crate::worker_end::{WorkerEnd, first_refused};
+use core::thread::Stack;
 use qplain::{Line, NoMemory, Script};
 use qshare::{Boards, Seat, Shared};
 use qshare_boards::Viewer;
@@ -21,6 +23,9 @@ use std::marker::Model;
 use std::sync::Wait;
 use std::thread;
 use std::thread::Threads;
+
+/// The stack of each thread of a run, in bytes.
+pub(crate) const THREAD_STACK: usize = 256 * 1024;
 
 /// What the threads of a run have done.
 #[derive(Drop)]
@@ -111,12 +116,21 @@ where
                 (vec_capacity looks) }
             ensures { ArePlayed S.id.setting scripts.entry.now options.boards result }
         {
-            let mut running = Vec::with_capacity(alloc, workers.len())?;
+            let many = workers.len();
+            let mut running = Vec::with_capacity(alloc, many)?;
+            let mut ends = Vec::with_capacity(alloc, many)?;
             for worker in workers {
                 let plays = worker.plays();
-                match scope.spawn_with(plays, move || play(worker)) {
-                    Ok(handle) => running.push_reserved(handle),
-                    Err(_) => return Err(RunFault::NotStarted(plays.worker)),
+                let stack = Stack::new().stack_size(THREAD_STACK);
+                match stack.spawn_scoped_with(scope, plays, move || play(worker)) {
+                    Ok(handle) => {
+                        running.push_reserved(handle);
+                        ends.push_reserved(WorkerEnd::Done);
+                    }
+                    Err(_refused) => {
+                        ends.push_reserved(WorkerEnd::NotStarted);
+                        return Err(first_refused(&ends));
+                    }
                 }
             }
             let watch = watch_all(rt, watcher, looks, lines_in(scripts), options.boards)?;

@@ -69,8 +69,8 @@ impl Pace {
         self.sees_more(seat)
     }
 
-    /// Lets others run until the look of this number, from 0, is due, as far as calls go on. It takes no lock, and waits
-    /// for nobody: where calls do not go on, it ends.
+    /// Lets others run until the look of this number, from 0, is due, as far as calls go on. It takes no lock, and
+    /// waits for nobody: where calls do not go on, it ends.
     pub(crate) fn wait<S: StoreId>(&mut self, seat: &mut Seat<S, Viewer<S>>, look: u64)
         ensures { HasWaited seat.old seat.new }
     {

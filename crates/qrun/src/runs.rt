@@ -1,5 +1,6 @@
 //! Runs: scripts played by workers on a shared store of their own.
 ghost use Rattle.std.specs.Prelude.{◌≡◌, ◌<◌, ◌≤◌, ◌^◌, length, None, Some, IfErr, IfOk};
+ghost use Rattle.qplain.specs.declared.edition.Edition.TheVariants.{Two};
 ghost use Rattle.qshare.specs.declared.held.TheConstants.{MAX_BATCH};
 ghost use Rattle.qshare.specs.declared.opening.TheConstants.{MAX_SEATS};
 ghost use Rattle.qrun_replay.specs.Runs.{IsOutcomeOf};
@@ -52,6 +53,7 @@ where
     V: Drop + Send,
     G: Gate + Sync,
     R: Threads + Wait + Sync,
+    requires edition { S.id.setting.edition ≡ Two }
     requires few { (0 < length scripts.items) × (length scripts.items ≤ MAX_SEATS) }
     requires crew { IsCrew (length scripts.items) options seats.items watcher }
     requires seats { S.id.counters.parts ≡ seats_for (length scripts.items) options.boards }
@@ -83,6 +85,7 @@ where
     G: Gate + Sync,
     R: Threads + Wait + Sync,
     requires id { opened ≡ S.id }
+    requires edition { S.id.setting.edition ≡ Two }
     requires can { CanRun (length scripts.items) options }
     requires boards { 0 < options.boards }
     requires seats { S.id.counters.parts ≡ seats_for (length scripts.items) options.boards }
@@ -113,6 +116,7 @@ where
     G: Gate + Sync,
     R: Threads + Wait + Sync,
     requires id { opened ≡ S.id }
+    requires edition { S.id.setting.edition ≡ Two }
     requires can { CanRun (length scripts.items) options }
     requires boards { options.boards ≡ 0 }
     requires seats { S.id.counters.parts ≡ seats_for (length scripts.items) options.boards }
@@ -137,9 +141,9 @@ fn seats_for(scripts: usize, boards: u64) -> u64
     }
 }
 
-/// Plays 1 to 16 scripts on one new store of the setup: each in a thread of its own, with a seat of its own. Where
-/// boards are wanted the scripts are at most 15, and one thread more, whose number is that of the scripts and 1, looks
-/// at them while the workers go on; else nobody can look at them, and calls take less.
+/// Plays 1 to 16 scripts on one new store of the setup, which is of edition 2: each in a thread of its own, with a seat
+/// of its own. Where boards are wanted the scripts are at most 15, and one thread more, whose number is that of the
+/// scripts and 1, looks at them while the workers go on; else nobody can look at them, and calls take less.
 ///
 /// The outcome is the headline: the journal is legal from the setup, the store is what it leaves when one thread plays
 /// it on the plain machine, and each worker's transcript is its script's lines in order, each with one answer, of which
@@ -160,7 +164,8 @@ pub fn run_scripts<G: Gate + Sync, R: Threads + Wait + Sync>(
     seed: u64,
     gate: &G,
 ) -> Result<Outcome, RunFault>
-    requires { CanRun (length scripts.items) options }
+    requires edition { setup.edition ≡ Two }
+    requires can { CanRun (length scripts.items) options }
     ensures outcome { IfOk result (IsOutcomeOf setup scripts.items) }
     ensures looks { IfOk result (λ o. length o.boards ≡ options.boards) }
     ensures fault { IfErr result (IsFaultOf (seats_for (length scripts.items) options.boards)) }

@@ -6,14 +6,15 @@ ghost use Rattle.qshare.specs.Seats.{new_seat, seats_of};
 ghost use Rattle.qrun.specs.RunFaults.{IsFaultOf};
 ghost use Rattle.qrun.specs.Watching.{IsWatch, IsWatchOf};
 
+use crate::crew::THREAD_STACK;
 use crate::pace::Pace;
 use crate::run_fault::RunFault;
+use core::thread::Stack;
 use qplain::{Board, LookFault};
 use qshare::Seat;
 use qshare_boards::Viewer;
 use qshare_history::{Share, StoreId};
 use std::marker::{Model, PhantomData};
-use std::thread;
 use std::thread::{Promise, Threads};
 
 /// What a look at the boards was given.
@@ -109,7 +110,8 @@ where
         boards,
         store: PhantomData,
     };
-    match thread::spawn_with(rt, watches, move || look_on(seat, looks, calls, boards)) {
+    let stack = Stack::new().stack_size(THREAD_STACK);
+    match stack.spawn_with(rt, watches, move || look_on(seat, looks, calls, boards)) {
         Ok(handle) => Ok(handle.join(rt)),
         Err(_) => Err(RunFault::NotStarted(worker)),
     }

@@ -45,8 +45,8 @@ impl<'a, S: StoreId> Promise<Work<S>> for Plays<'a> {
 }
 
 /// A worker that is ready to start, with all that it takes along: its seat, which is new, its script, which is the
-/// caller's, for how many lines at a time it takes the lock, and room for an answer to each. Contracts see its number and
-/// its script.
+/// caller's, for how many lines at a time it takes the lock, and room for an answer to each. Contracts see its number
+/// and its script.
 #[derive(Drop)]
 pub(crate) struct Worker<'a, 'b, 'c, 'd, S: StoreId, B: Boards<S>, V: Drop, G: Gate, R: Wait> {
     rt: &'a R,

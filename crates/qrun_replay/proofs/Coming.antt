@@ -1,5 +1,5 @@
 -- What a run of one worker comes to, put together of its parts.
-use Rattle.std.proofs.Common.{◌≡◌, ℕ, ◌≤◌, List, [], length, All, Result, Ok, Err, IfOk, sym, ap, refl, ◌∙◌}
+use Rattle.std.proofs.Common.{◌≡◌, ℕ, ◌≤◌, List, [], length, All, Result, ap, subst, ◌∙◌}
 use Rattle.qplain.specs.declared.board.Board.{Board}
 use Rattle.qplain.specs.declared.line.Line.{Line}
 use Rattle.qplain.specs.declared.look_fault.LookFault.{LookFault}
@@ -16,14 +16,16 @@ use Rattle.qplain.specs.Journal.{IsLegal}
 use Rattle.qplain.specs.declared.entry.Entry.{Entry}
 use Rattle.qplain_laws.specs.Laws.{IsLawful}
 use Rattle.qplain_laws.proofs.Tallying.{tallies_balance}
-use Rattle.qplain.specs.declared.bounds.TheConstants.{MAX_ENTRIES}
+use Rattle.qplain.specs.declared.edition.Edition.{Edition}
+use Rattle.qplain.specs.declared.edition.Edition.TheVariants.{Two}
+use Rattle.qplain.specs.Editions.{max_entries_of}
 use Rattle.qaudit_checks.specs.LawfulBoards.{AreLawful, boards_in}
 use Rattle.qrun_replay.proofs.Stats.{legal-fair}
 
 -- the journal of a store that was played on by N workers is one
 pub journal_left : (setting : Setting) (journal : List Entry) (workers : ℕ) → IsLawful (start setting) → IsLegal (start setting) journal
-    → length journal ≤ MAX_ENTRIES → IsWorkers workers → All (IsOneOf workers) journal
-    → IsJournal (record { workers = workers; entries = journal })
+    → length journal ≤ max_entries_of setting.edition → IsWorkers workers → All (IsOneOf workers) journal
+    → IsJournal (record { edition = setting.edition; workers = workers; entries = journal })
 journal_left setting journal workers lawful legal few are each = record {
   workers = are;
   few = few;
@@ -34,14 +36,16 @@ journal_left setting journal workers lawful legal few are each = record {
 
 -- what is left of a store that was played on by the workers of scripts
 pub alone : (setting : Setting) (scripts : List (List Line)) (journal : List Entry) (workers : ℕ) (transcripts : List Transcript)
-    (boards : List (Result Board LookFault)) (o : Outcome) → IsLeftOf setting journal workers transcripts boards o
-    → workers ≡ length scripts → AreTranscriptsOf 1 scripts journal transcripts → All (Belongs transcripts) journal
+    (boards : List (Result Board LookFault)) (o : Outcome) → setting.edition ≡ Two
+    → IsLeftOf setting journal workers transcripts boards o → workers ≡ length scripts
+    → AreTranscriptsOf 1 scripts journal transcripts → All (Belongs transcripts) journal
     → AreLawful (start setting) journal (boards_in boards) → IsOutcomeOf setting scripts o
-alone setting scripts journal workers transcripts boards o left each told belong lawful = record {
+alone setting scripts journal workers transcripts boards o edition left each told belong lawful = record {
   setup = left.setup;
+  edition = (edition, ap (λ j. j.edition) left.journal_is ∙ edition);
   legal = rw left.journal_is left.legal;
   workers = ap (λ j. j.workers) left.journal_is ∙ each;
-  few = rw left.journal_is left.few;
+  few = rw left.journal_is (subst (λ (e : Edition). length journal ≤ max_entries_of e) edition left.few);
   tallies = rw left.journal_is left.tallies;
   balanced = rw (left.store, left.tallies) (tallies_balance setting journal left.legal);
   store = rw left.journal_is left.store;
@@ -53,23 +57,13 @@ alone setting scripts journal workers transcripts boards o left each told belong
   agree = left.agree;
 }
 
--- the same, if anything is left
-pub left_alone : {E : Type 0} (setting : Setting) (scripts : List (List Line)) (journal : List Entry) (workers : ℕ)
-    (transcripts : List Transcript) (boards : List (Result Board LookFault)) (r : Result Outcome E)
-    → IfOk r (IsLeftOf setting journal workers transcripts boards) → workers ≡ length scripts
-    → AreTranscriptsOf 1 scripts journal transcripts → All (Belongs transcripts) journal
-    → AreLawful (start setting) journal (boards_in boards) → IfOk r (IsOutcomeOf setting scripts)
-left_alone setting scripts journal workers transcripts boards (Ok o) left each told belong lawful =
-    alone setting scripts journal workers transcripts boards o left each told belong lawful
-left_alone setting scripts journal workers transcripts boards (Err fault) left each told belong lawful = tt
-
 -- what is left of a store on which a journal was played again
-pub again : (setting : Setting) (written : Written) (o : Outcome)
+pub again : (setting : Setting) (written : Written) (o : Outcome) → setting.edition ≡ written.edition
     → IsLeftOf setting written.entries written.workers (transcripts_in written) [] o → IsReplayOf setting written o
-again setting written o left = record {
+again setting written o edition left = record {
   setup = left.setup;
   legal = left.legal;
-  journal = left.journal_is;
+  journal = left.journal_is ∙ ap (λ (e : Edition). record written { edition = e }) edition;
   tallies = rw left.journal_is left.tallies;
   store = left.store;
   transcripts = left.transcripts_are;

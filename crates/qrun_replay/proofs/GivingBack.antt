@@ -1,5 +1,5 @@
 -- What a run has left, played again: it is legal, so no entry is a mismatch, and each worker's own entries are its lines that did not fail.
-use Rattle.std.proofs.Common.{◌≡◌, ℕ, ◌+◌, List, [], ◌∷◌, ◌++◌, length, map, filter, Result, Ok, Err, IfOk, refl, sym, ap, ◌∙◌, arith}
+use Rattle.std.proofs.Common.{◌≡◌, ℕ, ◌+◌, List, [], ◌∷◌, ◌++◌, length, map, filter, Result, Ok, Err, IfOk, refl, sym, ap, subst, ◌∙◌, arith}
 use Rattle.std.specs.Result.{is_ok}
 use Rattle.std.specs.List.{range_with_len}
 use Rattle.qplain.specs.declared.call_fault.CallFault.{CallFault}
@@ -7,7 +7,8 @@ use Rattle.qplain.specs.declared.entry.Entry.{Entry}
 use Rattle.qplain.specs.declared.line.Line.{Line}
 use Rattle.qplain.specs.declared.receipt.Receipt.{Receipt}
 use Rattle.qplain.specs.declared.transcript.Transcript.{Transcript}
-use Rattle.qplain.specs.Setups.{Setting}
+use Rattle.qplain.specs.declared.edition.Edition.{Edition}
+use Rattle.qplain.specs.Setups.{Setting, in_edition}
 use Rattle.qplain.specs.State.{State, start}
 use Rattle.qplain.specs.Journal.{IsLegal, play, played, tally_of}
 use Rattle.qstore.specs.Rows.{record_row_of}
@@ -86,11 +87,26 @@ as_before setting scripts old new run replay =
       differences = replay.differences ∙ ap differences_in store ∙ sym run.differences;
     }
 
+-- a run's setup is in the edition of its journal
+own_edition : (setting : Setting) (scripts : List (List Line)) (run : Outcome) → IsOutcomeOf setting scripts run
+    → in_edition run.journal.edition setting ≡ setting
+own_edition setting scripts run is = ap (λ (e : Edition). in_edition e setting) (is.edition.1 ∙ sym is.edition.0)
+
 -- and it meets no mismatch
-pub gives_back : (setting : Setting) (scripts : List (List Line)) (old : Outcome) (r : Result Outcome ReplayFault)
+gives_back : (setting : Setting) (scripts : List (List Line)) (old : Outcome) (r : Result Outcome ReplayFault)
     → IsOutcomeOf setting scripts old → IfOk r (IsReplayOf setting old.journal)
     → ((place : ℕ) → r ≡ Err (Mismatch place) → IsFirstMismatch (start setting) old.journal.entries place) → GivesBack old r
 gives_back setting scripts old (Ok new) run replay mismatch = as_before setting scripts old new run replay
 gives_back setting scripts old (Err Memory) run replay mismatch = tt
 gives_back setting scripts old (Err (Mismatch place)) run replay mismatch =
     no_mismatch (start setting) old.journal.entries place run.legal (mismatch place refl)
+
+-- so it does in the edition of the run's journal, which is that of the run
+pub gives_back_in : (setting : Setting) (scripts : List (List Line)) (old : Outcome) (r : Result Outcome ReplayFault)
+    → IsOutcomeOf setting scripts old → IfOk r (IsReplayOf (in_edition old.journal.edition setting) old.journal)
+    → ((place : ℕ) → r ≡ Err (Mismatch place)
+    → IsFirstMismatch (start (in_edition old.journal.edition setting)) old.journal.entries place) → GivesBack old r
+gives_back_in setting scripts old r run replay mismatch =
+    let own = own_edition setting scripts old run in
+    gives_back setting scripts old r run (subst (λ (s : Setting). IfOk r (IsReplayOf s old.journal)) own replay)
+    (λ place told. subst (λ (s : Setting). IsFirstMismatch (start s) old.journal.entries place) own (mismatch place told))

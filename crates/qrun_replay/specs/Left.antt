@@ -1,10 +1,10 @@
 -- What is left of a journaled store that was played on. No public clause cites this module.
 use Rattle.std.specs.Prelude.{◌≡◌, ℕ, ◌<◌, ◌≤◌, List, [], map, length, Result}
 use Rattle.qplain.specs.declared.board.Board.{Board}
-use Rattle.qplain.specs.declared.bounds.TheConstants.{MAX_ENTRIES}
 use Rattle.qplain.specs.declared.entry.Entry.{Entry}
 use Rattle.qplain.specs.declared.look_fault.LookFault.{LookFault}
 use Rattle.qplain.specs.declared.transcript.Transcript.{Transcript}
+use Rattle.qplain.specs.Editions.{max_entries_of}
 use Rattle.qplain.specs.Setups.{Setting}
 use Rattle.qplain.specs.State.{start}
 use Rattle.qplain.specs.Journal.{IsLegal, play, tally_of}
@@ -22,8 +22,8 @@ pub record IsLeftOf (setting : Setting) (journal : List Entry) (workers : ℕ) (
     (boards : List (Result Board LookFault)) (o : Outcome) : Type 0 where
   pub setup : o.setup ≡ setting
   pub legal : IsLegal (start setting) journal
-  pub few : length journal ≤ MAX_ENTRIES
-  pub journal_is : o.journal ≡ record { workers = workers; entries = journal }
+  pub few : length journal ≤ max_entries_of setting.edition
+  pub journal_is : o.journal ≡ record { edition = setting.edition; workers = workers; entries = journal }
   pub tallies : o.tallies ≡ tally_of journal
   pub store : o.store.state ≡ play (start setting) journal
   pub transcripts_are : o.transcripts ≡ transcripts

@@ -1,5 +1,5 @@
 -- What a run of scripts leaves.
-use Rattle.std.specs.Prelude.{◌≡◌, ℕ, ◌+◌, ◌≤◌, List, [], ◌∷◌, length, map, All, Result, Ok, Err}
+use Rattle.std.specs.Prelude.{◌≡◌, ◌≢◌, ℕ, ◌+◌, ◌≤◌, List, [], ◌∷◌, length, map, All, Result, Ok, Err}
 use Rattle.qplain.specs.declared.entry.Entry.{Entry}
 use Rattle.qplain.specs.declared.line.Line.{Line}
 use Rattle.qplain.specs.Setups.{Setting}
@@ -11,37 +11,21 @@ use Rattle.qaudit_checks.specs.LawfulBoards.{AreLawful, boards_in}
 use Rattle.qstore.specs.Rows.{record_row_of}
 use Rattle.qaudit_checks.specs.OwnRows.{differences_in}
 use Rattle.qplain.specs.declared.call_fault.CallFault.{CallFault}
-use Rattle.qplain.specs.declared.call_fault.CallFault.TheVariants.{JournalFull, OutOfMemory}
+use Rattle.qplain.specs.declared.call_fault.CallFault.TheVariants.{JournalFull}
 use Rattle.qplain.specs.declared.bounds.TheConstants.{MAX_ENTRIES}
+use Rattle.qplain.specs.declared.edition.Edition.TheVariants.{Two}
 use Rattle.qplain.specs.declared.receipt.Receipt.{Receipt}
 use Rattle.qplain.specs.declared.transcript.Transcript.{Transcript}
 use Rattle.qrun_replay.specs.declared.outcome.Outcome.{Outcome}
 
--- an answer tells of a full journal only where the journal is full
-abbrev pub IsFullOf : List Entry → Result Receipt CallFault → Type 0
-IsFullOf journal answer = answer ≡ Err JournalFull → length journal ≡ MAX_ENTRIES
-
--- the journal is full after this answer: it has the last place, or tells so
-abbrev pub IsFullBehind : Result Receipt CallFault → Type 0
-IsFullBehind (Ok receipt) = receipt.place ≡ MAX_ENTRIES
-IsFullBehind (Err JournalFull) = Unit {0}
-IsFullBehind (Err OutOfMemory) = ⊥
-
--- once the journal is full, each further line is told so, whether there is memory or not
-unfoldable pub FullIsToldFirst : List (Result Receipt CallFault) → Type 0
-FullIsToldFirst [] = Unit {0}
-FullIsToldFirst (answer ∷ later) =
-    (IsFullBehind answer → All (λ a. a ≡ Err JournalFull) later) × FullIsToldFirst later
-
--- a worker's transcript: its script's lines, one answer to each, the receipts are its own entries, no answer tells of a
--- full journal that is not full, and a full one is told of before out of memory
+-- a worker's transcript: its script's lines, one answer to each, the receipts are its own entries, and no line failed
+-- because the journal was full
 pub record IsTranscriptOf (worker : ℕ) (lines : List Line) (journal : List Entry) (t : Transcript) : Type 0 where
   pub worker_is : t.worker ≡ worker
   pub lines_are : t.lines ≡ lines
   pub each : length t.answers ≡ length lines
   pub own : journaled_lines worker lines t.answers ≡ entries_of journal worker
-  pub full : All (IsFullOf journal) t.answers
-  pub first : FullIsToldFirst t.answers
+  pub never_full : All (λ answer. answer ≢ Err JournalFull) t.answers
 
 -- worker by worker, from this number on, the transcripts are those of the scripts
 unfoldable pub AreTranscriptsOf : ℕ → List (List Line) → List Entry → List Transcript → Type 0
@@ -51,11 +35,13 @@ AreTranscriptsOf worker (lines ∷ scripts) journal (t ∷ ts) = IsTranscriptOf 
 AreTranscriptsOf worker [] journal (t ∷ ts) = ⊥
 AreTranscriptsOf worker (lines ∷ scripts) journal [] = ⊥
 
--- what a run of these scripts leaves, from this setup on; the journal has a worker for each and is no longer than it
--- may be, the tallies are its own and balance with the store's totals, no entry belongs to anyone else, the boards that
--- were shown are its own and never fall, and the differences are those of the store's own rows, of which there are none
+-- what a run of these scripts leaves, from this setup on, which is of edition 2 and so is the journal; that has a
+-- worker for each script and is no longer than it may be, the tallies are its own and balance with the store's totals,
+-- no entry belongs to anyone else, the boards that were shown are its own and never fall, and the differences are those
+-- of the store's own rows, of which there are none
 pub record IsOutcomeOf (setting : Setting) (scripts : List (List Line)) (o : Outcome) : Type 0 where
   pub setup : o.setup ≡ setting
+  pub edition : (setting.edition ≡ Two) × (o.journal.edition ≡ Two)
   pub legal : IsLegal (start setting) o.journal.entries
   pub workers : o.journal.workers ≡ length scripts
   pub few : length o.journal.entries ≤ MAX_ENTRIES

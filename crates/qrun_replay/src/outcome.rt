@@ -1,4 +1,5 @@
-ghost use Rattle.std.specs.Prelude.{All, IfOk};
+ghost use Rattle.std.specs.Prelude.{◌≤◌, length, All, IfOk};
+ghost use Rattle.qplain.specs.Editions.{max_entries_of};
 ghost use Rattle.qplain.specs.Journals.{IsWorkers};
 ghost use Rattle.qrun_replay.specs.Left.{IsLeftOf, IsOneOf};
 
@@ -34,6 +35,7 @@ pub fn outcome_of(
     boards: Items<Result<Board, LookFault>>,
 ) -> Result<Outcome, NoMemory>
     requires workers { IsWorkers workers }
+    requires few { length store.journal ≤ max_entries_of store.setting.edition }
     requires each { All (IsOneOf workers) store.journal }
     ensures { IfOk result (IsLeftOf store.setting store.journal workers transcripts boards) }
 {
@@ -46,10 +48,11 @@ pub fn outcome_of(
         journal,
         tallies,
     } = store.into_parts();
+    let journal = Journal::new(setup.current_edition(), workers, Items::new(journal));
     Ok(Outcome {
         setup,
         store,
-        journal: Journal::new(workers, Items::new(journal)),
+        journal,
         tallies,
         transcripts,
         boards,

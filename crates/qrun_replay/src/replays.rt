@@ -3,6 +3,7 @@ ghost use Rattle.std.specs.Prelude.{◌≡◌, ◌<◌, ◌≤◌, ◌++◌, ◌
 ghost use Rattle.std.specs.Bool.{Decides};
 ghost use Rattle.qplain.specs.declared.bounds.TheConstants.{MAX_ENTRIES};
 ghost use Rattle.qplain.specs.declared.line.Line.{Line};
+ghost use Rattle.qplain.specs.Setups.{in_edition};
 ghost use Rattle.qplain.specs.State.{start};
 ghost use Rattle.qrun_replay.specs.declared.outcome.Outcome.{Outcome};
 ghost use Rattle.qrun_replay.specs.declared.replay_fault.ReplayFault.TheVariants.{Mismatch};
@@ -23,8 +24,8 @@ fn are_same(one: &Reply, other: &Reply) -> bool
     one == other
 }
 
-/// Makes the call of an entry again and journals it. Where the reply would be another than the entry's, that is reported by
-/// its place, and nothing is done.
+/// Makes the call of an entry again and journals it. Where the reply would be another than the entry's, that is
+/// reported by its place, and nothing is done.
 fn replay_entry(store: &mut JournaledStore, entry: &Entry) -> Result<(), ReplayFault>
     requires few { length store.old.journal < MAX_ENTRIES }
     ensures setting { store.new.setting ≡ store.old.setting }
@@ -106,13 +107,14 @@ fn transcripts_of(alloc: Global, journal: &Journal) -> Result<Items<Transcript>,
     Ok(Items::new(transcripts))
 }
 
-/// Plays a journal again on a new store of the setup.
+/// Plays a journal again on a new store of the setup, which is of its edition.
 fn play_again(
     alloc: Global,
     setup: Setup,
     journal: &Journal,
     seed: u64,
 ) -> Result<Outcome, ReplayFault>
+    requires edition { setup.edition ≡ journal.now.edition }
     ensures replay { IfOk result (IsReplayOf setup journal.now) }
     ensures mismatch { (place : ℕ) → result ≡ Err (Mismatch place)
         → IsFirstMismatch (start setup) journal.now.entries place }
@@ -124,7 +126,8 @@ fn play_again(
     Ok(outcome_of(alloc, store, journal.workers(), transcripts, no_boards)?)
 }
 
-/// Plays a journal again on a new store of the setup, one entry after the other, whoever's they are.
+/// Plays a journal again on a new store of the setup in the journal's edition, one entry after the other, whoever's
+/// they are.
 ///
 /// Where the store answers each entry as the journal does, this is what is left: the journal as it was, and for each
 /// worker, in order, its own entries as a transcript. Else the place of the first entry with another reply is told. The
@@ -136,13 +139,13 @@ pub fn replay(
     journal: &Journal,
     seed: u64,
 ) -> Result<Outcome, ReplayFault>
-    ensures replay { IfOk result (IsReplayOf setup journal.now) }
+    ensures replay { IfOk result (IsReplayOf (in_edition journal.now.edition setup) journal.now) }
     ensures mismatch { (place : ℕ) → result ≡ Err (Mismatch place)
-        → IsFirstMismatch (start setup) journal.now.entries place }
+        → IsFirstMismatch (start (in_edition journal.now.edition setup)) journal.now.entries place }
 
     // The journal of a run under this setup gives back what the run has left, but for the lines that failed.
     ensures of_a_run { (scripts : List (List Line)) (run : Outcome) → IsOutcomeOf setup scripts run
         → journal.now ≡ run.journal → GivesBack run result }
 {
-    play_again(alloc, setup, journal, seed)
+    play_again(alloc, setup.edition(journal.edition()), journal, seed)
 }

@@ -76,10 +76,12 @@ impl<'a, S: StoreId, B: Boards<S>> Held<'a, S, B> {
         self.room
     }
 
-    /// Makes a call of the worker that holds the lock and journals it; what it does to the boards waits for the release.
+    /// Makes a call of the worker that holds the lock and journals it; what it does to the boards waits for the
+    /// release.
     ///
-    /// Places count on within one hold. Err is JournalFull, reported first, where the journal has its 65,536 entries, or
-    /// OutOfMemory; it changes nothing, the room included. Moments, refusals and costs are those of `Store::ready`.
+    /// Places count on within one hold. Err is JournalFull, reported first, where the journal has its 1,048,576
+    /// entries, or OutOfMemory; it changes nothing, the room included. Moments, refusals and costs are those of
+    /// `Store::ready`.
     pub fn apply<V: Drop, W: Wait>(
         &mut self,
         rt: &W,

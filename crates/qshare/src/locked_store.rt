@@ -81,7 +81,8 @@ impl<S: StoreId, B: Boards<S>> LockedStore<S, B> {
 
     /// Makes a call and journals it; what it does to the boards waits to be published.
     ///
-    /// Err is JournalFull, reported first, where the journal has its 65,536 entries, or OutOfMemory; it changes nothing.
+    /// Err is JournalFull, reported first, where the journal has its 1,048,576 entries, or OutOfMemory; it changes
+    /// nothing.
     pub(crate) fn apply<W: Wait>(
         &mut self,
         rt: &W,

@@ -96,8 +96,8 @@ impl<S: StoreId> Seat<S, Viewer<S>> {
     /// The board is that of a legal history, which begins with all that the seat had seen, and is seen then. It is
     /// whole: users' blocks add up to the total and groups' too, inodes likewise, totals are within the setup's bounds,
     /// and a grace end stands exactly where use is over that soft limit. An Err is NoBoard where no board was handed
-    /// out that has all that the seat has seen, reported first, after which the seat is wholly as it was, or OutOfMemory,
-    /// after which it is so but for what it has seen.
+    /// out that has all that the seat has seen, reported first, after which the seat is wholly as it was, or
+    /// OutOfMemory, after which it is so but for what it has seen.
     pub fn board(&mut self) -> Result<Board, LookFault>
         ensures look { HasLooked S.id.setting self.old self.new result }
         ensures board { IsBoardAnswer (start S.id.setting) self.new.seen result }
@@ -113,8 +113,9 @@ impl<S: StoreId> Seat<S, Viewer<S>> {
     /// The quota record of a user or group on the board that is published now, under the board's version. It takes no
     /// lock and no memory, and waits for nobody.
     ///
-    /// An Err is NoBoard where no board was handed out that has all that the seat has seen, reported first, after which the
-    /// seat is wholly as it was, or ESRCH where it has no such record, after which it is so but for what it has seen.
+    /// An Err is NoBoard where no board was handed out that has all that the seat has seen, reported first, after which
+    /// the seat is wholly as it was, or ESRCH where it has no such record, after which it is so but for what it has
+    /// seen.
     pub fn record(&mut self, kind: Kind, id: u32) -> Result<(u64, BoardRow), LookFault>
         ensures look { HasLooked S.id.setting self.old self.new result }
         ensures record { IsRecordAnswer (start S.id.setting) self.new.seen kind id result }

@@ -63,9 +63,9 @@ impl<S: StoreId, B: Boards<S>> Shared<S, B> {
     /// Makes a call of a seat's worker, which waits for the lock, and journals it.
     ///
     /// The seat has then seen a legal history that begins with all that it had seen and has this call at the receipt's
-    /// place, after all that it had seen. Err is JournalFull, reported first, where the journal has its 65,536 entries, or
-    /// OutOfMemory; it changes nothing, and the call is in no journal. Moments, refusals and costs are those of
-    /// `Store::ready`.
+    /// place, after all that it had seen. Err is JournalFull, reported first, where the journal has its 1,048,576
+    /// entries, or OutOfMemory; it changes nothing, and the call is in no journal. Moments, refusals and costs are
+    /// those of `Store::ready`.
     pub fn call<V: Drop, W: Wait>(
         &self,
         rt: &W,

@@ -1,6 +1,7 @@
 -- What a store is told from another by.
 use Rattle.std.specs.Prelude.{ℕ, []}
 use Rattle.logbook.specs.Pages.{Book}
+use Rattle.qplain.specs.declared.edition.Edition.TheVariants.{One}
 use Rattle.qplain.specs.Setups.{Setting}
 
 -- the five counters of a tally, and how many parts each has
@@ -21,7 +22,14 @@ pub record Identity : Type 0 where
 -- the identity of no store
 abbrev pub no_identity : Identity
 no_identity = record {
-  setting = record { blocks = 0; inodes = 0; graces = record { block = 0; inode = 0 }; users = []; groups = [] };
+  setting = record {
+    edition = One;
+    blocks = 0;
+    inodes = 0;
+    graces = record { block = 0; inode = 0 };
+    users = [];
+    groups = [];
+  };
   history = record { number = 0; log_name = 0; cells_name = 0 };
   counters = record {
     blocks_charged = 0;

@@ -7,8 +7,8 @@ use crate::tally_part::TallyPart;
 use qplain::Tallies;
 use std::marker::Model;
 
-/// What one seat has counted, as numbers, and the parts of the counters by which they are right. Contracts see it as they
-/// see `TallyPart`.
+/// What one seat has counted, as numbers, and the parts of the counters by which they are right. Contracts see it as
+/// they see `TallyPart`.
 #[derive(Drop)]
 pub struct SeatTally<S: StoreId> {
     pub(crate) parts: TallyPart<S>,

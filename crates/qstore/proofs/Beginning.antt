@@ -1,10 +1,12 @@
 -- A new store: it is in the state at the start, and what it keeps is what that counts to.
-use Rattle.std.proofs.Common.{◌≡◌, ℕ, Bool, true, false, cond, [], ◌∷◌, Some, None, refl, sym, subst, arith}
+use Rattle.std.proofs.Common.{◌≡◌, ℕ, Bool, true, false, cond, [], ◌∷◌, Some, None, refl, sym, subst, ◌≤◌}
 use Rattle.std.specs.BTreeMap.{is_at}
 use Rattle.std.specs.List.Sorted.{IsStrictlySortedBy}
 use Rattle.std.specs.Option.{option_map}
 use Rattle.std.specs.Ordering.{nat_cmp}
-use Rattle.qplain.specs.declared.bounds.TheConstants.{FILE_LIMIT, ROOT}
+use Rattle.qblocks.specs.declared.file.TheConstants.{MAX_SIZE}
+use Rattle.qplain.specs.declared.bounds.TheConstants.{ROOT}
+use Rattle.qplain.specs.Editions.{file_limit_of}
 use Rattle.qplain.specs.Setups.{IsLawfulSetup, Setting}
 use Rattle.qplain.specs.State.{State, root, start}
 use Rattle.qplain.specs.Use.{links_of}
@@ -28,7 +30,8 @@ one-in-order : InOrder ((ROOT, 2) ∷ [])
 unfolding IsStrictlySortedBy
 one-in-order = (tt, tt)
 
-module _ (s : Setting) (a : Inside) (books : AreBooksOf (start s) a.accounts) (limit : a.file_limit ≡ FILE_LIMIT) (next : a.next ≡ 2)
+module _ (s : Setting) (a : Inside) (books : AreBooksOf (start s) a.accounts) (limit : a.file_limit ≡ file_limit_of s.edition)
+    (bound : file_limit_of s.edition ≤ MAX_SIZE) (next : a.next ≡ 2)
     (inodes : a.tree.inodes ≡ (ROOT, root) ∷ []) (names : a.tree.names ≡ []) (links : a.tree.links ≡ (ROOT, 2) ∷ []) where
   -- the state of a new store
   pub state-begun : state_of a ≡ start s
@@ -47,7 +50,7 @@ module _ (s : Setting) (a : Inside) (books : AreBooksOf (start s) a.accounts) (l
   pub counted-begun : IsLawfulSetup s → AreInRange a.accounts → IsCounted (state_of a) a.accounts a.tree.links
   counted-begun lawful in_range =
       subst (λ (S : State). IsCounted S a.accounts a.tree.links) (sym state-begun) (record {
-        sound = record { lawful = start_is_lawful s lawful; file_bound = omega arith };
+        sound = record { lawful = start_is_lawful s lawful; file_bound = bound };
         books = books;
         in_range = in_range;
         links = subst (AreLinks (start s)) (sym links) (links-begun s);

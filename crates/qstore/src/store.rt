@@ -14,7 +14,6 @@ ghost use Rattle.qstore.specs.Decided.{CanDecide, IsDecisionOf};
 ghost use Rattle.qstore.specs.Ready.{CanCarryOut, IsReady, IsRefused, committed, wants_no_memory};
 
 use crate::{Call, Cred, Decision, NoMemory, Plan, Ready, Reply, Request, Setup};
-use qplain::FILE_LIMIT;
 use qstore_accounts::{Accounts, Bill};
 use qstore_tree::Tree;
 use std::alloc::Global;
@@ -65,15 +64,15 @@ impl Model for Store {
 
 impl Store {
     /// A new store of a setup. It holds the root directory, inode 1 of user 0 and group 0; the next number is 2, and a
-    /// file has at most 2^30 bytes (tmpfs(5), profile). The hashes of names begin at `seed`, any number: who does not
-    /// know it cannot search for names that collide, and no answer depends on it. After an Err nothing was made. O(n)
-    /// for n principals.
+    /// file has at most 2^30 bytes in edition 1 and 2^40 in edition 2 (tmpfs(5), profile). The hashes of names begin at
+    /// `seed`, any number: who does not know it cannot search for names that collide, and no answer depends on it.
+    /// After an Err nothing was made. O(n) for n principals.
     pub fn new(alloc: Global, setup: Setup, seed: u64) -> Result<Store, NoMemory>
         ensures { IfOk result (λ s. s.state ≡ start setup) }
     {
         Ok(Store {
             alloc,
-            file_limit: FILE_LIMIT,
+            file_limit: setup.file_limit(),
             accounts: Accounts::new(alloc, &setup)?,
             tree: Tree::new(alloc, seed)?,
             next: 2,
@@ -131,6 +130,7 @@ impl Store {
     }
 
     /// Decides a call that is written as it may be, and makes every growth that it needs.
+    #[inline(always)]
     fn decide_lawful(&mut self, request: &Request, call: &Call) -> Decision
         requires can { CanDecide self.old request.now }
         requires numbers { has_bad_number self.old.state call.now ≡ false }
@@ -205,9 +205,9 @@ impl Store {
     }
 
     /// One call: the state and the reply are those of the plain machine's step. An Err leaves the state as it was, and
-    /// comes after all refusals. Moments and refusals, and which calls may want memory, are as for `ready`; no bytes are
-    /// copied beside the file. O(bytes of the path and of the data), and O(log n) for each 64 KiB of a file of n blocks,
-    /// where names do not collide and no map has to grow.
+    /// comes after all refusals. Moments and refusals, and which calls may want memory, are as for `ready`; no bytes
+    /// are copied beside the file. O(bytes of the path and of the data), and O(log n) for each 64 KiB of a file of n
+    /// blocks, where names do not collide and no map has to grow.
     pub fn apply(&mut self, cred: &Cred, moment: u64, call: &Call) -> Result<Reply, NoMemory>
         ensures ok { IfOk result (λ reply. (self.new.state, reply) ≡ step self.old.state cred.now moment call.now) }
         ensures err { OnErr result (self.new.state ≡ self.old.state) }

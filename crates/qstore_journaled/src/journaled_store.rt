@@ -89,9 +89,9 @@ impl JournaledStore {
     /// Decides a call as the journal's next entry, and makes every growth that it needs; setup, state and journal stay
     /// as they were.
     ///
-    /// Err is JournalFull, reported first, where the journal has its 65,536 entries, or OutOfMemory. Moments, refusals and
-    /// costs are those of `Store::ready`. What is ready is for `commit` of this store, before any other `ready` or
-    /// `commit` of it, and may be dropped.
+    /// Err is JournalFull, reported first, where the journal has its 1,048,576 entries, or OutOfMemory. Moments,
+    /// refusals and costs are those of `Store::ready`. What is ready is for `commit` of this store, before any other
+    /// `ready` or `commit` of it, and may be dropped.
     #[inline(always)]
     pub fn ready(
         &mut self,

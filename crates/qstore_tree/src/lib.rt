@@ -1,4 +1,5 @@
-//! The tree of a store: its inodes by number and the names in its directories, over `qblocks` and the values of `qplain`.
+//! The tree of a store: its inodes by number and the names in its directories, over `qblocks` and the values of
+//! `qplain`.
 #![tactic(auto)]
 
 pub use names::Names;

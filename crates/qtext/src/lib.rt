@@ -1,4 +1,5 @@
-//! The words of all texts, both ways: pieces of lines for any writer, and the words of a line with their numbers and data.
+//! The words of all texts, both ways: pieces of lines for any writer, and the words of a line with their numbers and
+//! data.
 #![tactic(auto)]
 
 pub use cut::{CutLine, cut_line};

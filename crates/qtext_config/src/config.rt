@@ -1,6 +1,7 @@
 //! Configurations: what a store is made of, written as TOML.
 
 ghost use Rattle.std.specs.Prelude.{◌≡◌};
+ghost use Rattle.qplain.specs.declared.edition.Edition.TheVariants.{Two};
 ghost use Rattle.toml.specs.Parse.{parse_document};
 ghost use Rattle.toml.specs.View.{table_view};
 ghost use Rattle.qtext_config.specs.ConfigFaults.{GivesBy};
@@ -22,10 +23,11 @@ mod size;
 mod tables;
 mod written;
 
-/// A configuration.
+/// A configuration, of edition 2.
 #[derive(Debug, PartialEq, Eq, Drop)]
 pub struct Config {
     pub setup: Setup,
+    ghost newest: { setup.edition ≡ Two },
 }
 
 impl Config {

@@ -1,5 +1,5 @@
 -- The head and the entries of a journal that were read are spelled out as they stood in their lines.
-use Rattle.std.proofs.Common.{◌≡◌, ℕ, ◌≤◌, ◌<◌, ◌==◌, true, cond, not, List, [], ◌∷◌, drop, Ok, Err, refl, sym, arith, codes, decimal}
+use Rattle.std.proofs.Common.{◌≡◌, ℕ, ◌+◌, ◌≤◌, ◌<◌, ◌==◌, Bool, true, false, cond, not, List, [], ◌∷◌, drop, Ok, Err, refl, sym, arith, codes, decimal}
 use Rattle.std.specs.Prelude.{nat_lt}
 use Rattle.std.specs.List.{join_with_byte, list_all}
 use Rattle.std.specs.Str.{bytes_eq}
@@ -22,11 +22,15 @@ use Rattle.qtext_read.proofs.ArgumentsFound.{any_number}
 use Rattle.qtext_read.proofs.CallersFound.{any_caller}
 use Rattle.qtext_read.proofs.CallsFound.{journaled_found}
 use Rattle.qtext_read.proofs.RepliesFound.{any_reply}
+use Rattle.qplain.specs.declared.edition.Edition.{Edition}
+use Rattle.qplain.specs.declared.edition.Edition.TheVariants.{One, Two}
+use Rattle.qplain.specs.Editions.{max_entries_of}
+use Rattle.qtext_files.specs.declared.head.Head.{Head}
 use Rattle.qtext_files.specs.RawLines.{RawLine}
-use Rattle.qtext_files.specs.Journals.{answer_in, at_entry, entry_in, journal_entry_of, head_in, head_of, head_keyword, workers_told, worker_of, workers_of}
+use Rattle.qtext_files.specs.Journals.{answer_in, at_entry, edition_of, entry_in, journal_entry_of, head_in, head_of, head_keyword, head_told, worker_of, workers_of}
 use Rattle.qplain.specs.Journals.{IsEntryOf, IsWorkers}
 use Rattle.qtext_files.proofs.RawLines.{in_line_found}
-use Rattle.qtext_files.specs.Spelling.{entry_words, head_words}
+use Rattle.qtext_files.specs.Spelling.{edition_text, entry_words, head_words}
 
 -- ---- words
 
@@ -50,6 +54,16 @@ any_workers word workers e = let so = from_one BadHead 16 word workers (omega ar
 keyword_found : (wanted word : List ℕ) (u : Unit {0}) → head_keyword wanted word ≡ Ok u → wanted ≡ word
 unfolding head_keyword
 keyword_found wanted word u e = sym (same_word word wanted (kept _ (Ok tt) BadHead u e).0)
+
+edition_by : (word : List ℕ) (e : Edition) (one two : Bool) → bytes_eq word (codes "1") ≡ one → bytes_eq word (codes "2") ≡ two
+    → cond one (Ok One) (cond two (Ok Two) (Err BadHead)) ≡ Ok e → edition_text e ≡ word
+edition_by word e true two is_one is_two same = rw (← same_ok same) (sym (same_word word (codes "1") is_one))
+edition_by word e false true is_one is_two same = rw (← same_ok same) (sym (same_word word (codes "2") is_two))
+edition_by word e false false is_one is_two same = absurd (cc same)
+
+edition_found : (word : List ℕ) (e : Edition) → edition_of word ≡ Ok e → edition_text e ≡ word
+unfolding edition_of
+edition_found word e same = edition_by word e (bytes_eq word (codes "1")) (bytes_eq word (codes "2")) refl refl same
 
 answer_found : (words : List (List ℕ)) (r : Reply) → answer_in words ≡ Ok r → (codes "=>" ∷ reply_words r ≡ words) × IsReply r
 unfolding answer_in
@@ -98,47 +112,49 @@ in_found workers (w ∷ m ∷ c ∷ behind) entry few e =
     )
 
 -- a line that holds an entry
-pub record HoldsEntry (workers : ℕ) (l : RawLine) (entry : Entry) : Type 0 where
+pub record HoldsEntry (head : Head) (l : RawLine) (entry : Entry) : Type 0 where
   pub whole : l.whole ≡ true
-  pub few : l.number ≤ 65537
+  pub few : l.number ≤ max_entries_of head.edition + 1
   pub text : join_with_byte 32 (entry_words entry) ≡ l.bytes
-  pub fits : IsEntry workers entry
+  pub fits : IsEntry head.workers entry
 
-pub entry_found : (workers : ℕ) (l : RawLine) (entry : Entry) → workers ≤ 16 → at_entry workers l ≡ Ok entry → HoldsEntry workers l entry
+pub entry_found : (head : Head) (l : RawLine) (entry : Entry) → head.workers ≤ 16 → at_entry head l ≡ Ok entry → HoldsEntry head l entry
 unfolding at_entry journal_entry_of
-entry_found workers l entry few e =
-    let near = passed (nat_lt 65537 l.number) _ TooMany entry (in_line_found l.number (journal_entry_of workers l) e) in
+entry_found head l entry few e =
+    let near = passed (nat_lt (max_entries_of head.edition + 1) l.number) _ TooMany entry (in_line_found l.number (journal_entry_of head l) e) in
     let whole = passed (not l.whole) _ Cut entry near.1 in
     let text = passed (not (list_all is_text_byte l.bytes)) _ BadByte entry whole.1 in
-    let so = in_found workers (words l.bytes) entry few text.1 in
+    let so = in_found head.workers (words l.bytes) entry few text.1 in
     record {
       whole = not_false l.whole whole.0;
-      few = ltb-false 65537 l.number near.0;
+      few = ltb-false (max_entries_of head.edition + 1) l.number near.0;
       text = joined 32 l.bytes _ so.0;
       fits = so.1;
     }
 
-head_in_found : (ws : List (List ℕ)) (workers : ℕ) → head_in ws ≡ Ok workers → (head_words workers ≡ ws) × IsWorkers workers
-unfolding head_in workers_told
-head_in_found (q ∷ j ∷ v ∷ n ∷ w ∷ []) workers e =
+head_in_found : (ws : List (List ℕ)) (head : Head) → head_in ws ≡ Ok head → (head_words head.edition head.workers ≡ ws) × IsWorkers head.workers
+unfolding head_in head_told
+head_in_found (q ∷ j ∷ v ∷ n ∷ w ∷ []) head e =
     step_found (head_keyword (codes "quotafs") q) _ e λ t is_q e.
     step_found (head_keyword (codes "journal") j) _ e λ u is_j e.
-    step_found (head_keyword (codes "1") v) _ e λ x is_v e.
+    step_found (edition_of v) _ e λ edition is_v e.
     step_found (head_keyword (codes "workers") n) _ e λ y is_n e.
-    let so = any_workers w workers e in
-    (rw (so.0, ← keyword_found _ q t is_q, ← keyword_found _ j u is_j, ← keyword_found _ v x is_v, ← keyword_found _ n y is_n) refl, so.1)
-head_in_found ws workers e = absurd (cc e)
+    step_found (workers_of w) _ e λ workers is_w e.
+    let so = any_workers w workers is_w in
+    rw (← same_ok e)
+    (rw (so.0, edition_found v edition is_v, ← keyword_found _ q t is_q, ← keyword_found _ j u is_j, ← keyword_found _ n y is_n) refl, so.1)
+head_in_found ws head e = absurd (cc e)
 
 -- a line that is the head
-pub record HoldsHead (l : RawLine) (workers : ℕ) : Type 0 where
+pub record HoldsHead (l : RawLine) (head : Head) : Type 0 where
   pub whole : l.whole ≡ true
-  pub text : join_with_byte 32 (head_words workers) ≡ l.bytes
-  pub fits : IsWorkers workers
+  pub text : join_with_byte 32 (head_words head.edition head.workers) ≡ l.bytes
+  pub fits : IsWorkers head.workers
 
-pub head_found : (l : RawLine) (workers : ℕ) → head_of l ≡ Ok workers → HoldsHead l workers
+pub head_found : (l : RawLine) (head : Head) → head_of l ≡ Ok head → HoldsHead l head
 unfolding head_of
-head_found l workers e =
-    let whole = passed (not l.whole) _ Cut workers e in
-    let text = passed (not (list_all is_text_byte l.bytes)) _ BadByte workers whole.1 in
-    let so = head_in_found (words l.bytes) workers text.1 in
+head_found l head e =
+    let whole = passed (not l.whole) _ Cut head e in
+    let text = passed (not (list_all is_text_byte l.bytes)) _ BadByte head whole.1 in
+    let so = head_in_found (words l.bytes) head text.1 in
     record { whole = not_false l.whole whole.0; text = joined 32 l.bytes _ so.0; fits = so.1 }

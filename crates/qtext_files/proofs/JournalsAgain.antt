@@ -17,13 +17,17 @@ use Rattle.qtext_read.proofs.CallersAgain.{caller_again, caller_word}
 use Rattle.qtext_read.proofs.CallsAgain.{IsWord, any_number, call_word}
 use Rattle.qtext_read.proofs.JournaledAgain.{journaled_again}
 use Rattle.qtext_read.proofs.RepliesAgain.{reply_again, reply_word}
+use Rattle.qplain.specs.declared.edition.Edition.{Edition}
+use Rattle.qplain.specs.declared.edition.Edition.TheVariants.{One, Two}
+use Rattle.qplain.specs.Editions.{max_entries_of}
+use Rattle.qtext_files.specs.declared.head.Head.{Head}
 use Rattle.qtext_files.specs.RawLines.{raw_lines_from}
 use Rattle.qtext_files.proofs.EntriesFound.{IsEntry}
 use Rattle.qtext_files.proofs.LinesAgain.{joined_is_text, joined_parts, raw_again}
 use Rattle.qtext_files.proofs.RawLines.{no_line}
-use Rattle.qtext_files.specs.Journals.{answer_in, at_entry, entry_in, journal_entry_of, head_in, head_of, journal_in, journal_of, head_keyword, workers_told, worker_of, workers_of}
+use Rattle.qtext_files.specs.Journals.{answer_in, at_entry, edition_of, entry_in, journal_entry_of, head_in, head_of, head_told, journal_in, journal_of, head_keyword, worker_of, workers_of}
 use Rattle.qplain.specs.Journals.{IsEntryOf, IsJournal, IsWorkers, Written}
-use Rattle.qtext_files.specs.Spelling.{entry_text, entry_words, head_words, journal_spelling}
+use Rattle.qtext_files.specs.Spelling.{edition_text, entry_text, entry_words, head_words, journal_spelling}
 use Rattle.qplain.specs.Held.{IsHeld}
 
 -- ---- entries
@@ -70,8 +74,18 @@ entry_word workers e few fits =
       ),
     )
 
-head_word : (workers : ℕ) → IsWorkers workers → AllByRecursion IsWord (head_words workers)
-head_word workers is = let few = is.1 in (refl, (refl, (refl, (refl, (decimal_word workers (omega (arith, few)), tt)))))
+edition_word : (e : Edition) → IsWord (edition_text e)
+edition_word One = refl
+edition_word Two = refl
+
+edition_again : (e : Edition) → edition_of (edition_text e) ≡ Ok e
+unfolding edition_of
+edition_again One = refl
+edition_again Two = refl
+
+head_word : (edition : Edition) (workers : ℕ) → IsWorkers workers → AllByRecursion IsWord (head_words edition workers)
+head_word edition workers is =
+    let few = is.1 in (refl, (refl, (edition_word edition, (refl, (decimal_word workers (omega (arith, few)), tt)))))
 
 in_again : (workers : ℕ) (e : Entry) → workers ≤ 16 → IsEntry workers e → entry_in workers (entry_words e) ≡ Ok e
 unfolding entry_in answer_in
@@ -87,41 +101,44 @@ in_again workers e few fits =
 
 -- ---- lines
 
-at_again : (workers n : ℕ) (e : Entry) → workers ≤ 16 → n ≤ 65537 → IsEntry workers e
-    → at_entry workers (record { number = n; bytes = join_with_byte 32 (entry_words e); whole = true }) ≡ Ok e
+at_again : (head : Head) (n : ℕ) (e : Entry) → head.workers ≤ 16 → n ≤ max_entries_of head.edition + 1 → IsEntry head.workers e
+    → at_entry head (record { number = n; bytes = join_with_byte 32 (entry_words e); whole = true }) ≡ Ok e
 unfolding at_entry journal_entry_of
-at_again workers n e few le fits =
-    let near : ltb 65537 n ≡ false = le-ltb _ _ le in
-    let word = entry_word workers e few fits in
-    rw (near, joined_is_text _ _ word, joined_parts _ _ word, in_again workers e few fits) refl
+at_again head n e few le fits =
+    let near : ltb (max_entries_of head.edition + 1) n ≡ false = le-ltb _ _ le in
+    let word = entry_word head.workers e few fits in
+    rw (near, joined_is_text _ _ word, joined_parts _ _ word, in_again head.workers e few fits) refl
 
-each_again : (workers n : ℕ) (es : List Entry) → workers ≤ 16 → n + length es ≤ 65538 → AllByRecursion (IsEntry workers) es
-    → each_of (at_entry workers) (raw_lines_from n (parts 10 (flat_map entry_text es))) ≡ Ok es
+each_again : (head : Head) (n : ℕ) (es : List Entry) → head.workers ≤ 16 → n + length es ≤ max_entries_of head.edition + 2
+    → AllByRecursion (IsEntry head.workers) es
+    → each_of (at_entry head) (raw_lines_from n (parts 10 (flat_map entry_text es))) ≡ Ok es
 unfolding each_of
-each_again workers n [] few le fits = ap (each_of (at_entry workers)) (no_line n)
-each_again workers n (e ∷ es) few le fits =
-    let near : n ≤ 65537 = omega arith in
-    let rest : n + 1 + length es ≤ 65538 = omega arith in
-    ap (each_of (at_entry workers)) (raw_again n (decimal e.worker) (decimal e.moment ∷ caller_text e.cred
-    ∷ (call_words e.call ++ codes "=>" ∷ reply_words e.reply)) (flat_map entry_text es) (entry_word workers e few fits.0))
-    ∙ rw (at_again workers n e few near fits.0, each_again workers (n + 1) es few rest fits.1) refl
+each_again head n [] few le fits = ap (each_of (at_entry head)) (no_line n)
+each_again head n (e ∷ es) few le fits =
+    let near : n ≤ max_entries_of head.edition + 1 = omega arith in
+    let rest : n + 1 + length es ≤ max_entries_of head.edition + 2 = omega arith in
+    ap (each_of (at_entry head)) (raw_again n (decimal e.worker) (decimal e.moment ∷ caller_text e.cred
+    ∷ (call_words e.call ++ codes "=>" ∷ reply_words e.reply)) (flat_map entry_text es) (entry_word head.workers e few fits.0))
+    ∙ rw (at_again head n e few near fits.0, each_again head (n + 1) es few rest fits.1) refl
 
-head_again : (workers : ℕ) → IsWorkers workers → head_of (record { number = 1; bytes = join_with_byte 32 (head_words workers); whole = true }) ≡ Ok workers
-unfolding head_of head_in workers_told head_keyword
-head_again workers is =
-    let word = head_word workers is in
-    rw (joined_is_text _ _ word, joined_parts _ _ word, workers_again workers is) refl
+head_again : (head : Head) → IsWorkers head.workers
+    → head_of (record { number = 1; bytes = join_with_byte 32 (head_words head.edition head.workers); whole = true }) ≡ Ok head
+unfolding head_of head_in head_told head_keyword
+head_again head is =
+    let word = head_word head.edition head.workers is in
+    rw (joined_is_text _ _ word, joined_parts _ _ word, edition_again head.edition, workers_again head.workers is) refl
 
 -- what a journal says that is spelled out
 pub journal_again : (j : Written) → IsJournal j → AllByRecursion IsHeld j.entries → journal_of (journal_spelling j) ≡ Ok j
 unfolding journal_in
 journal_again j is held =
     let workers : j.workers ≤ 16 = is.workers.1 in
-    let few : length j.entries ≤ 65536 = is.few in
-    let lines = raw_again 1 (codes "quotafs") (codes "journal" ∷ codes "1" ∷ codes "workers" ∷ decimal j.workers ∷ [])
-    (flat_map entry_text j.entries) (head_word j.workers is.workers) in
+    let few = is.few in
+    let head : Head = record { edition = j.edition; workers = j.workers } in
+    let lines = raw_again 1 (codes "quotafs") (codes "journal" ∷ edition_text j.edition ∷ codes "workers" ∷ decimal j.workers ∷ [])
+    (flat_map entry_text j.entries) (head_word j.edition j.workers is.workers) in
     let each = entries j.workers j.entries (recursion_from_All (IsEntryOf j.workers) j.entries is.each) held in
-    rw (lines, head_again j.workers is.workers, each_again j.workers 2 j.entries workers (omega arith) each) refl
+    rw (lines, head_again head is.workers, each_again head 2 j.entries workers (omega (arith, few)) each) refl
 
 -- what was answered, where a journal was spelled out
 pub journal_read_again : (text : List ℕ) (answer : Result Written TextFault) → (answer ≡ journal_of text) ⊎ (answer ≡ Err want_of_memory)

@@ -9,6 +9,8 @@ use Rattle.qtext.specs.Reading.{each_of}
 use Rattle.qtext.specs.TextFaults.{want_of_memory}
 use Rattle.qtext.specs.Words.{parts}
 use Rattle.qtext.proofs.StepsFound.{joined, same_ok, step_found}
+use Rattle.qplain.specs.Editions.{max_entries_of}
+use Rattle.qtext_files.specs.declared.head.Head.{Head}
 use Rattle.qtext_files.specs.RawLines.{RawLine, in_line, raw_lines_from}
 use Rattle.qtext_files.specs.Journals.{at_entry, head_of, journal_in, journal_of}
 use Rattle.qplain.specs.Journals.{IsEntryOf, IsJournal, Written}
@@ -33,27 +35,27 @@ abbrev cut_at : ℕ → List ℕ → List RawLine
 cut_at n l = record { number = n; bytes = l; whole = false } ∷ []
 
 -- the entries are what the lines from here on spell, and their numbers are within bounds
-record AreEntries (workers n : ℕ) (text : List ℕ) (entries : List Entry) : Type 0 where
+record AreEntries (head : Head) (n : ℕ) (text : List ℕ) (entries : List Entry) : Type 0 where
   pub same : flat_map entry_text entries ≡ text
-  pub few : n + length entries ≤ 65538
-  pub each : AllByRecursion (IsEntry workers) entries
+  pub few : n + length entries ≤ max_entries_of head.edition + 2
+  pub each : AllByRecursion (IsEntry head.workers) entries
 
-no_entry_cut : (workers n : ℕ) (l : List ℕ) (entries : List Entry) (empty : Bool) → workers ≤ 16 → n ≤ 65538 → eqb (length l) 0 ≡ empty
-    → each_of (at_entry workers) (cond empty [] (cut_at n l)) ≡ Ok entries → AreEntries workers n l entries
+no_entry_cut : (head : Head) (n : ℕ) (l : List ℕ) (entries : List Entry) (empty : Bool) → head.workers ≤ 16 → n ≤ max_entries_of head.edition + 2
+    → eqb (length l) 0 ≡ empty → each_of (at_entry head) (cond empty [] (cut_at n l)) ≡ Ok entries → AreEntries head n l entries
 unfolding each_of
-no_entry_cut workers n l entries true few near is e =
+no_entry_cut head n l entries true few near is e =
     rw (← same_ok e) (record { same = no_bytes l (eqb-true _ _ is); few = omega arith; each = tt })
-no_entry_cut workers n l entries false few near is e =
-    step_found (at_entry workers (record { number = n; bytes = l; whole = false })) _ e λ first is_first e.
-    absurd (not_whole (entry_found workers _ first few is_first).whole)
+no_entry_cut head n l entries false few near is e =
+    step_found (at_entry head (record { number = n; bytes = l; whole = false })) _ e λ first is_first e.
+    absurd (not_whole (entry_found head _ first few is_first).whole)
 
 no_head_cut : (l : List ℕ) (j : Written) (empty : Bool) → journal_in (cond empty [] (cut_at 1 l)) ≡ Ok j → ⊥
 unfolding journal_in
 no_head_cut l j true e = cc e
 no_head_cut l j false e =
-    let head : RawLine = record { number = 1; bytes = l; whole = false } in
-    step_found (in_line 1 (head_of head)) _ e λ workers is_workers e.
-    not_whole (head_found head workers (in_line_found 1 (head_of head) is_workers)).whole
+    let first : RawLine = record { number = 1; bytes = l; whole = false } in
+    step_found (in_line 1 (head_of first)) _ e λ head is_head e.
+    not_whole (head_found first head (in_line_found 1 (head_of first) is_head)).whole
 
 -- entries of the workers, and what their types hold
 both : (workers : ℕ) (entries : List Entry) → AllByRecursion (IsEntry workers) entries
@@ -61,16 +63,16 @@ both : (workers : ℕ) (entries : List Entry) → AllByRecursion (IsEntry worker
 both workers [] fits = (tt, tt)
 both workers (e ∷ entries) fits = let rest = both workers entries fits.1 in ((fits.0.0, rest.0), (fits.0.1, rest.1))
 
-entries_found : (workers n : ℕ) (ls : List (List ℕ)) (entries : List Entry) → workers ≤ 16 → n ≤ 65538
-    → each_of (at_entry workers) (raw_lines_from n ls) ≡ Ok entries → AreEntries workers n (join_with_byte 10 ls) entries
+entries_found : (head : Head) (n : ℕ) (ls : List (List ℕ)) (entries : List Entry) → head.workers ≤ 16 → n ≤ max_entries_of head.edition + 2
+    → each_of (at_entry head) (raw_lines_from n ls) ≡ Ok entries → AreEntries head n (join_with_byte 10 ls) entries
 unfolding raw_lines_from each_of
-entries_found workers n [] entries few near e = rw (← same_ok e) (record { same = refl; few = omega arith; each = tt })
-entries_found workers n (l ∷ []) entries few near e = no_entry_cut workers n l entries _ few near refl e
-entries_found workers n (l ∷ m ∷ ls) entries few near e =
-    step_found (at_entry workers (record { number = n; bytes = l; whole = true })) _ e λ first is_first e.
-    step_found (each_of (at_entry workers) (raw_lines_from (n + 1) (m ∷ ls))) _ e λ others are_others e.
-    let so = entry_found workers _ first few is_first in
-    let rest = entries_found workers (n + 1) (m ∷ ls) others few (omega (arith, so.few)) are_others in
+entries_found head n [] entries few near e = rw (← same_ok e) (record { same = refl; few = omega arith; each = tt })
+entries_found head n (l ∷ []) entries few near e = no_entry_cut head n l entries _ few near refl e
+entries_found head n (l ∷ m ∷ ls) entries few near e =
+    step_found (at_entry head (record { number = n; bytes = l; whole = true })) _ e λ first is_first e.
+    step_found (each_of (at_entry head) (raw_lines_from (n + 1) (m ∷ ls))) _ e λ others are_others e.
+    let so = entry_found head _ first few is_first in
+    let rest = entries_found head (n + 1) (m ∷ ls) others few (omega (arith, so.few)) are_others in
     rw (← same_ok e) (record {
       same = line_then _ l _ _ so.text rest.same;
       few = omega (arith, rest.few);
@@ -83,15 +85,19 @@ unfolding raw_lines_from journal_in
 lines_found [] j e = absurd (cc e)
 lines_found (l ∷ []) j e = absurd (no_head_cut l j _ e)
 lines_found (l ∷ m ∷ ls) j e =
-    let head : RawLine = record { number = 1; bytes = l; whole = true } in
-    step_found (in_line 1 (head_of head)) _ e λ workers is_workers e.
-    step_found (each_of (at_entry workers) (raw_lines_from 2 (m ∷ ls))) _ e λ entries are_entries e.
-    let so = head_found head workers (in_line_found 1 (head_of head) is_workers) in
-    let rest = entries_found workers 2 (m ∷ ls) entries so.fits.1 (omega arith) are_entries in
+    let first : RawLine = record { number = 1; bytes = l; whole = true } in
+    step_found (in_line 1 (head_of first)) _ e λ head is_head e.
+    step_found (each_of (at_entry head) (raw_lines_from 2 (m ∷ ls))) _ e λ entries are_entries e.
+    let so = head_found first head (in_line_found 1 (head_of first) is_head) in
+    let rest = entries_found head 2 (m ∷ ls) entries so.fits.1 (omega arith) are_entries in
     rw (← same_ok e) (
-      line_then (join_with_byte 32 (head_words workers)) l (flat_map entry_text entries) _ so.text rest.same,
-      record { workers = so.fits; few = omega (arith, rest.few); each = All-from_recursion (IsEntryOf workers) entries (both workers entries rest.each).0 },
-      (both workers entries rest.each).1,
+      line_then (join_with_byte 32 (head_words head.edition head.workers)) l (flat_map entry_text entries) _ so.text rest.same,
+      record {
+        workers = so.fits;
+        few = omega (arith, rest.few);
+        each = All-from_recursion (IsEntryOf head.workers) entries (both head.workers entries rest.each).0;
+      },
+      (both head.workers entries rest.each).1,
     )
 
 -- a journal that was read is the text in its one spelling: its parts are what its type keeps, and what their types can hold

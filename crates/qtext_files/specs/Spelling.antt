@@ -2,6 +2,8 @@
 use Rattle.std.specs.Prelude.{◌≡◌, ℕ, List, [], ◌∷◌, ◌++◌, codes, decimal, Ok}
 use Rattle.std.specs.List.{flat_map, join_with_byte}
 use Rattle.qplain.specs.Journals.{Written}
+use Rattle.qplain.specs.declared.edition.Edition.{Edition}
+use Rattle.qplain.specs.declared.edition.Edition.TheVariants.{One, Two}
 use Rattle.qplain.specs.declared.entry.Entry.{Entry}
 use Rattle.qplain.specs.declared.line.Line.{Line}
 use Rattle.qtext_read.specs.RepliesSpelled.{reply_words}
@@ -29,18 +31,23 @@ entry_words e = decimal e.worker ∷ decimal e.moment ∷ caller_text e.cred
 abbrev pub entry_text : Entry → List ℕ
 entry_text e = join_with_byte 0x20 (entry_words e) ++ 10 ∷ []
 
--- quotafs journal 1 workers W
-abbrev pub head_words : ℕ → List (List ℕ)
-head_words workers =
-    codes "quotafs" ∷ codes "journal" ∷ codes "1" ∷ codes "workers" ∷ decimal workers ∷ []
+-- the number of an edition
+abbrev pub edition_text : Edition → List ℕ
+edition_text One = codes "1"
+edition_text Two = codes "2"
+
+-- quotafs journal E workers W
+abbrev pub head_words : Edition → ℕ → List (List ℕ)
+head_words edition workers =
+    codes "quotafs" ∷ codes "journal" ∷ edition_text edition ∷ codes "workers" ∷ decimal workers ∷ []
 
 -- the first line
-abbrev pub head_text : ℕ → List ℕ
-head_text workers = join_with_byte 0x20 (head_words workers) ++ 10 ∷ []
+abbrev pub head_text : Edition → ℕ → List ℕ
+head_text edition workers = join_with_byte 0x20 (head_words edition workers) ++ 10 ∷ []
 
 -- a journal, spelled out
 abbrev pub journal_spelling : Written → List ℕ
-journal_spelling j = head_text j.workers ++ flat_map entry_text j.entries
+journal_spelling j = head_text j.edition j.workers ++ flat_map entry_text j.entries
 
 -- what is spelled out of the journal says that journal
 abbrev pub CanBeRead : Written → Type 0

@@ -1,13 +1,14 @@
 //! One entry of a journal.
 ghost use Rattle.std.specs.Prelude.{◌+◌, map};
 ghost use Rattle.qtext.specs.Gives.{Gives};
-ghost use Rattle.qplain.specs.declared.bounds.TheConstants.{MAX_ENTRIES};
+ghost use Rattle.qplain.specs.Editions.{max_entries_of};
 ghost use Rattle.qtext_files.specs.Journals.{answer_in, entry_in, journal_entry_of, worker_of};
 
 use crate::callers::Callers;
+use crate::head::Head;
 use crate::lines::ReadLine;
 use crate::raw_line::NextLine;
-use qplain::{Entry, MAX_ENTRIES, Reply};
+use qplain::{Entry, Reply};
 use qtext::{ReadFault, TextKind, number, number_of};
 use qtext_read::{Paths, journaled_call_in, reply_in};
 use std::alloc::Global;
@@ -79,11 +80,11 @@ fn entry_in<'a>(
     }
 }
 
-/// Reads the entries of a journal of N workers, and keeps the last caller and a page of paths.
+/// Reads the entries of a journal with this head, and keeps the last caller and a page of paths.
 #[derive(Drop)]
 pub(crate) struct EntryReader<'a> {
     pub(crate) alloc: Global,
-    pub(crate) workers: u64,
+    pub(crate) head: Head,
     pub(crate) callers: Callers<'a>,
     pub(crate) paths: Paths<'a>,
 }
@@ -91,9 +92,9 @@ pub(crate) struct EntryReader<'a> {
 impl<'a> ReadLine<'a> for EntryReader<'a> {
     type Item = Entry;
 
-    ghost says = { λ r l. journal_entry_of r.workers l };
+    ghost says = { λ r l. journal_entry_of r.head l };
 
-    ghost most = { λ _. MAX_ENTRIES + 1 };
+    ghost most = { λ r. max_entries_of r.head.edition + 1 };
 
     #[tactic(auto, unfolding(crate::specs::Journals::journal_entry_of))]
     fn read(
@@ -102,7 +103,7 @@ impl<'a> ReadLine<'a> for EntryReader<'a> {
         line: &NextLine<'a>,
         words: &[&'a [u8]],
     ) -> Result<Entry, ReadFault> {
-        if number > MAX_ENTRIES as u64 + 1 {
+        if number > self.head.edition.max_entries() as u64 + 1 {
             return Err(ReadFault::Fault(TextKind::TooMany));
         }
         if !line.whole {
@@ -116,7 +117,7 @@ impl<'a> ReadLine<'a> for EntryReader<'a> {
             self.alloc,
             &mut self.callers,
             &mut self.paths,
-            self.workers,
+            self.head.workers,
             words,
         )
     }

@@ -3,12 +3,19 @@ ghost use Rattle.std.specs.Prelude.{◌≡◌, true, map, IfOk};
 ghost use Rattle.std.specs.List.{list_all};
 ghost use Rattle.qtext.specs.Gives.{Gives};
 ghost use Rattle.qtext.specs.Words.{is_text_byte, words as words_of};
-ghost use Rattle.qtext_files.specs.Journals.{head_in, head_of, head_keyword, workers_told, workers_of};
+ghost use Rattle.qtext_files.specs.Journals.{edition_of, head_in, head_of, head_keyword, head_told, workers_of};
 ghost use Rattle.qplain.specs.Journals.{IsWorkers};
 
 use crate::raw_line::NextLine;
-use qplain::MAX_WORKERS;
+use qplain::{Edition, MAX_WORKERS};
 use qtext::{ReadFault, TextKind, number_of};
+
+/// What the first line tells: the edition, and how many workers there are, from 1 to 16.
+#[derive(Clone, Copy)]
+pub(crate) struct Head {
+    pub(crate) edition: Edition,
+    pub(crate) workers: u64,
+}
 
 /// A word that stands in every head.
 #[tactic(auto, unfolding(crate::specs::Journals::head_keyword))]
@@ -17,6 +24,20 @@ fn head_keyword(wanted: &[u8], word: &[u8]) -> Result<(), ReadFault>
 {
     if word == wanted {
         return Ok(());
+    }
+    Err(ReadFault::Fault(TextKind::BadHead))
+}
+
+/// The edition of a journal.
+#[tactic(auto, unfolding(crate::specs::Journals::edition_of))]
+fn edition_of(word: &[u8]) -> Result<Edition, ReadFault>
+    ensures { Gives result (edition_of word.now) }
+{
+    if word == b"1".as_slice() {
+        return Ok(Edition::One);
+    }
+    if word == b"2".as_slice() {
+        return Ok(Edition::Two);
     }
     Err(ReadFault::Fault(TextKind::BadHead))
 }
@@ -34,47 +55,48 @@ fn workers_of(word: &[u8]) -> Result<u64, ReadFault>
     Ok(workers)
 }
 
-/// `quotafs journal 1 workers W` in its five words, of which W is told.
-#[tactic(auto, unfolding(crate::specs::Journals::workers_told))]
-fn workers_told(
+/// `quotafs journal E workers W` in its five words.
+#[tactic(auto, unfolding(crate::specs::Journals::head_told))]
+fn head_told(
     program: &[u8],
     journal: &[u8],
     edition: &[u8],
     noun: &[u8],
     workers: &[u8],
-) -> Result<u64, ReadFault>
-    ensures workers { Gives result (workers_told program.now journal.now edition.now noun.now workers.now) }
-    ensures range { IfOk result IsWorkers }
+) -> Result<Head, ReadFault>
+    ensures head { Gives result (head_told program.now journal.now edition.now noun.now workers.now) }
+    ensures range { IfOk result (λ head. IsWorkers head.workers) }
 {
     head_keyword(b"quotafs", program)?;
     head_keyword(b"journal", journal)?;
-    head_keyword(b"1", edition)?;
+    let edition = edition_of(edition)?;
     head_keyword(b"workers", noun)?;
-    workers_of(workers)
+    let workers = workers_of(workers)?;
+    Ok(Head { edition, workers })
 }
 
-/// The five words of a head, of which the last is told.
+/// The five words of a head.
 #[tactic(auto, unfolding(crate::specs::Journals::head_in))]
-fn head_in(words: &[&[u8]]) -> Result<u64, ReadFault>
-    ensures workers { Gives result (head_in (map (λ word. word.now) words.now)) }
-    ensures range { IfOk result IsWorkers }
+fn head_in(words: &[&[u8]]) -> Result<Head, ReadFault>
+    ensures head { Gives result (head_in (map (λ word. word.now) words.now)) }
+    ensures range { IfOk result (λ head. IsWorkers head.workers) }
 {
     match words {
         [program, journal, edition, noun, workers] => {
-            workers_told(program, journal, edition, noun, workers)
+            head_told(program, journal, edition, noun, workers)
         }
         _ => Err(ReadFault::Fault(TextKind::BadHead)),
     }
 }
 
-/// How many workers the first line tells of, whose words these are.
+/// What the first line tells, whose words these are.
 #[tactic(auto, unfolding(crate::specs::Journals::head_of))]
-pub(crate) fn head_of(line: &NextLine, words: &[&[u8]]) -> Result<u64, ReadFault>
+pub(crate) fn head_of(line: &NextLine, words: &[&[u8]]) -> Result<Head, ReadFault>
     requires bytes { line.now.is_text ≡ list_all is_text_byte line.now.bytes.now }
     requires words { line.now.is_text ≡ true → map (λ word. word.now) words.now ≡ words_of line.now.bytes.now }
-    ensures workers { Gives result
+    ensures head { Gives result
         (head_of (record { number = 1; bytes = line.now.bytes.now; whole = line.now.whole })) }
-    ensures range { IfOk result IsWorkers }
+    ensures range { IfOk result (λ head. IsWorkers head.workers) }
 {
     if !line.whole {
         return Err(ReadFault::Fault(TextKind::Cut));

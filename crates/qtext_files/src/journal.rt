@@ -1,6 +1,6 @@
 //! Journals, read from text.
 ghost use Rattle.std.specs.Prelude.{◌≡◌, ◌≤◌, ◌⊎◌, Ok, Err, IfOk, length};
-ghost use Rattle.qplain.specs.declared.bounds.TheConstants.{MAX_ENTRIES};
+ghost use Rattle.qplain.specs.Editions.{max_entries_of};
 ghost use Rattle.qtext.specs.Gives.{Reads};
 ghost use Rattle.qtext.specs.Reading.{each_of};
 ghost use Rattle.qtext.specs.Words.{parts};
@@ -11,7 +11,7 @@ ghost use Rattle.qtext.specs.TextFaults.{want_of_memory};
 use crate::FromText;
 use crate::callers::Callers;
 use crate::entry::EntryReader;
-use crate::head::head_of;
+use crate::head::{Head, head_of};
 use crate::lines::{WANT_OF_MEMORY, read_lines};
 use crate::raw_line::next_line;
 use qplain::{Entry, Journal};
@@ -20,14 +20,14 @@ use qtext::{ReadFault, TextFault, TextKind};
 use qtext_read::Paths;
 use std::alloc::Global;
 
-/// The entries after the first line, of N workers, or the first line at fault.
-fn entries_of(alloc: Global, workers: u64, text: &[u8]) -> Result<Items<Entry>, TextFault>
-    ensures entries { Reads result (each_of (at_entry workers) (raw_lines_from 2 (parts 10 text.now))) }
-    ensures few { IfOk result (λ entries. length entries ≤ MAX_ENTRIES) }
+/// The entries after the first line, or the first line at fault.
+fn entries_of(alloc: Global, head: Head, text: &[u8]) -> Result<Items<Entry>, TextFault>
+    ensures entries { Reads result (each_of (at_entry head) (raw_lines_from 2 (parts 10 text.now))) }
+    ensures few { IfOk result (λ entries. length entries ≤ max_entries_of head.edition) }
 {
     let mut reader = EntryReader {
         alloc,
-        workers,
+        head,
         callers: Callers::new(),
         paths: Paths::of(text),
     };
@@ -45,20 +45,21 @@ fn journal_in(alloc: Global, text: &[u8]) -> Result<Journal, TextFault>
         });
     }
     let mut room = Vec::new(alloc);
-    let Ok(head) = next_line(&mut room, text) else {
+    let Ok(first) = next_line(&mut room, text) else {
         return Err(WANT_OF_MEMORY);
     };
-    let workers = match head_of(&head, &room) {
-        Ok(workers) => workers,
+    let head = match head_of(&first, &room) {
+        Ok(head) => head,
         Err(ReadFault::Memory) => return Err(WANT_OF_MEMORY),
         Err(ReadFault::Fault(kind)) => return Err(TextFault { line: 1, kind }),
     };
-    let entries = entries_of(alloc, workers, head.after)?;
-    Ok(Journal::new(workers, entries))
+    let entries = entries_of(alloc, head, first.after)?;
+    Ok(Journal::new(head.edition, head.workers, entries))
 }
 
-/// The first line is `quotafs journal 1 workers W`, W from 1 to 16. Each further one is
-/// `WORKER MOMENT CALLER CALL => REPLY`, the worker from 1 to W, with a line feed after it; there are at most 65,536.
+/// The first line is `quotafs journal E workers W`, E the edition, 1 or 2, and W from 1 to 16. Each further one is
+/// `WORKER MOMENT CALLER CALL => REPLY`, the worker from 1 to W, with a line feed after it; there are at most 65,536 in
+/// edition 1, and 1,048,576 in edition 2.
 /// Data are in lower case, and no call is `fill`. Lines count from 1.
 impl FromText for Journal {
     ghost use Rattle.std.specs.List.{AllByRecursion};
@@ -70,11 +71,11 @@ impl FromText for Journal {
 
     ghost says = { journal_of };
 
-    /// Reads a journal: its workers and entries, or the first line at fault with the first thing wrong in it.
+    /// Reads a journal: its edition, workers and entries, or the first line at fault with the first thing wrong in it.
     ///
-    /// In a line the first of these is reported: too many entries, no line feed, a byte outside 0x20 to 0x7E, the head, the
-    /// worker, the moment, the caller, the verb, too few arguments, the arguments from left to right, the reply. That an
-    /// entry is read says nothing of whether a store answers so.
+    /// In a line the first of these is reported: too many entries, no line feed, a byte outside 0x20 to 0x7E, the head,
+    /// the worker, the moment, the caller, the verb, too few arguments, the arguments from left to right, the reply.
+    /// That an entry is read says nothing of whether a store answers so.
     ///
     /// An Err gives nothing of it. Line 0 is at fault where memory is wanting, whatever the text says.
     fn read(alloc: Global, text: &[u8]) -> Result<Self, TextFault>

@@ -1,21 +1,37 @@
 //! Journals as text.
-ghost use Rattle.std.specs.Prelude.{◌≡◌, IfOk};
+ghost use Rattle.std.specs.Prelude.{◌≡◌, ◌≤◌, ℕ, ◌++◌, length, codes, decimal, IfOk};
 ghost use Rattle.std.specs.List.{AllByRecursion, flat_map};
 ghost use Rattle.qplain.specs.Held.{HasLawfulStat, IsHeld};
 ghost use Rattle.qtext.specs.Written.{Writes};
 ghost use Rattle.qtext_files.specs.Spelling.{CanBeRead, entry_text, head_text, journal_spelling};
 
-use qplain::{Entry, Journal};
+use qplain::{Edition, Entry, Journal};
 use qtext::{RefusedWrite, TextLine};
 use qtext_write::{WriteFault, put_call, put_caller, put_reply};
 use std::io::Write;
 
-/// `quotafs journal 1 workers W`.
-fn put_head<W: Write>(out: &mut W, line: &mut TextLine, workers: u64) -> Result<(), RefusedWrite>
-    ensures { Writes (W.contents out.old) (W.contents out.new) result (head_text workers) }
+/// What the head says before the number of workers.
+fn head_start(edition: Edition) -> &'static [u8]
+    ensures begins { (workers : ℕ) → (result.now ++ decimal workers) ++ codes "\n" ≡ head_text edition workers }
+    ensures short { length result.now ≤ 26 }
+{
+    match edition {
+        Edition::One => b"quotafs journal 1 workers ",
+        Edition::Two => b"quotafs journal 2 workers ",
+    }
+}
+
+/// `quotafs journal E workers W`.
+fn put_head<W: Write>(
+    out: &mut W,
+    line: &mut TextLine,
+    edition: Edition,
+    workers: u64,
+) -> Result<(), RefusedWrite>
+    ensures { Writes (W.contents out.old) (W.contents out.new) result (head_text edition workers) }
 {
     line.clear();
-    line.text(b"quotafs journal 1 workers ");
+    line.text(head_start(edition));
     line.number(workers);
     line.put_end(out)
 }
@@ -61,7 +77,7 @@ pub fn put_journal<W: Write>(out: &mut W, journal: &Journal) -> Result<(), Refus
     ensures again { IfOk result (λ _. CanBeRead journal.now) }
 {
     let mut line = TextLine::new();
-    put_head(out, &mut line, journal.workers())?;
+    put_head(out, &mut line, journal.edition(), journal.workers())?;
     put_entries(out, &mut line, journal.entries())
 }
 

@@ -40,8 +40,8 @@ impl FromText for Script {
 
     /// Reads a script: its lines, or the first line at fault with the first thing wrong in it.
     ///
-    /// In a line the first of these is reported: too many lines, no line feed, a byte outside 0x20 to 0x7E, the moment, the
-    /// caller, the verb, the count of words, the arguments from left to right. That a call is read says nothing of
+    /// In a line the first of these is reported: too many lines, no line feed, a byte outside 0x20 to 0x7E, the moment,
+    /// the caller, the verb, the count of words, the arguments from left to right. That a call is read says nothing of
     /// whether a store takes it.
     ///
     /// An Err gives none of the lines. Line 0 is at fault where memory is wanting, whatever the text says.

@@ -178,7 +178,8 @@ impl Job {
     /// at `--boards`, from 0 to 1000, and 0 where there is none, and the lines at `--batch`, from 1 to 64, and 1 where
     /// there is none.
     ///
-    /// A request for help or for the version is a fault, too, whose text is for the output. Out of memory may come in place of any answer.
+    /// A request for help or for the version is a fault, too, whose text is for the output. Out of memory may come in
+    /// place of any answer.
     pub fn read(alloc: Global, words: &[String]) -> Result<Job, LineFault>
         ensures job { IfOk result (IsAskedBy (map (λ w. string_bytes w) words.now)) }
         ensures refused { IfErr result (IsRefusalOf (map (λ w. string_bytes w) words.now)) }

@@ -80,9 +80,9 @@ fn put_run<W: Write>(out: &mut W, outcome: &Outcome, moment: u64) -> Result<(), 
     put_totals(out, outcome)
 }
 
-/// Writes what a run came to: each worker's transcript, what the looks at the boards were given where there were any, the
-/// quota report as of the moment, the totals, the tallies of the journal, and what an audit of the store found. It takes
-/// no memory.
+/// Writes what a run came to: each worker's transcript, what the looks at the boards were given where there were any,
+/// the quota report as of the moment, the totals, the tallies of the journal, and what an audit of the store found. It
+/// takes no memory.
 ///
 /// Totals and bounds are in blocks of 4096 bytes and in inodes; the report is in KiB (profile, after repquota(8)).
 /// After an Err some beginning of the text went out.

@@ -194,9 +194,9 @@ pub(crate) fn call_of<'a>(
 
 /// The call that words spell, the first of them its verb.
 ///
-/// Of faults the first is reported: the verb, the count of arguments, the arguments from left to right. That a call is read
-/// says nothing of whether a store takes it. An Err gives no call. Its paths share the bytes of their text where the
-/// words end the line that was begun.
+/// Of faults the first is reported: the verb, the count of arguments, the arguments from left to right. That a call is
+/// read says nothing of whether a store takes it. An Err gives no call. Its paths share the bytes of their text where
+/// the words end the line that was begun.
 #[tactic(auto, unfolding(crate::specs::Calls::call_in))]
 pub fn call_in<'a>(
     alloc: Global,

@@ -67,7 +67,8 @@ fn journaled_call_of<'a>(
 /// The call that words begin with, the first of them its verb, and how many words it has, in the one spelling that
 /// journals have: without `fill`, and with data in lower case.
 ///
-/// Of faults the first is reported: the verb, too few arguments, the arguments from left to right. An Err gives no call.
+/// Of faults the first is reported: the verb, too few arguments, the arguments from left to right. An Err gives no
+/// call.
 #[tactic(auto, unfolding(crate::specs::Journaled::journaled_call_in))]
 pub fn journaled_call_in<'a>(
     alloc: Global,

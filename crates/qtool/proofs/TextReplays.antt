@@ -1,7 +1,7 @@
 -- What is answered for a journal's text that is read and played again.
 use Rattle.std.proofs.Common.{◌≡◌, ◌⊎◌, ℕ, List, Ok, Err, inl, inr, sym}
 use Rattle.qplain.specs.Journals.{Written}
-use Rattle.qplain.specs.Setups.{Setting}
+use Rattle.qplain.specs.Setups.{Setting, in_edition}
 use Rattle.qplain.specs.State.{start}
 use Rattle.qrun_replay.specs.declared.replay_fault.ReplayFault.{ReplayFault}
 use Rattle.qrun_replay.specs.declared.replay_fault.ReplayFault.TheVariants.{Memory as WantsMemory, Mismatch as TellsMismatch}
@@ -23,6 +23,6 @@ read_says text j (inr e) = absurd (cc e)
 
 -- the first mismatch of the journal that was read is that of the text
 pub mismatch_in : (setting : Setting) (text : List ℕ) (j : Written) (place : ℕ)
-    → (Ok j ≡ journal_of text) ⊎ (Ok j ≡ Err want_of_memory) → IsFirstMismatch (start setting) j.entries place
+    → (Ok j ≡ journal_of text) ⊎ (Ok j ≡ Err want_of_memory) → IsFirstMismatch (start (in_edition j.edition setting)) j.entries place
     → IsMismatchIn setting text place
 mismatch_in setting text j place read first = record { journal = j; says = read_says text j read; first = first }

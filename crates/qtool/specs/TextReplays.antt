@@ -1,7 +1,7 @@
 -- What a journal's text leaves that is read and played again.
 use Rattle.std.specs.Prelude.{◌≡◌, ℕ, List, Result, Ok, Err}
 use Rattle.qplain.specs.Journals.{Written}
-use Rattle.qplain.specs.Setups.{Setting}
+use Rattle.qplain.specs.Setups.{Setting, in_edition}
 use Rattle.qplain.specs.State.{start}
 use Rattle.qrun_replay.specs.declared.outcome.Outcome.{Outcome}
 use Rattle.qrun_replay.specs.declared.replay_fault.ReplayFault.{ReplayFault}
@@ -28,11 +28,11 @@ abbrev pub replay_fault_of : ReplayFault → TextReplayFault
 replay_fault_of WantsMemory = Memory
 replay_fault_of (TellsMismatch place) = Mismatch place
 
--- the text says a journal whose first entry with another reply than the plain machine has this place
+-- the text says a journal whose first entry with another reply than the plain machine in its edition has this place
 pub record IsMismatchIn (setting : Setting) (text : List ℕ) (place : ℕ) : Type 0 where
   pub journal : Written
   pub says : journal_of text ≡ Ok journal
-  pub first : IsFirstMismatch (start setting) journal.entries place
+  pub first : IsFirstMismatch (start (in_edition journal.edition setting)) journal.entries place
 
 -- the replay of a text gives back what the run has left, or memory was wanting
 abbrev pub GivesBackOf : Outcome → Result Outcome TextReplayFault → Type 0

@@ -65,9 +65,9 @@ fn keep_journal<F: Files>(journal: &Journal, files: &mut F, name: &str) -> Resul
 /// Writes what came of a run to the output, with the report at the moment, and flushes it; and then, where a file is
 /// named for it, writes the journal as a draft, flushes that, and keeps it under the name.
 ///
-/// An output that refuses leaves no journal: no draft is made. Where the journal is refused, the outcome stands whole in
-/// the output, and under the name there is what was there before. A program that is ended in between leaves the same,
-/// and may leave the draft.
+/// An output that refuses leaves no journal: no draft is made. Where the journal is refused, the outcome stands whole
+/// in the output, and under the name there is what was there before. A program that is ended in between leaves the
+/// same, and may leave the draft.
 pub fn write_run<F: Files, O: Write>(
     outcome: &Outcome,
     at: u64,

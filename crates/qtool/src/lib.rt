@@ -5,9 +5,9 @@ pub use files::{FileFault, Files};
 pub use finishing::{Refuser, write_run};
 pub use program::tool;
 pub use qaudit::report;
-pub use qaudit_checks::{BoardFault, Mismatch, check_boards, gather};
+pub use qaudit_checks::{BoardFault, Mismatch, gather};
 pub use qplain::{
-    Board, CallFault, Entry, Journal, Line, LookFault, MAX_LINES, Receipt, Script, Setup,
+    Board, CallFault, Edition, Entry, Journal, Line, LookFault, MAX_LINES, Receipt, Script, Setup,
     Transcript,
 };
 pub use qrun::{Gate, NoGate, Options, RunFault, WorkerEnd, conclude};
@@ -18,7 +18,7 @@ pub use qtext_config::{Config, ConfigFault};
 pub use qtext_files::{FromText, write_journal};
 pub use qtext_job::{Job, LineFault};
 pub use qtext_outcome::{WriteFault, write_outcome};
-pub use runs::{replay, run, run_with};
+pub use runs::{check_boards, replay, run, run_with};
 pub use text_replay::{TextReplayFault, replay_text};
 
 mod ending;

@@ -1,8 +1,10 @@
-//! Runs of scripts, and replays of a journal, under a configuration.
+//! Runs of scripts, and replays of a journal and checks of boards against one, under a configuration.
 ghost use Rattle.std.specs.Prelude.{◌≡◌, ◌<◌, ◌≤◌, [], ℕ, List, Err, IfErr, IfOk, length};
 ghost use Rattle.qplain.specs.declared.line.Line.{Line};
+ghost use Rattle.qplain.specs.Setups.{in_edition};
 ghost use Rattle.qplain.specs.State.{start};
 ghost use Rattle.qshare.specs.declared.opening.TheConstants.{MAX_SEATS};
+ghost use Rattle.qaudit_checks.specs.LawfulBoards.{IsVerdictOn};
 ghost use Rattle.qrun_replay.specs.declared.outcome.Outcome.{Outcome};
 ghost use Rattle.qrun_replay.specs.declared.replay_fault.ReplayFault.TheVariants.{Mismatch};
 ghost use Rattle.qrun_replay.specs.Replays.{GivesBack, IsFirstMismatch, IsReplayOf};
@@ -11,7 +13,7 @@ ghost use Rattle.qrun.specs.Crews.{CanRun};
 ghost use Rattle.qrun.specs.RunFaults.{IsFaultOf};
 ghost use Rattle.qrun.specs.Watching.{seats_for};
 
-use crate::{Config, Journal, Options, Outcome, ReplayFault, RunFault, Script};
+use crate::{Board, BoardFault, Config, Journal, Options, Outcome, ReplayFault, RunFault, Script};
 use qrun::{Gate, NoGate, run_scripts};
 use std::alloc::Global;
 use std::sync::Wait;
@@ -59,7 +61,7 @@ pub fn run<R: Threads + Wait + Sync>(
     run_with(rt, alloc, config, scripts, Options::plain(), seed, &NoGate)
 }
 
-/// Plays a journal again on a new store of the configuration, one entry after the other.
+/// Plays a journal again on a new store of the configuration in the journal's edition, one entry after the other.
 ///
 /// An outcome comes only of a journal whose replies are all the store's; else the first place with another reply is
 /// told. The hashes of names begin at `seed`, as for a run. O(entries), and what each call takes. After an Err the
@@ -70,13 +72,33 @@ pub fn replay(
     journal: &Journal,
     seed: u64,
 ) -> Result<Outcome, ReplayFault>
-    ensures outcome { IfOk result (IsReplayOf config.setup journal.now) }
+    ensures outcome { IfOk result (IsReplayOf (in_edition journal.now.edition config.setup) journal.now) }
     ensures mismatch { (place : ℕ) → result ≡ Err (Mismatch place)
-        → IsFirstMismatch (start config.setup) journal.now.entries place }
+        → IsFirstMismatch (start (in_edition journal.now.edition config.setup)) journal.now.entries place }
 
     // The journal of a run under this configuration gives back what the run has left, but for the lines that failed.
     ensures of_a_run { (scripts : List (List Line)) (run : Outcome) → IsOutcomeOf config.setup scripts run
         → journal.now ≡ run.journal → GivesBack run result }
 {
     qrun_replay::replay(alloc, config.setup, journal, seed)
+}
+
+/// Checks boards against a journal, whose entries it plays again on a store of the configuration in the journal's
+/// edition.
+///
+/// The boards are lawful where each is that of the state which the first entries leave, as many as its version, and
+/// versions never fall. Else the index of the first board that fails is reported, from 1. The journal's replies are not
+/// looked at. The hashes of names begin at `seed`, as for a run. What the calls of the entries take, up to the greatest
+/// version, and for each board O(n) for n principals.
+pub fn check_boards(
+    alloc: Global,
+    config: Config,
+    journal: &Journal,
+    boards: &[Board],
+    seed: u64,
+) -> Result<(), BoardFault>
+    ensures { IsVerdictOn (start (in_edition journal.now.edition config.setup)) journal.now.entries boards.now result }
+{
+    let setup = config.setup.edition(journal.edition());
+    qaudit_checks::check_boards(alloc, &setup, journal.entries(), boards, seed)
 }

@@ -1,7 +1,7 @@
 //! A journal's text, read and played again.
 ghost use Rattle.std.specs.Prelude.{◌≡◌, ℕ, List, Ok, Err, IfOk};
 ghost use Rattle.qplain.specs.declared.line.Line.{Line};
-ghost use Rattle.qplain.specs.State.{start};
+ghost use Rattle.qplain.specs.Setups.{in_edition};
 ghost use Rattle.qrun_replay.specs.declared.outcome.Outcome.{Outcome};
 ghost use Rattle.qrun_replay.specs.Replays.{IsReplayOf};
 ghost use Rattle.qrun_replay.specs.Runs.{IsOutcomeOf};
@@ -52,7 +52,7 @@ impl From<ReplayFault> for TextReplayFault {
     }
 }
 
-/// Reads a journal, and plays it again on a new store of the configuration, as `replay` does.
+/// Reads a journal, and plays it again on a new store of the configuration in the journal's edition, as `replay` does.
 ///
 /// It is for a program that ends after it: the text's memory is given back before the journal is played, and that of
 /// the journal is left to the system.
@@ -63,7 +63,7 @@ pub fn replay_text(
     seed: u64,
 ) -> Result<Outcome, TextReplayFault>
     ensures outcome { IfOk result (λ o. (journal_of text.items ≡ Ok o.journal)
-        × IsReplayOf config.setup o.journal o) }
+        × IsReplayOf (in_edition o.journal.edition config.setup) o.journal o) }
     ensures text { (fault : TextFault) → result ≡ Err (Text fault) → journal_of text.items ≡ Err fault }
     ensures mismatch { (place : ℕ) → result ≡ Err (Mismatch place) → IsMismatchIn config.setup text.items place }
 

@@ -2,7 +2,7 @@
 
 use crate::given::{lines, setup};
 use qaudit_checks::{BoardFault, check_boards, check_looks};
-use qplain::{Board, Entry, Line, LookFault, MAX_LINES, Refusal, Reply, Script};
+use qplain::{Board, Edition, Entry, Line, LookFault, MAX_LINES, Refusal, Reply, Script};
 use qrules::{BoardRow, Items, Kind, Limits};
 use qrun::{NoGate, Options, run_scripts};
 use qrun_replay::Outcome;
@@ -125,7 +125,8 @@ fn crowd<R: Threads + Wait + Sync>(rt: &R, alloc: Global, batch: u64) -> Result<
         boards: 1000,
         batch,
     };
-    match run_scripts(rt, alloc, setup(alloc)?, scripts, options, 0, &NoGate) {
+    let setup = setup(alloc)?.edition(Edition::Two);
+    match run_scripts(rt, alloc, setup, scripts, options, 0, &NoGate) {
         Ok(outcome) => Ok(outcome),
         Err(_) => Err(Fail::from("an outcome")),
     }
@@ -145,7 +146,7 @@ fn sums(board: &Board, kind: Kind) -> (u64, u64) {
 }
 
 /// Whether users and groups each have all that is in use, and no more than there is.
-fn balances(board: &Board) -> bool {
+pub(crate) fn balances(board: &Board) -> bool {
     let all = (board.blocks, board.inodes);
     sums(board, Kind::User) == all
         && sums(board, Kind::Group) == all

@@ -1,10 +1,9 @@
-//! What the tests begin with.
+//! What the tests begin with. An Err says what was wanted, where there was no memory for it.
 use qplain::{Line, Script, Setup};
 use qrules::Items;
 use qtext_config::Config;
 use qtext_files::FromText;
 use std::alloc::Global;
-use std::test::Fail;
 
 /// Ten blocks and six inodes, and nobody has a limit.
 const CONFIG: &str = "size = '40k'
@@ -16,32 +15,32 @@ group = [{ id = 0, name = 'root' }]
 ";
 
 /// The setup of a small store.
-pub(crate) fn setup(alloc: Global) -> Result<Setup, Fail> {
+pub(crate) fn setup(alloc: Global) -> Result<Setup, &'static str> {
     match Config::read(alloc, CONFIG) {
         Ok(config) => Ok(config.setup),
-        Err(_) => Err(Fail::from("the configuration")),
+        Err(_) => Err("the configuration"),
     }
 }
 
 /// A script.
-pub(crate) fn script(alloc: Global, text: &[u8]) -> Result<Script, Fail> {
+pub(crate) fn script(alloc: Global, text: &[u8]) -> Result<Script, &'static str> {
     match Script::read(alloc, text) {
         Ok(script) => Ok(script),
-        Err(_) => Err(Fail::from("the script")),
+        Err(_) => Err("the script"),
     }
 }
 
 /// The lines of a script.
-pub(crate) fn lines(alloc: Global, text: &[u8]) -> Result<Items<Line>, Fail> {
+pub(crate) fn lines(alloc: Global, text: &[u8]) -> Result<Items<Line>, &'static str> {
     Ok(script(alloc, text)?.into_lines())
 }
 
 /// The line of a script of one line.
-pub(crate) fn line(alloc: Global, text: &[u8]) -> Result<Line, Fail> {
+pub(crate) fn line(alloc: Global, text: &[u8]) -> Result<Line, &'static str> {
     let mut lines = lines(alloc, text)?.into_vec();
     match lines.pop() {
         Some(line) => Ok(line),
-        None => Err(Fail::from("a line")),
+        None => Err("a line"),
     }
 }
 

@@ -5,11 +5,17 @@
 #[cfg(test)]
 mod boards;
 #[cfg(test)]
+mod full;
+#[cfg(test)]
 mod gathers;
 #[cfg(test)]
 mod given;
 #[cfg(test)]
+mod insists;
+#[cfg(test)]
 mod looks;
+#[cfg(test)]
+mod refused;
 #[cfg(test)]
 mod seats;
 #[cfg(test)]

@@ -25,20 +25,25 @@ enum Story {
     Dropped,
 }
 
-const CREATE: &[u8] = b"0 1001:0 create /a\n";
+/// Makes a file.
+pub(crate) const CREATE: &[u8] = b"0 1001:0 create /a\n";
 
-const WRITE: &[u8] = b"0 1001:0 write /a 0 78\n";
+/// Writes a block of it.
+pub(crate) const WRITE: &[u8] = b"0 1001:0 write /a 0 78\n";
 
-const STAT: &[u8] = b"0 1001:0 stat /a\n";
+/// Asks about it.
+pub(crate) const STAT: &[u8] = b"0 1001:0 stat /a\n";
 
 /// The version, the blocks and the inodes of the board that a seat is shown.
-fn board<S: StoreId>(seat: &mut Seat<S, Viewer<S>>) -> Result<(u64, u64, u64), LookFault> {
+pub(crate) fn board<S: StoreId>(
+    seat: &mut Seat<S, Viewer<S>>,
+) -> Result<(u64, u64, u64), LookFault> {
     let board = seat.board()?;
     Ok((board.version, board.blocks, board.inodes))
 }
 
 /// The version, the blocks and the inodes of a record that a seat is shown.
-fn record<S: StoreId>(
+pub(crate) fn record<S: StoreId>(
     seat: &mut Seat<S, Viewer<S>>,
     kind: Kind,
     id: u32,
@@ -58,7 +63,7 @@ fn told(answer: &Result<Receipt, CallFault>) -> Option<(u64, bool)> {
 }
 
 /// Makes a call of a seat.
-fn call<S: StoreId, B: Boards<S>, W: Wait>(
+pub(crate) fn call<S: StoreId, B: Boards<S>, W: Wait>(
     rt: &W,
     shared: &Shared<S, B>,
     seat: &mut Seat<S, Viewer<S>>,
@@ -69,7 +74,7 @@ fn call<S: StoreId, B: Boards<S>, W: Wait>(
 }
 
 /// Makes a call of a seat under the lock that is held, where there is room for it.
-fn apply<S: StoreId, B: Boards<S>, W: Wait>(
+pub(crate) fn apply<S: StoreId, B: Boards<S>, W: Wait>(
     rt: &W,
     held: &mut Held<'_, S, B>,
     seat: &mut Seat<S, Viewer<S>>,

@@ -1,7 +1,7 @@
 //! Workers who are let through in turns: they are under way side by side, and take the lock line by line or in batches.
 
 use crate::given::{FIRST_FILES, OTHER_FILES, script, setup};
-use qplain::{CallFault, Receipt, Refusal, Reply};
+use qplain::{CallFault, Edition, Receipt, Refusal, Reply};
 use qrun::{Gate, Options, run_scripts};
 use qrun_replay::Outcome;
 use std::alloc::Global;
@@ -103,7 +103,8 @@ fn run_in_turns<R: Threads + Wait + Sync>(
         boards: 0,
         batch: if together { 64 } else { 1 },
     };
-    let Ok(outcome) = run_scripts(rt, alloc, setup(alloc)?, scripts, options, 0, &gate) else {
+    let setup = setup(alloc)?.edition(Edition::Two);
+    let Ok(outcome) = run_scripts(rt, alloc, setup, scripts, options, 0, &gate) else {
         return Err(Fail::from("an outcome"));
     };
     if gate.in_vain.load(SeqCst) != 0 {

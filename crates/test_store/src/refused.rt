@@ -72,8 +72,8 @@ fn look(rt: &impl Print, root: &Cred, store: &mut Store, stat: &Call) -> Result<
     })
 }
 
-/// The reply to a call. Where an allocation is refused, the store is to look as before, also when the call is made ready
-/// then and dropped, and is asked once more.
+/// The reply to a call. Where an allocation is refused, the store is to look as before, also when the call is made
+/// ready then and dropped, and is asked once more.
 fn insist(
     rt: &(impl Abort + Print),
     root: &Cred,

@@ -80,7 +80,8 @@ fn a_refusing_writer_holds_a_beginning_of_the_looks(rt: HostRuntime) -> Result<(
     let outcome = looked_at(rt.alloc())?;
     for left in 0..WITH_BOARDS.len() {
         let mut out = Short::new(rt.alloc(), left, true);
-        assert!(rt; write_outcome(&outcome, 0, &mut out).is_err());
+        let told = write_outcome(&outcome, 0, &mut out);
+        assert_eq!(rt; told.map_err(|fault| fault.number()), Err(62));
         assert_eq!(rt; out.taken.as_slice(), &WITH_BOARDS[..left]);
     }
     Ok(())

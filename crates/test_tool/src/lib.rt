@@ -6,6 +6,8 @@ mod audits;
 #[cfg(test)]
 mod boards;
 #[cfg(test)]
+mod journals;
+#[cfg(test)]
 mod memory_files;
 #[cfg(test)]
 mod outputs;

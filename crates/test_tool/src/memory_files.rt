@@ -36,7 +36,7 @@ audit ok
 
 /// The journal of the script.
 pub(crate) const JOURNAL: &[u8] = b"\
-quotafs journal 1 workers 1
+quotafs journal 2 workers 1
 1 0 0:0 create /a => done 2 blocks +0 -0 inodes +1 -0
 1 0 0:0 write /a 0 78 => done 2 blocks +1 -0 inodes +0 -0
 1 0 0:0 stat /a => stat 2 file 0 0 1 1 1

@@ -53,8 +53,8 @@ fn help_and_flushes_may_be_refused(rt: HostRuntime) -> Result<(), AllocError> {
     Ok(())
 }
 
-/// Whether a run over these files ends as it must, where its journal is or is not to be had: the outcome is out, and the
-/// journal is kept whole or not at all. No draft is left.
+/// Whether a run over these files ends as it must, where its journal is or is not to be had: the outcome is out, and
+/// the journal is kept whole or not at all. No draft is left.
 fn ends_well<R: Threads + Wait + Sync>(
     rt: &R,
     alloc: Global,

@@ -5,7 +5,8 @@ use qaudit::report;
 use qrules::{Kind, Limits, PrincipalName, RecordRow};
 use std::alloc::{AllocError, Global};
 
-/// Anné, whose name has four characters in five bytes, with 3 blocks, the limits of 8 and 16 KiB, a grace that ends at 1100, and more inodes than have a place.
+/// Anné, whose name has four characters in five bytes, with 3 blocks, the limits of 8 and 16 KiB, a grace that ends at
+/// 1100, and more inodes than have a place.
 fn ann(alloc: Global) -> Result<RecordRow, AllocError> {
     let limits = Limits {
         block_soft: 8,
@@ -33,7 +34,8 @@ fn a_refusing_writer_holds_a_beginning(rt: HostRuntime) -> Result<(), AllocError
     let rows = [ann(alloc)?];
     for left in 0..TEXT.len() {
         let mut out = Short::new(alloc, left, true);
-        assert!(rt; report(&rows, 1050, &mut out).is_err());
+        let told = report(&rows, 1050, &mut out);
+        assert_eq!(rt; told.map_err(|fault| fault.number()), Err(61));
         assert_eq!(rt; out.taken.as_slice(), &TEXT[..left]);
     }
     Ok(())

@@ -50,7 +50,8 @@ fn write_first(rt: &(impl Abort + Print), file: &mut BlockFile) -> Result<(), No
     Ok(())
 }
 
-/// Makes a write ready and puts it. After a refusal what is made ready once more is dropped first, which leaves nothing.
+/// Makes a write ready and puts it. After a refusal what is made ready once more is dropped first, which leaves
+/// nothing.
 fn put_second(rt: &(impl Abort + Print), file: &mut BlockFile) -> Result<(), NoMemory> {
     let spare = match file.ready(65_530, 12) {
         Ok(spare) => spare,

@@ -1,6 +1,7 @@
 //! The numbers of a configuration, and the setup that they make.
 
-ghost use Rattle.std.specs.Prelude.{◌≡◌};
+ghost use Rattle.std.specs.Prelude.{◌≡◌, IfOk};
+ghost use Rattle.qplain.specs.declared.edition.Edition.TheVariants.{Two};
 ghost use Rattle.qtext.specs.Reading.{each_of};
 ghost use Rattle.qtext_config.specs.ConfigFaults.{GivesBy};
 ghost use Rattle.qtext_config.specs.Configs.{ReadsSetup, declared_of, id_of, limits_of, number_of, setting_of};
@@ -15,7 +16,8 @@ use std::alloc::Global;
 /// The setup of these fields, whose numbers are tested first: range, then duplicate, then no zero.
 #[tactic(auto, unfolding(crate::specs::Configs::setting_of))]
 pub(super) fn setup_of(alloc: Global, written: WrittenConfig) -> Result<Setup, ConfigFault>
-    ensures { ReadsSetup (λ setup. setup) result (setting_of written) }
+    ensures setup { ReadsSetup (λ setup. setup) result (setting_of written) }
+    ensures edition { IfOk result (λ setup. setup.edition ≡ Two) }
 {
     let inodes = number_of(written.inodes)?;
     let block = number_of(written.block_grace)?;

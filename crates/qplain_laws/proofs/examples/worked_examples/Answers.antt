@@ -46,6 +46,10 @@ pub returns-clause-empty_write : goal.returns-clause-empty_write
 unfolding after_write written resized with_touched with_index
 returns-clause-empty_write c = refl
 
+pub returns-clause-editions : goal.returns-clause-editions
+unfolding after_write with_touched with_index
+returns-clause-editions c = (refl, refl)
+
 pub returns-clause-read_over_a_hole : goal.returns-clause-read_over_a_hole
 unfolding after_write written resized with_touched with_index
 returns-clause-read_over_a_hole c = refl

@@ -1,4 +1,6 @@
-use Rattle.std.proofs.Common.{◌≡◌, length, sym, ap, ◌∙◌}
+use Rattle.std.proofs.Common.{◌≡◌, ◌≤◌, length, sym, subst, ap, ◌∙◌}
+use Rattle.qplain.specs.declared.edition.Edition.{Edition}
+use Rattle.qplain.specs.Editions.{max_entries_of}
 use Rattle.qrun.specs.Told.{lines_of}
 use Rattle.qrun.proofs.Told.{gathered_told, one_of}
 use Rattle.qrun.proofs.concluding.make_outcome.Goals as goal
@@ -11,8 +13,12 @@ outcome_of-requires-clause-each c =
     all.gathered.belong in
     rw (sym many) each
 
+pub outcome_of-requires-clause-few : goal.outcome_of-requires-clause-few
+outcome_of-requires-clause-few c =
+    subst (λ (e : Edition). length c.args.store.journal ≤ max_entries_of e) (sym c.requires.edition) c.requires.told.few
+
 pub returns-clause-outcome : goal.returns-clause-outcome
 returns-clause-outcome c =
     let many : c.len-workers.result ≡ length c.args.transcripts.items = c.len-workers.ensures ∙ c.args.transcripts.ok.0 in
     gathered_told c.args.store.setting c.args.store.journal c.args.transcripts.items c.args.looks.items c.len-workers.result
-    c.in_ok-outcome.outcome c.requires.told c.requires.lawful many (rw (sym c.new.ensures, sym c.new-2.ensures) c.in_ok-outcome.ensures)
+    c.in_ok-outcome.outcome c.requires.edition c.requires.told c.requires.lawful many (rw (sym c.new.ensures, sym c.new-2.ensures) c.in_ok-outcome.ensures)

@@ -27,16 +27,18 @@ make_outcome-requires-clause-told g c =
     let S = start g.S.StoreId.id.setting in
     let boards = c.args.options.boards in
     let calls : sum_by (λ s. s.tally.calls) c.in_ok-shares.shares.items ≡ length journal = ap (λ t. t.calls) c.in-Ok.ensures.end.tally in
+    let counted = calls_counted S (length scripts) boards own c.in_ok-shares.shares.items watch (length journal) played.1
+    c.in_ok-shares.ensures.shares calls in
     record {
       workers = rw (as_many 1 scripts own ts c.in_ok-own.ensures).1 c.requires.few;
       told = record {
         shares = own;
         told = subst (λ ls. AreTold ls own ts) (sym (lines_told 1 scripts own ts c.in_ok-own.ensures)) c.in_ok-own.ensures;
         seen = seen;
+        counted = counted;
       };
-      gathered = all_gathered scripts own ts journal c.in_ok-own.ensures seen
-          (calls_counted S (length scripts) boards own c.in_ok-shares.shares.items watch (length journal) played.1
-          c.in_ok-shares.ensures.shares calls);
+      few = c.in-Ok.ensures.end.played.few;
+      gathered = all_gathered scripts own ts journal c.in_ok-own.ensures seen counted;
     }
 
 pub make_outcome-requires-clause-lawful : goal.make_outcome-requires-clause-lawful

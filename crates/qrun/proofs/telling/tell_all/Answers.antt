@@ -16,7 +16,8 @@ loop-work-preserved g c =
     let worked = subst (IsToldSoFar scripts shares ts (into_iter_items c.loop-work.rest)) left c.loop-work.invariant.0 in
     let so_far = subst (λ rest. IsToldSoFar scripts shares ts rest (done ∷ into_iter_items c.next.new.self)) c.in-Some-next.ensures.cases.0 worked in (
       rw (c.push_reserved-in-loop-work.ensures.items, c.push_reserved.ensures.items, c.worker.ensures, c.into_lines.ensures.lines, c.new.ensures)
-          (told_next scripts shares ts c.in-Some-next.script (into_iter_items c.next-in-loop-work.new.self) done (into_iter_items c.next.new.self) so_far),
+          (told_next scripts shares ts c.in-Some-next.script (into_iter_items c.next-in-loop-work.new.self) done (into_iter_items c.next.new.self)
+          (rw c.into_lines.ensures.lines at c.into_lines.ensures.few) so_far),
       omega (
         arith,
         c.push_reserved-in-loop-work.ensures.len,

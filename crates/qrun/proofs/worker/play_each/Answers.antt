@@ -22,7 +22,7 @@ loop-before-preserved g c =
           c.call-answer.result so_far.0
           (next_line lines c.loop-before.before (length answers.items) line line c.index-lines-before.is c.loop-before-test.true
           (sym answers.ok.0 ∙ so_far.1))
-          called.seen called.called called.kept called.full called.stays_full pushed.items,
+          called.seen called.called called.kept called.full pushed.items,
       omega (arith, pushed.len, so_far.1),
       omega (arith, pushed.capacity, so_far.2),
       called.seen.worker ∙ so_far.3,

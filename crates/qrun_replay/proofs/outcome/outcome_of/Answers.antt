@@ -6,11 +6,11 @@ use Rattle.qaudit_checks.specs.OwnRows.{differences_in}
 use Rattle.qrun_replay.proofs.Coming.{journal_left}
 use Rattle.qrun_replay.proofs.outcome.outcome_of.Goals as goal
 
-pub new-requires-2 : goal.new-requires-2
-new-requires-2 c =
+pub new-journal-requires : goal.new-journal-requires
+new-journal-requires c =
     let played = c.store-kept.ensures.played in
-    rw (c.new.ensures, c.into_parts-setup.ensures.journal_is)
-    (journal_left c.args.store.setting c.args.store.journal c.args.workers played.lawful played.legal played.few c.requires.workers c.requires.each)
+    rw (c.new.ensures, c.current_edition.ensures, c.into_parts-setup.ensures.setup, c.into_parts-setup.ensures.journal_is)
+    (journal_left c.args.store.setting c.args.store.journal c.args.workers played.lawful played.legal c.requires.few c.requires.workers c.requires.each)
 
 pub returns : goal.returns
 returns c =
@@ -20,13 +20,13 @@ returns c =
     record {
       setup = ended.setup;
       legal = ended.legal;
-      few = ended.few;
-      journal_is = c.new-2.ensures ∙ ap (λ entries. record { workers = c.args.workers; entries = entries }) (c.new.ensures ∙ ended.journal_is);
+      few = c.requires.few;
+      journal_is = c.new-journal.ensures ∙ rw (c.new.ensures, c.current_edition.ensures, ended.setup, ended.journal_is) refl;
       tallies = ended.tallies;
       store = ended.store;
       transcripts_are = refl;
       boards_are = refl;
-      records = c.new-3.ensures ∙ c.in_ok-records.ensures.rows ∙ ap (λ (S : State). map (record_row_of S) S.holders) same;
-      differences = c.new-4.ensures ∙ c.in_ok-differences.ensures.differences ∙ ap differences_in same;
-      agree = c.new-4.ensures ∙ c.in_ok-differences.ensures.none;
+      records = c.new-2.ensures ∙ c.in_ok-records.ensures.rows ∙ ap (λ (S : State). map (record_row_of S) S.holders) same;
+      differences = c.new-3.ensures ∙ c.in_ok-differences.ensures.differences ∙ ap differences_in same;
+      agree = c.new-3.ensures ∙ c.in_ok-differences.ensures.none;
     }

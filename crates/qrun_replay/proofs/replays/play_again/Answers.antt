@@ -3,7 +3,7 @@ use Rattle.qrun_replay.proofs.replays.play_again.Goals as goal
 
 pub returns-clause-replay : goal.returns-clause-replay
 returns-clause-replay c =
-    again c.args.setup c.args.journal.now c.in_ok-outcome_of.field-0
+    again c.args.setup c.args.journal.now c.in_ok-outcome_of.field-0 c.requires.edition
     (rw (
       c.in_ok-replay_all.ensures.setting,
       c.in_ok-store.ensures.setting,

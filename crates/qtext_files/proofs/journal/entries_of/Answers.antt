@@ -7,5 +7,5 @@ use Rattle.qtext_files.proofs.journal.entries_of.Goals as goal
 
 pub returns-clause-entries : goal.returns-clause-entries
 returns-clause-entries c =
-    rw (each_same (λ l. in_line l.number (journal_entry_of c.args.workers l)) (at_entry c.args.workers) (at_entry_is c.args.workers)
+    rw (each_same (λ l. in_line l.number (journal_entry_of c.args.head l)) (at_entry c.args.head) (at_entry_is c.args.head)
     (raw_lines_from 2 (parts 10 c.args.text.now))) at c.read_lines.ensures.lines

@@ -14,19 +14,19 @@ pub returns-in-Err-Fault : goal.returns-in-Err-Fault
 returns-in-Err-Fault c =
     rw c.in-Err-Fault.field-0-is
     (inl (sym (head_fault c.args.text.now _ _ _ (c.in-Ok.ensures.first 1)
-    (rw c.in-Err-Fault.field-0-is at c.in-Err-Fault.ensures.workers))))
+    (rw c.in-Err-Fault.field-0-is at c.in-Err-Fault.ensures.head))))
 
 pub returns-in_err-entries : goal.returns-in_err-entries
 returns-in_err-entries c =
     let fault = err_from_is_err_and c.from_residual.result c.from_residual.ensures.1 in
     rw (fault.1, fault.2)
-    (entries_told c.args.text.now _ _ _ _ (c.in-Ok.ensures.first 1) c.in-Ok-head_of.ensures.workers c.in_err-entries.ensures.entries)
+    (entries_told c.args.text.now _ _ _ _ (c.in-Ok.ensures.first 1) c.in-Ok-head_of.ensures.head c.in_err-entries.ensures.entries)
 
 pub returns : goal.returns
 returns c = rw c.new.ensures
-    (inl (sym (all_read c.args.text.now _ _ _ _ (c.in-Ok.ensures.first 1) c.in-Ok-head_of.ensures.workers c.in_ok-entries.ensures.entries)))
+    (inl (sym (all_read c.args.text.now _ _ _ _ (c.in-Ok.ensures.first 1) c.in-Ok-head_of.ensures.head c.in_ok-entries.ensures.entries)))
 
 pub new-requires : goal.new-requires
 new-requires c =
-    let read = all_read c.args.text.now _ _ _ _ (c.in-Ok.ensures.first 1) c.in-Ok-head_of.ensures.workers c.in_ok-entries.ensures.entries in
+    let read = all_read c.args.text.now _ _ _ _ (c.in-Ok.ensures.first 1) c.in-Ok-head_of.ensures.head c.in_ok-entries.ensures.entries in
     (journal_found c.args.text.now _ read).1

@@ -4,10 +4,11 @@ use Rattle.qtext_files.proofs.JournalsWritten.{can_be_read}
 use Rattle.qtext_files.proofs.journal_text.put_journal.Goals as goal
 
 pub returns-in_err-put_head-clause-writes : goal.returns-in_err-put_head-clause-writes
-returns-in_err-put_head-clause-writes g c = refused_first _ _ _ _ _ c.from_residual.ensures.0 (rw c.workers.ensures at c.in_err-put_head.ensures)
+returns-in_err-put_head-clause-writes g c = refused_first _ _ _ _ _ c.from_residual.ensures.0
+    (rw (c.workers.ensures, c.edition.ensures) at c.in_err-put_head.ensures)
 
 pub returns-clause-writes : goal.returns-clause-writes
-returns-clause-writes g c = writes_then _ _ _ _ _ _ (rw c.workers.ensures at c.in_ok-put_head.ensures)
+returns-clause-writes g c = writes_then _ _ _ _ _ _ (rw (c.workers.ensures, c.edition.ensures) at c.in_ok-put_head.ensures)
     (rw c.entries.ensures.entries at c.put_entries.ensures.writes)
 
 pub returns-clause-again : goal.returns-clause-again

@@ -4,7 +4,10 @@ use Rattle.std.specs.Vec.Iter.{into_iter_items}
 use Rattle.qplain.specs.State.{start}
 use Rattle.qrun.specs.Watching.{IsWatchOf, seats_for}
 use Rattle.qrun.specs.Work.{IsWork}
-use Rattle.qrun.proofs.Naming.{names_seat, scripts_fit, watcher_fits}
+use Rattle.qplain.specs.Journal.{no_tally}
+use Rattle.qrun.specs.WorkerEnds.{AreDone}
+use Rattle.qrun.proofs.Naming.{scripts_fit, watcher_fits, watcher_idle}
+use Rattle.qrun.proofs.WorkerEnds.{first_is_one, last_refused}
 use Rattle.qrun.proofs.Running.{not_played}
 use Rattle.qrun.proofs.Seating.{ready_after, ready_first, ready_here, ready_next}
 use Rattle.qrun.proofs.crew.fn.play_all.scope.Goals as goal
@@ -15,11 +18,13 @@ loop-worker-init g c =
     let all = c.into_iter-worker-iterator.ensures.into_iter_gives in (
       ready_first c.captures.scripts.now c.in_ok-running.running.len (into_iter_items c.into_iter-worker-iterator.result)
           c.captures.workers.items room.len all.0 c.requires.ready.workers_are,
-      omega (arith, room.len, room.capacity, all.1, c.len.ensures, c.captures.workers.ok.0),
+      omega (arith, room.len, room.capacity, all.1, c.len-many.ensures, c.captures.workers.ok.0),
       λ k d lines less. absurd (omega (arith, less, room.len)),
       refl,
       c.requires.ready.room_is.0,
       c.requires.ready.room_is.1,
+      omega (arith, c.in_ok-ends.ensures.len, room.len),
+      omega (arith, c.in_ok-ends.ensures.len, c.in_ok-ends.ensures.capacity, all.1, c.len-many.ensures, c.captures.workers.ok.0),
     )
 
 pub loop-worker-preserved : goal.loop-worker-preserved
@@ -52,6 +57,8 @@ loop-worker-preserved g c =
       c.loop-worker.invariant.3,
       c.loop-worker.invariant.4,
       c.loop-worker.invariant.5,
+      omega (arith, c.push_reserved-in-Ok.ensures.len, pushed.len, c.loop-worker.invariant.6),
+      omega (arith, c.push_reserved-in-Ok.ensures.capacity, c.push_reserved-in-Ok.ensures.len, c.in-Some.ensures.steps.1, c.loop-worker.invariant.7),
     )
 
 pub returns-in-Ok-join_promised : goal.returns-in-Ok-join_promised
@@ -77,16 +84,34 @@ returns-in-Ok-join_promised g c =
       subst (λ w. IsWatchOf (start g.S.StoreId.id.setting) boards w c.in_ok-watch.watch) c.requires.ready.watcher_is looked,
     )
 
+pub first_refused-requires : goal.first_refused-requires
+first_refused-requires g c done =
+    last_refused c.loop-worker.ends.items (subst AreDone c.push_reserved-in-Err.ensures.items (subst AreDone c.deref.ensures.value done))
+
 pub returns-in-Err : goal.returns-in-Err
 returns-in-Err g c =
     let scripts = c.captures.scripts.now in
-    let running = c.loop-worker.running in
     let n = length scripts in
-    let ready = ready_here scripts running.len (into_iter_items c.loop-worker.worker-iterator) c.in-Some.worker (into_iter_items c.next.new.self)
-    c.in-Some.ensures.steps.0 c.loop-worker.invariant.0 in
-    let next = ready_next scripts running.len c.in-Some.worker (into_iter_items c.next.new.self) ready in
-    names_seat (seats_for n c.captures.options-boards) n running.len c.plays-plays.result.worker (c.plays-plays.ensures.0 ∙ (next.1 []).worker_is) next.0
-    (scripts_fit n c.captures.options-boards)
+    let ready = ready_here scripts c.loop-worker.running.len (into_iter_items c.loop-worker.worker-iterator) c.in-Some.worker
+    (into_iter_items c.next.new.self) c.in-Some.ensures.steps.0 c.loop-worker.invariant.0 in
+    let next = ready_next scripts c.loop-worker.running.len c.in-Some.worker (into_iter_items c.next.new.self) ready in
+    let fits = scripts_fit n c.captures.options-boards in
+    first_is_one (seats_for n c.captures.options-boards) c.deref.result.now c.first_refused.result
+    (omega (
+      arith,
+      ap length c.deref.ensures.value,
+      c.push_reserved-in-Err.new.self.ok.0,
+      c.push_reserved-in-Err.ensures.len,
+      c.loop-worker.invariant.6,
+      next.0,
+      fits,
+    ))
+    c.first_refused.ensures
+
+pub watch_all-requires-clause-seat : goal.watch_all-requires-clause-seat
+watch_all-requires-clause-seat g c κs within =
+    subst (λ w. IfSome w (λ s. s.tally ≡ no_tally)) (sym (c.loop-worker.invariant.3 ∙ c.requires.ready.watcher_is))
+    (watcher_idle (length c.captures.scripts.now) c.captures.options-boards)
 
 pub returns-in_err-watch : goal.returns-in_err-watch
 returns-in_err-watch g c =

@@ -14,3 +14,4 @@ invariant-loop-worker g l =
     × ((slice_index_or l.running.items k d).promise.lines.now ≡ slice_index_or l.scripts k lines))
     × (l.watcher ≡ l.initial.watcher)
     × (vec_len l.looks ≡ 0) × (l.options-boards ≤ vec_capacity l.looks)
+    × (vec_len l.ends ≡ vec_len l.running) × (vec_len l.ends + into_iter_len l.worker-iterator ≤ vec_capacity l.ends)

@@ -1,0 +1,1 @@
+use Rattle.qrun.proofs.worker_end.first_refused.Goals as goal
