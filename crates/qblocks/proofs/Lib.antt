@@ -1,6 +1,7 @@
 pub mod Bytes
 mod Examples
 pub mod Fields
+pub mod Fills
 pub mod Freed
 pub mod Indexes
 pub mod Past

@@ -3,3 +3,4 @@ pub mod Input
 pub mod WriteRoom
 pub mod Row
 pub mod Rows
+pub mod KeptData

@@ -1,8 +1,10 @@
-//! One sparse file in memory, in blocks of 4096 bytes; and values in a row that have several owners.
+//! One sparse file in memory, in blocks of 4096 bytes; the bytes that a write brings; and values in a row that have
+//! several owners.
 #![tactic(auto)]
 
 mod block;
 mod cut;
+mod data;
 mod file;
 mod input;
 mod room;
@@ -13,6 +15,7 @@ mod span;
 mod spare;
 
 pub use block::BLOCK_SIZE;
+pub use data::Data;
 pub use file::{BlockFile, MAX_SIZE};
 pub use input::Input;
 pub use shared_items::SharedItems;

@@ -1,3 +1,2 @@
--- What the proofs of more than one file share: of bytes, and of setups.
-pub mod Fills
+-- What the proofs of more than one file share.
 pub mod Ordered

@@ -25,7 +25,7 @@ pub mod Journal
 pub mod Boards
 pub mod Transcripts
 pub mod Held
+pub mod Projects
 pub mod Journals
 pub mod KeptCred
-pub mod KeptData
 pub mod KeptSetup

@@ -1,13 +1,13 @@
 -- Names that come and go, and inodes with them: create, mkdir, link, unlink and rmdir (open(2), mkdir(2), link(2),
 -- unlink(2), rmdir(2)).
-use Rattle.std.specs.Prelude.{ℕ, ◌+◌, not, if◌then◌else◌, List, filter, is_some}
+use Rattle.std.specs.Prelude.{ℕ, ◌+◌, not, if◌then◌else◌, List, filter, is_some, Option, Some, None}
 use Rattle.std.specs.Ordering.{nat_cmp}
 use Rattle.std.specs.BTreeMap.{is_at, insert_entry}
 use Rattle.std.specs.Map.{remove_entry}
 use Rattle.qplain.specs.declared.owners.Owners.{Owners}
 use Rattle.qplain.specs.declared.refusal.Refusal.TheVariants.{EEXIST, EISDIR, EMLINK, ENOTDIR, ENOTEMPTY, EPERM}
 use Rattle.qplain.specs.Caller.{Caller}
-use Rattle.qplain.specs.State.{Inode, State, named, new_directory, new_file, name_key_cmp}
+use Rattle.qplain.specs.State.{Inode, State, inode_at, named, new_directory, new_file, name_key_cmp}
 use Rattle.qplain.specs.Use.{has_name, has_too_many_links, is_empty}
 use Rattle.qplain.specs.Attempt.{Attempt, Refuse, Becomes, at_name, in_parent}
 use Rattle.qplain.specs.Rights.{may_remove}
@@ -20,15 +20,20 @@ created S inode dir name = record S {
   next = S.next + 1;
 }
 
--- the owners of what a caller makes: its uid and its gid
-abbrev pub owners_by : Caller → Owners
-owners_by cred = record { uid = cred.uid; gid = cred.gid }
+-- the project of what is made in a directory: the directory's
+abbrev pub project_of : Option Inode → Option ℕ
+project_of None = None
+project_of (Some inode) = inode.owners.project
+
+-- the owners of what a caller makes in a directory: its uid, its gid and the directory's project
+abbrev pub owners_by : State → Caller → ℕ → Owners
+owners_by S cred dir = record { uid = cred.uid; gid = cred.gid; project = project_of (inode_at S dir) }
 
 -- create a file of the caller's under this name
 abbrev pub create_as : State → Caller → ℕ → List ℕ → Attempt
 create_as S cred dir name =
     if is_some (named S dir name) then Refuse EEXIST
-    else Becomes (created S (new_file (owners_by cred)) dir name) S.next
+    else Becomes (created S (new_file (owners_by S cred dir)) dir name) S.next
 
 -- the plain result, unless an inode has too many links in it
 abbrev pub unless_too_many_links : State → ℕ → Attempt
@@ -38,7 +43,7 @@ unless_too_many_links S number = if has_too_many_links S then Refuse EMLINK else
 abbrev pub mkdir_as : State → Caller → ℕ → List ℕ → Attempt
 mkdir_as S cred dir name =
     if is_some (named S dir name) then Refuse EEXIST
-    else unless_too_many_links (created S (new_directory (owners_by cred)) dir name) S.next
+    else unless_too_many_links (created S (new_directory (owners_by S cred dir)) dir name) S.next
 
 -- the state in which this name leads to the inode of this number
 abbrev pub with_name : State → ℕ → List ℕ → ℕ → State

@@ -6,7 +6,7 @@ use Rattle.std.specs.Cmp.Lexicographic.{slice_cmp}
 use Rattle.std.specs.BTreeMap.{is_at}
 use Rattle.std.specs.Map.{lookup}
 use Rattle.qrules.specs.declared.kind.Kind.{Kind}
-use Rattle.qrules.specs.declared.kind.Kind.TheVariants.{User, Group}
+use Rattle.qrules.specs.declared.kind.Kind.TheVariants.{User, Group, Project}
 use Rattle.qrules.specs.Kinds.{rank_of}
 use Rattle.qrules.specs.declared.limits.Limits.{Limits}
 use Rattle.qrules.specs.declared.graces.Graces.{Graces}
@@ -17,7 +17,7 @@ use Rattle.qplain.specs.declared.bounds.TheConstants.{ROOT}
 use Rattle.qplain.specs.Editions.{file_limit_of}
 use Rattle.qplain.specs.Setups.{Setting, principals_in}
 
--- a user or a group with its limits, and for each sort the moment at which its grace ends, where one runs
+-- a user, a group or a project with its limits, and for each sort the moment at which its grace ends, where one runs
 pub record Holder : Type 0 where
   pub kind : Kind
   pub id : ℕ
@@ -44,8 +44,8 @@ NameKey = ℕ × List ℕ
 abbrev pub name_key_cmp : NameKey → NameKey → Ordering
 name_key_cmp = then_cmp (on (λ p. p.0) nat_cmp) (on (λ p. p.1) (slice_cmp nat_cmp))
 
--- the bounds, the file limit, the graces, the holders (users by id, then groups by id), inodes by number, names by key,
--- and the number of the next inode
+-- the bounds, the file limit, the graces, the holders (users by id, then groups, then projects), inodes by number, names
+-- by key, and the number of the next inode
 pub record State : Type 0 where
   pub size : ℕ
   pub most_inodes : ℕ
@@ -81,9 +81,14 @@ new_file owners = record { dir = false; owners = owners; file = empty_file }
 abbrev pub new_directory : Owners → Inode
 new_directory owners = record { dir = true; owners = owners; file = empty_file }
 
--- the root directory belongs to user 0 and group 0
-abbrev pub root : Inode
-root = new_directory (record { uid = 0; gid = 0 })
+-- the project of the root directory: 0, where any is declared
+abbrev pub root_project : List Principal → Option ℕ
+root_project [] = None
+root_project (p ∷ ps) = Some 0
+
+-- the root directory belongs to user 0, to group 0 and, where projects are declared, to project 0
+abbrev pub root : Setting → Inode
+root s = new_directory (record { uid = 0; gid = 0; project = root_project s.projects })
 
 -- a declared principal, for whom no grace runs
 abbrev pub holder_of : Kind → Principal → Holder
@@ -101,15 +106,15 @@ abbrev pub declared_in : Kind → Setting → List Holder
 declared_in kind s = map (holder_of kind) (principals_in kind s)
 
 -- a new store has the file limit of its edition, the root directory, no name and the next number 2; users come before
--- groups
+-- groups, and groups before projects
 abbrev pub start : Setting → State
 start s = record {
   size = s.blocks;
   most_inodes = s.inodes;
   file_limit = file_limit_of s.edition;
   graces = s.graces;
-  holders = declared_in User s ++ declared_in Group s;
-  inodes = (ROOT, root) ∷ [];
+  holders = declared_in User s ++ (declared_in Group s ++ declared_in Project s);
+  inodes = (ROOT, root s) ∷ [];
   names = [];
   next = 2;
 }

@@ -63,14 +63,15 @@ pub enum Call {
         from: Path,
         to: Path,
     },
-    /// Gives an inode another user or group, or both; what is None stays. An id that is not declared is EINVAL, before
+    /// Gives an inode another user, group or project; what is None stays. An id that is not declared is EINVAL, before
     /// the path is looked up, and EPERM comes before EDQUOT (chown(2)).
     Chown {
         path: Path,
         uid: Option<u32>,
         gid: Option<u32>,
+        project: Option<u32>,
     },
-    /// Sets the limits of a user or group, and computes its grace ends anew.
+    /// Sets the limits of a user, group or project, and computes its grace ends anew.
     SetQuota {
         kind: Kind,
         id: u32,
@@ -120,10 +121,16 @@ impl Call {
                 from: from.copy()?,
                 to: to.copy()?,
             }),
-            Call::Chown { path, uid, gid } => Ok(Call::Chown {
+            Call::Chown {
+                path,
+                uid,
+                gid,
+                project,
+            } => Ok(Call::Chown {
                 path: path.copy()?,
                 uid: *uid,
                 gid: *gid,
+                project: *project,
             }),
             Call::SetQuota { kind, id, limits } => Ok(Call::SetQuota {
                 kind: *kind,

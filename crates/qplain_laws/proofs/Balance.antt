@@ -186,7 +186,7 @@ uses_add_up S kind sort lawful declared =
     (lawful.parts.inodes.owners_known k d below kind))
 
 -- who is declared is of a kind that is
-kind-declared : (kind : Kind) (id : ℕ) (hs : List Holder) → list_any (is_holder kind id) hs ≡ true → list_any (λ h. is_same_kind kind h.kind) hs ≡ true
+pub kind-declared : (kind : Kind) (id : ℕ) (hs : List Holder) → list_any (is_holder kind id) hs ≡ true → list_any (λ h. is_same_kind kind h.kind) hs ≡ true
 kind-declared kind id [] there = cc
 kind-declared kind id (h ∷ hs) there = by (is_same_kind kind h.kind) (kind-declared kind id hs) there
   where

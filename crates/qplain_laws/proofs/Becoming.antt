@@ -3,7 +3,7 @@ use Rattle.std.proofs.Common.{◌≡◌, ℕ, ◌+◌, ◌==◌, Bool, true, fal
 use Rattle.std.specs.List.{find, list_all, list_any}
 use Rattle.std.proofs.lemmas.Bool.{and_left, and_right}
 use Rattle.qrules.specs.declared.kind.Kind.{Kind}
-use Rattle.qrules.specs.declared.kind.Kind.TheVariants.{User, Group}
+use Rattle.qrules.specs.declared.kind.Kind.TheVariants.{User, Group, Project}
 use Rattle.qrules.specs.declared.limits.Limits.{Limits}
 use Rattle.qrules.specs.declared.graces.Graces.{Graces}
 use Rattle.qrules.specs.declared.graces.TheConstants.{MAX_MOMENT}
@@ -190,13 +190,15 @@ module _ (P : State → Type 0) (S : State) (cred : Caller) (holds : HoldsOfResu
       (λ few. holds.renamed to dir name number inode to_dir to_name placed outside led there stands other empty
       (true-from_not (may_remove S cred dir number) may) may_too few))))))))
 
-  chown_at-becomes : (uid gid : Option ℕ) (number : ℕ) (inode : Inode) → (is_undeclared S User uid || is_undeclared S Group gid) ≡ false
-      → inode_at S number ≡ Some inode → OnBecomes P (chown_at S cred uid gid number inode)
-  chown_at-becomes uid gid number inode declared there =
-      let owners : Owners = renewed uid gid inode.owners in
-      let ids = neither (is_undeclared S User uid) (is_undeclared S Group gid) declared in
+  chown_at-becomes : (uid gid project : Option ℕ) (number : ℕ) (inode : Inode)
+      → (is_undeclared S User uid || is_undeclared S Group gid || is_undeclared S Project project) ≡ false
+      → inode_at S number ≡ Some inode → OnBecomes P (chown_at S cred uid gid project number inode)
+  chown_at-becomes uid gid project number inode declared there =
+      let owners : Owners = renewed uid gid project inode.owners in
+      let ids = neither (is_undeclared S User uid || is_undeclared S Group gid) (is_undeclared S Project project) declared in
+      let others = neither (is_undeclared S User uid) (is_undeclared S Group gid) ids.0 in
       choice P (not (may_give cred inode owners)) (Refuse EPERM) (Becomes (with_inode S number (with_owners inode owners)) number) tt
-      (λ may. holds.changed number inode (with_owners inode owners) there (owned-follows S inode uid gid ids.0 ids.1)
+      (λ may. holds.changed number inode (with_owners inode owners) there (owned-follows S inode uid gid project others.0 others.1 ids.1)
       (true-from_not (may_give cred inode owners) may))
 
   quota_from-becomes : (o : Option Holder) → OnBecomes P (quota_from S o)
@@ -245,8 +247,8 @@ module _ (P : State → Type 0) (S : State) (cred : Caller) (holds : HoldsOfResu
       at_name-becomes P S (rename_to S cred to dir name) dir name (λ number inode led there.
       in_parent-becomes P S EBUSY (rename_as S cred to dir name number inode) to (λ to_dir to_name placed stands.
       rename_over-becomes (components to) dir name number inode to_dir to_name placed led there stands)))
-  attempt_of-becomes (Chown path uid gid) known good =
-      at_path-becomes P S (chown_at S cred uid gid) path (λ number inode there. chown_at-becomes uid gid number inode good there)
+  attempt_of-becomes (Chown path uid gid project) known good =
+      at_path-becomes P S (chown_at S cred uid gid project) path (λ number inode there. chown_at-becomes uid gid project number inode good there)
   attempt_of-becomes (SetQuota kind id limits) known good = set_quota-becomes kind id limits
   attempt_of-becomes (SetGrace graces) known good = set_grace-becomes graces
   attempt_of-becomes (AskQuota kind id) known good = ask_quota-becomes kind id

@@ -10,13 +10,14 @@ use Rattle.std.specs.Cmp.{nat_cmp_total}
 use Rattle.std.proofs.lemmas.Map.{keys-set_value}
 use Rattle.std.proofs.lemmas.Map.Views.{All-values-insert_entry, All-values-set_value, IfSome-lookup_from_All}
 use Rattle.qrules.specs.declared.kind.Kind.{Kind}
+use Rattle.qrules.specs.declared.kind.Kind.TheVariants.{Project}
 use Rattle.qrules.specs.Kinds.{is_same_kind, rank_of}
 use Rattle.qplain.specs.declared.bounds.TheConstants.{MAX_LINKS, ROOT}
 use Rattle.qplain.specs.State.{Holder, Inode, NameKey, State, holder_cmp, inode_at, is_dir, is_directory, name_key_cmp, named}
 use Rattle.qplain.specs.Use.{has_too_many_links, links_of, names_to, owner}
 use Rattle.qplain.specs.Arguments.{is_holder}
 use Rattle.qplain.specs.Files.{with_inode}
-use Rattle.qplain.specs.Names.{created}
+use Rattle.qplain.specs.Names.{created, project_of}
 use Rattle.qplain_laws.specs.Laws.{AreKnown, FitsTogether, IsSound, has_right_names, is_known_owner, leads}
 use Rattle.qplain_laws.proofs.FewLinks.{few-links, none-too_many, too_many-same}
 use Rattle.qplain_laws.proofs.Sound.{MayFollow}
@@ -228,6 +229,15 @@ known-owners S number inode fits there =
     IfSome-lookup_from_All (λ i. AreKnown S i.owners) (is_at (nat_cmp number)) S.inodes fits.inodes.owners_known in
     let at : Option Inode → Type 0 = λ o. IfSome o (λ i. AreKnown S i.owners) in
     subst at there known
+
+-- a directory's project is known
+pub known-project : (S : State) (dir : ℕ) → FitsTogether S → is_directory S dir ≡ true
+    → is_known_owner S Project (project_of (inode_at S dir)) ≡ true
+known-project S dir fits stands = by (inode_at S dir) refl stands
+  where
+    by : (o : Option Inode) → inode_at S dir ≡ o → is_dir o ≡ true → is_known_owner S Project (project_of o) ≡ true
+    by None there h = cc
+    by (Some inode) there h = known-owners S dir inode fits there Project
 
 pub sound-there : (S : State) (number : ℕ) (inode : Inode) → FitsTogether S → inode_at S number ≡ Some inode → IsSound inode
 sound-there S number inode fits there =

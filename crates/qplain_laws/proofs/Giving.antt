@@ -3,12 +3,13 @@ use Rattle.std.proofs.Common.{◌≡◌, ℕ, Bool, true, false, cond, ◌||◌,
 use Rattle.std.specs.List.{list_any}
 use Rattle.std.specs.Ordering.{nat_cmp}
 use Rattle.std.specs.BTreeMap.{is_at}
+use Rattle.qplain.specs.declared.owners.Owners.{Owners}
 use Rattle.qplain.specs.Caller.{Caller, is_superuser}
 use Rattle.qplain.specs.State.{Inode, NameKey, State, inode_at}
 use Rattle.qplain.specs.Use.{has_name}
-use Rattle.qplain.specs.Rights.{may_give}
+use Rattle.qplain.specs.Rights.{is_same_id, may_give}
 use Rattle.qplain.specs.Files.{with_inode}
-use Rattle.qplain.specs.Names.{created, swept, with_name, without_name}
+use Rattle.qplain.specs.Names.{created, owners_by, swept, with_name, without_name}
 use Rattle.qplain_laws.specs.Laws.{FitsTogether, KeepsOwners, OwnersHold}
 use Rattle.qplain_laws.proofs.Becoming.{HoldsOfResults, IsOwn, step-becomes}
 use Rattle.std.proofs.lemmas.Bool.{or_left}
@@ -42,12 +43,13 @@ keeps-same : (S S1 : State) (cred : Caller) (q : ℕ) (inode after : Inode) → 
 keeps-same S S1 cred q inode after there then same = keeps-itself cred inode after (sym there ∙ sym same ∙ then)
 
 -- what was not there and is there now is the new inode
-made-created : (S : State) (cred : Caller) (inode : Inode) (b : Bool) (o : Option Inode) (after : Inode) → IsOwn cred inode
+made-created : (S : State) (cred : Caller) (inode : Inode) (dir : ℕ) (b : Bool) (o : Option Inode) (after : Inode) → IsOwn S cred dir inode
     → o ≡ None → cond b (Some inode) o ≡ Some after → (after.owners.uid ≡ cred.uid) × (after.owners.gid ≡ cred.gid)
-made-created S cred inode true o after own none now =
+made-created S cred inode dir true o after own none now =
     let equal : inode ≡ after = cc in
-    (ap (λ (i : Inode). i.owners.uid) (sym equal) ∙ own.user, ap (λ (i : Inode). i.owners.gid) (sym equal) ∙ own.group)
-made-created S cred inode false o after own none now = let clash : Some after ≡ None = sym now ∙ none in cc
+    let owned : after.owners ≡ owners_by S cred dir = ap (λ (i : Inode). i.owners) (sym equal) ∙ own in
+    (ap (λ (o : Owners). o.uid) owned, ap (λ (o : Owners). o.gid) owned)
+made-created S cred inode dir false o after own none now = let clash : Some after ≡ None = sym now ∙ none in cc
 
 -- where the caller changed an inode, it may give it to the owners that it has then
 keeps-changed : (S : State) (cred : Caller) (number : ℕ) (inode changed : Inode) → is_superuser cred ≡ false
@@ -63,10 +65,19 @@ keeps-changed S cred number inode changed other there may q one after at now =
         let is : changed ≡ after = cc in
         let parts = may_give-parts cred inode changed.owners other may in
         let user : changed.owners.uid ≡ inode.owners.uid = equal changed.owners.uid inode.owners.uid parts.1 in
-        subst (Keeps cred one) is (subst (λ (i : Inode). Keeps cred i changed) was (record { user = user; group = parts.2 }))
+        subst (Keeps cred one) is (subst (λ (i : Inode). Keeps cred i changed) was (record { user = user; group = parts.2; project = same_id changed.owners.project inode.owners.project parts.3 }))
       where
         equal : (m n : ℕ) → (m == n) ≡ true → m ≡ n
         equal m n same = grind (arith, tests, same)
+
+        same_id : (o p : Option ℕ) → is_same_id o p ≡ true → o ≡ p
+        same_id None None same = refl
+        same_id None (Some n) same = cc
+        same_id (Some m) None same = cc
+        same_id (Some m) (Some n) same = ap Some (equal-id m n same)
+          where
+            equal-id : (m n : ℕ) → (m == n) ≡ true → m ≡ n
+            equal-id m n same = grind (arith, tests, same)
     by false here then = keeps-itself cred one after (sym at ∙ then)
 
 -- what the sweep leaves stood before
@@ -83,6 +94,7 @@ results_swept S cred names =
       made = λ q after none now. let clash : Some after ≡ None = sym (was q after now) ∙ none in cc;
       user = λ q one after at now. (keeps-itself cred one after (sym at ∙ was q after now)).user;
       group = λ q one after at now. (keeps-itself cred one after (sym at ∙ was q after now)).group;
+      project = λ q one after at now. (keeps-itself cred one after (sym at ∙ was q after now)).project;
     }
 
 results_keep : (S : State) (cred : Caller) → FitsTogether S → is_superuser cred ≡ false → HoldsOfResults (KeepsOwners cred S) S cred
@@ -94,22 +106,25 @@ results_keep S cred fits other = record {
       (inode_at-created-there S inode dir name q none (ap is_some at)) in
       record {
         made = λ q after absent_too now.
-            made-created S cred inode (is_at (nat_cmp q) S.next) (inode_at S q) after own absent_too
+            made-created S cred inode dir (is_at (nat_cmp q) S.next) (inode_at S q) after own absent_too
             (sym (inode_at-created S inode dir name q none) ∙ now);
         user = λ q one after at now. (keeps q one after at now).user;
         group = λ q one after at now. (keeps q one after at now).group;
+        project = λ q one after at now. (keeps q one after at now).project;
       };
   changed = λ number inode after there follows may. record {
     made = λ q then none now.
         let clash = not-made number inode after there q then none now in absurd clash;
     user = λ q one then at now. (keeps-changed S cred number inode after other there may q one then at now).user;
     group = λ q one then at now. (keeps-changed S cred number inode after other there may q one then at now).group;
+    project = λ q one then at now. (keeps-changed S cred number inode after other there may q one then at now).project;
   };
   removed = λ dir name number inode led there empty may. results_swept S cred (without_name S dir name).names;
   linked = λ number inode dir name there file stands absent few. record {
     made = λ q after none now. let clash : Some after ≡ None = sym now ∙ none in cc;
     user = λ q one after at now. (keeps-itself cred one after (sym at ∙ now)).user;
     group = λ q one after at now. (keeps-itself cred one after (sym at ∙ now)).group;
+    project = λ q one after at now. (keeps-itself cred one after (sym at ∙ now)).project;
   };
   renamed = λ to dir name number inode to_dir to_name placed outside led there stands other empty may may_too few.
       results_swept S cred (with_name (without_name (without_name S dir name) to_dir to_name) to_dir to_name number).names;
@@ -133,5 +148,6 @@ owners_hold S cred moment call lawful other =
       made = λ q after none now. let clash : Some after ≡ None = sym now ∙ none in cc;
       user = λ q one after at now. (keeps-itself cred one after (sym at ∙ now)).user;
       group = λ q one after at now. (keeps-itself cred one after (sym at ∙ now)).group;
+      project = λ q one after at now. (keeps-itself cred one after (sym at ∙ now)).project;
     })
-    (λ new keeps granted. record { made = keeps.made; user = keeps.user; group = keeps.group })
+    (λ new keeps granted. record { made = keeps.made; user = keeps.user; group = keeps.group; project = keeps.project })

@@ -3,6 +3,7 @@ pub mod Numbering
 pub mod Refused
 pub mod Within
 pub mod Balance
+pub mod Undeclared
 pub mod Trying
 pub mod Becoming
 pub mod Tables

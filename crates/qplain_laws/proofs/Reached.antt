@@ -30,4 +30,4 @@ all_stay_reached S cred moment call lawful all =
     (λ new reached granted. walks-same new (ends_after new moment).holders new.graces reached)
 
 pub start_is_reached : StartIsReached
-start_is_reached s = All-cons (λ e. IsReached (start s) e.0) (ROOT, root) [] ([], refl) (All-nil (λ e. IsReached (start s) e.0))
+start_is_reached s = All-cons (λ e. IsReached (start s) e.0) (ROOT, root s) [] ([], refl) (All-nil (λ e. IsReached (start s) e.0))

@@ -1,18 +1,19 @@
 -- The plain results of all calls fit together.
-use Rattle.std.proofs.Common.{◌≡◌, ℕ, ◌&&◌, Bool, true, false, nat_lt, cond, List, None, slice_index_or, refl, ap, ◌∙◌}
+use Rattle.std.proofs.Common.{◌≡◌, ℕ, ◌&&◌, Bool, true, false, nat_lt, cond, List, None, slice_index_or, refl, ap, subst, sym, ◌∙◌}
 use Rattle.std.specs.Ordering.{nat_cmp}
 use Rattle.qrules.specs.declared.limits.Limits.{Limits}
 use Rattle.qrules.specs.declared.graces.Graces.{Graces}
 use Rattle.qplain.specs.Caller.{Caller}
 use Rattle.qplain.specs.declared.bounds.TheConstants.{MAX_LINKS}
-use Rattle.qplain.specs.State.{Holder, Inode, State, named}
+use Rattle.qplain.specs.State.{Holder, Inode, State, is_directory, named}
 use Rattle.qplain.specs.Use.{has_too_many_links, links_of}
-use Rattle.qplain.specs.Arguments.{is_holder}
+use Rattle.qplain.specs.Arguments.{is_holder, is_known}
 use Rattle.qplain.specs.Names.{created}
 use Rattle.qplain.specs.Quotas.{relimited}
-use Rattle.qplain_laws.specs.Laws.{FitsTogether}
-use Rattle.qplain_laws.proofs.Becoming.{HoldsOfResults}
-use Rattle.qplain_laws.proofs.Fitting.{changed_fits, created_fits, fits-map}
+use Rattle.qplain_laws.specs.Laws.{AreKnown, FitsTogether}
+use Rattle.qplain_laws.proofs.Becoming.{HoldsOfResults, IsOwn}
+use Rattle.qplain_laws.proofs.Fitting.{changed_fits, created_fits, fits-map, known-project}
+use Rattle.qplain_laws.proofs.Sound.{known-made}
 use Rattle.qplain_laws.proofs.FewLinks.{few-links, none-too_many, too_many-same}
 use Rattle.qplain_laws.proofs.Finding.{found-at}
 use Rattle.qplain_laws.proofs.Linking.{links_of-created-others, links_of-new_file}
@@ -59,11 +60,17 @@ few-created S inode dir name fits absent few = by inode.dir refl few
         (ap (λ b. nat_lt MAX_LINKS (links_of (created S inode dir name) S.next b)) is_file
         ∙ ap (nat_lt MAX_LINKS) (links_of-new_file S inode dir name fits absent)))
 
+-- what a caller who is known makes in a directory has known owners
+pub known-created : (S : State) (cred : Caller) (inode : Inode) (dir : ℕ) → FitsTogether S → IsOwn S cred dir inode → is_known S cred ≡ true
+    → is_directory S dir ≡ true → AreKnown S inode.owners
+known-created S cred inode dir fits own known stands =
+    subst (AreKnown S) (sym own) (known-made S cred dir known (known-project S dir fits stands))
+
 -- every plain result fits together
 pub results_fit : (S : State) (cred : Caller) → FitsTogether S → HoldsOfResults FitsTogether S cred
 results_fit S cred fits = record {
   created = λ inode dir name own known sound stands absent few.
-      created_fits S inode dir name fits stands absent known sound (few-created S inode dir name fits absent few);
+      created_fits S inode dir name fits stands absent (known-created S cred inode dir fits own known stands) sound (few-created S inode dir name fits absent few);
   changed = λ number inode after there follows may. changed_fits S number inode after there follows fits;
   removed = λ dir name number inode led there empty may.
       removed_fits S dir name number led fits (unfilled S fits number inode there empty);

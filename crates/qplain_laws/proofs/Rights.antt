@@ -8,7 +8,7 @@ use Rattle.qplain.specs.declared.owners.Owners.{Owners}
 use Rattle.qplain.specs.Caller.{Caller, is_superuser}
 use Rattle.qplain.specs.State.{Inode, State, inode_at, is_directory, name_key_cmp, named}
 use Rattle.qplain.specs.Use.{has_name, is_empty}
-use Rattle.qplain.specs.Rights.{is_member, is_owner, may_give, may_remove, owns}
+use Rattle.qplain.specs.Rights.{is_member, is_owner, is_same_id, may_give, may_remove, owns}
 use Rattle.qplain.specs.Files.{with_inode}
 use Rattle.qplain.specs.Renames.{passes, renamed}
 use Rattle.qplain.specs.Names.{created, swept, with_name, without_name}
@@ -16,7 +16,7 @@ use Rattle.qplain_laws.specs.Laws.{FitsTogether, LeavesToOthers, RightsHold, is_
 use Rattle.qplain_laws.proofs.Becoming.{HoldsOfResults, step-becomes}
 use Rattle.qplain_laws.proofs.Trying.{true-from_not}
 use Rattle.qplain_laws.proofs.Fitting.{created_fits}
-use Rattle.qplain_laws.proofs.Results.{few-created}
+use Rattle.qplain_laws.proofs.Results.{few-created, known-created}
 use Rattle.qplain_laws.proofs.Finding.{more-kept}
 use Rattle.qplain_laws.proofs.Naming.{has_name-with}
 use Rattle.qplain_laws.proofs.Renaming.{named-U, named-V, remove-none, sorted-U}
@@ -38,19 +38,22 @@ kept S cred fits = record {
   names = λ dir number name leads directory others. leads;
 }
 
--- who may give an inode away, and is not the superuser, owns it, keeps its user, and keeps its group or has the new one
+-- who may give an inode away, and is not the superuser, owns it, keeps its user and its project, and keeps its group or has
+-- the new one
 pub may_give-parts : (cred : Caller) (inode : Inode) (owners : Owners) → is_superuser cred ≡ false → may_give cred inode owners ≡ true
     → (is_owner cred inode ≡ true) × ((owners.uid == inode.owners.uid) ≡ true)
-    × ((owners.gid == inode.owners.gid || is_member cred owners.gid) ≡ true)
+    × ((owners.gid == inode.owners.gid || is_member cred owners.gid) ≡ true) × (is_same_id owners.project inode.owners.project ≡ true)
 may_give-parts cred inode owners other may =
-    by (is_superuser cred) (is_owner cred inode) (owners.uid == inode.owners.uid) (owners.gid == inode.owners.gid || is_member cred owners.gid) other may
+    by (is_superuser cred) (is_owner cred inode) (owners.uid == inode.owners.uid) (owners.gid == inode.owners.gid || is_member cred owners.gid)
+    (is_same_id owners.project inode.owners.project) other may
   where
-    by : (a b c d : Bool) → a ≡ false → (a || b && c && d) ≡ true → (b ≡ true) × (c ≡ true) × (d ≡ true)
-    by true b c d e h = cc
-    by false true true true e h = (refl, refl, refl)
-    by false true true false e h = cc
-    by false true false d e h = cc
-    by false false c d e h = cc
+    by : (a b c d e : Bool) → a ≡ false → (a || b && c && d && e) ≡ true → (b ≡ true) × (c ≡ true) × (d ≡ true) × (e ≡ true)
+    by true b c d e f h = cc
+    by false true true true true f h = (refl, refl, refl, refl)
+    by false true true true false f h = cc
+    by false true true false e f h = cc
+    by false true false d e f h = cc
+    by false false c d e f h = cc
 
 -- an inode of others is not the one that the caller changed
 inode-kept : (S : State) (cred : Caller) (number : ℕ) (inode after : Inode) → inode_at S number ≡ Some inode
@@ -172,7 +175,7 @@ results_leave S cred fits other = record {
         inode_at-created-there S inode dir name q (absent-fresh S.inodes S.next fits.inodes.fresh) (ap is_some at) ∙ at in
         while-named (created S inode dir name) q there still
         (has_name-there (created S inode dir name)
-        (created_fits S inode dir name fits stands absent known sound (few-created S inode dir name fits absent few)) q (ap is_some still));
+        (created_fits S inode dir name fits stands absent (known-created S cred inode dir fits own known stands) sound (few-created S inode dir name fits absent few)) q (ap is_some still));
     names = λ parent number name_too leads directory others. named-kept S inode dir name parent number name_too absent leads;
   };
   changed = λ number inode after there follows may. record {

@@ -5,16 +5,16 @@ use Rattle.std.specs.List.Sorted.{IsStrictlySortedBy}
 use Rattle.std.proofs.lemmas.List.Kept.{IsStrictlySortedBy-filter}
 use Rattle.qblocks.specs.File.{File, after_truncate, after_write, begins_below, empty_file, size_of, with_touched}
 use Rattle.qblocks.proofs.Indexes.{Rises, Rises-with_index}
-use Rattle.std.specs.Option.{unwrap_or}
+use Rattle.std.specs.Option.{option_or, unwrap_or}
 use Rattle.std.proofs.lemmas.Bool.{and_parts}
 use Rattle.qrules.specs.declared.kind.Kind.{Kind}
-use Rattle.qrules.specs.declared.kind.Kind.TheVariants.{User, Group}
+use Rattle.qrules.specs.declared.kind.Kind.TheVariants.{User, Group, Project}
 use Rattle.qrules.proofs.Ranks.{each_kind}
-use Rattle.qplain.specs.State.{Inode, State}
+use Rattle.qplain.specs.State.{Inode, State, inode_at}
 use Rattle.qplain.specs.Arguments.{is_declared, is_known, is_undeclared}
 use Rattle.qplain.specs.Caller.{Caller}
 use Rattle.std.specs.List.{list_all}
-use Rattle.qplain.specs.Names.{owners_by}
+use Rattle.qplain.specs.Names.{owners_by, project_of}
 use Rattle.qplain.specs.Owners.{renewed, with_owners}
 use Rattle.qplain.specs.Use.{owner}
 use Rattle.qplain_laws.specs.Laws.{AreKnown, IsSound, is_known_owner}
@@ -78,23 +78,31 @@ truncated-follows S inode size is_file below =
     file-follows S inode (after_truncate inode.file size) is_file (in_order-after_truncate inode.file size)
     (right_sized-truncated S.file_limit inode.file size below)
 
+true-from_not : (b : Bool) → not b ≡ false → b ≡ true
+true-from_not true h = refl
+true-from_not false h = cc
+
 -- a principal that is declared, or that is not named, is known
 declared-known : (S : State) (kind : Kind) (o : Option ℕ) (old : ℕ) → is_undeclared S kind o ≡ false → is_known_owner S kind (Some old) ≡ true
     → is_known_owner S kind (Some (unwrap_or o old)) ≡ true
 declared-known S kind None old named known = known
 declared-known S kind (Some id) old named known = true-from_not (is_declared S kind id) named
-  where
-    true-from_not : (b : Bool) → not b ≡ false → b ≡ true
-    true-from_not true h = refl
-    true-from_not false h = cc
+
+-- the same where there may be none
+declared-known_if_any : (S : State) (kind : Kind) (o old : Option ℕ) → is_undeclared S kind o ≡ false → is_known_owner S kind old ≡ true
+    → is_known_owner S kind (option_or o old) ≡ true
+declared-known_if_any S kind None old named known = known
+declared-known_if_any S kind (Some id) old named known = declared-known S kind (Some id) id named (true-from_not (is_declared S kind id) named)
 
 -- an inode may follow under owners that are declared
-pub owned-follows : (S : State) (inode : Inode) (uid gid : Option ℕ) → is_undeclared S User uid ≡ false → is_undeclared S Group gid ≡ false
-    → MayFollow S inode (with_owners inode (renewed uid gid inode.owners))
-owned-follows S inode uid gid user group = record {
+pub owned-follows : (S : State) (inode : Inode) (uid gid project : Option ℕ) → is_undeclared S User uid ≡ false
+    → is_undeclared S Group gid ≡ false → is_undeclared S Project project ≡ false
+    → MayFollow S inode (with_owners inode (renewed uid gid project inode.owners))
+owned-follows S inode uid gid project user group of_project = record {
   dir = refl;
-  owners = λ known. each_kind (λ kind. is_known_owner S kind (owner kind (renewed uid gid inode.owners)) ≡ true)
-      (declared-known S User uid inode.owners.uid user (known User)) (declared-known S Group gid inode.owners.gid group (known Group));
+  owners = λ known. each_kind (λ kind. is_known_owner S kind (owner kind (renewed uid gid project inode.owners)) ≡ true)
+      (declared-known S User uid inode.owners.uid user (known User)) (declared-known S Group gid inode.owners.gid group (known Group))
+      (declared-known_if_any S Project project inode.owners.project of_project (known Project));
   sound = λ sound. record { holds_nothing = sound.holds_nothing; in_order = sound.in_order };
   size = λ right. record { size = right.size; blocks = right.blocks };
 }
@@ -107,9 +115,10 @@ empty-sound inode empty = record {
   in_order = subst (λ (file : File). IsStrictlySortedBy nat_cmp file.allocated) (sym empty) tt;
 }
 
--- what belongs to a caller who is known has known owners
-pub known-caller : (S : State) (cred : Caller) → is_known S cred ≡ true → AreKnown S (owners_by cred)
-known-caller S cred known =
+-- what a caller who is known makes in a directory has known owners, where the directory has
+pub known-made : (S : State) (cred : Caller) (dir : ℕ) → is_known S cred ≡ true
+    → is_known_owner S Project (project_of (inode_at S dir)) ≡ true → AreKnown S (owners_by S cred dir)
+known-made S cred dir known of_dir =
     let parts = and_parts (is_declared S User cred.uid) (is_declared S Group cred.gid && list_all (is_declared S Group) cred.more) known in
-    each_kind (λ kind. is_known_owner S kind (owner kind (owners_by cred)) ≡ true)
-    parts.0 (and_parts (is_declared S Group cred.gid) (list_all (is_declared S Group) cred.more) parts.1).0
+    each_kind (λ kind. is_known_owner S kind (owner kind (owners_by S cred dir)) ≡ true)
+    parts.0 (and_parts (is_declared S Group cred.gid) (list_all (is_declared S Group) cred.more) parts.1).0 of_dir

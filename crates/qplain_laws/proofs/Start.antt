@@ -7,11 +7,11 @@ use Rattle.std.specs.Ordering.{nat_cmp, ordering_then}
 use Rattle.std.proofs.lemmas.List.Elements.{All-append, All-cons, All-map, All-nil, recursion_from_All}
 use Rattle.std.proofs.lemmas.List.Folds.{list_any-append}
 use Rattle.qrules.specs.declared.kind.Kind.{Kind}
-use Rattle.qrules.specs.declared.kind.Kind.TheVariants.{User, Group}
+use Rattle.qrules.specs.declared.kind.Kind.TheVariants.{User, Group, Project}
 use Rattle.qrules.specs.Kinds.{is_same_kind, rank_of}
 use Rattle.qrules.specs.Sort.{is_over}
 use Rattle.qrules.proofs.Ranks.{each_kind, same_kind-refl}
-use Rattle.std.proofs.lemmas.Bool.{or_left}
+use Rattle.std.proofs.lemmas.Bool.{and_parts, or_left, or_parts}
 use Rattle.std.specs.declared.cmp.Ordering.{Ordering}
 use Rattle.qrules.specs.Account.{HasEnds}
 use Rattle.qplain.specs.declared.principal.Principal.{Principal}
@@ -19,12 +19,12 @@ use Rattle.qplain.specs.declared.setup.SetupFault.TheVariants.{Range, Duplicate,
 use Rattle.qrules.specs.Range.{are_graces_in_range}
 use Rattle.qplain.specs.declared.setup.TheConstants.{MAX_BLOCKS, MAX_INODES}
 use Rattle.qplain.specs.declared.bounds.TheConstants.{ROOT}
-use Rattle.qplain.specs.Principals.{are_in_range, collide, has_duplicate, has_zero}
+use Rattle.qplain.specs.Principals.{are_in_range, collide, has_duplicate, has_zero, if_any}
 use Rattle.qplain.specs.Setups.{IsLawfulSetup, Setting, is_in_range, principals_in, setup_fault}
-use Rattle.qplain.specs.State.{Holder, declared_in, holder_cmp, holder_of, root, start}
+use Rattle.qplain.specs.State.{Holder, declared_in, holder_cmp, holder_of, root, root_project, start}
 use Rattle.qplain.specs.Use.{account_of, belongs_to, owner}
 use Rattle.qplain.specs.Arguments.{is_declared, is_holder}
-use Rattle.qplain_laws.specs.Laws.{AreKnown, IsSound, StartIsLawful, has_right_names, is_known_owner, leads}
+use Rattle.qplain_laws.specs.Laws.{AreKnown, IsSound, StartIsLawful, has_kind, has_right_names, is_known_owner, leads}
 use Rattle.qplain_laws.proofs.Fitting.{or_right}
 use Rattle.qplain_laws.proofs.Sound.{empty-sound}
 use Rattle.qplain_laws.proofs.Orders.{nat_cmp-below}
@@ -33,31 +33,38 @@ use Rattle.qplain_laws.proofs.Orders.{nat_cmp-below}
 record HasPassed (s : Setting) : Type 0 where
   range : is_in_range s ≡ true
   single : (kind : Kind) → has_duplicate (principals_in kind s) ≡ false
-  zero : (kind : Kind) → has_zero (principals_in kind s) ≡ true
+  user : has_zero s.users ≡ true
+  group : has_zero s.groups ≡ true
+  project : if_any has_zero s.projects ≡ true
 
 passed : (s : Setting) → setup_fault s ≡ None → HasPassed s
 passed s granted =
-    let tests = by (is_in_range s) (has_duplicate s.users) (has_duplicate s.groups) (has_zero s.users) (has_zero s.groups) granted in
+    let tests = by (is_in_range s) (has_duplicate s.users || has_duplicate s.groups || has_duplicate s.projects)
+    (has_zero s.users && has_zero s.groups && if_any has_zero s.projects) granted in
+    let single = or_parts (has_duplicate s.users || has_duplicate s.groups) (has_duplicate s.projects) tests.1 in
+    let others = or_parts (has_duplicate s.users) (has_duplicate s.groups) single.0 in
+    let zero = and_parts (has_zero s.users && has_zero s.groups) (if_any has_zero s.projects) tests.2 in
+    let other = and_parts (has_zero s.users) (has_zero s.groups) zero.0 in
     record {
       range = tests.0;
-      single = each_kind (λ kind. has_duplicate (principals_in kind s) ≡ false) tests.1 tests.2;
-      zero = each_kind (λ kind. has_zero (principals_in kind s) ≡ true) tests.3 tests.4;
+      single = each_kind (λ kind. has_duplicate (principals_in kind s) ≡ false) others.0 others.1 single.1;
+      user = other.0;
+      group = other.1;
+      project = zero.1;
     }
   where
-    by : (r d e z w : Bool) → cond (not r) (Some Range) (cond (d || e) (Some Duplicate) (cond (not (z && w)) (Some NoZero) None)) ≡ None
-        → (r ≡ true) × (d ≡ false) × (e ≡ false) × (z ≡ true) × (w ≡ true)
-    by true false false true true h = (refl, refl, refl, refl, refl)
-    by false d e z w h = cc
-    by true true e z w h = cc
-    by true false true z w h = cc
-    by true false false false w h = cc
-    by true false false true false h = cc
+    by : (r d z : Bool) → cond (not r) (Some Range) (cond d (Some Duplicate) (cond (not z) (Some NoZero) None)) ≡ None
+        → (r ≡ true) × (d ≡ false) × (z ≡ true)
+    by true false true h = (refl, refl, refl)
+    by true false false h = cc
+    by true true z h = cc
+    by false d z h = cc
 
-third : (a b c d e f g : Bool) → (a && b && c && d && e && f && g) ≡ true → c ≡ true
-third a b true d e f g h = refl
-third true true false d e f g h = cc
-third true false false d e f g h = cc
-third false b false d e f g h = cc
+third : (a b c d e f g h : Bool) → (a && b && c && d && e && f && g && h) ≡ true → c ≡ true
+third a b true d e f g h i = refl
+third true true false d e f g h i = cc
+third true false false d e f g h i = cc
+third false b false d e f g h i = cc
 
 -- one inode or none is over no limit
 not_over-inodes : (b : Bool) (soft : ℕ) → is_over (0 + cond b 1 0) soft ≡ false
@@ -72,8 +79,8 @@ not_over-blocks false soft = grind (arith, tests)
 -- the holders of a new store have no ends, and are over no soft limit
 ends-start : (s : Setting) (kind : Kind) (p : Principal) → HasEnds (account_of (start s) (holder_of kind p))
 ends-start s kind p = record {
-  inodes = sym (not_over-inodes (belongs_to kind p.id root) p.limits.inode_soft);
-  blocks = sym (not_over-blocks (belongs_to kind p.id root) p.limits.block_soft);
+  inodes = sym (not_over-inodes (belongs_to kind p.id (root s)) p.limits.inode_soft);
+  blocks = sym (not_over-blocks (belongs_to kind p.id (root s)) p.limits.block_soft);
 }
 
 -- a kind with an id 0 declares it
@@ -82,10 +89,6 @@ declared-zero kind [] = refl
 declared-zero kind (p ∷ ps) =
     let here : (is_same_kind kind kind && 0 == p.id) ≡ (p.id == 0) = rw (same_kind-refl kind) (grind (arith, tests)) in
     λ i. here i || declared-zero kind ps i
-
-or_parts : (a b : Bool) → (a || b) ≡ false → (a ≡ false) × (b ≡ false)
-or_parts true b h = cc
-or_parts false b h = (refl, h)
 
 -- principals by id that do not collide come one after the other
 rank-itself : (kind : Kind) (x y : ℕ) → x < y → ordering_then (nat_cmp (rank_of kind) (rank_of kind)) (nat_cmp x y) ≡ Less
@@ -152,7 +155,11 @@ module _ (s : Setting) (setup : IsLawfulSetup s) where
 
   sorted-start : IsStrictlySortedBy holder_cmp (start s).holders
   sorted-start =
-      sorted-append User s.users (declared_in Group s) (sorted-kind User) (sorted-kind Group) (λ p. before-kind User Group refl p s.groups)
+      sorted-append User s.users (declared_in Group s ++ declared_in Project s) (sorted-kind User)
+      (sorted-append Group s.groups (declared_in Project s) (sorted-kind Group) (sorted-kind Project)
+      (λ p. before-kind Group Project refl p s.projects))
+      (λ p. above-append (holder_of User p) (declared_in Group s) (declared_in Project s)
+      (before-kind User Group refl p s.groups) (before-kind User Project refl p s.projects))
 
   ends-kind : (kind : Kind) → All (λ h. HasEnds (account_of (start s) h)) (declared_in kind s)
   ends-kind kind =
@@ -160,27 +167,55 @@ module _ (s : Setting) (setup : IsLawfulSetup s) where
       (λ k d below. ends-start s kind (slice_index_or (principals_in kind s) k d))
 
   ends-all : All (λ h. HasEnds (account_of (start s) h)) (start s).holders
-  ends-all = All-append (λ h. HasEnds (account_of (start s) h)) (declared_in User s) (declared_in Group s) (ends-kind User) (ends-kind Group)
+  ends-all =
+      All-append (λ h. HasEnds (account_of (start s) h)) (declared_in User s) (declared_in Group s ++ declared_in Project s) (ends-kind User)
+      (All-append (λ h. HasEnds (account_of (start s) h)) (declared_in Group s) (declared_in Project s) (ends-kind Group) (ends-kind Project))
 
-  zero-kind : (kind : Kind) → list_any (is_holder kind 0) (declared_in kind s) ≡ true
-  zero-kind kind = declared-zero kind (principals_in kind s) ∙ passes.zero kind
+  -- what some holder of a kind passes, some holder passes
+  among : (test : Holder → Bool) (kind : Kind) → list_any test (declared_in kind s) ≡ true → list_any test (start s).holders ≡ true
+  among test kind found =
+      list_any-append test (declared_in User s) (declared_in Group s ++ declared_in Project s)
+      ∙ ap (λ b. list_any test (declared_in User s) || b) (list_any-append test (declared_in Group s) (declared_in Project s))
+      ∙ each_kind (λ k. list_any test (declared_in k s) ≡ true
+      → (list_any test (declared_in User s) || (list_any test (declared_in Group s) || list_any test (declared_in Project s))) ≡ true)
+      (λ h. or_left (list_any test (declared_in User s)) _ h)
+      (λ h. or_right (list_any test (declared_in User s)) _ (or_left (list_any test (declared_in Group s)) _ h))
+      (λ h. or_right (list_any test (declared_in User s)) _ (or_right (list_any test (declared_in Group s)) _ h))
+      kind found
 
-  known-root : AreKnown (start s) root.owners
-  known-root =
-      let users : List Holder = declared_in User s in
-      let groups : List Holder = declared_in Group s in
-      let user : is_declared (start s) User 0 ≡ true =
-      list_any-append (is_holder User 0) users groups ∙ or_left (list_any (is_holder User 0) users) _ (zero-kind User) in
-      let group : is_declared (start s) Group 0 ≡ true =
-      list_any-append (is_holder Group 0) users groups ∙ or_right (list_any (is_holder Group 0) users) _ (zero-kind Group) in
-      each_kind (λ kind. is_known_owner (start s) kind (owner kind root.owners) ≡ true) user group
+  -- id 0 of a kind that has it is declared
+  zero-declared : (kind : Kind) → has_zero (principals_in kind s) ≡ true → is_declared (start s) kind 0 ≡ true
+  zero-declared kind zero = among (is_holder kind 0) kind (declared-zero kind (principals_in kind s) ∙ zero)
+
+  -- where no project is declared, there is no holder of the kind
+  no-project : s.projects ≡ [] → has_kind (start s) Project ≡ false
+  no-project none =
+      list_any-append (λ h. is_same_kind Project h.kind) (declared_in User s) (declared_in Group s ++ declared_in Project s)
+      ∙ ap (λ b. list_any (λ h. is_same_kind Project h.kind) (declared_in User s) || b)
+      (list_any-append (λ h. is_same_kind Project h.kind) (declared_in Group s) (declared_in Project s))
+      ∙ (λ i. others User refl s.users i || (others Group refl s.groups i || list_any (λ h. is_same_kind Project h.kind) (map (holder_of Project) (none i))))
+    where
+      others : (kind : Kind) → is_same_kind Project kind ≡ false → (ps : List Principal)
+          → list_any (λ h. is_same_kind Project h.kind) (map (holder_of kind) ps) ≡ false
+      others kind other [] = refl
+      others kind other (p ∷ ps) = λ i. other i || others kind other ps i
+
+  -- the project of the root is known
+  known-root_project : (ps : List Principal) → s.projects ≡ ps → if_any has_zero ps ≡ true
+      → is_known_owner (start s) Project (root_project ps) ≡ true
+  known-root_project [] same zero = ap not (no-project same)
+  known-root_project (p ∷ ps) same zero = zero-declared Project (ap has_zero same ∙ zero)
+
+  known-root : AreKnown (start s) (root s).owners
+  known-root = each_kind (λ kind. is_known_owner (start s) kind (owner kind (root s).owners) ≡ true)
+      (zero-declared User passes.user) (zero-declared Group passes.group) (known-root_project s.projects refl passes.project)
 
 pub start_is_lawful : StartIsLawful
 unfolding IsStrictlySortedBy
 start_is_lawful s setup =
     let one : nat_le 1 s.inodes ≡ true =
-    third (nat_le 1 s.blocks) (nat_le s.blocks MAX_BLOCKS) (nat_le 1 s.inodes) (nat_le s.inodes MAX_INODES)
-    (are_graces_in_range s.graces) (are_in_range s.users) (are_in_range s.groups) (passes s setup).range in
+    third (nat_le 1 s.blocks) (nat_le s.blocks MAX_BLOCKS) (nat_le 1 s.inodes) (nat_le s.inodes MAX_INODES) (are_graces_in_range s.graces)
+    (are_in_range s.users) (are_in_range s.groups) (if_any are_in_range s.projects) (passes s setup).range in
     record {
       blocks_fit = omega arith;
       inodes_fit = grind (arith, tests, one);
@@ -191,16 +226,16 @@ start_is_lawful s setup =
         holders = sorted-start s setup;
         inodes = record {
           in_order = (tt, tt);
-          fresh = All-cons (λ e. nat_lt e.0 2 ≡ true) (ROOT, root) [] refl (All-nil (λ e. nat_lt e.0 2 ≡ true));
-          owners_known = All-cons (λ inode. AreKnown (start s) inode.owners) root [] (known-root s setup)
+          fresh = All-cons (λ e. nat_lt e.0 2 ≡ true) (ROOT, root s) [] refl (All-nil (λ e. nat_lt e.0 2 ≡ true));
+          owners_known = All-cons (λ inode. AreKnown (start s) inode.owners) (root s) [] (known-root s setup)
               (All-nil (λ inode. AreKnown (start s) inode.owners));
-          sound = All-cons IsSound root [] (empty-sound root refl) (All-nil IsSound);
+          sound = All-cons IsSound (root s) [] (empty-sound (root s) refl) (All-nil IsSound);
           root_stands = refl;
         };
         names = record {
           in_order = tt;
           lead = All-nil (λ e. leads (start s) e ≡ true);
-          counted = All-cons (λ e. has_right_names (start s) e ≡ true) (ROOT, root) [] refl (All-nil (λ e. has_right_names (start s) e ≡ true));
+          counted = All-cons (λ e. has_right_names (start s) e ≡ true) (ROOT, root s) [] refl (All-nil (λ e. has_right_names (start s) e ≡ true));
         };
       };
     }

@@ -15,7 +15,7 @@ use Rattle.qplain.specs.declared.setup.SetupFault.TheVariants.{Range}
 use Rattle.qplain.specs.declared.setup.TheConstants.{MAX_BLOCKS, MAX_INODES}
 use Rattle.qplain.specs.declared.tallies.Tallies.{Tallies}
 use Rattle.qplain.specs.Caller.{Caller}
-use Rattle.qplain.specs.Principals.{are_in_range}
+use Rattle.qplain.specs.Principals.{are_in_range, if_any}
 use Rattle.qplain.specs.Setups.{IsLawfulSetup, Setting, is_in_range}
 use Rattle.qplain.specs.State.{State, start}
 use Rattle.qplain.specs.Use.{total_of}
@@ -118,20 +118,20 @@ in_range : (b : Bool) (later : Option SetupFault) → cond (not b) (Some Range) 
 in_range true later h = refl
 in_range false later h = cc
 
--- the second and the fourth of seven tests
-two_of : (a b c d e f g : Bool) → (a && b && c && d && e && f && g) ≡ true → (b ≡ true) × (d ≡ true)
-two_of true true true true e f g h = (refl, refl)
-two_of false b c d e f g h = cc
-two_of true false c d e f g h = cc
-two_of true true false d e f g h = cc
-two_of true true true false e f g h = cc
+-- the second and the fourth of eight tests
+two_of : (a b c d e f g h : Bool) → (a && b && c && d && e && f && g && h) ≡ true → (b ≡ true) × (d ≡ true)
+two_of true true true true e f g h i = (refl, refl)
+two_of false b c d e f g h i = cc
+two_of true false c d e f g h i = cc
+two_of true true false d e f g h i = cc
+two_of true true true false e f g h i = cc
 
 -- the bounds of a lawful setup are bounds that a setup may have
 pub setup-small : (s : Setting) → IsLawfulSetup s → (s.blocks ≤ MAX_BLOCKS) × (s.inodes ≤ MAX_INODES)
 setup-small s setup =
     let ranges : is_in_range s ≡ true = in_range (is_in_range s) _ setup.granted in
     let tests_of = two_of (nat_le 1 s.blocks) (nat_le s.blocks MAX_BLOCKS) (nat_le 1 s.inodes) (nat_le s.inodes MAX_INODES)
-    (are_graces_in_range s.graces) (are_in_range s.users) (are_in_range s.groups) ranges in
+    (are_graces_in_range s.graces) (are_in_range s.users) (are_in_range s.groups) (if_any are_in_range s.projects) ranges in
     (grind (arith, tests, tests_of.0), grind (arith, tests, tests_of.1))
 
 pub changes_are_small : ChangesAreSmall

@@ -6,6 +6,7 @@ use Rattle.std.specs.List.{list_any}
 use Rattle.std.specs.List.Sorted.{IsStrictlySortedBy}
 use Rattle.qrules.specs.declared.kind.Kind.{Kind}
 use Rattle.qrules.specs.declared.kind.Kind.TheVariants.{User, Group}
+use Rattle.qrules.specs.declared.over.Over.{Over}
 use Rattle.qrules.specs.Kinds.{is_same_kind}
 use Rattle.qrules.specs.Sort.{Sort, Inodes, Blocks, amount_of, hard_limit, soft_limit, is_over}
 use Rattle.qrules.specs.Account.{Account, HasEnds, count_in, end_in}
@@ -26,7 +27,7 @@ use Rattle.qplain.specs.State.{Holder, Inode, NameKey, State, holder_cmp, inode_
 use Rattle.qplain.specs.Use.{account_of, has_name, has_too_many_links, names_to, owner, total_of, use_of}
 use Rattle.qplain.specs.Walk.{walk}
 use Rattle.qplain.specs.Arguments.{is_declared}
-use Rattle.qplain.specs.Decision.{ends_after, with_ends_of}
+use Rattle.qplain.specs.Decision.{ends_after, refusal_between, with_ends_of}
 use Rattle.qplain.specs.Quotas.{relimited}
 use Rattle.qplain.specs.Step.{step}
 
@@ -235,8 +236,8 @@ abbrev pub RightsHold : Type 0
 RightsHold = (S : State) (cred : Caller) (moment : ℕ) (call : Call) → IsLawful S → is_superuser cred ≡ false
     → LeavesToOthers cred S (step S cred moment call).0
 
--- whose inodes are after a caller's call: a new one is the caller's and its first group's; any other is its user's
--- still, and its group's or that of one of the caller's groups
+-- whose inodes are after a caller's call: a new one is the caller's and its first group's; any other is its user's and
+-- its project's still, and its group's or that of one of the caller's groups
 pub record KeepsOwners (cred : Caller) (old new : State) : Type 0 where
   pub made : (number : ℕ) (after : Inode) → inode_at old number ≡ None → inode_at new number ≡ Some after
       → (after.owners.uid ≡ cred.uid) × (after.owners.gid ≡ cred.gid)

@@ -80,7 +80,7 @@ MayUnlink = Plays
     ∷ (line 0 ann (Unlink (codes "/a")), Refused ENOENT) ∷ (line 0 ann (Unlink (codes "/a/b")), Refused ENOENT)
     ∷ (line 0 bob create_a, done 2 0 1) ∷ (line 0 ann (Unlink (codes "/a/b")), Refused ENOTDIR)
     ∷ (line 0 ann (Unlink (codes "/a")), Refused EPERM) ∷ (line 0 root_caller (Unlink (codes "/a")), less 2 0 1)
-    ∷ (line 0 bob create_a, done 3 0 1) ∷ (line 0 root_caller (Chown (codes "/") (Some 1000) None), done 1 0 0)
+    ∷ (line 0 bob create_a, done 3 0 1) ∷ (line 0 root_caller (Chown (codes "/") (Some 1000) None None), done 1 0 0)
     ∷ (line 0 ann (Unlink (codes "/a")), less 3 0 1) ∷ [])
 
 -- a record that counts inodes: bob may have one for good, and three until the end
@@ -111,10 +111,10 @@ abbrev pub OtherGroup : Type 0
 OtherGroup = Plays
     ((line 0 root_caller (SetQuota Group 100 (record free { block_hard = 4 })), done 0 0 0)
     ∷ (line 0 bob create_a, done 2 0 1) ∷ (line 0 bob (fill_a 0 8192), done 2 2 0)
-    ∷ (line 0 bob (Chown (codes "/a") (Some 1000) None), Refused EPERM)
-    ∷ (line 0 bob (Chown (codes "/a") None (Some 100)), Refused (EDQUOT Group BlockHard))
+    ∷ (line 0 bob (Chown (codes "/a") (Some 1000) None None), Refused EPERM)
+    ∷ (line 0 bob (Chown (codes "/a") None (Some 100) None), Refused (EDQUOT Group BlockHard))
     ∷ (line 0 root_caller (AskQuota Group 0), record_of 2 2 0 0 None)
-    ∷ (line 0 root_caller (Chown (codes "/a") None (Some 100)), done 2 0 0)
+    ∷ (line 0 root_caller (Chown (codes "/a") None (Some 100) None), done 2 0 0)
     ∷ (line 0 root_caller (AskQuota Group 100), record_of 2 1 0 4 None)
     ∷ (line 0 root_caller (AskQuota Group 0), record_of 0 1 0 0 None) ∷ [])
 
@@ -123,35 +123,35 @@ abbrev pub OnlyWhatRises : Type 0
 OnlyWhatRises = Plays
     ((line 0 root_caller (SetQuota Group 100 (record free { block_hard = 4; inode_hard = 2 })), done 0 0 0)
     ∷ (line 0 ann create_a, done 2 0 1) ∷ (line 0 ann (fill_a 0 4096), done 2 1 0)
-    ∷ (line 0 bob (Create (codes "/b")), done 3 0 1) ∷ (line 0 bob (Chown (codes "/b") None (Some 100)), done 3 0 0)
+    ∷ (line 0 bob (Create (codes "/b")), done 3 0 1) ∷ (line 0 bob (Chown (codes "/b") None (Some 100) None), done 3 0 0)
     ∷ (line 0 bob (Create (codes "/c")), done 4 0 1)
-    ∷ (line 0 bob (Chown (codes "/c") None (Some 100)), Refused (EDQUOT Group InodeHard)) ∷ [])
+    ∷ (line 0 bob (Chown (codes "/c") None (Some 100) None), Refused (EDQUOT Group InodeHard)) ∷ [])
 
 -- who may give what to whom, and in which order that is refused; the present owners may be named by the owner alone
 abbrev pub MayGive : Type 0
 MayGive = Plays
-    ((line 0 bob (Chown (codes "/a") None (Some 7)), Refused EINVAL)
-    ∷ (line 0 bob (Chown (codes "/a") (Some 7) None), Refused EINVAL)
-    ∷ (line 0 bob (Chown (codes "/a") None None), Refused ENOENT) ∷ (line 0 bob create_a, done 2 0 1)
-    ∷ (line 0 ann (Chown (codes "/a") None None), Refused EPERM)
-    ∷ (line 0 ann (Chown (codes "/a") (Some 1000) (Some 100)), Refused EPERM)
-    ∷ (line 0 bob (Chown (codes "/a") (Some 1000) (Some 100)), Refused EPERM)
-    ∷ (line 0 bob (Chown (codes "/a") (Some 1001) (Some 0)), done 2 0 0)
-    ∷ (line 0 bob (Chown (codes "/a") None (Some 100)), done 2 0 0)
+    ((line 0 bob (Chown (codes "/a") None (Some 7) None), Refused EINVAL)
+    ∷ (line 0 bob (Chown (codes "/a") (Some 7) None None), Refused EINVAL)
+    ∷ (line 0 bob (Chown (codes "/a") None None None), Refused ENOENT) ∷ (line 0 bob create_a, done 2 0 1)
+    ∷ (line 0 ann (Chown (codes "/a") None None None), Refused EPERM)
+    ∷ (line 0 ann (Chown (codes "/a") (Some 1000) (Some 100) None), Refused EPERM)
+    ∷ (line 0 bob (Chown (codes "/a") (Some 1000) (Some 100) None), Refused EPERM)
+    ∷ (line 0 bob (Chown (codes "/a") (Some 1001) (Some 0) None), done 2 0 0)
+    ∷ (line 0 bob (Chown (codes "/a") None (Some 100) None), done 2 0 0)
     ∷ (line 0 bob (AskQuota Group 100), record_of 0 1 0 0 None)
-    ∷ (line 0 (record bob { more = [] }) (Chown (codes "/a") None (Some 100)), done 2 0 0)
-    ∷ (line 0 (record bob { gid = 100; more = [] }) (Chown (codes "/a") None (Some 0)), Refused EPERM)
-    ∷ (line 0 bob (Chown (codes "/") None None), Refused EPERM)
-    ∷ (line 0 root_caller (Chown (codes "/") (Some 1001) (Some 100)), done 1 0 0)
+    ∷ (line 0 (record bob { more = [] }) (Chown (codes "/a") None (Some 100) None), done 2 0 0)
+    ∷ (line 0 (record bob { gid = 100; more = [] }) (Chown (codes "/a") None (Some 0) None), Refused EPERM)
+    ∷ (line 0 bob (Chown (codes "/") None None None), Refused EPERM)
+    ∷ (line 0 root_caller (Chown (codes "/") (Some 1001) (Some 100) None), done 1 0 0)
     ∷ (line 0 bob (AskQuota Group 100), record_of 0 2 0 0 None) ∷ [])
 
 -- given to ann, a file begins her grace and takes what bob used; given back, it ends that
 abbrev pub EndsMove : Type 0
 EndsMove = Plays
     ((line 0 bob create_a, done 2 0 1) ∷ (line 0 bob (fill_a 0 20480), done 2 5 0)
-    ∷ (line 500 root_caller (Chown (codes "/a") (Some 1000) (Some 100)), done 2 0 0)
+    ∷ (line 500 root_caller (Chown (codes "/a") (Some 1000) (Some 100) None), done 2 0 0)
     ∷ (line 500 ann (AskQuota User 1000), record_of 5 1 8 16 (Some 600))
     ∷ (line 500 bob (AskQuota User 1001), record_of 0 0 0 0 None)
-    ∷ (line 700 root_caller (Chown (codes "/a") (Some 1001) None), done 2 0 0)
+    ∷ (line 700 root_caller (Chown (codes "/a") (Some 1001) None None), done 2 0 0)
     ∷ (line 700 ann (AskQuota User 1000), record_of 0 0 8 16 None)
     ∷ (line 700 bob (AskQuota User 1001), record_of 5 1 0 0 None) ∷ [])

@@ -68,7 +68,7 @@ MayRemoveDirectories = Plays
     ∷ (line 0 ann (Mkdir (codes "/d/e")), done 4 0 1) ∷ (line 0 ann (Rmdir (codes "/d")), Refused EPERM)
     ∷ (line 0 bob (Rmdir (codes "/d")), Refused ENOTEMPTY) ∷ (line 0 bob (Rmdir (codes "/d/e")), less 4 0 1)
     ∷ (line 0 ann (Rmdir (codes "/d")), Refused EPERM)
-    ∷ (line 0 root_caller (Chown (codes "/") (Some 1000) None), done 1 0 0)
+    ∷ (line 0 root_caller (Chown (codes "/") (Some 1000) None None), done 1 0 0)
     ∷ (line 0 ann (Rmdir (codes "/d")), less 3 0 1)
     ∷ (line 0 bob (Mkdir (codes "/d")), done 5 0 1) ∷ (line 0 root_caller (Rmdir (codes "/d")), less 5 0 1) ∷ [])
 

@@ -3,6 +3,7 @@ ghost use Rattle.qplain_laws.specs.Examples.{BoardOfJournal, CreateWriteStat, Ed
 ghost use Rattle.qplain_laws.specs.MoreExamples.{EndsMove, GrownAgain, InodesGivenBack, LastName, MayGive, MayTruncate, MayUnlink, NoNumberAgain, OnlyWhatRises, OtherGroup, Shorter, ShorterByBytes};
 ghost use Rattle.qplain_laws.specs.EdgeExamples.{BothLimitsAtOnce, ExactlyFull, InsideAFile, LargestLimits, LongestTexts, TwoGraces};
 ghost use Rattle.qplain_laws.specs.NameExamples.{DirectoriesGo, DirectoriesMove, FurtherNames, MayLink, MayMakeDirectories, MayRemoveDirectories, MayRename, NamesMove, NewDirectories};
+ghost use Rattle.qplain_laws.specs.ProjectExamples.{NoProjects, ProjectOfADirectory, ProjectsAreGranted};
 
 /// What the definitions answer on small scripts, counted by hand from the rules. It does nothing when it runs.
 pub fn worked_examples()
@@ -67,4 +68,11 @@ pub fn worked_examples_at_edges()
     ensures largest_limits { LargestLimits }
     ensures exactly_full { ExactlyFull }
     ensures longest_texts { LongestTexts }
+{}
+
+/// What they answer where projects are declared, and where none is.
+pub fn worked_examples_of_projects()
+    ensures projects_are_granted { ProjectsAreGranted }
+    ensures project_of_a_directory { ProjectOfADirectory }
+    ensures no_projects { NoProjects }
 {}

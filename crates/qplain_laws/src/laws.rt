@@ -52,6 +52,14 @@ pub fn uses_add_up()
     ensures kinds { UsersAndGroupsStand }
 {}
 
+/// Where no principal of a kind is declared, none is after any call; nobody of the kind owns an inode of a lawful state,
+/// and no call is refused for its quota. So a store without projects is one in which there are users and groups alone.
+pub fn undeclared_kinds_do_nothing()
+    ensures own { UndeclaredOwnNothing }
+    ensures refuse { UndeclaredRefuseNothing }
+    ensures stay { KindsStay }
+{}
+
 /// At any moment the rule of grace ends leaves a lawful state as it is.
 pub fn ends_stay()
     ensures { EndsStay }
@@ -79,7 +87,8 @@ pub fn inodes_stay_reached()
 
 /// From a lawful state no call of anybody but the superuser changes an inode of others, what it holds or whose it is,
 /// but for an inode whose last name goes; or takes away, moves or replaces a name that leads to an inode of others in
-/// a directory of others. Nor does one make an inode another user's, or that of a group that is not the caller's.
+/// a directory of others. Nor does one make an inode another user's or another
+/// project's, or that of a group that is not the caller's.
 pub fn rights_hold()
     ensures others { RightsHold }
     ensures owners { OwnersHold }

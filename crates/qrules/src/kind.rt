@@ -7,6 +7,7 @@ ghost use Rattle.qrules.specs.Kinds.{is_same_kind, rank_of};
 pub enum Kind {
     User,
     Group,
+    Project,
 }
 
 impl Kind {
@@ -16,6 +17,7 @@ impl Kind {
         match self {
             Kind::User => 0,
             Kind::Group => 1,
+            Kind::Project => 2,
         }
     }
 

@@ -1,4 +1,4 @@
-//! The rules of disk quotas for one user or group, and the plain rows that reports are made of: the lowest crate.
+//! The rules of disk quotas for one user, group or project, and the plain rows that reports are made of.
 #![tactic(auto)]
 
 pub use board_row::BoardRow;

@@ -1,6 +1,6 @@
 use Rattle.std.proofs.Common.{sym}
-use Rattle.qplain.proofs.Fills.{equals_fill, fill_equals}
-use Rattle.qplain.proofs.data.DataPartialEq.eq.Goals as goal
+use Rattle.qblocks.proofs.Fills.{equals_fill, fill_equals}
+use Rattle.qblocks.proofs.data.DataPartialEq.eq.Goals as goal
 
 pub returns-in-Bytes-Fill : goal.returns-in-Bytes-Fill
 returns-in-Bytes-Fill c =

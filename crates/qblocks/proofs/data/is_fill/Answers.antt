@@ -3,7 +3,7 @@ use Rattle.std.specs.List.{list_all}
 use Rattle.std.proofs.lemmas.Bool.{eq-eqb}
 use Rattle.std.proofs.lemmas.Iterator.{YieldsList-from_slice}
 use Rattle.std.proofs.lemmas.Iterator.Search.{all_from_yields_List}
-use Rattle.qplain.proofs.data.is_fill.Goals as goal
+use Rattle.qblocks.proofs.data.is_fill.Goals as goal
 
 pub returns-then-bytes-count : goal.returns-then-bytes-count
 returns-then-bytes-count c =

@@ -5,8 +5,7 @@ ghost use Rattle.std.specs.Cmp.Lexicographic.{pointwise};
 ghost use Rattle.std.specs.Cmp.Rules.{comparing};
 ghost use Rattle.qblocks.specs.Input.{input_bytes};
 
-use crate::{NoMemory, SharedItems};
-use qblocks::Input;
+use crate::{Input, NoMemory, SharedItems};
 use std::marker::Model;
 
 /// How the bytes are kept.
@@ -24,7 +23,7 @@ pub struct Data {
 
 impl Model for Data {
     ghost use Rattle.std.specs.Prelude.{List, ℕ};
-    ghost use Rattle.qplain.specs.KeptData.{bytes_in};
+    ghost use Rattle.qblocks.specs.KeptData.{bytes_in};
 
     ghost Value = { List ℕ };
 
