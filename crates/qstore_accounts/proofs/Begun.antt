@@ -1,8 +1,8 @@
--- The kept holders of a new store: each uses nothing, but user 0 and group 0 have the root directory.
+-- The kept holders of a new store: each uses nothing, but id 0 of each kind has the root directory.
 use Rattle.std.proofs.Common.{◌≡◌, ℕ, zero, suc, ◌+◌, Bool, true, false, cond, ◌==◌, List, [], ◌∷◌, map, All, None, Some, refl, sym, ap, ◌∙◌, tests, arith, zero-add}
 use Rattle.std.proofs.lemmas.List.Elements.{All-cons, All-nil}
 use Rattle.qrules.specs.declared.kind.Kind.{Kind}
-use Rattle.qrules.specs.declared.kind.Kind.TheVariants.{User, Group}
+use Rattle.qrules.specs.declared.kind.Kind.TheVariants.{User, Group, Project}
 use Rattle.qrules.specs.Kinds.{by_kind}
 use Rattle.qrules.proofs.Ranks.{each_kind}
 use Rattle.qrules.specs.declared.graces.Graces.{Graces}
@@ -11,7 +11,7 @@ use Rattle.qrules.specs.Account.{Account}
 use Rattle.qrules.specs.Grace.{next_end, unused, with_ends}
 use Rattle.qplain.specs.declared.principal.Principal.{Principal}
 use Rattle.qplain.specs.Setups.{Setting, principals_in}
-use Rattle.qplain.specs.State.{declared_in, holder_of, root, start}
+use Rattle.qplain.specs.State.{declared_in, holder_of, root, root_project, start}
 use Rattle.qplain.specs.Use.{is_id, owner, use_of, weight}
 use Rattle.qstore_accounts.specs.KeptHolders.{IsCountedIn, holder_in}
 use Rattle.qstore_accounts.specs.Ledgers.{new_holder}
@@ -56,31 +56,35 @@ module _ (graces : Graces) where
   holders-begun kind (p ∷ ps) = λ i. holder-begun kind p (0 == p.id) i ∷ holders-begun kind ps i
 
 -- the use in a new store: the root directory is its owners'
-use_of-start : (s : Setting) (kind : Kind) (id : ℕ) (sort : Sort) → owner kind root.owners ≡ Some 0
-    → use_of (start s) kind id sort ≡ cond (0 == id) (weight sort root) 0
+use_of-start : (s : Setting) (kind : Kind) (id : ℕ) (sort : Sort) → owner kind (root s).owners ≡ Some 0
+    → use_of (start s) kind id sort ≡ cond (0 == id) (weight sort (root s)) 0
 use_of-start s kind id sort owned =
-    zero-add (cond (is_id id (owner kind root.owners)) (weight sort root) 0) ∙ ap (λ o. cond (is_id id o) (weight sort root) 0) owned
+    zero-add (cond (is_id id (owner kind (root s).owners)) (weight sort (root s)) 0) ∙ ap (λ o. cond (is_id id o) (weight sort (root s)) 0) owned
 
 module _ (s : Setting) (kind : Kind) (graces : Graces) where
   -- a kept holder of a new store is counted
   kept-counted-begun : (p : Principal) (b : Bool)
-      → use_of (start s) kind p.id Blocks ≡ cond b (weight Blocks root) 0
-      → use_of (start s) kind p.id Inodes ≡ cond b (weight Inodes root) 0
+      → use_of (start s) kind p.id Blocks ≡ cond b (weight Blocks (root s)) 0
+      → use_of (start s) kind p.id Inodes ≡ cond b (weight Inodes (root s)) 0
       → IsCountedIn (start s) kind (record { id = p.id; name = p.name; account = begun graces b p.limits })
   kept-counted-begun p true blocks inodes = record { blocks = sym blocks; inodes = sym inodes }
   kept-counted-begun p false blocks inodes = record { blocks = sym blocks; inodes = sym inodes }
 
   -- all kept holders of a new store are counted, where id 0 of their kind has the root directory
-  counted-kind : owner kind root.owners ≡ Some 0 → (ps : List Principal) → All (IsCountedIn (start s) kind) (map (new_holder graces) ps)
+  counted-kind : owner kind (root s).owners ≡ Some 0 → (ps : List Principal) → All (IsCountedIn (start s) kind) (map (new_holder graces) ps)
   counted-kind owned [] = All-nil (IsCountedIn (start s) kind)
   counted-kind owned (p ∷ ps) =
       All-cons (IsCountedIn (start s) kind) (new_holder graces p) (map (new_holder graces) ps)
       (kept-counted-begun p (0 == p.id) (use_of-start s kind p.id Blocks owned) (use_of-start s kind p.id Inodes owned)) (counted-kind owned ps)
 
--- as it has of each kind
+-- as it has where there is any
 pub counted-begun : (s : Setting) (graces : Graces) (kind : Kind) → All (IsCountedIn (start s) kind) (map (new_holder graces) (principals_in kind s))
 counted-begun s graces = each_kind (λ kind. All (IsCountedIn (start s) kind) (map (new_holder graces) (principals_in kind s)))
-    (counted-kind s User graces refl s.users) (counted-kind s Group graces refl s.groups)
+    (counted-kind s User graces refl s.users) (counted-kind s Group graces refl s.groups) (projects s.projects refl)
+  where
+    projects : (ps : List Principal) → s.projects ≡ ps → All (IsCountedIn (start s) Project) (map (new_holder graces) ps)
+    projects [] same = All-nil (IsCountedIn (start s) Project)
+    projects (p ∷ ps) same = counted-kind s Project graces (ap root_project same) (p ∷ ps)
 
 -- the books of a new store are those of its state
 pub books-begun : (s : Setting) → AreBooksOf (start s) (record {
@@ -89,6 +93,7 @@ pub books-begun : (s : Setting) → AreBooksOf (start s) (record {
   graces = s.graces;
   users = map (new_holder s.graces) s.users;
   groups = map (new_holder s.graces) s.groups;
+  projects = map (new_holder s.graces) s.projects;
   blocks = 0;
   inodes = 1;
 })
@@ -99,8 +104,8 @@ books-begun s = record {
   holders = across-same (λ kind. declared_in kind s) (λ kind. map (holder_in kind) (map (new_holder s.graces) (principals_in kind s)))
       (λ kind. sym (holders-begun s.graces kind (principals_in kind s)));
   counted = each_kind (λ kind. All (IsCountedIn (start s) kind)
-      (by_kind (map (new_holder s.graces) s.users) (map (new_holder s.graces) s.groups) kind))
-      (counted-begun s s.graces User) (counted-begun s s.graces Group);
+      (by_kind (map (new_holder s.graces) s.users) (map (new_holder s.graces) s.groups) (map (new_holder s.graces) s.projects) kind))
+      (counted-begun s s.graces User) (counted-begun s s.graces Group) (counted-begun s s.graces Project);
   blocks = refl;
   inodes = refl;
 }

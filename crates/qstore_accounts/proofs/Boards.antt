@@ -1,16 +1,17 @@
 -- What a bill does to a board: each row that it changes stands in its place, and is another than the one before.
-use Rattle.std.proofs.Common.{◌≡◌, ◌+◌, List, [], ◌∷◌, ◌++◌, length, map, All, refl, sym, ap, subst, ◌∙◌, arith}
+use Rattle.std.proofs.Common.{◌≡◌, ◌+◌, List, [], ◌∷◌, ◌++◌, append_assoc, length, map, All, refl, sym, ap, subst, ◌∙◌, arith}
 use Rattle.std.proofs.lemmas.List.{append-nil, length-append, length-map}
 use Rattle.std.proofs.lemmas.List.Elements.{All-append, All-head, All-tail}
 use Rattle.std.proofs.lemmas.List.Sums.{fold-append}
 use Rattle.qrules.specs.declared.board_row.BoardRow.{BoardRow}
 use Rattle.qrules.specs.declared.kind.Kind.{Kind}
-use Rattle.qrules.specs.declared.kind.Kind.TheVariants.{User, Group}
+use Rattle.qrules.specs.declared.kind.Kind.TheVariants.{User, Group, Project}
 use Rattle.qplain.specs.declared.placed_row.PlacedRow.{PlacedRow}
 use Rattle.qplain.specs.State.{State}
 use Rattle.qplain.specs.Boards.{AreChangedRows, IsOther, rows_of, with_row, with_rows}
 use Rattle.qplain.specs.Journal.{row_of}
 use Rattle.qstore_accounts.specs.declared.bill.Bill.{Bill}
+use Rattle.qstore_accounts.specs.declared.bill.Postings.{Postings}
 use Rattle.qstore_accounts.specs.declared.kept_holder.KeptHolder.{KeptHolder}
 use Rattle.qstore_accounts.specs.Bills.{IsBillFor, posted, settled}
 use Rattle.qstore_accounts.specs.Boards.{ArePut, board_row, board_row_of, rows_in}
@@ -41,46 +42,67 @@ rows-of-books S b books =
 
 -- ---- all of a bill
 
-module _ (b : Books) (bill : Bill) (there : IsBillFor b bill) (us gs : List PlacedRow) (users : ArePut b.users User 0 bill.users us)
-    (groups : ArePut b.groups Group (length b.users) bill.groups gs) where
-  -- the rows of users before a bill and after it, and those of groups
-  abbrev old_users : List BoardRow
-  old_users = map (board_row_of User) b.users
+-- three lists, the last of them behind the other two and before nothing
+three : (us gs ps : List BoardRow) → us ++ (gs ++ ps) ≡ (us ++ gs) ++ (ps ++ [])
+three us gs ps = sym (append_assoc us gs ps) ∙ ap (λ rows. (us ++ gs) ++ rows) (sym (append-nil ps))
 
-  abbrev new_users : List BoardRow
-  new_users = map (board_row_of User) (map (posted bill.users) b.users)
+module _ (b : Books) (bill : Bill) (there : IsBillFor b bill) (us gs ps : List PlacedRow) (users : ArePut b.users User 0 bill.users us)
+    (groups : ArePut b.groups Group (length b.users) bill.groups gs)
+    (projects : ArePut b.projects Project (length b.users + length b.groups) bill.projects ps) where
+  -- the rows of a kind before a bill and after it
+  abbrev before : Kind → List BoardRow
+  before kind = map (board_row_of kind) (ledger_in kind b)
 
-  abbrev old_groups : List BoardRow
-  old_groups = map (board_row_of Group) b.groups
+  abbrev after : Kind → List BoardRow
+  after kind = map (board_row_of kind) (ledger_in kind (settled bill b))
 
-  abbrev new_groups : List BoardRow
-  new_groups = map (board_row_of Group) (map (posted bill.groups) b.groups)
+  -- there are as many after it
+  as_many : (kind : Kind) (os : List KeptHolder) (p : Postings) → length (map (board_row_of kind) (map (posted p) os)) ≡ length os
+  as_many kind os p = length-map (map (posted p) os) (board_row_of kind) ∙ length-map os (posted p)
 
   -- the rows after a bill
-  rows-billed : AreInRange b → with_rows (old_users ++ old_groups) (us ++ gs) ≡ new_users ++ new_groups
+  rows-billed : AreInRange b → with_rows (rows_in (λ kind. ledger_in kind b)) (us ++ (gs ++ ps)) ≡ rows_in (λ kind. ledger_in kind (settled bill b))
   rows-billed in_range =
-      let long : length new_users ≡ length b.users =
-      length-map (map (posted bill.users) b.users) (board_row_of User) ∙ length-map b.users (posted bill.users) in
-      fold-append with_row (old_users ++ old_groups) us gs
-      ∙ ap (λ rows. with_rows rows gs) (put-both User [] old_groups 0 refl b.users bill.users us in_range.users there.users users)
-      ∙ ap (λ rows. with_rows (new_users ++ rows) gs) (sym (append-nil old_groups))
-      ∙ put-both Group new_users [] (length b.users) long b.groups bill.groups gs in_range.groups there.groups groups
-      ∙ ap (λ rows. new_users ++ rows) (append-nil new_groups)
+      let long : length (after User) ≡ length b.users = as_many User b.users bill.users in
+      let both : length (after User ++ after Group) ≡ length b.users + length b.groups =
+      length-append (after User) (after Group) ∙ (λ i. long i + as_many Group b.groups bill.groups i) in
+      fold-append with_row (before User ++ (before Group ++ before Project)) us (gs ++ ps)
+      ∙ ap (λ rows. with_rows rows (gs ++ ps))
+      (put-both User [] (before Group ++ before Project) 0 refl b.users bill.users us in_range.users there.users users)
+      ∙ fold-append with_row (after User ++ (before Group ++ before Project)) gs ps
+      ∙ ap (λ rows. with_rows rows ps)
+      (put-both Group (after User) (before Project) (length b.users) long b.groups bill.groups gs in_range.groups there.groups groups)
+      ∙ ap (λ rows. with_rows rows ps) (three (after User) (after Group) (before Project))
+      ∙ put-both Project (after User ++ after Group) [] (length b.users + length b.groups) both b.projects bill.projects ps in_range.projects
+      there.projects projects
+      ∙ sym (three (after User) (after Group) (after Project))
 
   -- each row that is put is another than the one before
-  others-billed : All (IsOther (old_users ++ old_groups)) (us ++ gs)
+  others-billed : All (IsOther (rows_in (λ kind. ledger_in kind b))) (us ++ (gs ++ ps))
   others-billed =
-      All-append (IsOther (old_users ++ old_groups)) us gs (others-both User [] old_groups 0 refl b.users bill.users us there.users users)
-      (subst (λ rows. All (IsOther (old_users ++ rows)) gs) (append-nil old_groups)
-      (others-both Group old_users [] (length b.users) (length-map b.users (board_row_of User)) b.groups bill.groups gs there.groups groups))
+      let old = rows_in (λ kind. ledger_in kind b) in
+      let wide : length (before User ++ before Group) ≡ length b.users + length b.groups =
+      length-append (before User) (before Group)
+      ∙ (λ i. length-map b.users (board_row_of User) i + length-map b.groups (board_row_of Group) i) in
+      All-append (IsOther old) us (gs ++ ps)
+      (others-both User [] (before Group ++ before Project) 0 refl b.users bill.users us there.users users)
+      (All-append (IsOther old) gs ps
+      (others-both Group (before User) (before Project) (length b.users) (length-map b.users (board_row_of User)) b.groups bill.groups gs there.groups
+      groups)
+      (subst (λ rows. All (IsOther rows) ps) (sym (three (before User) (before Group) (before Project)))
+      (others-both Project (before User ++ before Group) [] (length b.users + length b.groups) wide b.projects bill.projects ps there.projects
+      projects)))
 
   -- so what is put are the rows that change
-  pub changed-billed : (S S1 : State) → AreInRange b → AreBooksOf S b → AreBooksOf S1 (settled bill b) → AreChangedRows S (us ++ gs) S1
+  pub changed-billed : (S S1 : State) → AreInRange b → AreBooksOf S b → AreBooksOf S1 (settled bill b)
+      → AreChangedRows S (us ++ (gs ++ ps)) S1
   changed-billed S S1 in_range old new =
-      let rows : old_users ++ old_groups ≡ rows_of S = rows-of-books S b old in
-      let sum : length (us ++ gs) ≡ length us + length gs = length-append us gs in
+      let rows : rows_in (λ kind. ledger_in kind b) ≡ rows_of S = rows-of-books S b old in
+      let sum : length (us ++ (gs ++ ps)) ≡ length us + (length gs + length ps) =
+      length-append us (gs ++ ps) ∙ ap (λ n. length us + n) (length-append gs ps) in
       record {
-        leads = ap (λ rs. with_rows rs (us ++ gs)) (sym rows) ∙ rows-billed in_range ∙ rows-of-books S1 (settled bill b) new;
-        few = omega (arith, sum, few-both User b.users 0 bill.users us users, few-both Group b.groups (length b.users) bill.groups gs groups);
-        others = subst (λ rs. All (IsOther rs) (us ++ gs)) rows others-billed;
+        leads = ap (λ rs. with_rows rs (us ++ (gs ++ ps))) (sym rows) ∙ rows-billed in_range ∙ rows-of-books S1 (settled bill b) new;
+        few = omega (arith, sum, few-both User b.users 0 bill.users us users, few-both Group b.groups (length b.users) bill.groups gs groups,
+            few-both Project b.projects (length b.users + length b.groups) bill.projects ps projects);
+        others = subst (λ rs. All (IsOther rs) (us ++ (gs ++ ps))) rows others-billed;
       }

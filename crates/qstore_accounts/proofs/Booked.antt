@@ -3,7 +3,7 @@ use Rattle.std.proofs.Common.{◌≡◌, ◌≢◌, ℕ, ◌+◌, ◌-◌, ◌�
 use Rattle.std.proofs.lemmas.List.{length-map}
 use Rattle.std.proofs.lemmas.Option.{same_Some}
 use Rattle.qrules.specs.declared.kind.Kind.{Kind}
-use Rattle.qrules.specs.declared.kind.Kind.TheVariants.{User, Group}
+use Rattle.qrules.specs.declared.kind.Kind.TheVariants.{User, Group, Project}
 use Rattle.qrules.proofs.Ranks.{each_kind}
 use Rattle.qrules.specs.declared.record.TheConstants.{MAX_USE}
 use Rattle.qrules.specs.Sort.{Sort, Inodes, Blocks}
@@ -44,11 +44,11 @@ module _ (S : State) (b : Books) (books : AreBooksOf S b) where
 
 -- the records of each kind stand by id
 pub by_id-in : (b : Books) → AreInRange b → (kind : Kind) → AreById (ledger_in kind b)
-by_id-in b is = each_kind (λ kind. AreById (ledger_in kind b)) is.users is.groups
+by_id-in b is = each_kind (λ kind. AreById (ledger_in kind b)) is.users is.groups is.projects
 
 -- the records of a kind after a bill
 pub settled-in : (bill : Bill) (b : Books) (kind : Kind) → ledger_in kind (settled bill b) ≡ map (posted (postings_in kind bill)) (ledger_in kind b)
-settled-in bill b = each_kind (λ kind. ledger_in kind (settled bill b) ≡ map (posted (postings_in kind bill)) (ledger_in kind b)) refl refl
+settled-in bill b = each_kind (λ kind. ledger_in kind (settled bill b) ≡ map (posted (postings_in kind bill)) (ledger_in kind b)) refl refl refl
 
 -- an inode counts as one at most
 one-inode : (o : Option Inode) → weight_of Inodes o ≤ 1
@@ -146,7 +146,7 @@ placed-both os kind S1 moment from to p done = record {
 
 -- so a bill is for its books
 pub bill-placed : (b : Books) (from to : Option Claim) (S S1 : State) (moment : ℕ) (bill : Bill) → IsBillOf b from to S S1 moment bill → IsBillFor b bill
-bill-placed b from to S S1 moment bill is = record { users = kind User; groups = kind Group }
+bill-placed b from to S S1 moment bill is = record { users = kind User; groups = kind Group; projects = kind Project }
   where
     kind : (k : Kind) → ArePlaced (ledger_in k b) (postings_in k bill)
     kind k =
@@ -179,6 +179,8 @@ in_range-settled b bill is = record {
   graces = is.graces;
   users = by_id-posted bill.users b.users is.users;
   groups = by_id-posted bill.groups b.groups is.groups;
+  projects = by_id-posted bill.projects b.projects is.projects;
   few_users = subst (λ n. n ≤ MAX_PRINCIPALS) (sym (length-map b.users (posted bill.users))) is.few_users;
   few_groups = subst (λ n. n ≤ MAX_PRINCIPALS) (sym (length-map b.groups (posted bill.groups))) is.few_groups;
+  few_projects = subst (λ n. n ≤ MAX_PRINCIPALS) (sym (length-map b.projects (posted bill.projects))) is.few_projects;
 }

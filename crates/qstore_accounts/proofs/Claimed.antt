@@ -16,7 +16,7 @@ use Rattle.qstore_accounts.specs.Replacements.{IsClaimed}
 
 -- the slots of each kind are those of all owners
 pub slots-of : (b : Books) (slots : Slots) (owners : Owners) → IsSlotOf b.users slots.user owners.uid → IsSlotOf b.groups slots.group owners.gid
-    → HasSlots b slots owners
+    → IsSlotFor b.projects slots.project owners.project → HasSlots b slots owners
 slots-of b slots owners = each_kind (λ kind. IsSlotFor (ledger_in kind b) (slot_in kind slots) (owner kind owners))
 
 -- what an inode weighs that has so many blocks

@@ -7,7 +7,7 @@ use Rattle.std.proofs.lemmas.List.{get_or-map, length-map}
 use Rattle.std.proofs.lemmas.Map.Keys.{IsStrictlyIncreasing-from_distinct}
 use Rattle.qrules.specs.declared.kind.Kind.{Kind}
 use Rattle.qplain.specs.declared.principal.Principal.{Principal}
-use Rattle.qplain.specs.Principals.{are_in_range, collide, has_duplicate, is_principal_in_range}
+use Rattle.qplain.specs.Principals.{are_in_range, collide, has_duplicate, if_any, is_principal_in_range}
 use Rattle.qplain.specs.declared.principal.TheConstants.{MAX_PRINCIPALS}
 use Rattle.qplain.specs.declared.setup.TheConstants.{MAX_BLOCKS, MAX_INODES}
 use Rattle.qrules.specs.Range.{are_graces_in_range}
@@ -69,11 +69,17 @@ few-of ps fits =
     let few : nat_le (length ps) MAX_PRINCIPALS ≡ true = (and_parts (nat_le 1 (length ps)) (nat_le (length ps) MAX_PRINCIPALS) counted).1 in
     grind (arith, tests, few)
 
+few-if_any : (ps : List Principal) → if_any are_in_range ps ≡ true → length ps ≤ MAX_PRINCIPALS
+few-if_any [] fits = omega arith
+few-if_any (p ∷ ps) fits = few-of (p ∷ ps) fits
+
 -- of any kind
 pub kind-few : (s : Setting) → IsLawfulSetup s → (kind : Kind) → length (principals_in kind s) ≤ MAX_PRINCIPALS
 kind-few s lawful =
     let numbers : Bool =
     nat_le 1 s.blocks && nat_le s.blocks MAX_BLOCKS && nat_le 1 s.inodes && nat_le s.inodes MAX_INODES && are_graces_in_range s.graces in
-    let groups = and_parts (numbers && are_in_range s.users) (are_in_range s.groups) (ranges s lawful) in
+    let projects = and_parts (numbers && are_in_range s.users && are_in_range s.groups) (if_any are_in_range s.projects) (ranges s lawful) in
+    let groups = and_parts (numbers && are_in_range s.users) (are_in_range s.groups) projects.0 in
     let users = and_parts numbers (are_in_range s.users) groups.0 in
-    each_kind (λ kind. length (principals_in kind s) ≤ MAX_PRINCIPALS) (few-of s.users users.1) (few-of s.groups groups.1)
+    each_kind (λ kind. length (principals_in kind s) ≤ MAX_PRINCIPALS)
+    (few-of s.users users.1) (few-of s.groups groups.1) (few-if_any s.projects projects.1)

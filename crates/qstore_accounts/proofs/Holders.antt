@@ -1,12 +1,12 @@
 -- What is asked of the holders of a state, answered by the kept holders of a kind.
-use Rattle.std.proofs.Common.{◌≡◌, ℕ, zero, suc, Bool, true, false, cond, ◌&&◌, ◌||◌, ◌==◌, List, [], ◌∷◌, map, All, Bor, Option, Some, None, is_some, find, slice_get, refl, sym, ap, subst, ◌∙◌}
+use Rattle.std.proofs.Common.{◌≡◌, ℕ, zero, suc, Bool, true, false, cond, ◌&&◌, ◌||◌, ◌==◌, List, [], ◌∷◌, ◌++◌, map, All, Bor, Option, Some, None, is_some, find, slice_get, refl, sym, ap, subst, ◌∙◌}
 use Rattle.std.specs.Option.{IfSome, option_map, option_or}
 use Rattle.std.specs.List.{list_any}
 use Rattle.std.proofs.lemmas.Option.{get_or_from_slice_get, slice_get_within}
 use Rattle.std.proofs.lemmas.List.Elements.{All-get_or}
 use Rattle.std.proofs.lemmas.List.Folds.{find-append, list_any-append}
 use Rattle.qrules.specs.declared.kind.Kind.{Kind}
-use Rattle.qrules.specs.declared.kind.Kind.TheVariants.{User, Group}
+use Rattle.qrules.specs.declared.kind.Kind.TheVariants.{User, Group, Project}
 use Rattle.qrules.specs.Kinds.{is_same_kind}
 use Rattle.qrules.proofs.Ranks.{each_kind}
 use Rattle.qplain.specs.State.{Holder, State}
@@ -67,9 +67,14 @@ module _ (kind : Kind) (id : ℕ) where
 pub declared-kept : (kind : Kind) (id : ℕ) (ledgers : Kind → List KeptHolder)
     → list_any (is_holder kind id) (holders_in ledgers) ≡ list_any (λ o. id == o.id) (ledgers kind)
 declared-kept kind id ledgers =
-    list_any-append (is_holder kind id) (map (holder_in User) (ledgers User)) (map (holder_in Group) (ledgers Group))
-    ∙ (λ i. any-in kind id User (ledgers User) i || any-in kind id Group (ledgers Group) i)
-    ∙ each_kind (λ k. ((is_same_kind k User && has User) || (is_same_kind k Group && has Group)) ≡ has k) (or-false (has User)) refl kind
+    list_any-append (is_holder kind id) (map (holder_in User) (ledgers User))
+    (map (holder_in Group) (ledgers Group) ++ map (holder_in Project) (ledgers Project))
+    ∙ ap (λ b. list_any (is_holder kind id) (map (holder_in User) (ledgers User)) || b)
+    (list_any-append (is_holder kind id) (map (holder_in Group) (ledgers Group)) (map (holder_in Project) (ledgers Project)))
+    ∙ (λ i. any-in kind id User (ledgers User) i || (any-in kind id Group (ledgers Group) i || any-in kind id Project (ledgers Project) i))
+    ∙ each_kind (λ k. ((is_same_kind k User && has User)
+    || ((is_same_kind k Group && has Group) || (is_same_kind k Project && has Project))) ≡ has k)
+    (or-false (has User)) (or-false (has Group)) refl kind
   where
     has : Kind → Bool
     has k = list_any (λ o. id == o.id) (ledgers k)
@@ -78,10 +83,15 @@ declared-kept kind id ledgers =
 pub find-kept : (kind : Kind) (id : ℕ) (ledgers : Kind → List KeptHolder)
     → find (is_holder kind id) (holders_in ledgers) ≡ option_map (holder_in kind) (find (λ o. id == o.id) (ledgers kind))
 find-kept kind id ledgers =
-    find-append (is_holder kind id) (map (holder_in User) (ledgers User)) (map (holder_in Group) (ledgers Group))
-    ∙ (λ i. option_or (find-in kind id User (ledgers User) i) (find-in kind id Group (ledgers Group) i))
-    ∙ each_kind (λ k. option_or (cond (is_same_kind k User) (found User) None) (cond (is_same_kind k Group) (found Group) None) ≡ found k)
-    (or-none (found User)) refl kind
+    find-append (is_holder kind id) (map (holder_in User) (ledgers User))
+    (map (holder_in Group) (ledgers Group) ++ map (holder_in Project) (ledgers Project))
+    ∙ ap (option_or (find (is_holder kind id) (map (holder_in User) (ledgers User))))
+    (find-append (is_holder kind id) (map (holder_in Group) (ledgers Group)) (map (holder_in Project) (ledgers Project)))
+    ∙ (λ i. option_or (find-in kind id User (ledgers User) i)
+    (option_or (find-in kind id Group (ledgers Group) i) (find-in kind id Project (ledgers Project) i)))
+    ∙ each_kind (λ k. option_or (cond (is_same_kind k User) (found User) None)
+    (option_or (cond (is_same_kind k Group) (found Group) None) (cond (is_same_kind k Project) (found Project) None)) ≡ found k)
+    (or-none (found User)) (or-none (found Group)) refl kind
   where
     found : Kind → Option Holder
     found k = option_map (holder_in k) (find (λ o. id == o.id) (ledgers k))

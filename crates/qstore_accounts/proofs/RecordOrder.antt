@@ -4,7 +4,7 @@ use Rattle.std.specs.List.{AllPairs}
 use Rattle.std.proofs.lemmas.List.{append-nil}
 use Rattle.std.proofs.lemmas.List.Elements.{All-append, All-cons, All-nil}
 use Rattle.qrules.specs.declared.kind.Kind.{Kind}
-use Rattle.qrules.specs.declared.kind.Kind.TheVariants.{User, Group}
+use Rattle.qrules.specs.declared.kind.Kind.TheVariants.{User, Group, Project}
 use Rattle.qrules.specs.Kinds.{rank_of}
 use Rattle.qplain.specs.State.{Holder}
 use Rattle.qstore_accounts.specs.declared.kept_holder.KeptHolder.{KeptHolder}
@@ -45,9 +45,13 @@ kind-in_order kind (o ∷ os) rest by_id behind in_order =
 -- all holders
 pub in_order-holders : (ledgers : Kind → List KeptHolder) → ((kind : Kind) → AreById (ledgers kind)) → AllPairs StandsBefore (holders_in ledgers)
 in_order-holders ledgers by_id =
-    kind-in_order User (ledgers User) (map (holder_in Group) (ledgers Group)) (by_id User)
-    (λ o. kind-after User Group (omega arith) o (ledgers Group)) (last (ledgers Group) (by_id Group))
+    kind-in_order User (ledgers User) (map (holder_in Group) (ledgers Group) ++ map (holder_in Project) (ledgers Project)) (by_id User)
+    (λ o. All-append (StandsBefore (holder_in User o)) (map (holder_in Group) (ledgers Group)) (map (holder_in Project) (ledgers Project))
+    (kind-after User Group (omega arith) o (ledgers Group)) (kind-after User Project (omega arith) o (ledgers Project)))
+    (kind-in_order Group (ledgers Group) (map (holder_in Project) (ledgers Project)) (by_id Group)
+    (λ o. kind-after Group Project (omega arith) o (ledgers Project))
+    (last (ledgers Project) (by_id Project)))
   where
-    last : (os : List KeptHolder) → AreById os → AllPairs StandsBefore (map (holder_in Group) os)
-    last os by_id = subst (AllPairs StandsBefore) (append-nil (map (holder_in Group) os))
-        (kind-in_order Group os [] by_id (λ o. All-nil (StandsBefore (holder_in Group o))) (λ i j d less within. absurd (omega arith)))
+    last : (os : List KeptHolder) → AreById os → AllPairs StandsBefore (map (holder_in Project) os)
+    last os by_id = subst (AllPairs StandsBefore) (append-nil (map (holder_in Project) os))
+        (kind-in_order Project os [] by_id (λ o. All-nil (StandsBefore (holder_in Project o))) (λ i j d less within. absurd (omega arith)))

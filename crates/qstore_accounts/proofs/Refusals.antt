@@ -3,7 +3,7 @@ use Rattle.std.proofs.Common.{◌≡◌, ℕ, ◌+◌, ◌||◌, ◌&&◌, Bool,
 use Rattle.std.specs.Option.{option_and_then, option_or}
 use Rattle.std.proofs.lemmas.Option.{same_Some}
 use Rattle.qrules.specs.declared.kind.Kind.{Kind}
-use Rattle.qrules.specs.declared.kind.Kind.TheVariants.{User, Group}
+use Rattle.qrules.specs.declared.kind.Kind.TheVariants.{User, Group, Project}
 use Rattle.qrules.specs.Kinds.{is_same_kind}
 use Rattle.qrules.specs.Charge.{first_fault}
 use Rattle.qplain.specs.declared.bounds.TheConstants.{MAX_NUMBER}
@@ -98,10 +98,11 @@ module _ (b : Books) (from to : Option Claim) (S S1 : State) (f : Option Inode) 
     (is : IsBillOf b from to S S1 moment bill) where
   -- the first limit in the way of the bill is that of the holders
   pub first-refused : (t : Option Inode) → IsReplacement b from to S S1 f t
-      → option_or (refusal_of b.users User moment bill.users.to) (refusal_of b.groups Group moment bill.groups.to)
+      → option_or (refusal_of b.users User moment bill.users.to)
+      (option_or (refusal_of b.groups Group moment bill.groups.to) (refusal_of b.projects Project moment bill.projects.to))
       ≡ first_refusal (fault_of_holder S S1 moment) S.holders
   first-refused None r =
-      (λ i. option_or (none User i) (none Group i))
+      (λ i. option_or (none User i) (option_or (none Group i) (none Project i)))
       ∙ sym (first_refusal-none S S1 f moment r.replaces S.holders)
     where
       none : (kind : Kind) → refusal_of (ledger_in kind b) kind moment (postings_in kind bill).to ≡ None
@@ -109,7 +110,7 @@ module _ (b : Books) (from to : Option Claim) (S S1 : State) (f : Option Inode) 
           none-refused S S1 b r.books moment kind (by_id-in b in_range kind) (option_and_then (share_in kind) to) (postings_in kind bill).to
           (r.gained kind) (is.posted kind).to_there
   first-refused (Some inode) r =
-      (λ i. option_or (own User i) ((own Group ∙ sym (or-none (at Group))) i))
+      (λ i. option_or (own User i) (option_or (own Group i) ((own Project ∙ sym (or-none (at Project))) i)))
       ∙ sym (first_refusal-after S S1 f inode moment r.replaces r.lawful.parts.holders)
     where
       at : Kind → Option Refusal

@@ -4,7 +4,7 @@ use Rattle.std.proofs.lemmas.Option.{same_Some}
 use Rattle.qrules.specs.declared.kind.Kind.{Kind}
 use Rattle.qrules.specs.Kinds.{is_same_kind}
 use Rattle.qrules.proofs.Ranks.{same_kind}
-use Rattle.qrules.specs.declared.kind.Kind.TheVariants.{User, Group}
+use Rattle.qrules.specs.declared.kind.Kind.TheVariants.{User, Group, Project}
 use Rattle.qrules.specs.declared.limits.Limits.{Limits}
 use Rattle.qrules.specs.declared.graces.Graces.{Graces}
 use Rattle.qrules.specs.Grace.{with_limits}
@@ -73,7 +73,7 @@ placed-limits os slot id limits graces moment q there has = by (slice_get os slo
 -- a bill with one posting is for its books, where that stands in its place
 pub placed-only : (b : Books) (kind : Kind) (q : Posting) (bill : Bill) → ((other : Kind) → postings_in other bill ≡ only_in kind q other)
     → IsSlotOf (ledger_in kind b) q.slot q.id → IsBillFor b bill
-placed-only b kind q bill only there = record { users = placed User; groups = placed Group }
+placed-only b kind q bill only there = record { users = placed User; groups = placed Group; projects = placed Project }
   where
     to : (other : Kind) (same : Bool) → is_same_kind kind other ≡ same → IsPlaced (ledger_in other b) (cond same (Some q) None)
     to other true e = subst (λ k. IsSlotOf (ledger_in k b) q.slot q.id) (same_kind kind other e) there

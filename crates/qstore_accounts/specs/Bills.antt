@@ -14,6 +14,7 @@ abbrev pub no_bill : Bill
 no_bill = record {
   users = record { from = None; to = None };
   groups = record { from = None; to = None };
+  projects = record { from = None; to = None };
   blocks = 0;
   inodes = 0;
 }
@@ -29,7 +30,7 @@ posted p o = post p.to (post p.from o)
 
 -- the postings of a kind
 abbrev pub postings_in : Kind → Bill → Postings
-postings_in kind bill = by_kind bill.users bill.groups kind
+postings_in kind bill = by_kind bill.users bill.groups bill.projects kind
 
 -- this posting for its kind, and none for any other
 abbrev pub only_in : Kind → Posting → Kind → Postings
@@ -40,6 +41,7 @@ abbrev pub settled : Bill → Books → Books
 settled bill b = record b {
   users = map (posted bill.users) b.users;
   groups = map (posted bill.groups) b.groups;
+  projects = map (posted bill.projects) b.projects;
   blocks = bill.blocks;
   inodes = bill.inodes;
 }
@@ -58,3 +60,4 @@ pub record ArePlaced (holders : List KeptHolder) (p : Postings) : Type 0 where
 pub record IsBillFor (b : Books) (bill : Bill) : Type 0 where
   pub users : ArePlaced b.users bill.users
   pub groups : ArePlaced b.groups bill.groups
+  pub projects : ArePlaced b.projects bill.projects

@@ -22,12 +22,13 @@ pub record Books : Type 0 where
   pub graces : Graces
   pub users : List KeptHolder
   pub groups : List KeptHolder
+  pub projects : List KeptHolder
   pub blocks : ℕ
   pub inodes : ℕ
 
 -- the records of a kind
 abbrev pub ledger_in : Kind → Books → List KeptHolder
-ledger_in kind b = by_kind b.users b.groups kind
+ledger_in kind b = by_kind b.users b.groups b.projects kind
 
 -- the holders whose records the books keep
 abbrev pub holders_of : Books → List Holder
@@ -50,8 +51,10 @@ pub record AreInRange (b : Books) : Type 0 where
   pub graces : are_graces_in_range b.graces ≡ true
   pub users : AreById b.users
   pub groups : AreById b.groups
+  pub projects : AreById b.projects
   pub few_users : length b.users ≤ MAX_PRINCIPALS
   pub few_groups : length b.groups ≤ MAX_PRINCIPALS
+  pub few_projects : length b.projects ≤ MAX_PRINCIPALS
 
 -- the records of these owners stand at these slots
 abbrev pub HasSlots : Books → Slots → Owners → Type 0

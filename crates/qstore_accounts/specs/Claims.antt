@@ -29,7 +29,7 @@ weight_at (Some share) slot = if share.slot == slot then share.weight else nothi
 
 -- where the record of the owner of this kind stands, if there is one
 abbrev pub slot_in : Kind → Slots → Option ℕ
-slot_in kind slots = by_kind (Some slots.user) (Some slots.group) kind
+slot_in kind slots = by_kind (Some slots.user) (Some slots.group) slots.project kind
 
 -- the share of one kind's record in a claim, if there is one
 abbrev pub share_in : Kind → Claim → Option OwnerClaim

@@ -2,7 +2,7 @@
 use Rattle.std.specs.Prelude.{◌≡◌, ℕ, ◌+◌, ◌||◌, nat_lt, if◌then◌else◌, Option, Some, None}
 use Rattle.std.specs.Option.{option_and_then, option_or}
 use Rattle.qrules.specs.declared.kind.Kind.{Kind}
-use Rattle.qrules.specs.declared.kind.Kind.TheVariants.{User, Group}
+use Rattle.qrules.specs.declared.kind.Kind.TheVariants.{User, Group, Project}
 use Rattle.qrules.specs.Sort.{Inodes, Blocks}
 use Rattle.qplain.specs.declared.bounds.TheConstants.{MAX_NUMBER}
 use Rattle.qplain.specs.declared.refusal.Refusal.{Refusal}
@@ -29,4 +29,6 @@ abbrev pub bill_refusal : Books → Caller → ℕ → ℕ → Bill → Option R
 bill_refusal b cred moment next bill =
     if nat_lt b.size bill.blocks || nat_lt b.most_inodes bill.inodes || nat_lt (MAX_NUMBER + 1) next then Some ENOSPC
     else if is_superuser cred then None
-    else option_or (refusal_of b.users User moment bill.users.to) (refusal_of b.groups Group moment bill.groups.to)
+    else option_or (refusal_of b.users User moment bill.users.to)
+    (option_or (refusal_of b.groups Group moment bill.groups.to)
+    (refusal_of b.projects Project moment bill.projects.to))

@@ -10,6 +10,7 @@ books_of a = record {
   graces = a.graces;
   users = a.users;
   groups = a.groups;
+  projects = a.projects;
   blocks = a.blocks;
   inodes = a.inodes;
 }

@@ -4,7 +4,7 @@ use Rattle.std.specs.Option.{option_map}
 use Rattle.std.specs.List.{slice_get}
 use Rattle.std.specs.List.Sorted.{IsStrictlyIncreasing}
 use Rattle.qrules.specs.declared.kind.Kind.{Kind}
-use Rattle.qrules.specs.declared.kind.Kind.TheVariants.{User, Group}
+use Rattle.qrules.specs.declared.kind.Kind.TheVariants.{User, Group, Project}
 use Rattle.qrules.specs.Sort.{Inodes, Blocks}
 use Rattle.qplain.specs.State.{Holder, State}
 use Rattle.qplain.specs.Use.{use_of}
@@ -23,7 +23,7 @@ holder_in kind o = record {
 
 -- what stands for each kind, one kind after the other
 abbrev pub across : {X : Type 0} → (Kind → List X) → List X
-across each = each User ++ each Group
+across each = each User ++ (each Group ++ each Project)
 
 -- the holders whose records these are, one kind after the other
 abbrev pub holders_in : (Kind → List KeptHolder) → List Holder

@@ -3,7 +3,7 @@ ghost use Rattle.std.specs.Prelude.{◌≡◌, ℕ, ◌+◌, ◌≤◌, ◌||◌
 ghost use Rattle.std.specs.Option.{option_map, option_or};
 ghost use Rattle.std.specs.List.{AllPairs, find};
 ghost use Rattle.qrules.specs.declared.kind.Kind.{Kind};
-ghost use Rattle.qrules.specs.declared.kind.Kind.TheVariants.{User, Group};
+ghost use Rattle.qrules.specs.declared.kind.Kind.TheVariants.{User, Group, Project};
 ghost use Rattle.qrules.specs.Range.{are_graces_in_range};
 ghost use Rattle.qplain.specs.State.{Inode, State, start};
 ghost use Rattle.qplain.specs.Arguments.{is_declared, is_holder};
@@ -29,7 +29,7 @@ use std::marker::Model;
 
 mod boards;
 
-/// The quota records of users and groups, the totals, the bounds and the graces. Contracts see them as books.
+/// The quota records of users, groups and projects, the totals, the bounds and the graces. Contracts see them as books.
 ///
 /// Blocks are of 4096 bytes. Nothing is recounted: what a call makes of the records and the totals is its bill, which
 /// is asked for first and settled then.
@@ -40,6 +40,7 @@ pub struct Accounts {
     graces: Graces,
     users: Ledger,
     groups: Ledger,
+    projects: Ledger,
     blocks: u64,
     inodes: u64,
 }
@@ -59,7 +60,8 @@ impl Model for Accounts {
 }
 
 impl Accounts {
-    /// The accounts of a new store, in which user 0 and group 0 have the root directory. An Err leaves nothing made.
+    /// The accounts of a new store, in which user 0, group 0 and, where projects are declared, project 0 have the
+    /// root directory. An Err leaves nothing made.
     pub fn new(alloc: Global, setup: &Setup) -> Result<Accounts, NoMemory>
         ensures books { IfOk result (AreBooksOf (start setup.now)) }
         ensures in_range { IfOk result AreInRange }
@@ -67,12 +69,14 @@ impl Accounts {
         let graces = setup.graces();
         let users = Ledger::new(alloc, setup.users(), graces)?;
         let groups = Ledger::new(alloc, setup.groups(), graces)?;
+        let projects = Ledger::new(alloc, setup.projects(), graces)?;
         Ok(Accounts {
             size: setup.blocks(),
             most_inodes: setup.inodes(),
             graces,
             users,
             groups,
+            projects,
             blocks: 0,
             inodes: 1,
         })
@@ -99,6 +103,7 @@ impl Accounts {
         match kind {
             Kind::User => &self.users,
             Kind::Group => &self.groups,
+            Kind::Project => &self.projects,
         }
     }
 
@@ -163,10 +168,13 @@ impl Accounts {
         let graces = self.graces;
         let (user, next_user) = (share_of(Kind::User, from), share_of(Kind::User, to));
         let (group, next_group) = (share_of(Kind::Group, from), share_of(Kind::Group, to));
+        let (project, next_project) = (share_of(Kind::Project, from), share_of(Kind::Project, to));
         self.users
             .write_postings(user, next_user, graces, moment, &mut bill.users);
         self.groups
             .write_postings(group, next_group, graces, moment, &mut bill.groups);
+        self.projects
+            .write_postings(project, next_project, graces, moment, &mut bill.projects);
         bill.blocks = self.blocks + gained.blocks - lost.blocks;
         bill.inodes = self.inodes + gained.inodes - lost.inodes;
     }
@@ -179,15 +187,30 @@ impl Accounts {
         bill.blocks > self.size || bill.inodes > self.most_inodes || next > MAX_NUMBER + 1
     }
 
-    /// The first limit in the way of a bill: the user's, or else the group's.
+    /// The first limit in the way of a bill: the user's, or else the group's, or else the project's.
     fn fault(&self, moment: u64, bill: &Bill) -> Option<Refusal>
         requires placed { IsBillFor self.now bill.now }
         ensures { result ≡ option_or (refusal_of self.now.users User moment bill.now.users.to)
-            (refusal_of self.now.groups Group moment bill.now.groups.to) }
+            (option_or (refusal_of self.now.groups Group moment bill.now.groups.to)
+            (refusal_of self.now.projects Project moment bill.now.projects.to)) }
     {
         match self.users.refusal(Kind::User, moment, bill.users.to) {
             Some(refusal) => Some(refusal),
-            None => self.groups.refusal(Kind::Group, moment, bill.groups.to),
+            None => self.later_fault(moment, bill),
+        }
+    }
+
+    /// The same of the kinds that are tested after the users.
+    fn later_fault(&self, moment: u64, bill: &Bill) -> Option<Refusal>
+        requires placed { IsBillFor self.now bill.now }
+        ensures { result ≡ option_or (refusal_of self.now.groups Group moment bill.now.groups.to)
+            (refusal_of self.now.projects Project moment bill.now.projects.to) }
+    {
+        match self.groups.refusal(Kind::Group, moment, bill.groups.to) {
+            Some(refusal) => Some(refusal),
+            None => self
+                .projects
+                .refusal(Kind::Project, moment, bill.projects.to),
         }
     }
 
@@ -232,6 +255,7 @@ impl Accounts {
         match kind {
             Kind::User => bill.users = Postings::only(posting),
             Kind::Group => bill.groups = Postings::only(posting),
+            Kind::Project => bill.projects = Postings::only(posting),
         }
         bill
     }
@@ -243,6 +267,7 @@ impl Accounts {
     {
         self.users.settle(&bill.users);
         self.groups.settle(&bill.groups);
+        self.projects.settle(&bill.projects);
         self.blocks = bill.blocks;
         self.inodes = bill.inodes;
     }
@@ -255,7 +280,7 @@ impl Accounts {
         self.graces = graces;
     }
 
-    /// The rows of the records: users by id, then groups by id. O(n), as many as are declared.
+    /// The rows of the records: users by id, then groups, then projects. O(n), as many as are declared.
     pub fn rows(&self, alloc: Global) -> Result<Vec<RecordRow>, NoMemory>
         ensures rows { IfOk result (λ rows. (S : State) → AreBooksOf S self.now
             → rows.items ≡ map (record_row_of S) S.holders) }
@@ -264,6 +289,7 @@ impl Accounts {
         let mut rows = Vec::new(alloc);
         self.users.push_rows(alloc, Kind::User, &mut rows)?;
         self.groups.push_rows(alloc, Kind::Group, &mut rows)?;
+        self.projects.push_rows(alloc, Kind::Project, &mut rows)?;
         Ok(rows)
     }
 }

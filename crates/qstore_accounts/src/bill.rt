@@ -26,6 +26,7 @@ pub struct Postings {
 pub struct Bill {
     pub(crate) users: Postings,
     pub(crate) groups: Postings,
+    pub(crate) projects: Postings,
     pub(crate) blocks: u64,
     pub(crate) inodes: u64,
 }
@@ -38,6 +39,7 @@ impl Bill {
         Bill {
             users: Postings::none(),
             groups: Postings::none(),
+            projects: Postings::none(),
             blocks: 0,
             inodes: 0,
         }

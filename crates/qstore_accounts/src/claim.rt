@@ -20,11 +20,13 @@ const NOTHING: Weight = Weight {
     inodes: 0,
 };
 
-/// Where the records of an inode's owners stand among the users and among the groups.
+/// Where the records of an inode's owners stand among the users, the groups and the projects. It has no project where
+/// none is declared.
 #[derive(Clone, Copy)]
 pub struct Slots {
     pub user: usize,
     pub group: usize,
+    pub project: Option<usize>,
 }
 
 /// What an inode takes, and whose records it is taken from.
@@ -70,6 +72,7 @@ fn slot_of(kind: Kind, slots: Slots) -> Option<usize>
     match kind {
         Kind::User => Some(slots.user),
         Kind::Group => Some(slots.group),
+        Kind::Project => slots.project,
     }
 }
 

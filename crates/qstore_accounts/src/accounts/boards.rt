@@ -64,13 +64,14 @@ fn push_changes(
 }
 
 impl Accounts {
-    /// The rows of a board: users by id, then groups by id. O(n), as many as are declared.
+    /// The rows of a board: users by id, then groups, then projects. O(n), as many as are declared.
     pub fn board_rows(&self, alloc: Global) -> Result<Vec<BoardRow>, NoMemory>
         ensures { IfOk result (λ rows. (S : State) → AreBooksOf S self.now → rows.items ≡ rows_of S) }
     {
         let mut rows = Vec::new(alloc);
         self.users.push_board_rows(Kind::User, &mut rows)?;
         self.groups.push_board_rows(Kind::Group, &mut rows)?;
+        self.projects.push_board_rows(Kind::Project, &mut rows)?;
         Ok(rows)
     }
 
@@ -82,7 +83,9 @@ impl Accounts {
             → IsPushed S rows.old.items rows.new.items S1 }
     {
         let users = self.users.len();
+        let groups = users + self.groups.len();
         push_changes(&self.users, Kind::User, 0, &bill.users, rows);
         push_changes(&self.groups, Kind::Group, users, &bill.groups, rows);
+        push_changes(&self.projects, Kind::Project, groups, &bill.projects, rows);
     }
 }

@@ -1,6 +1,6 @@
 use Rattle.std.proofs.Common.{◌≡◌, ◌≤◌, List, length, map, sym, ap, subst, ◌∙◌}
 use Rattle.std.specs.List.Sorted.{IsStrictlyIncreasing}
-use Rattle.qrules.specs.declared.kind.Kind.TheVariants.{User, Group}
+use Rattle.qrules.specs.declared.kind.Kind.TheVariants.{User, Group, Project}
 use Rattle.qplain.specs.declared.principal.Principal.{Principal}
 use Rattle.qplain.specs.State.{start}
 use Rattle.qstore_accounts.specs.Books.{AreBooksOf, Books}
@@ -23,12 +23,17 @@ pub new-requires-2-clause-by_id : goal.new-requires-2-clause-by_id
 new-requires-2-clause-by_id c = subst (λ (ps : List Principal). IsStrictlyIncreasing (map (λ p. p.id) ps))
     (sym c.groups.ensures.groups) (kind-ids-rise c.args.setup.now c.groups.ensures.lawful Group)
 
+pub new-requires-3-clause-by_id : goal.new-requires-3-clause-by_id
+new-requires-3-clause-by_id c = subst (λ (ps : List Principal). IsStrictlyIncreasing (map (λ p. p.id) ps))
+    (sym c.projects.ensures.projects) (kind-ids-rise c.args.setup.now c.projects.ensures.lawful Project)
+
 pub returns-clause-books : goal.returns-clause-books
 returns-clause-books c =
     let s = c.args.setup.now in
     let graces = c.graces-graces.ensures.graces in
     let users = c.in_ok-users.ensures ∙ (λ i. map (new_holder (graces i)) (c.users.ensures.users i)) in
     let groups = c.in_ok-groups.ensures ∙ (λ i. map (new_holder (graces i)) (c.groups.ensures.groups i)) in
+    let projects = c.in_ok-projects.ensures ∙ (λ i. map (new_holder (graces i)) (c.projects.ensures.projects i)) in
     subst (λ (b : Books). AreBooksOf (start s) b)
     (λ i. record {
       size = sym c.blocks-2.ensures.blocks i;
@@ -36,6 +41,7 @@ returns-clause-books c =
       graces = sym graces i;
       users = sym users i;
       groups = sym groups i;
+      projects = sym projects i;
       blocks = 0;
       inodes = 1;
     })
@@ -58,14 +64,17 @@ invariant_of-result c =
     let lawful = c.users.ensures.lawful in
     let users = c.in_ok-users.ensures ∙ ap (map (new_holder g)) c.users.ensures.users in
     let groups = c.in_ok-groups.ensures ∙ ap (map (new_holder g)) c.groups.ensures.groups in
+    let projects = c.in_ok-projects.ensures ∙ ap (map (new_holder g)) c.projects.ensures.projects in
     record {
       size = c.blocks-2.ensures.range.1;
       most_inodes = c.inodes.ensures.range.1;
       graces = c.graces-graces.ensures.range;
       users = by_id-made g s.users _ users (kind-ids-rise s lawful User);
       groups = by_id-made g s.groups _ groups (kind-ids-rise s lawful Group);
+      projects = by_id-made g s.projects _ projects (kind-ids-rise s lawful Project);
       few_users = few-new g s.users _ users (kind-few s lawful User);
       few_groups = few-new g s.groups _ groups (kind-few s lawful Group);
+      few_projects = few-new g s.projects _ projects (kind-few s lawful Project);
     }
 
 pub returns-clause-in_range : goal.returns-clause-in_range

@@ -11,12 +11,15 @@ invariant_of-self c =
     let is = in_range-settled (books_of c.self.inside) c.args.bill.now c.self.invariant in
     let users = sym c.settle.ensures in
     let groups = sym c.settle-2.ensures in
+    let projects = sym c.settle-3.ensures in
     record {
       size = is.size;
       most_inodes = is.most_inodes;
       graces = is.graces;
       users = subst AreById users is.users;
       groups = subst AreById groups is.groups;
+      projects = subst AreById projects is.projects;
       few_users = subst (λ (os : List KeptHolder). length os ≤ MAX_PRINCIPALS) users is.few_users;
       few_groups = subst (λ (os : List KeptHolder). length os ≤ MAX_PRINCIPALS) groups is.few_groups;
+      few_projects = subst (λ (os : List KeptHolder). length os ≤ MAX_PRINCIPALS) projects is.few_projects;
     }

@@ -1,6 +1,6 @@
 use Rattle.std.proofs.Common.{◌≡◌, ℕ, ◌+◌, ◌-◌, List, Option, sym, subst, ◌∙◌}
 use Rattle.qrules.specs.declared.kind.Kind.{Kind}
-use Rattle.qrules.specs.declared.kind.Kind.TheVariants.{User, Group}
+use Rattle.qrules.specs.declared.kind.Kind.TheVariants.{User, Group, Project}
 use Rattle.qrules.specs.Sort.{Inodes, Blocks}
 use Rattle.qrules.proofs.Ranks.{each_kind}
 use Rattle.qplain.specs.State.{State}
@@ -45,6 +45,20 @@ write_postings-requires-2-clause-replacement c =
           (replaced (books_of c.self.inside) x.from x.to r.0 r.1 r.2 r.3 c.self.invariant inside Group),
     )
 
+pub write_postings-requires-3-clause-replacement : goal.write_postings-requires-3-clause-replacement
+write_postings-requires-3-clause-replacement c =
+    let x = c.args in
+    let r = c.requires.replacement in
+    let inside = subst (λ (b : Books). IsReplacement b x.from x.to r.0 r.1 r.2 r.3) (sym c.self.view_is) r.4 in (
+      Project,
+      r.0,
+      r.1,
+      r.2,
+      r.3,
+      rw (c.share_of-project.ensures, c.share_of-next_project.ensures)
+          (replaced (books_of c.self.inside) x.from x.to r.0 r.1 r.2 r.3 c.self.invariant inside Project),
+    )
+
 pub returns-clause-in_range : goal.returns-clause-in_range
 returns-clause-in_range c = rw (← c.self.view_is) c.self.invariant
 
@@ -65,11 +79,13 @@ returns-clause-bill c = rw (← c.self.view_is) (λ S S1 f t r.
     record {
       posted = each_kind (λ kind. ArePosted (ledger_in kind b) kind S1 x.moment (option_and_then (share_in kind) x.from)
           (option_and_then (share_in kind) x.to)
-          (by_kind c.write_postings.new.postings c.write_postings-2.new.postings kind))
+          (by_kind c.write_postings.new.postings c.write_postings-2.new.postings c.write_postings-3.new.postings kind))
           (posted-shares b.users User S1 x.moment c.write_postings.new.postings c.share_of-user.ensures c.share_of-next_user.ensures
           (c.write_postings.ensures User S S1 f t (rw (c.share_of-user.ensures, c.share_of-next_user.ensures) (of_kind User)) (sym r.books.graces)))
           (posted-shares b.groups Group S1 x.moment c.write_postings-2.new.postings c.share_of-group.ensures c.share_of-next_group.ensures
-          (c.write_postings-2.ensures Group S S1 f t (rw (c.share_of-group.ensures, c.share_of-next_group.ensures) (of_kind Group)) (sym r.books.graces)));
+          (c.write_postings-2.ensures Group S S1 f t (rw (c.share_of-group.ensures, c.share_of-next_group.ensures) (of_kind Group)) (sym r.books.graces)))
+          (posted-shares b.projects Project S1 x.moment c.write_postings-3.new.postings c.share_of-project.ensures c.share_of-next_project.ensures
+          (c.write_postings-3.ensures Project S S1 f t (rw (c.share_of-project.ensures, c.share_of-next_project.ensures) (of_kind Project)) (sym r.books.graces)));
       blocks = (λ i. r.books.blocks i + (gained i).blocks - (lost i).blocks) ∙ total-then b x.from x.to S S1 f t r Blocks;
       inodes = (λ i. r.books.inodes i + (gained i).inodes - (lost i).inodes) ∙ total-then b x.from x.to S S1 f t r Inodes;
     })
