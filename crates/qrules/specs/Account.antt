@@ -1,4 +1,4 @@
--- What a quota record is to its callers: what one user or group uses, its limits and its grace ends (quotactl(2)).
+-- What a quota record is to its callers: what one principal uses, its limits and its grace ends (quotactl(2)).
 use Rattle.std.specs.Prelude.{◌≡◌, ℕ, Bool, Option, is_some}
 use Rattle.qrules.specs.declared.limits.Limits.{Limits}
 use Rattle.qrules.specs.Sort.{Sort, Inodes, Blocks, amount_of, soft_limit, is_over}

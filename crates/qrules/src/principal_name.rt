@@ -6,7 +6,7 @@ ghost use Rattle.std.specs.Cmp.Rules.{comparing};
 
 use std::marker::Model;
 
-/// The name of a user or group in reports, which contracts see as its bytes. Any text may be one.
+/// The name of a principal in reports, which contracts see as its bytes. Any text may be one.
 #[derive(Debug, Drop)]
 pub struct PrincipalName {
     text: String,

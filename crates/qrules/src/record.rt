@@ -14,7 +14,7 @@ use std::marker::Model;
 /// The most blocks, and the most inodes, that one record may count.
 pub const MAX_USE: u64 = 1 << 40;
 
-/// The quota record of one user or group: what it uses, its limits and its grace ends (quotactl(2)).
+/// The quota record of one principal: what it uses, its limits and its grace ends (quotactl(2)).
 ///
 /// Blocks are of 4096 bytes and block limits in KiB; moments are seconds. A grace end stands exactly where use is
 /// over that soft limit. No call takes memory, and only `test` and `test_uses` refuse.

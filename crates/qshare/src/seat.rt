@@ -110,7 +110,7 @@ impl<S: StoreId> Seat<S, Viewer<S>> {
         shown
     }
 
-    /// The quota record of a user or group on the board that is published now, under the board's version. It takes no
+    /// The quota record of a principal on the board that is published now, under the board's version. It takes no
     /// lock and no memory, and waits for nobody.
     ///
     /// An Err is NoBoard where no board was handed out that has all that the seat has seen, reported first, after which

@@ -1,12 +1,13 @@
 -- The board of whatever is played is whole.
-use Rattle.std.proofs.Common.{◌≡◌, ℕ, Bool, true, false, cond, List, [], ◌∷◌, map, filter, sum_by, Result, Ok, Err, IfOk, refl, sym, ap, ◌∙◌, subst, arith}
+use Rattle.std.proofs.Common.{◌≡◌, ℕ, Bool, true, false, ◌||◌, cond, List, [], ◌∷◌, map, filter, sum_by, Result, Ok, Err, IfOk, refl, sym, ap, ◌∙◌, subst, arith}
+use Rattle.std.specs.List.{list_any}
 use Rattle.std.proofs.lemmas.List.Sums.{sum_by-cons}
 use Rattle.std.proofs.lemmas.List.Elements.{All-map}
 use Rattle.qrules.specs.declared.board_row.BoardRow.{BoardRow}
 use Rattle.qrules.specs.declared.kind.Kind.{Kind}
-use Rattle.qrules.specs.declared.kind.Kind.TheVariants.{User, Group}
+use Rattle.qrules.specs.declared.kind.Kind.TheVariants.{User, Group, Project}
 use Rattle.qrules.specs.Kinds.{is_same_kind}
-use Rattle.qrules.proofs.Ranks.{each_kind, same_kind}
+use Rattle.qrules.proofs.Ranks.{same_kind}
 use Rattle.qrules.specs.Sort.{Sort, Inodes, Blocks}
 use Rattle.qrules.specs.Account.{HasEnds, count_in}
 use Rattle.qplain.specs.declared.board.Board.{Board}
@@ -54,20 +55,27 @@ rows_add_up S kind sort (h ∷ hs) =
     one_more S kind sort h (filter (λ r. is_same_kind kind r.kind) (map (row_of S) hs)) (filter (λ g. is_same_kind kind g.kind) hs)
     (is_same_kind kind h.kind) refl (rows_add_up S kind sort hs)
 
+-- a kind has rows where somebody of it is declared
+kind_of_rows : (S : State) (kind : Kind) (hs : List Holder)
+    → list_any (λ r. is_same_kind kind r.kind) (map (row_of S) hs) ≡ list_any (λ h. is_same_kind kind h.kind) hs
+kind_of_rows S kind [] = refl
+kind_of_rows S kind (h ∷ hs) = ap (λ b. is_same_kind kind h.kind || b) (kind_of_rows S kind hs)
+
 pub boards_are_whole : BoardsAreWhole
 boards_are_whole s history setup =
     let S : State = play (start s) history in
     let lawful : IsLawful S = journals_stay_lawful s history setup in
     let sizes = size-played (start s) history in
     let stand = users_and_groups_stand S lawful in
-    let declared : (kind : Kind) → has_kind S kind ≡ true = each_kind (λ kind. has_kind S kind ≡ true) stand.0 stand.1 in
-    let sums : (kind : Kind) (sort : Sort) → sum_in (shown_of (start s) history) kind sort ≡ total_of S sort =
-    λ kind sort. rows_add_up S kind sort S.holders ∙ uses_add_up S kind sort lawful (declared kind) in
+    let sums : (kind : Kind) (sort : Sort) → has_kind S kind ≡ true → sum_in (shown_of (start s) history) kind sort ≡ total_of S sort =
+    λ kind sort declared. rows_add_up S kind sort S.holders ∙ uses_add_up S kind sort lawful declared in
     record {
-      user_blocks = sums User Blocks;
-      group_blocks = sums Group Blocks;
-      user_inodes = sums User Inodes;
-      group_inodes = sums Group Inodes;
+      user_blocks = sums User Blocks stand.0;
+      group_blocks = sums Group Blocks stand.1;
+      user_inodes = sums User Inodes stand.0;
+      group_inodes = sums Group Inodes stand.1;
+      project_blocks = λ any. sums Project Blocks (sym (kind_of_rows S Project S.holders) ∙ any);
+      project_inodes = λ any. sums Project Inodes (sym (kind_of_rows S Project S.holders) ∙ any);
       blocks_fit = omega (arith, lawful.blocks_fit, sizes.0);
       inodes_fit = omega (arith, lawful.inodes_fit, sizes.1);
       ends_stand = All-map (λ (r : BoardRow). HasEnds (account_in r)) (row_of S) S.holders lawful.ends_stand;

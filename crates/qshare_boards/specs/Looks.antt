@@ -27,7 +27,7 @@ IsBoardAnswer S history (Err NoBoard) = Unit {0}
 IsBoardAnswer S history (Err ESRCH) = ⊥
 IsBoardAnswer S history (Err OutOfMemory) = Unit {0}
 
--- the row of this user or group on the board of this history, with its version; or no board was handed out, or there is
+-- the row of this principal on the board of this history, with its version; or no board was handed out, or there is
 -- no such row
 abbrev pub IsRecordAnswer : State → List Entry → Kind → ℕ → Result (ℕ × BoardRow) LookFault → Type 0
 IsRecordAnswer S history kind id (Ok record_shown) = IsRecordOf S history kind id record_shown

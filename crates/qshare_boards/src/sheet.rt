@@ -55,14 +55,14 @@ fn put_rows(rows: &mut Vec<BoardRow>, all: &[PlacedRow])
     }
 }
 
-/// Whether the row is that of this user or group.
+/// Whether the row is that of this principal.
 fn is_row_of(row: &BoardRow, kind: Kind, id: u32) -> bool
     ensures { result ≡ is_row_of kind id row.now }
 {
     kind.is_same(row.kind) && row.id == id
 }
 
-/// The row of a user or group, if there is one.
+/// The row of a principal, if there is one.
 fn find_row(rows: &[BoardRow], kind: Kind, id: u32) -> Option<BoardRow>
     ensures { result ≡ find (is_row_of kind id) rows.now }
 {
@@ -116,7 +116,7 @@ impl Sheet {
         })
     }
 
-    /// The row of a user or group under the board's version. Err is ESRCH, where there is none.
+    /// The row of a principal under the board's version. Err is ESRCH, where there is none.
     pub(crate) fn record(&self, kind: Kind, id: u32) -> Result<(u64, BoardRow), LookFault>
         ensures ok { IfOk result (λ r. (r.0 ≡ (board_in self.now).version)
             × (row_in (board_in self.now) kind id ≡ Some r.1)) }

@@ -191,7 +191,7 @@ impl<S: StoreId> Viewer<S> {
         looked
     }
 
-    /// The row of a user or group on the board that is published now, under the board's version, for somebody who has
+    /// The row of a principal on the board that is published now, under the board's version, for somebody who has
     /// seen so much. It takes no lock and no memory, and waits for nobody.
     ///
     /// NoBoard where none was handed out that has all that was seen, ESRCH where it has no such row.

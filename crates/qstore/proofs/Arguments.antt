@@ -1,6 +1,7 @@
 -- The tests of what is written, in the order in which a store makes them.
 use Rattle.std.proofs.Common.{◌≡◌, ℕ, ◌≤◌, Bool, true, false, not, ◌&&◌, ◌||◌, nat_lt, cond, Some, None, Option, refl, arith, tests}
 use Rattle.std.specs.List.{list_all, list_any}
+use Rattle.std.proofs.lemmas.Bool.{and_parts}
 use Rattle.qrules.specs.declared.kind.Kind.TheVariants.{User, Group}
 use Rattle.qrules.specs.declared.graces.TheConstants.{MAX_MOMENT}
 use Rattle.qplain.specs.declared.call.Call.{Call}
@@ -11,6 +12,7 @@ use Rattle.qplain.specs.State.{State}
 use Rattle.qplain.specs.Walk.{is_too_long, is_well_formed}
 use Rattle.qplain.specs.Arguments.{has_bad_number, is_declared, paths_of, refusal_of_arguments}
 use Rattle.qstore_walk.specs.Paths.{paths_fault}
+use Rattle.qstore.specs.Requests.{are_declared, caller_owners}
 
 -- the refusal by its tests
 abbrev by_tests : Bool → Bool → Bool → Bool → Bool → Bool → Bool → Option Refusal
@@ -42,6 +44,11 @@ unfaulty true more bad fine = cc
 unfaulty false false bad fine = cc
 unfaulty false true true fine = cc
 unfaulty false true false fine = (refl, refl)
+
+-- a caller whose owners are declared is so by its user and its group
+pub caller-declared : (S : State) (cred : Caller) → are_declared S (caller_owners cred None) ≡ true
+    → (is_declared S User cred.uid && is_declared S Group cred.gid) ≡ true
+caller-declared S cred known = (and_parts (is_declared S User cred.uid && is_declared S Group cred.gid) true known).0
 
 module _ (S : State) (cred : Caller) (moment : ℕ) (call : Call) where
   -- the moment, a further group or a number is none that a call may have

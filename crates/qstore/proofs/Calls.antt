@@ -1,29 +1,34 @@
 -- The plain results of the calls that change inodes, and what stands where then.
-use Rattle.std.proofs.Common.{◌≡◌, ℕ, ◌+◌, ◌^◌, ◌<◌, ◌≤◌, ◌==◌, ⊎_elim, Bool, true, false, not, ◌&&◌, ◌||◌, nat_lt, cond, List, [], ◌∷◌, length, Option, None, Some, refl, sym, ap, subst, ◌∙◌, arith}
-use Rattle.std.proofs.lemmas.Bool.{and_from, cases_lt}
+use Rattle.std.proofs.Common.{◌≡◌, ℕ, ◌+◌, ◌^◌, ◌<◌, ◌≤◌, ◌==◌, ⊎_elim, Bool, true, false, not, ◌&&◌, ◌||◌, nat_lt, cond, List, [], ◌∷◌, length, Option, None, Some, refl, sym, ap, subst, ◌∙◌, arith, tests}
+use Rattle.std.specs.List.{list_any}
+use Rattle.std.specs.Option.{option_or, unwrap_or}
+use Rattle.std.proofs.lemmas.Bool.{and_from, and_parts, cases_lt, or_parts}
 use Rattle.qrules.specs.Sort.{Blocks}
 use Rattle.qblocks.specs.File.{Adds, File, MoreBlocks, after_truncate, after_write, blocks_of, with_touched}
 use Rattle.qplain.specs.declared.owners.Owners.{Owners}
 use Rattle.qplain.specs.declared.refusal.Refusal.TheVariants.{EACCES, EFBIG, EISDIR, EPERM}
 use Rattle.qplain.specs.declared.reply.Reply.TheVariants.{Done}
-use Rattle.qrules.specs.declared.kind.Kind.TheVariants.{User, Group}
-use Rattle.qplain.specs.Arguments.{is_declared, is_undeclared}
+use Rattle.qrules.specs.declared.kind.Kind.{Kind}
+use Rattle.qrules.specs.declared.kind.Kind.TheVariants.{User, Group, Project}
+use Rattle.qplain.specs.Arguments.{is_declared, is_holder, is_undeclared}
 use Rattle.qplain.specs.Attempt.{Answer, Becomes, Refuse, at_inode, at_reached, no_change}
 use Rattle.qplain.specs.Caller.{Caller}
 use Rattle.qplain.specs.Files.{truncate_at, with_file, with_inode, write_into}
-use Rattle.qplain.specs.Names.{created, swept, unlink_as, unlink_at, without_name}
+use Rattle.qplain.specs.Names.{created, owners_by, project_of, swept, unlink_as, unlink_at, without_name}
 use Rattle.qplain.specs.Owners.{give, renewed, with_owners}
 use Rattle.qplain.specs.Rights.{may_give, may_remove, may_write}
-use Rattle.qplain.specs.State.{Inode, State, inode_at, named, new_directory, new_file}
+use Rattle.qplain.specs.State.{Inode, State, inode_at, is_directory, named, new_directory, new_file}
 use Rattle.qplain.specs.Use.{links_of, weight}
 use Rattle.qplain.specs.Walk.{led_to}
-use Rattle.qplain_laws.specs.Laws.{AreKnown, FitsTogether}
+use Rattle.qplain_laws.specs.Laws.{AreKnown, FitsTogether, is_known_owner}
+use Rattle.qplain_laws.proofs.Fitting.{known-project}
 use Rattle.qplain_laws.proofs.Settling.{absent-next}
 use Rattle.qplain_laws.proofs.Removing.{Replaces-last, Replaces-more, links_of-unlinked}
 use Rattle.qplain_laws.proofs.Replacing.{Replaces-changed, Replaces-created}
 use Rattle.qstore_accounts.specs.declared.claim.Claim.{Claim}
-use Rattle.qstore_accounts.specs.declared.claim.Slots.{Slots}
-use Rattle.qstore_accounts.specs.Books.{HasSlots}
+use Rattle.qstore_accounts.specs.declared.kept_holder.KeptHolder.{KeptHolder}
+use Rattle.qstore_accounts.specs.Books.{ledger_in}
+use Rattle.qstore_accounts.proofs.Holders.{declared-kept}
 use Rattle.qstore_tree.specs.Tree.{IsSameTree, RoomyTree}
 use Rattle.qstore.specs.declared.store.Store.TheInside.{Inside}
 use Rattle.qstore.specs.declared.file_type.FileType.{FileType}
@@ -33,11 +38,11 @@ use Rattle.qstore.specs.Kept.{state_of, stored_of}
 use Rattle.qstore.specs.FileTypes.{inode_new}
 use Rattle.qstore.specs.Targets.{IsTarget}
 use Rattle.qstore.specs.Decided.{IsAsked}
-use Rattle.qstore.specs.Requests.{IsConsistent, are_declared}
+use Rattle.qstore.specs.Requests.{IsConsistent, are_declared, caller_owners, is_project}
 use Rattle.qstore_change.specs.Changes.{altered, altered_at}
 use Rattle.qstore.specs.Stored.{IsSameStore, Stored}
 use Rattle.qstore_accounts.specs.Replacements.{IsClaimed}
-use Rattle.qstore_accounts.proofs.Claimed.{claimed, claimed-again, unclaimed}
+use Rattle.qstore_accounts.proofs.Claimed.{claimed-again, unclaimed}
 use Rattle.qstore.proofs.Deciding.{asked-for}
 
 -- ---- the tests
@@ -80,33 +85,75 @@ give-refused S cred owners number inode may =
     λ i. cond (not (may i)) (Refuse EPERM) (Becomes (with_inode S number (with_owners inode owners)) number)
 
 -- owners that are known are declared
-pub known-declared : (S : State) (owners : Owners) → AreKnown S owners → are_declared S owners ≡ true
-known-declared S owners known = and_from (is_declared S User owners.uid) (is_declared S Group owners.gid) (known User) (known Group)
+project-known : (S : State) (project : Option ℕ) → is_known_owner S Project project ≡ true → is_project S project ≡ true
+project-known S None known = refl
+project-known S (Some id) known = known
 
--- owners that are named and declared, or that are not named, are declared
-pub named-declared : (S : State) (uid gid : Option ℕ) (owners : Owners) → (is_undeclared S User uid || is_undeclared S Group gid) ≡ false
-    → are_declared S owners ≡ true → are_declared S (renewed uid gid owners) ≡ true
-named-declared S None None owners none own = own
-named-declared S (Some a) None owners none own =
-    by (is_declared S User a) (is_declared S User owners.uid) (is_declared S Group owners.gid) none own
+pub known-declared : (S : State) (owners : Owners) → AreKnown S owners → are_declared S owners ≡ true
+known-declared S owners known =
+    and_from (is_declared S User owners.uid && is_declared S Group owners.gid) (is_project S owners.project)
+    (and_from (is_declared S User owners.uid) (is_declared S Group owners.gid) (known User) (known Group))
+    (project-known S owners.project (known Project))
+
+-- an id that is named and declared, or that is not named, is declared
+named-id : (S : State) (kind : Kind) (id : Option ℕ) (own : ℕ) → is_undeclared S kind id ≡ false → is_declared S kind own ≡ true
+    → is_declared S kind (unwrap_or id own) ≡ true
+named-id S kind None own named is = is
+named-id S kind (Some id) own named is = by (is_declared S kind id) named
   where
-    by : (p q r : Bool) → (not p || false) ≡ false → (q && r) ≡ true → (p && r) ≡ true
-    by true true r n o = o
-    by true false r n o = cc
-    by false q r n o = cc
-named-declared S None (Some b) owners none own =
-    by (is_declared S Group b) (is_declared S User owners.uid) (is_declared S Group owners.gid) none own
+    by : (b : Bool) → not b ≡ false → b ≡ true
+    by true n = refl
+    by false n = cc
+
+named-project : (S : State) (id own : Option ℕ) → is_undeclared S Project id ≡ false → is_project S own ≡ true
+    → is_project S (option_or id own) ≡ true
+named-project S None own named is = is
+named-project S (Some id) own named is = named-id S Project (Some id) id named (by (is_declared S Project id) named)
   where
-    by : (p q r : Bool) → not p ≡ false → (q && r) ≡ true → (q && p) ≡ true
-    by true true r n o = refl
-    by true false r n o = cc
-    by false q r n o = cc
-named-declared S (Some a) (Some b) owners none own = by (is_declared S User a) (is_declared S Group b) none
+    by : (b : Bool) → not b ≡ false → b ≡ true
+    by true n = refl
+    by false n = cc
+
+-- and so are all owners of an inode that is given them
+pub named-declared : (S : State) (uid gid project : Option ℕ) (owners : Owners)
+    → (is_undeclared S User uid || is_undeclared S Group gid || is_undeclared S Project project) ≡ false
+    → are_declared S owners ≡ true → are_declared S (renewed uid gid project owners) ≡ true
+named-declared S uid gid project owners named own =
+    let last = or_parts (is_undeclared S User uid || is_undeclared S Group gid) (is_undeclared S Project project) named in
+    let first = or_parts (is_undeclared S User uid) (is_undeclared S Group gid) last.0 in
+    let all = and_parts (is_declared S User owners.uid && is_declared S Group owners.gid) (is_project S owners.project) own in
+    let both = and_parts (is_declared S User owners.uid) (is_declared S Group owners.gid) all.0 in
+    and_from (is_declared S User (unwrap_or uid owners.uid) && is_declared S Group (unwrap_or gid owners.gid))
+    (is_project S (option_or project owners.project))
+    (and_from (is_declared S User (unwrap_or uid owners.uid)) (is_declared S Group (unwrap_or gid owners.gid))
+    (named-id S User uid owners.uid first.0 both.0) (named-id S Group gid owners.gid first.1 both.1))
+    (named-project S project owners.project last.1 all.1)
+
+-- the owners of what a caller makes in a directory are declared
+pub made-declared : (S : State) (cred : Caller) (dir : ℕ) → FitsTogether S → are_declared S (caller_owners cred None) ≡ true
+    → is_directory S dir ≡ true → are_declared S (owners_by S cred dir) ≡ true
+made-declared S cred dir fits known stands =
+    and_from (is_declared S User cred.uid && is_declared S Group cred.gid) (is_project S (project_of (inode_at S dir)))
+    (and_parts (is_declared S User cred.uid && is_declared S Group cred.gid) true known).0
+    (project-known S (project_of (inode_at S dir)) (known-project S dir fits stands))
+
+-- where no project is declared a directory has none
+pub no-project : (s : Stored) → IsConsistent s → (dir : ℕ) → is_directory s.state dir ≡ true
+    → (length (ledger_in Project s.books) == 0) ≡ true → None ≡ project_of (inode_at s.state dir)
+no-project s whole dir stands none =
+    by (project_of (inode_at s.state dir)) (known-project s.state dir whole.sound.lawful.parts stands)
   where
-    by : (p q : Bool) → (not p || not q) ≡ false → (p && q) ≡ true
-    by true true n = refl
-    by true false n = cc
-    by false q n = cc
+    absent : (id : ℕ) (os : List KeptHolder) → (length os == 0) ≡ true → list_any (λ o. id == o.id) os ≡ false
+    absent id [] empty = refl
+    absent id (o ∷ os) empty = absurd (grind (arith, tests, empty))
+
+    by : (project : Option ℕ) → is_known_owner s.state Project project ≡ true → None ≡ project
+    by None known = refl
+    by (Some id) known =
+        let undeclared : is_declared s.state Project id ≡ false =
+        ap (list_any (is_holder Project id)) whole.books.holders ∙ declared-kept Project id (λ kind. ledger_in kind s.books)
+        ∙ absent id (ledger_in Project s.books) none in
+        cc
 
 -- a change of the inode that is there
 pub altered-there : (S : State) (number : ℕ) (change : Inode → Inode) (inode : Inode) → inode_at S number ≡ Some inode
@@ -186,17 +233,19 @@ target-asked s whole cred path off bytes target t to is =
     (target.claim.weight.blocks + target.missing) t.claimed is (omega (arith, more, old)) (omega (arith, few, few_missing))
 
 -- a new inode of the caller's
-pub created-asked : (s : Stored) → IsConsistent s → (dir : ℕ) (name : List ℕ) (slots : Slots) (owners : Owners) (sort : FileType)
-    → HasSlots s.books slots owners → (to : Claim) → to ≡ record { slots = slots; weight = record { blocks = 0; inodes = 1 } }
-    → IsAsked s (record { from = None; to = Some to }) 1 (created s.state (inode_new sort owners) dir name)
-created-asked s whole dir name slots owners sort has to is =
-    asked-for s whole None (Some to) 1 (created s.state (inode_new sort owners) dir name) None (Some (inode_new sort owners))
+pub created-asked : (s : Stored) → IsConsistent s → (cred : Caller) (dir : ℕ) (name : List ℕ) (sort : FileType) (owners : Owners)
+    → owners ≡ owners_by s.state cred dir → (to : Claim)
+    → ((inode : Inode) → inode.owners ≡ owners → weight Blocks inode ≡ 0 → IsClaimed s.books (Some to) (Some inode))
+    → IsAsked s (record { from = None; to = Some to }) 1 (created s.state (inode_new sort (owners_by s.state cred dir)) dir name)
+created-asked s whole cred dir name sort owners own to claimed =
+    subst (λ o. IsAsked s (record { from = None; to = Some to }) 1 (created s.state (inode_new sort o) dir name)) own
+    (asked-for s whole None (Some to) 1 (created s.state (inode_new sort owners) dir name) None (Some (inode_new sort owners))
     (Replaces-created s.state (inode_new sort owners) dir name (absent-next s.state whole.sound.lawful)) refl (unclaimed s.books)
-    (subst (λ (c : Claim). IsClaimed s.books (Some c) (Some (inode_new sort owners))) (sym is) (by sort)) (light sort)
+    (by sort) (light sort))
   where
-    by : (k : FileType) → IsClaimed s.books (Some (record { slots = slots; weight = record { blocks = 0; inodes = 1 } })) (Some (inode_new k owners))
-    by AFile = claimed s.books slots 0 (new_file owners) has refl
-    by Directory = claimed s.books slots 0 (new_directory owners) has refl
+    by : (k : FileType) → IsClaimed s.books (Some to) (Some (inode_new k owners))
+    by AFile = claimed (new_file owners) refl refl
+    by Directory = claimed (new_directory owners) refl refl
 
     light : (k : FileType) → weight Blocks (inode_new k owners) ≤ 2 ^ 32
     light AFile = omega arith

@@ -1,15 +1,15 @@
 -- Who asks, and what each decision rests on. No public clause cites this module.
-use Rattle.std.specs.Prelude.{◌≡◌, ℕ, ◌≤◌, true, false, List, None, Bool, ◌&&◌}
+use Rattle.std.specs.Prelude.{◌≡◌, ℕ, ◌≤◌, true, false, List, Option, Some, None, Bool, ◌&&◌}
 use Rattle.qrules.specs.declared.graces.TheConstants.{MAX_MOMENT}
-use Rattle.qrules.specs.declared.kind.Kind.TheVariants.{User, Group}
+use Rattle.qrules.specs.declared.kind.Kind.TheVariants.{User, Group, Project}
 use Rattle.qplain.specs.declared.owners.Owners.{Owners}
 use Rattle.qplain.specs.declared.call.Call.{Call}
 use Rattle.qplain.specs.Arguments.{has_bad_number, is_declared, refusal_of_arguments}
 use Rattle.qplain.specs.Caller.{Caller}
-use Rattle.qplain.specs.Names.{owners_by}
 use Rattle.qplain.specs.State.{State, is_directory, named}
 use Rattle.qstore_accounts.specs.declared.claim.Slots.{Slots}
-use Rattle.qstore_accounts.specs.Books.{AreBooksOf, HasSlots}
+use Rattle.qstore_accounts.specs.Books.{AreBooksOf, Books, HasSlots}
+use Rattle.qstore_accounts.specs.KeptHolders.{IsSlotFor}
 use Rattle.qstore.specs.declared.request.Request.{Request}
 use Rattle.qstore.specs.Stored.{IsStorable, Stored}
 
@@ -18,21 +18,39 @@ pub record IsConsistent (s : Stored) : Type 0 where
   pub sound : IsStorable s.state
   pub books : AreBooksOf s.state s.books
 
--- the store is consistent, and the caller's records stand in it where the request says
+-- the owners of a caller's own, in a project, if it is in one
+abbrev pub caller_owners : Caller → Option ℕ → Owners
+caller_owners cred project = record { uid = cred.uid; gid = cred.gid; project = project }
+
+-- the store is consistent, and the caller is declared, whose records stand in it where the request says
 pub record CanDecide (s : Stored) (request : Request) : Type 0 where
   pub whole : IsConsistent s
-  pub callers : HasSlots s.books request.callers (owners_by request.cred.now)
+  pub known : are_declared s.state (caller_owners request.cred.now None) ≡ true
+  pub callers : HasSlots s.books request.callers (caller_owners request.cred.now None)
 
 -- the call is written as it may be, at a moment that may be, and the caller's records stand at these slots
 pub record IsChecked (s : Stored) (cred : Caller) (moment : ℕ) (call : Call) (slots : Slots) : Type 0 where
   pub allowed : refusal_of_arguments s.state cred moment call ≡ None
   pub in_range : moment ≤ MAX_MOMENT
-  pub callers : HasSlots s.books slots (owners_by cred)
+  pub known : are_declared s.state (caller_owners cred None) ≡ true
+  pub callers : HasSlots s.books slots (caller_owners cred None)
   pub numbers : has_bad_number s.state call ≡ false
+
+-- the project is declared, if there is one
+abbrev pub is_project : State → Option ℕ → Bool
+is_project S None = true
+is_project S (Some id) = is_declared S Project id
 
 -- the owners are declared
 abbrev pub are_declared : State → Owners → Bool
-are_declared S owners = is_declared S User owners.uid && is_declared S Group owners.gid
+are_declared S owners =
+    is_declared S User owners.uid && is_declared S Group owners.gid && is_project S owners.project
+
+-- the slots are those of the same user and group, and of this project, if there is one
+pub record IsWithProject (b : Books) (slots : Slots) (project : Option ℕ) (with : Slots) : Type 0 where
+  pub user : with.user ≡ slots.user
+  pub group : with.group ≡ slots.group
+  pub project : IsSlotFor b.projects with.project project
 
 -- the directory is there, and has no such name
 pub record IsFree (S : State) (dir : ℕ) (name : List ℕ) : Type 0 where

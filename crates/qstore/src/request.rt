@@ -1,10 +1,8 @@
 //! Who asks a store and when, and what the change that is asked for comes to.
-ghost use Rattle.std.specs.Prelude.{◌≡◌, ◌≤◌};
+ghost use Rattle.std.specs.Prelude.{◌≤◌};
 ghost use Rattle.qrules.specs.declared.graces.TheConstants.{MAX_MOMENT};
-ghost use Rattle.qplain.specs.Names.{owners_by};
 
 use crate::Cred;
-use qplain::Owners;
 use qstore_accounts::{Claim, Slots};
 
 /// A caller, where its records stand, and the moment of its call.
@@ -21,14 +19,4 @@ pub(crate) struct Request<'a> {
 pub(crate) struct Exchange {
     pub(crate) from: Option<Claim>,
     pub(crate) to: Option<Claim>,
-}
-
-/// The owners of what a caller makes.
-pub(crate) fn owners_by(cred: &Cred) -> Owners
-    ensures { result ≡ owners_by cred.now }
-{
-    Owners {
-        uid: cred.uid(),
-        gid: cred.gid(),
-    }
 }

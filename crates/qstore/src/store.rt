@@ -13,7 +13,7 @@ ghost use Rattle.qstore.specs.Stored.{IsSameStore, IsStorable, Stored};
 ghost use Rattle.qstore.specs.Decided.{CanDecide, IsDecisionOf};
 ghost use Rattle.qstore.specs.Ready.{CanCarryOut, IsReady, IsRefused, committed, wants_no_memory};
 
-use crate::{Call, Cred, Decision, NoMemory, Plan, Ready, Reply, Request, Setup};
+use crate::{Call, Cred, Decision, NoMemory, Plan, Ready, Reply, Request, Setup, root_owners};
 use qstore_accounts::{Accounts, Bill};
 use qstore_tree::Tree;
 use std::alloc::Global;
@@ -63,8 +63,8 @@ impl Model for Store {
 }
 
 impl Store {
-    /// A new store of a setup. It holds the root directory, inode 1 of user 0 and group 0; the next number is 2, and a
-    /// file has at most 2^30 bytes in edition 1 and 2^40 in edition 2 (tmpfs(5), profile). The hashes of names begin at
+    /// A new store of a setup. It holds the root directory, inode 1 of user 0, group 0 and, where projects are
+    /// declared, project 0; the next number is 2, and a file has at most 2^30 bytes in edition 1 and 2^40 in edition 2 (tmpfs(5), profile). The hashes of names begin at
     /// `seed`, any number: who does not know it cannot search for names that collide, and no answer depends on it.
     /// After an Err nothing was made. O(n) for n principals.
     pub fn new(alloc: Global, setup: Setup, seed: u64) -> Result<Store, NoMemory>
@@ -74,7 +74,7 @@ impl Store {
             alloc,
             file_limit: setup.file_limit(),
             accounts: Accounts::new(alloc, &setup)?,
-            tree: Tree::new(alloc, seed)?,
+            tree: Tree::new(alloc, seed, root_owners(&setup))?,
             next: 2,
             bill: Bill::empty(),
         })
@@ -154,9 +154,12 @@ impl Store {
             Call::Unlink { path } => self.decide_unlink(request, path),
             Call::Rmdir { path } => self.decide_rmdir(request, path),
             Call::Rename { from, to } => self.decide_rename(request, from, to.text()),
-            Call::Chown { path, uid, gid } => {
-                Ok(self.decide_chown(request, path.text(), *uid, *gid))
-            }
+            Call::Chown {
+                path,
+                uid,
+                gid,
+                project,
+            } => { Ok(self.decide_chown(request, path.text(), *uid, *gid, *project)) }
             Call::SetQuota { kind, id, limits } => {
                 Ok(self.decide_set_quota(request, *kind, *id, *limits))
             }

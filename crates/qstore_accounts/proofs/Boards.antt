@@ -102,7 +102,12 @@ module _ (b : Books) (bill : Bill) (there : IsBillFor b bill) (us gs ps : List P
       length-append us (gs ++ ps) ∙ ap (λ n. length us + n) (length-append gs ps) in
       record {
         leads = ap (λ rs. with_rows rs (us ++ (gs ++ ps))) (sym rows) ∙ rows-billed in_range ∙ rows-of-books S1 (settled bill b) new;
-        few = omega (arith, sum, few-both User b.users 0 bill.users us users, few-both Group b.groups (length b.users) bill.groups gs groups,
-            few-both Project b.projects (length b.users + length b.groups) bill.projects ps projects);
+        few = omega (
+          arith,
+          sum,
+          few-both User b.users 0 bill.users us users,
+          few-both Group b.groups (length b.users) bill.groups gs groups,
+          few-both Project b.projects (length b.users + length b.groups) bill.projects ps projects,
+        );
         others = subst (λ rs. All (IsOther rs) (us ++ (gs ++ ps))) rows others-billed;
       }

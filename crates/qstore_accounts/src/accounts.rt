@@ -1,5 +1,5 @@
 //! The accounts of a store: its records, its totals, its bounds and its graces.
-ghost use Rattle.std.specs.Prelude.{◌≡◌, ℕ, ◌+◌, ◌≤◌, ◌||◌, nat_lt, map, None, Some, Option, IfOk, IfErr, OnOk, IfSome, is_some, option_copied, true};
+ghost use Rattle.std.specs.Prelude.{◌≡◌, ℕ, ◌+◌, ◌≤◌, ◌||◌, ◌==◌, length, nat_lt, map, None, Some, Option, IfOk, IfErr, OnOk, IfSome, is_some, option_copied, true};
 ghost use Rattle.std.specs.Option.{option_map, option_or};
 ghost use Rattle.std.specs.List.{AllPairs, find};
 ghost use Rattle.qrules.specs.declared.kind.Kind.{Kind};
@@ -94,6 +94,13 @@ impl Accounts {
         ensures { result ≡ self.now.inodes }
     {
         self.inodes
+    }
+
+    /// Whether no project is declared. O(1).
+    pub fn has_no_projects(&self) -> bool
+        ensures { result ≡ (length (ledger_in Project self.now) == 0) }
+    {
+        self.projects.len() == 0
     }
 
     /// The records of a kind.

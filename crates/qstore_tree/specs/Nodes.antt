@@ -50,6 +50,7 @@ node_row number n = record {
   dir = is_dir_content n.content;
   uid = n.owners.uid;
   gid = n.owners.gid;
+  project = n.owners.project;
   blocks = length (file_in n.content).allocated;
   links = n.links;
 }

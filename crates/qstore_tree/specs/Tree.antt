@@ -73,6 +73,7 @@ kept_row links e = record {
   dir = e.1.dir;
   uid = e.1.owners.uid;
   gid = e.1.owners.gid;
+  project = e.1.owners.project;
   blocks = length e.1.file.allocated;
   links = unwrap_or (lookup (is_at (nat_cmp e.0)) links) 0;
 }

@@ -205,6 +205,7 @@ impl Node {
             dir,
             uid: self.owners.uid,
             gid: self.owners.gid,
+            project: self.owners.project,
             blocks,
             links: self.links,
         }

@@ -6,7 +6,7 @@ ghost use Rattle.std.specs.Ordering.{nat_cmp};
 ghost use Rattle.std.specs.Cmp.Lexicographic.{slice_cmp};
 ghost use Rattle.std.specs.BTreeMap.{is_at};
 ghost use Rattle.std.specs.Map.{lookup};
-ghost use Rattle.qplain.specs.State.{is_dir, name_key_cmp, root};
+ghost use Rattle.qplain.specs.State.{is_dir, name_key_cmp, new_directory};
 ghost use Rattle.qstore_tree.specs.Nodes.{inode_of, names_in};
 
 use crate::names::Names;
@@ -42,17 +42,14 @@ impl Model for Tree {
 }
 
 impl Tree {
-    /// The root directory, with no name in it.
-    pub fn new(alloc: Global, seed: u64) -> Result<Tree, NoMemory>
-        ensures inodes { IfOk result (λ t. t.inodes ≡ (ROOT, root) ∷ []) }
+    /// The root directory, of these owners, with no name in it.
+    pub fn new(alloc: Global, seed: u64, owners: Owners) -> Result<Tree, NoMemory>
+        ensures inodes { IfOk result (λ t. t.inodes ≡ (ROOT, new_directory owners) ∷ []) }
         ensures names { IfOk result (λ t. t.names ≡ []) }
         ensures links { IfOk result (λ t. t.links ≡ (ROOT, 2) ∷ []) }
     {
         let mut nodes = HashMap::new(alloc);
-        nodes.insert(
-            ROOT,
-            Node::new_directory(alloc, seed, Owners { uid: 0, gid: 0 }),
-        )?;
+        nodes.insert(ROOT, Node::new_directory(alloc, seed, owners))?;
         Ok(Tree { nodes, seed })
     }
 

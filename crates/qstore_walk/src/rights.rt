@@ -2,7 +2,7 @@
 ghost use Rattle.std.specs.Prelude.{◌≡◌, ◌==◌, ◌||◌, not, Some};
 ghost use Rattle.std.specs.List.{list_any};
 ghost use Rattle.qplain.specs.State.{State, inode_at};
-ghost use Rattle.qplain.specs.Rights.{is_member, is_own, may_give, may_remove, may_write, owns};
+ghost use Rattle.qplain.specs.Rights.{is_member, is_own, is_same_id, may_give, may_remove, may_write, owns};
 ghost use Rattle.qplain.specs.Renames.{passes};
 ghost use Rattle.qstore_tree.specs.Nodes.{inode_of};
 ghost use Rattle.qstore_tree.specs.TreeOf.{IsTreeOf};
@@ -26,13 +26,14 @@ fn is_member(cred: &Cred, gid: u32) -> bool
     cred.gid() == gid || is_among(gid, cred.more())
 }
 
-/// Whether the record is the caller's own, or one of its groups'.
+/// Whether the record is the caller's own, or one of its groups'. No project is a caller's own.
 pub fn is_own(cred: &Cred, kind: Kind, id: u32) -> bool
     ensures { result ≡ is_own cred.now kind id }
 {
     match kind {
         Kind::User => cred.uid() == id,
         Kind::Group => is_member(cred, id),
+        Kind::Project => false,
     }
 }
 
@@ -43,8 +44,19 @@ pub fn may_write(cred: &Cred, node: &Node) -> bool
     cred.uid() == 0 || cred.uid() == node.owners.uid
 }
 
-/// Whether the caller may give the inode these owners: the superuser may; its owner may keep itself, and the group or
-/// one of its own groups.
+/// Whether both are the same id, or none.
+fn is_same_id(one: Option<u32>, other: Option<u32>) -> bool
+    ensures { result ≡ is_same_id one other }
+{
+    match (one, other) {
+        (None, None) => true,
+        (Some(one), Some(other)) => one == other,
+        _ => false,
+    }
+}
+
+/// Whether the caller may give the inode these owners: the superuser may; its owner may keep itself, the project, and
+/// the group or one of its own groups.
 pub fn may_give(cred: &Cred, node: &Node, owners: Owners) -> bool
     ensures { result ≡ may_give cred.now (inode_of node.now) owners }
 {
@@ -52,6 +64,7 @@ pub fn may_give(cred: &Cred, node: &Node, owners: Owners) -> bool
         || cred.uid() == node.owners.uid
             && owners.uid == node.owners.uid
             && (owners.gid == node.owners.gid || is_member(cred, owners.gid))
+            && is_same_id(owners.project, node.owners.project)
 }
 
 /// Whether an inode is there, and belongs to the caller.

@@ -5,7 +5,7 @@ ghost use Rattle.qrules.specs.declared.kind.Kind.TheVariants.{User, Group};
 ghost use Rattle.qplain.specs.Arguments.{has_bad_number, is_declared, is_undeclared, refusal_of_arguments};
 ghost use Rattle.qstore.specs.Requests.{IsChecked, IsConsistent};
 
-use crate::{Call, Cred, Refusal, Store, owners_by};
+use crate::{Call, Cred, Refusal, Store, caller_owners};
 use qplain::MAX_DATA;
 use qrules::{Kind, MAX_MOMENT};
 use qstore_accounts::Slots;
@@ -36,8 +36,15 @@ impl Store {
         match call {
             Call::Write { bytes, .. } => bytes.len() > MAX_DATA,
             Call::Read { len, .. } => *len > MAX_DATA,
-            Call::Chown { uid, gid, .. } => {
-                self.is_undeclared(Kind::User, *uid) || self.is_undeclared(Kind::Group, *gid)
+            Call::Chown {
+                uid,
+                gid,
+                project,
+                ..
+            } => {
+                self.is_undeclared(Kind::User, *uid)
+                    || self.is_undeclared(Kind::Group, *gid)
+                    || self.is_undeclared(Kind::Project, *project)
             }
             Call::SetQuota { limits, .. } => !limits.are_in_range(),
             Call::SetGrace { graces } => !graces.are_in_range(),
@@ -75,7 +82,7 @@ impl Store {
         ensures refused { IfErr result (λ refusal. refusal_of_arguments self.now.state cred.now moment call.now
             ≡ Some refusal) }
     {
-        let Some(slots) = self.slots(owners_by(cred)) else {
+        let Some(slots) = self.slots(caller_owners(cred, None)) else {
             return Err(Refusal::EINVAL);
         };
         if self.has_fault(cred, moment, call) {

@@ -1,6 +1,6 @@
 //! To give an inode other owners (chown(2)).
 ghost use Rattle.std.specs.Prelude.{◌≡◌, ◌||◌, false};
-ghost use Rattle.qrules.specs.declared.kind.Kind.TheVariants.{User, Group};
+ghost use Rattle.qrules.specs.declared.kind.Kind.TheVariants.{User, Group, Project};
 ghost use Rattle.qplain.specs.Arguments.{is_undeclared};
 ghost use Rattle.qplain.specs.Owners.{renewed};
 ghost use Rattle.qstore.specs.Decided.{CanDecide, IsDecisionOf};
@@ -11,12 +11,13 @@ use qstore_change::TreeChange;
 use qstore_walk::{Found, find, may_give};
 
 /// The owners with those that are named.
-fn renewed(uid: Option<u32>, gid: Option<u32>, owners: Owners) -> Owners
-    ensures { result ≡ renewed uid gid owners }
+fn renewed(uid: Option<u32>, gid: Option<u32>, project: Option<u32>, owners: Owners) -> Owners
+    ensures { result ≡ renewed uid gid project owners }
 {
     Owners {
         uid: uid.unwrap_or(owners.uid),
         gid: gid.unwrap_or(owners.gid),
+        project: project.or(owners.project),
     }
 }
 
@@ -28,16 +29,18 @@ impl Store {
         path: &str,
         uid: Option<u32>,
         gid: Option<u32>,
+        project: Option<u32>,
     ) -> Ready
         requires can { CanDecide self.old request.now }
-        requires declared { (is_undeclared self.old.state User uid || is_undeclared self.old.state Group gid) ≡ false }
-        ensures { IsDecisionOf self.old self.new request.now (Call.Chown path.now uid gid) (Ok result) }
+        requires declared { (is_undeclared self.old.state User uid || is_undeclared self.old.state Group gid
+            || is_undeclared self.old.state Project project) ≡ false }
+        ensures { IsDecisionOf self.old self.new request.now (Call.Chown path.now uid gid project) (Ok result) }
     {
         let Found { number, node } = match find(self.tree(), path) {
             Ok(found) => found,
             Err(refusal) => return Ready::refused(refusal),
         };
-        let owners = renewed(uid, gid, node.owners);
+        let owners = renewed(uid, gid, project, node.owners);
         if !may_give(request.cred, node, owners) {
             return Ready::refused(Refusal::EPERM);
         }

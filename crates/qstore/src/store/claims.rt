@@ -10,7 +10,7 @@ ghost use Rattle.qstore_accounts.specs.Books.{HasSlots};
 ghost use Rattle.qstore_accounts.specs.Replacements.{IsClaimed};
 ghost use Rattle.qstore_change.specs.Changes.{CanChange, changed};
 ghost use Rattle.qstore.specs.Decided.{CanDecide, IsAsked, IsBilled, IsConsistent, IsDecision, IsUnbilled};
-ghost use Rattle.qstore.specs.Requests.{are_declared};
+ghost use Rattle.qstore.specs.Requests.{IsWithProject, are_declared, is_project};
 ghost use Rattle.qstore.specs.Stored.{IsSameStore};
 
 use crate::{Exchange, Ready, Refusal, Request, Store};
@@ -37,12 +37,43 @@ impl Store {
         ensures slots { IfSome result (λ slots. HasSlots self.now.books slots owners) }
         ensures whole { IsConsistent self.now }
     {
+        let project = None;
         match (
             self.accounts.slot(Kind::User, owners.uid),
             self.accounts.slot(Kind::Group, owners.gid),
         ) {
-            (Some(user), Some(group)) => Some(Slots { user, group }),
+            (Some(user), Some(group)) => {
+                self.with_project(
+                    Slots {
+                        user,
+                        group,
+                        project,
+                    },
+                    owners.project,
+                )
+            }
             _ => None,
+        }
+    }
+
+    /// The slots of a user and of a group, with that of a project, if there is one: all, if it is declared.
+    #[inline(always)]
+    fn with_project(&self, slots: Slots, project: Option<u32>) -> Option<Slots>
+        ensures declared { is_some result ≡ is_project self.now.state project }
+        ensures slots { IfSome result (IsWithProject self.now.books slots project) }
+    {
+        let Some(id) = project else {
+            return Some(Slots {
+                project: None,
+                ..slots
+            });
+        };
+        match self.accounts.slot(Kind::Project, id) {
+            Some(slot) => Some(Slots {
+                project: Some(slot),
+                ..slots
+            }),
+            None => None,
         }
     }
 
@@ -53,7 +84,7 @@ impl Store {
         ensures slots { IfSome result (λ slots. HasSlots self.now.books slots owners) }
     {
         if owners.uid == request.cred.uid() && owners.gid == request.cred.gid() {
-            return Some(request.callers);
+            return self.with_project(request.callers, owners.project);
         }
         self.slots(owners)
     }

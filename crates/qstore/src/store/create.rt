@@ -1,18 +1,17 @@
 //! To create a file (open(2)).
-ghost use Rattle.std.specs.Prelude.{◌≡◌, string_bytes};
+ghost use Rattle.std.specs.Prelude.{◌≡◌, string_bytes, true};
 ghost use Rattle.qplain.specs.Attempt.{Becomes};
-ghost use Rattle.qplain.specs.Names.{created, owners_by};
-ghost use Rattle.qplain.specs.State.{State};
+ghost use Rattle.qplain.specs.Names.{created, owners_by, project_of};
+ghost use Rattle.qplain.specs.State.{State, inode_at, is_directory};
 ghost use Rattle.qstore_tree.specs.Room.{Room};
 ghost use Rattle.qstore_change.specs.Changes.{CanChange, CanCreate, changed};
-ghost use Rattle.qstore.specs.Decided.{CanDecide, IsDecision, IsDecisionOf, IsFree};
+ghost use Rattle.qstore.specs.Decided.{CanDecide, IsConsistent, IsDecision, IsDecisionOf, IsFree};
 ghost use Rattle.qstore.specs.FileTypes.{inode_new};
 
-use crate::{Call, Decision, Exchange, FileType, Ready, Refusal, Request, Store, owners_by};
+use crate::{Call, Decision, Exchange, FileType, Ready, Refusal, Request, Store, caller_owners};
 use qplain::Owners;
-use qstore_accounts::Claim;
 use qstore_change::TreeChange;
-use qstore_walk::last_component;
+use qstore_walk::{inode, last_component};
 
 /// The change by which a new inode comes to stand.
 fn creation(sort: FileType, dir: u64, name: String, owners: Owners) -> TreeChange
@@ -42,6 +41,21 @@ impl Store {
         }
     }
 
+    /// The project of what is made in a directory: the directory's.
+    fn project_of(&self, dir: u64) -> Option<u32>
+        requires whole { IsConsistent self.now }
+        requires directory { is_directory self.now.state dir ≡ true }
+        ensures { result ≡ project_of (inode_at self.now.state dir) }
+    {
+        if self.accounts.has_no_projects() {
+            return None;
+        }
+        match inode(self.tree(), dir) {
+            Some(node) => node.owners.project,
+            None => None,
+        }
+    }
+
     /// Makes room for a new inode of the caller's, if it is granted.
     pub(super) fn make_inode(
         &mut self,
@@ -53,9 +67,11 @@ impl Store {
         requires can { CanDecide self.old request.now }
         requires free { IsFree self.old.state dir name.now }
         ensures { let cred = request.now.cred.now in IsDecision self.old self.new request.now (Becomes
-            (created self.old.state (inode_new sort (owners_by cred)) dir name.now) self.old.state.next) result }
+            (created self.old.state (inode_new sort (owners_by self.old.state cred dir)) dir name.now)
+            self.old.state.next) result }
     {
-        let (from, to) = (None, Some(Claim::new(request.callers, 0)));
+        let owners = caller_owners(request.cred, self.project_of(dir));
+        let (from, to) = (None, Some(self.claim(request, owners, 0)));
         let exchange = Exchange { from, to };
         match self.admit(request, &exchange, 1) {
             Ok(()) => {}
@@ -63,7 +79,7 @@ impl Store {
         }
         let name = String::from_str(self.alloc, name)?;
         self.tree.make_room(dir)?;
-        let change = creation(sort, dir, name, owners_by(request.cred));
+        let change = creation(sort, dir, name, owners);
         Ok(Ready::granted(self.next, &exchange, change))
     }
 }

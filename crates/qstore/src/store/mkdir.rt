@@ -27,7 +27,8 @@ impl Store {
         requires can { CanDecide self.old request.now }
         requires free { IsFree self.old.state dir name.now }
         ensures { let cred = request.now.cred.now in IsDecision self.old self.new request.now (unless_too_many_links
-            (created self.old.state (new_directory (owners_by cred)) dir name.now) self.old.state.next) result }
+            (created self.old.state (new_directory (owners_by self.old.state cred dir)) dir name.now)
+            self.old.state.next) result }
     {
         if has_all_links(self.tree(), dir) {
             return Ok(Ready::refused(Refusal::EMLINK));

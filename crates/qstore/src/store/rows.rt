@@ -12,7 +12,7 @@ use crate::{NoMemory, Store};
 use qrules::{BoardRow, InodeRow, NameRow, RecordRow};
 
 impl Store {
-    /// The quota records, each once: users by id, then groups by id. Uses are in blocks of 4096 bytes,
+    /// The quota records, each once: users by id, then groups, then projects. Uses are in blocks of 4096 bytes,
     /// block limits in KiB, ends in seconds. O(n), as many as are declared.
     pub fn record_rows(&self) -> Result<Vec<RecordRow>, NoMemory>
         ensures rows { IfOk result (λ rows. rows.items ≡ map (record_row_of self.now.state) self.now.state.holders) }
@@ -21,7 +21,7 @@ impl Store {
         self.accounts.rows(self.alloc)
     }
 
-    /// The rows of a board: the quota records, users by id, then groups by id. O(n).
+    /// The rows of a board: the quota records, users by id, then groups, then projects. O(n).
     pub fn board_rows(&self) -> Result<Vec<BoardRow>, NoMemory>
         ensures { IfOk result (λ rows. rows.items ≡ map (row_of self.now.state) self.now.state.holders) }
     {

@@ -16,7 +16,7 @@ returns-in-Err c =
     let x = c.args in
     let s = x.self.now in
     decision-refused s s (same-store s) x.request.now _ c.refused.result c.in-Err.refusal
-    (c.in-Err.ensures.fault s.state c.tree.ensures (chown_at s.state x.request.now.cred.now x.uid x.gid)) c.refused.ensures
+    (c.in-Err.ensures.fault s.state c.tree.ensures (chown_at s.state x.request.now.cred.now x.uid x.gid x.project)) c.refused.ensures
 
 pub returns-then-not-may_give : goal.returns-then-not-may_give
 returns-then-not-may_give c =
@@ -26,8 +26,8 @@ returns-then-not-may_give c =
     let cred = x.request.now.cred.now in
     let number = c.in-Ok.found.number in
     let inode = inode_of c.in-Ok.found.node.now in
-    let found = c.in-Ok.ensures.found S c.tree.ensures (chown_at S cred x.uid x.gid) in
-    let owners : chown_at S cred x.uid x.gid number inode ≡ give S cred c.renewed-owners.result number inode =
+    let found = c.in-Ok.ensures.found S c.tree.ensures (chown_at S cred x.uid x.gid x.project) in
+    let owners : chown_at S cred x.uid x.gid x.project number inode ≡ give S cred c.renewed-owners.result number inode =
     λ i. give S cred (sym c.renewed-owners.ensures i) number inode in
     let may : may_give cred inode c.renewed-owners.result ≡ false = search rules in
     decision-refused s s (same-store s) x.request.now _ c.refused-then-not-may_give.result EPERM
@@ -40,7 +40,7 @@ claim-to-requires-clause-declared c =
     let inode = inode_of c.in-Ok.found.node.now in
     let known = known-owners S c.in-Ok.found.number inode c.requires.can.whole.sound.lawful.parts (c.in-Ok.ensures.there S c.tree.ensures) in
     ap (are_declared S) c.renewed-owners.ensures
-    ∙ named-declared S x.uid x.gid inode.owners c.requires.declared (known-declared S inode.owners known)
+    ∙ named-declared S x.uid x.gid x.project inode.owners c.requires.declared (known-declared S inode.owners known)
 
 pub grant-requires-clause-asked : goal.grant-requires-clause-asked
 grant-requires-clause-asked c =
@@ -66,8 +66,8 @@ returns c =
     let number = c.in-Ok.found.number in
     let inode = inode_of c.in-Ok.found.node.now in
     let owners = c.renewed-owners.result in
-    let found = c.in-Ok.ensures.found S c.tree.ensures (chown_at S cred x.uid x.gid) in
-    let given : chown_at S cred x.uid x.gid number inode ≡ give S cred owners number inode =
+    let found = c.in-Ok.ensures.found S c.tree.ensures (chown_at S cred x.uid x.gid x.project) in
+    let given : chown_at S cred x.uid x.gid x.project number inode ≡ give S cred owners number inode =
     λ i. give S cred (sym c.renewed-owners.ensures i) number inode in
     let may : may_give cred inode owners ≡ true = search rules in
     let made = altered-there S number (λ i. with_owners i owners) inode (c.in-Ok.ensures.there S c.tree.ensures) in

@@ -11,7 +11,7 @@ returns-then-has_all_links c =
     let cred = x.request.now.cred.now in
     let free = c.requires.free in
     decision-refused s s (same-store s) x.request.now _ c.refused.result EMLINK
-    (mkdir-attempt s.state (owners_by cred) x.dir x.name.now _ c.requires.can.whole.sound.lawful free.absent free.directory
+    (mkdir-attempt s.state (owners_by s.state cred x.dir) x.dir x.name.now _ c.requires.can.whole.sound.lawful free.absent free.directory
     (c.if-has_all_links.ensures s.state c.tree.ensures free.directory))
     c.refused.ensures
 
@@ -22,6 +22,6 @@ returns c =
     let cred = x.request.now.cred.now in
     let free = c.requires.free in
     decision-along s c.make_inode.new.self x.request.now _ _ c.make_inode.result
-    (mkdir-attempt s.state (owners_by cred) x.dir x.name.now _ c.requires.can.whole.sound.lawful free.absent free.directory
+    (mkdir-attempt s.state (owners_by s.state cred x.dir) x.dir x.name.now _ c.requires.can.whole.sound.lawful free.absent free.directory
     (c.if-has_all_links.ensures s.state c.tree.ensures free.directory))
     c.make_inode.ensures

@@ -6,11 +6,12 @@ use Rattle.qstore.specs.declared.request.Exchange.{Exchange}
 use Rattle.qstore.specs.declared.ready.Plan.TheVariants.{Change}
 use Rattle.qstore.specs.declared.ready.Ready.{Ready}
 use Rattle.qstore.specs.Decided.{IsBilled}
+use Rattle.qstore.specs.Requests.{are_declared, caller_owners}
 use Rattle.qstore.specs.FileTypes.{inode_new}
 use Rattle.qstore.specs.Kept.{stored_of}
 use Rattle.qstore.specs.Stored.{Stored}
 use Rattle.qstore.specs.Told.{told}
-use Rattle.qstore.proofs.Calls.{created-asked, same-with_room}
+use Rattle.qstore.proofs.Calls.{created-asked, made-declared, same-with_room}
 use Rattle.qstore.proofs.Deciding.{decision-billed, decision-unbilled, decision-unmade}
 use Rattle.qstore.proofs.store.Store.make_inode.Goals as goal
 
@@ -19,9 +20,19 @@ admit-requires-clause-asked c =
     let x = c.args in
     let q = x.request.now in
     let cred = q.cred.now in (
-      created x.self.now.state (inode_new x.sort (owners_by cred)) x.dir x.name.now,
-      created-asked x.self.now c.requires.can.whole x.dir x.name.now q.callers (owners_by cred) x.sort c.requires.can.callers c.new.result c.new.ensures,
+      created x.self.now.state (inode_new x.sort (owners_by x.self.now.state cred x.dir)) x.dir x.name.now,
+      created-asked x.self.now c.requires.can.whole cred x.dir x.name.now x.sort c.caller_owners-owners.result
+          (c.caller_owners-owners.ensures ∙ ap (caller_owners cred) c.project_of.ensures) c.claim.result c.claim.ensures.claimed,
     )
+
+pub claim-requires-clause-declared : goal.claim-requires-clause-declared
+claim-requires-clause-declared c =
+    let x = c.args in
+    let S = x.self.now.state in
+    let cred = x.request.now.cred.now in
+    let can = c.requires.can in
+    ap (are_declared S) (c.caller_owners-owners.ensures ∙ ap (caller_owners cred) c.project_of.ensures)
+    ∙ made-declared S cred x.dir can.whole.sound.lawful.parts can.known c.requires.free.directory
 
 pub returns-in-Err : goal.returns-in-Err
 returns-in-Err c =
@@ -30,7 +41,8 @@ returns-in-Err c =
     let q = x.request.now in
     let cred = q.cred.now in
     let can = c.requires.can in
-    let asked = created-asked s can.whole x.dir x.name.now q.callers (owners_by cred) x.sort can.callers c.new.result c.new.ensures in
+    let own = c.caller_owners-owners.ensures ∙ ap (caller_owners cred) c.project_of.ensures in
+    let asked = created-asked s can.whole cred x.dir x.name.now x.sort _ own c.claim.result c.claim.ensures.claimed in
     decision-unbilled s c.admit.new.self c.admit.ensures.same q _ s.state.next 1 _ _ asked refl c.refused.result c.in-Err.refusal
     c.in-Err.ensures.refused c.refused.ensures
 
@@ -41,7 +53,8 @@ returns-in_err-name c =
     let q = x.request.now in
     let cred = q.cred.now in
     let can = c.requires.can in
-    let asked = created-asked s can.whole x.dir x.name.now q.callers (owners_by cred) x.sort can.callers c.new.result c.new.ensures in
+    let own = c.caller_owners-owners.ensures ∙ ap (caller_owners cred) c.project_of.ensures in
+    let asked = created-asked s can.whole cred x.dir x.name.now x.sort _ own c.claim.result c.claim.ensures.claimed in
     decision-unmade s c.admit.new.self c.admit.ensures.same q _ s.state.next 1 _ _ asked refl _ _ c.in-Ok.ensures.granted c.from_residual.ensures.0
 
 pub returns-in_err-make_room : goal.returns-in_err-make_room
@@ -51,7 +64,8 @@ returns-in_err-make_room c =
     let q = x.request.now in
     let cred = q.cred.now in
     let can = c.requires.can in
-    let asked = created-asked s can.whole x.dir x.name.now q.callers (owners_by cred) x.sort can.callers c.new.result c.new.ensures in
+    let own = c.caller_owners-owners.ensures ∙ ap (caller_owners cred) c.project_of.ensures in
+    let asked = created-asked s can.whole cred x.dir x.name.now x.sort _ own c.claim.result c.claim.ensures.claimed in
     let same = same-with_room s c.admit.new.self c.self.inside c.make_room.new.self c.admit.ensures.same c.self.view_is c.make_room.ensures.same in
     decision-unmade s _ same q _ s.state.next 1 _ _ asked refl _ _ c.in-Ok.ensures.granted c.from_residual-in_err-make_room.ensures.0
 
@@ -63,8 +77,9 @@ returns c =
     let q = x.request.now in
     let cred = q.cred.now in
     let can = c.requires.can in
-    let asked = created-asked s can.whole x.dir x.name.now q.callers (owners_by cred) x.sort can.callers c.new.result c.new.ensures in
-    let exchange : Exchange = record { from = None; to = Some c.new.result } in
+    let own = c.caller_owners-owners.ensures ∙ ap (caller_owners cred) c.project_of.ensures in
+    let asked = created-asked s can.whole cred x.dir x.name.now x.sort _ own c.claim.result c.claim.ensures.claimed in
+    let exchange : Exchange = record { from = None; to = Some c.claim.result } in
     let tree = c.make_room.new.self in
     let same = same-with_room s c.admit.new.self a tree c.admit.ensures.same c.self.view_is c.make_room.ensures.same in
     let name : string_bytes c.in_ok-name.name ≡ x.name.now = search rules in
@@ -74,7 +89,7 @@ returns c =
     decision-billed s (stored_of (record a { tree = tree })) same q _ s.state.next 1 exchange _ asked refl _ c.granted.result
     (subst (λ (v : Stored). IsBilled s v.bill q exchange 1) (sym c.self.view_is) c.in-Ok.ensures.granted)
     (c.creation-change.ensures.made s.state
-    ∙ (λ i. created s.state (inode_new x.sort (c.owners_by.ensures i)) x.dir (name i)))
+    ∙ (λ i. created s.state (inode_new x.sort (own i)) x.dir (name i)))
     (c.creation-change.ensures.can (stored_of (record a { tree = tree })).state tree.room (record {
       directory = ap (λ (S : State). is_directory S x.dir) same.state ∙ c.requires.free.directory;
       absent = (λ i. named (same.state i) x.dir (name i)) ∙ c.requires.free.absent;
