@@ -79,7 +79,7 @@ MayBecome S (Link from to) T = T ≡ record S { names = T.names }
 MayBecome S (Unlink path) T = Sweeps S T
 MayBecome S (Rmdir path) T = Sweeps S T
 MayBecome S (Rename from to) T = Sweeps S T
-MayBecome S (Chown path uid gid) T = (KeepsSettings S T) × ((sort : Sort) → total_of T sort ≡ total_of S sort)
+MayBecome S (Chown path uid gid project) T = (KeepsSettings S T) × ((sort : Sort) → total_of T sort ≡ total_of S sort)
 MayBecome S call T = KeepsSettings S T
 
 -- a refusal is for no limit, an answer is no refusal and tells of no change, and the fact holds of a plain result
@@ -178,7 +178,7 @@ attempt_of-none S cred (Create path) =
 attempt_of-none S cred (Mkdir path) =
     in_parent-none S EEXIST (mkdir_as S cred) path refl (λ dir name.
     or (is_some (named S dir name)) EEXIST _ refl
-    (few_links-none (created S (new_directory (owners_by cred)) dir name) S.next (record { holders = refl; graces = refl })))
+    (few_links-none (created S (new_directory (owners_by S cred dir)) dir name) S.next (record { holders = refl; graces = refl })))
 attempt_of-none S cred (Write path off bytes) =
     at_path-none S (write_into S cred off bytes) path (λ number inode there.
     or inode.dir EISDIR _ refl (or (not (may_write cred inode)) EACCES _ refl
@@ -210,10 +210,10 @@ attempt_of-none S cred (Rename from to) =
     in_parent-none S EBUSY (rename_as S cred to dir name number inode) to refl (λ to_dir to_name.
     rename_over-none S cred (components to) dir name number inode to_dir to_name (named S to_dir to_name)
     (sweeps S (with_name (without_name (without_name S dir name) to_dir to_name) to_dir to_name number).names))))
-attempt_of-none S cred (Chown path uid gid) =
-    at_path-none S (chown_at S cred uid gid) path (λ number inode there.
-    or (not (may_give cred inode (renewed uid gid inode.owners))) EPERM _ refl
-    (becomes _ _ (given S number inode (renewed uid gid inode.owners) there)))
+attempt_of-none S cred (Chown path uid gid project) =
+    at_path-none S (chown_at S cred uid gid project) path (λ number inode there.
+    or (not (may_give cred inode (renewed uid gid project inode.owners))) EPERM _ refl
+    (becomes _ _ (given S number inode (renewed uid gid project inode.owners) there)))
 attempt_of-none S cred (SetQuota kind id limits) =
     or (not (is_superuser cred)) EPERM _ refl (or (not (is_declared S kind id)) ESRCH _ refl (becomes _ _ refl))
 attempt_of-none S cred (SetGrace graces) = or (not (is_superuser cred)) EPERM _ refl (becomes _ _ refl)

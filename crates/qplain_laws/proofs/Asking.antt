@@ -33,7 +33,7 @@ no-result S T (Link from to) asks may = cc
 no-result S T (Unlink path) asks may = cc
 no-result S T (Rmdir path) asks may = cc
 no-result S T (Rename from to) asks may = cc
-no-result S T (Chown path uid gid) asks may = cc
+no-result S T (Chown path uid gid project) asks may = cc
 no-result S T (SetQuota kind id limits) asks may = cc
 no-result S T (SetGrace graces) asks may = cc
 

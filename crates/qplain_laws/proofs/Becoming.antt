@@ -21,27 +21,26 @@ use Rattle.qplain.specs.Walk.{components, is_well_formed, is_too_long, parent}
 use Rattle.qplain.specs.Decision.{ends_after, refusal_between}
 use Rattle.qplain.specs.Arguments.{has_bad_number, is_declared, is_holder, is_known, is_undeclared, paths_of, refusal_of_arguments}
 use Rattle.qplain.specs.Attempt.{Attempt, Refuse, Answer, Becomes, no_change}
-use Rattle.qplain.specs.Rights.{is_member, is_own, is_owner, may_give, may_remove, may_write}
+use Rattle.qplain.specs.Rights.{is_member, is_own, is_owner, is_same_id, may_give, may_remove, may_write}
 use Rattle.qplain.specs.Files.{read_from, stat_at, truncate_at, with_file, with_inode, write_into}
 use Rattle.qplain.specs.Names.{create_as, created, link_as, link_to, mkdir_as, owners_by, rmdir_as, rmdir_at, swept, unless_too_many_links, unlink_as, unlink_at, with_name, without_name}
 use Rattle.qplain.specs.Renames.{meets, passes, rename_as, rename_from, rename_over, rename_to, renamed}
 use Rattle.qplain.specs.Owners.{chown_at, renewed, with_owners}
 use Rattle.qplain.specs.Quotas.{ask_quota, quota_from, set_quota, set_grace, with_limits_of}
 use Rattle.qplain.specs.Calls.{attempt, attempt_of}
-use Rattle.qplain_laws.specs.Laws.{AreKnown, IsSound}
+use Rattle.qplain_laws.specs.Laws.{IsSound}
 use Rattle.qplain.specs.Step.{settle, settled, step}
 use Rattle.qplain_laws.proofs.Trying.{OnBecomes, at_name-becomes, at_path-becomes, choice, in_parent-becomes, none-from_not_some, true-from_not, unless-becomes}
-use Rattle.qplain_laws.proofs.Sound.{MayFollow, empty-sound, known-caller, owned-follows, truncated-follows, written-follows}
+use Rattle.qplain_laws.proofs.Sound.{MayFollow, empty-sound, owned-follows, truncated-follows, written-follows}
 
--- the inode is the caller's, its group the caller's first, and its file empty
-pub record IsOwn (cred : Caller) (inode : Inode) : Type 0 where
-  pub user : inode.owners.uid ≡ cred.uid
-  pub group : inode.owners.gid ≡ cred.gid
+-- the inode has the owners of what the caller makes in this directory, and its file is empty
+pub record IsOwn (S : State) (cred : Caller) (dir : ℕ) (inode : Inode) : Type 0 where
+  pub owners : inode.owners ≡ owners_by S cred dir
   pub empty : inode.file ≡ empty_file
 
 -- the plain results that the calls of a caller may have
 pub record HoldsOfResults (P : State → Type 0) (S : State) (cred : Caller) : Type 0 where
-  pub created : (inode : Inode) (dir : ℕ) (name : List ℕ) → IsOwn cred inode → AreKnown S inode.owners → IsSound inode
+  pub created : (inode : Inode) (dir : ℕ) (name : List ℕ) → IsOwn S cred dir inode → is_known S cred ≡ true → IsSound inode
       → is_directory S dir ≡ true → named S dir name ≡ None → (inode.dir && has_too_many_links (created S inode dir name)) ≡ false
       → P (created S inode dir name)
   pub changed : (number : ℕ) (inode after : Inode) → inode_at S number ≡ Some inode → MayFollow S inode after
@@ -63,18 +62,23 @@ pub record HoldsOfResults (P : State → Type 0) (S : State) (cred : Caller) : T
 owners-kept : (cred : Caller) (inode : Inode) → may_write cred inode ≡ true → may_give cred inode inode.owners ≡ true
 owners-kept cred inode may =
     by (is_superuser cred) (is_owner cred inode) (inode.owners.uid == inode.owners.uid) (inode.owners.gid == inode.owners.gid)
-    (is_member cred inode.owners.gid) may (itself inode.owners.uid)
-    (itself inode.owners.gid)
+    (is_member cred inode.owners.gid) (is_same_id inode.owners.project inode.owners.project) may
+    (itself inode.owners.uid) (itself inode.owners.gid) (itself-or_none inode.owners.project)
   where
     itself : (n : ℕ) → (n == n) ≡ true
     itself n = grind (arith, tests)
 
-    by : (a b c d e : Bool) → (a || b) ≡ true → c ≡ true → d ≡ true → (a || b && c && (d || e)) ≡ true
-    by true b c d e may user group = refl
-    by false true true true e may user group = refl
-    by false true true false e may user group = cc
-    by false true false d e may user group = cc
-    by false false c d e may user group = cc
+    itself-or_none : (o : Option ℕ) → is_same_id o o ≡ true
+    itself-or_none None = refl
+    itself-or_none (Some n) = grind (arith, tests)
+
+    by : (a b c d e f : Bool) → (a || b) ≡ true → c ≡ true → d ≡ true → f ≡ true → (a || b && c && (d || e) && f) ≡ true
+    by true b c d e f may user group project = refl
+    by false true true true e true may user group project = refl
+    by false true true true e false may user group project = cc
+    by false true true false e f may user group project = cc
+    by false true false d e f may user group project = cc
+    by false false c d e f may user group project = cc
 
 -- a caller whose arguments are not refused is known, and names what it may
 known-lawful : (late known formed numbers long : Bool)
@@ -92,19 +96,19 @@ neither false b h = (refl, h)
 module _ (P : State → Type 0) (S : State) (cred : Caller) (holds : HoldsOfResults P S cred) where
   create_as-becomes : (dir : ℕ) (name : List ℕ) → is_known S cred ≡ true → is_directory S dir ≡ true → OnBecomes P (create_as S cred dir name)
   create_as-becomes dir name known stands =
-      choice P (is_some (named S dir name)) (Refuse EEXIST) (Becomes (created S (new_file (owners_by cred)) dir name) S.next) tt
-      (λ absent. holds.created (new_file (owners_by cred)) dir name (record { user = refl; group = refl; empty = refl }) (known-caller S cred known)
-      (empty-sound (new_file (owners_by cred)) refl) stands (none-from_not_some (named S dir name) absent) refl)
+      choice P (is_some (named S dir name)) (Refuse EEXIST) (Becomes (created S (new_file (owners_by S cred dir)) dir name) S.next) tt
+      (λ absent. holds.created (new_file (owners_by S cred dir)) dir name (record { owners = refl; empty = refl }) known
+      (empty-sound (new_file (owners_by S cred dir)) refl) stands (none-from_not_some (named S dir name) absent) refl)
 
   unless_too_many_links-becomes : (new : State) (number : ℕ) → (has_too_many_links new ≡ false → P new) → OnBecomes P (unless_too_many_links new number)
   unless_too_many_links-becomes new number p = choice P (has_too_many_links new) (Refuse EMLINK) (Becomes new number) tt p
 
   mkdir_as-becomes : (dir : ℕ) (name : List ℕ) → is_known S cred ≡ true → is_directory S dir ≡ true → OnBecomes P (mkdir_as S cred dir name)
   mkdir_as-becomes dir name known stands =
-      let inode : Inode = new_directory (owners_by cred) in
+      let inode : Inode = new_directory (owners_by S cred dir) in
       choice P (is_some (named S dir name)) (Refuse EEXIST) (unless_too_many_links (created S inode dir name) S.next) tt
       (λ absent. unless_too_many_links-becomes (created S inode dir name) S.next
-      (λ few. holds.created inode dir name (record { user = refl; group = refl; empty = refl }) (known-caller S cred known)
+      (λ few. holds.created inode dir name (record { owners = refl; empty = refl }) known
       (empty-sound inode refl) stands (none-from_not_some (named S dir name) absent) few))
 
   write_into-becomes : (off : ℕ) (bytes : List ℕ) (number : ℕ) (inode : Inode) → inode_at S number ≡ Some inode

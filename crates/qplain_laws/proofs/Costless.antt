@@ -70,7 +70,7 @@ kept-inodes S T (Write path off bytes) names may told = cc
 kept-inodes S T (Truncate path size) names may told = cc
 kept-inodes S T (Read path off len) names may told = cc
 kept-inodes S T (AskStat path) names may told = cc
-kept-inodes S T (Chown path uid gid) names may told = cc
+kept-inodes S T (Chown path uid gid project) names may told = cc
 kept-inodes S T (SetQuota kind id limits) names may told = cc
 kept-inodes S T (SetGrace graces) names may told = cc
 kept-inodes S T (AskQuota kind id) names may told = cc
@@ -88,7 +88,7 @@ no-limits kind id (Write path off bytes) names = refl
 no-limits kind id (Truncate path size) names = refl
 no-limits kind id (Read path off len) names = refl
 no-limits kind id (AskStat path) names = refl
-no-limits kind id (Chown path uid gid) names = refl
+no-limits kind id (Chown path uid gid project) names = refl
 no-limits kind id (SetGrace graces) names = refl
 no-limits kind id (AskQuota k n) names = refl
 
@@ -150,6 +150,6 @@ pub totals_are_moved : TotalsAreMoved
 totals_are_moved S cred moment = (
   (λ from to. settle-moved S cred moment (MayBecome S (Link from to)) (λ T may sort. ap (λ (U : State). total_of U sort) may)
       (attempt S cred moment (Link from to)) (attempt-none S cred moment (Link from to))),
-  (λ path uid gid. settle-moved S cred moment (MayBecome S (Chown path uid gid)) (λ T may. may.1)
-      (attempt S cred moment (Chown path uid gid)) (attempt-none S cred moment (Chown path uid gid))),
+  (λ path uid gid project. settle-moved S cred moment (MayBecome S (Chown path uid gid project)) (λ T may. may.1)
+      (attempt S cred moment (Chown path uid gid project)) (attempt-none S cred moment (Chown path uid gid project))),
 )

@@ -35,7 +35,7 @@ attempt_of-done S cred lawful (Link from to) = link-done S cred lawful from to
 attempt_of-done S cred lawful (Unlink path) = unlink-done S cred lawful path
 attempt_of-done S cred lawful (Rmdir path) = rmdir-done S cred lawful path
 attempt_of-done S cred lawful (Rename from to) = rename-done S cred lawful from to
-attempt_of-done S cred lawful (Chown path uid gid) = chown-done S cred lawful path uid gid
+attempt_of-done S cred lawful (Chown path uid gid project) = chown-done S cred lawful path uid gid project
 attempt_of-done S cred lawful (SetQuota kind id limits) = set_quota-done S cred lawful kind id limits
 attempt_of-done S cred lawful (SetGrace graces) = set_grace-done S cred lawful graces
 attempt_of-done S cred lawful (AskQuota kind id) = ask_quota-done S cred lawful kind id
@@ -47,8 +47,8 @@ leads-ends T moment path number leads = walk-ends T moment (components path) ∙
 
 -- what was done is done with them too
 ends-done : (S T : State) (cred : Caller) (moment number : ℕ) (call : Call) → HasDone cred S call number T → HasDone cred S call number (ends_after T moment)
-ends-done S T cred moment number (Create path) has = (leads-ends T moment path number has.0, has.1)
-ends-done S T cred moment number (Mkdir path) has = (leads-ends T moment path number has.0, has.1)
+ends-done S T cred moment number (Create path) has = (leads-ends T moment path number has.0, has.1, has.2, has.3)
+ends-done S T cred moment number (Mkdir path) has = (leads-ends T moment path number has.0, has.1, has.2, has.3)
 ends-done S T cred moment number (Write path off bytes) has = has
 ends-done S T cred moment number (Truncate path size) has = has
 ends-done S T cred moment number (Read path off len) has = has
@@ -57,7 +57,7 @@ ends-done S T cred moment number (Link from to) has = (has.0, leads-ends T momen
 ends-done S T cred moment number (Unlink path) has = (has.0, walk-ends T moment (components path) ∙ has.1)
 ends-done S T cred moment number (Rmdir path) has = (has.0, walk-ends T moment (components path) ∙ has.1)
 ends-done S T cred moment number (Rename from to) has = (has.0, leads-ends T moment to number has.1, has.2)
-ends-done S T cred moment number (Chown path uid gid) has = has
+ends-done S T cred moment number (Chown path uid gid project) has = has
 ends-done S T cred moment number (SetQuota kind id limits) has =
     limits-ends T moment kind id ∙ has
 ends-done S T cred moment number (SetGrace graces) has = has

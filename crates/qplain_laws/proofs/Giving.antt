@@ -1,4 +1,4 @@
--- No caller but the superuser makes another user, or a group that is not its own, own an inode.
+-- No caller but the superuser makes another user or another project, or a group that is not its own, own an inode.
 use Rattle.std.proofs.Common.{◌≡◌, ℕ, Bool, true, false, cond, ◌||◌, ◌==◌, List, ◌∷◌, Option, None, Some, is_some, refl, sym, ap, subst, ◌∙◌, tests, arith}
 use Rattle.std.specs.List.{list_any}
 use Rattle.std.specs.Ordering.{nat_cmp}
@@ -22,17 +22,21 @@ use Rattle.qplain_laws.proofs.Tables.{absent-fresh, same-number}
 abbrev has : Caller → ℕ → Bool
 has cred gid = list_any (λ group. group == gid) (cred.gid ∷ cred.more)
 
--- the inode is its user's still, and its group's or that of one of the caller's groups
+-- the inode is its user's and its project's still, and its group's or that of one of the caller's groups
 record Keeps (cred : Caller) (inode after : Inode) : Type 0 where
   user : after.owners.uid ≡ inode.owners.uid
   group : (after.owners.gid == inode.owners.gid || has cred after.owners.gid) ≡ true
+  project : after.owners.project ≡ inode.owners.project
 
 -- an inode keeps what it is
 keeps-itself : (cred : Caller) (inode after : Inode) → Some inode ≡ Some after → Keeps cred inode after
 keeps-itself cred inode after same =
     let equal : inode ≡ after = cc in
-    subst (Keeps cred inode) equal
-    (record { user = refl; group = or_left (inode.owners.gid == inode.owners.gid) (has cred inode.owners.gid) (itself inode.owners.gid) })
+    subst (Keeps cred inode) equal (record {
+      user = refl;
+      group = or_left (inode.owners.gid == inode.owners.gid) (has cred inode.owners.gid) (itself inode.owners.gid);
+      project = refl;
+    })
   where
     itself : (n : ℕ) → (n == n) ≡ true
     itself n = grind (arith, tests)
@@ -47,7 +51,7 @@ made-created : (S : State) (cred : Caller) (inode : Inode) (dir : ℕ) (b : Bool
     → o ≡ None → cond b (Some inode) o ≡ Some after → (after.owners.uid ≡ cred.uid) × (after.owners.gid ≡ cred.gid)
 made-created S cred inode dir true o after own none now =
     let equal : inode ≡ after = cc in
-    let owned : after.owners ≡ owners_by S cred dir = ap (λ (i : Inode). i.owners) (sym equal) ∙ own in
+    let owned : after.owners ≡ owners_by S cred dir = ap (λ (i : Inode). i.owners) (sym equal) ∙ own.owners in
     (ap (λ (o : Owners). o.uid) owned, ap (λ (o : Owners). o.gid) owned)
 made-created S cred inode dir false o after own none now = let clash : Some after ≡ None = sym now ∙ none in cc
 
@@ -65,7 +69,9 @@ keeps-changed S cred number inode changed other there may q one after at now =
         let is : changed ≡ after = cc in
         let parts = may_give-parts cred inode changed.owners other may in
         let user : changed.owners.uid ≡ inode.owners.uid = equal changed.owners.uid inode.owners.uid parts.1 in
-        subst (Keeps cred one) is (subst (λ (i : Inode). Keeps cred i changed) was (record { user = user; group = parts.2; project = same_id changed.owners.project inode.owners.project parts.3 }))
+        let project : changed.owners.project ≡ inode.owners.project = same_id changed.owners.project inode.owners.project parts.3 in
+        let keeps : Keeps cred inode changed = record { user = user; group = parts.2; project = project } in
+        subst (Keeps cred one) is (subst (λ (i : Inode). Keeps cred i changed) was keeps)
       where
         equal : (m n : ℕ) → (m == n) ≡ true → m ≡ n
         equal m n same = grind (arith, tests, same)
@@ -74,10 +80,7 @@ keeps-changed S cred number inode changed other there may q one after at now =
         same_id None None same = refl
         same_id None (Some n) same = cc
         same_id (Some m) None same = cc
-        same_id (Some m) (Some n) same = ap Some (equal-id m n same)
-          where
-            equal-id : (m n : ℕ) → (m == n) ≡ true → m ≡ n
-            equal-id m n same = grind (arith, tests, same)
+        same_id (Some m) (Some n) same = ap Some (sym (equal n m same))
     by false here then = keeps-itself cred one after (sym at ∙ then)
 
 -- what the sweep leaves stood before

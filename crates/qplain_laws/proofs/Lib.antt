@@ -26,6 +26,7 @@ pub mod Kept
 pub mod Settling
 pub mod Rights
 pub mod Giving
+pub mod Inheriting
 pub mod Finding
 pub mod Reaching
 pub mod Leaving

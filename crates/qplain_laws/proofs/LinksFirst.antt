@@ -56,7 +56,7 @@ module _ (S : State) (cred : Caller) (moment : ℕ) (path : List ℕ) (dir : ℕ
 
   mkdir-left : (d : ℕ) (name : List ℕ) → parent S (components path) ≡ Ok d → is_directory S d ≡ true → OnBecomes (λ T. Left) (mkdir_as S cred d name)
   mkdir-left d name is stands =
-      let inode : Inode = new_directory (owners_by cred) in
+      let inode : Inode = new_directory (owners_by S cred d) in
       let new : State = created S inode d name in
       choice (λ T. Left) (is_some (named S d name)) (Refuse EEXIST) (unless_too_many_links new S.next) tt (λ free.
       choice (λ T. Left) (has_too_many_links new) (Refuse EMLINK) (Becomes new S.next) tt (λ few.

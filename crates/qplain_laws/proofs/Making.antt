@@ -12,6 +12,7 @@ use Rattle.qblocks.specs.File.{File, after_truncate, after_write, read_at}
 use Rattle.qblocks.proofs.Touched.{after_write_none}
 use Rattle.qplain.specs.declared.call.Call.{Call}
 use Rattle.qplain.specs.declared.call.Call.TheVariants.{Create, Mkdir, Write, Truncate, Read, Chown, SetQuota, SetGrace, Quota as AskQuota}
+use Rattle.qplain.specs.declared.owners.Owners.{Owners}
 use Rattle.qplain.specs.declared.refusal.Refusal.TheVariants.{EEXIST, EISDIR, EACCES, EFBIG, EMLINK, EPERM, ESRCH}
 use Rattle.qplain.specs.declared.reply.Reply.TheVariants.{Bytes, Done}
 use Rattle.qplain.specs.Caller.{Caller, is_superuser}
@@ -25,7 +26,7 @@ use Rattle.qplain.specs.Names.{create_as, created, mkdir_as, owners_by, unless_t
 use Rattle.qplain.specs.Owners.{chown_at, renewed, with_owners}
 use Rattle.qplain.specs.Quotas.{quota_from, relimited, with_limits_of}
 use Rattle.qplain.specs.Calls.{attempt_of}
-use Rattle.qplain_laws.specs.Done.{HasDone, IsChanged, LeadsTo}
+use Rattle.qplain_laws.specs.Done.{HasDone, IsChanged, IsMade, LeadsTo}
 use Rattle.qplain_laws.specs.Laws.{FitsTogether, IsLawful}
 use Rattle.qplain_laws.proofs.Doing.{IsPlace, OnDone, at_path-done, in_parent-done, leads-place, pick, place-kept, unless_refused}
 use Rattle.qplain_laws.proofs.Linking.{inode_at-created-next, inode_at-with_inode}
@@ -70,31 +71,34 @@ module _ (S : State) (cred : Caller) (lawful : IsLawful S) where
 
   -- ---- what is made
 
-  made : (inode : Inode) (path : List ℕ) (dir : ℕ) (name : List ℕ) → IsPlace S path dir name → is_directory S dir ≡ true → is_some (named S dir name) ≡ false
-      → LeadsTo (created S inode dir name) path S.next × (inode_at (created S inode dir name) S.next ≡ Some inode)
-  made inode path dir name place stands free =
+  made : (make : Owners → Inode) (path : List ℕ) (dir : ℕ) (name : List ℕ) → IsPlace S path dir name → is_directory S dir ≡ true
+      → is_some (named S dir name) ≡ false → IsMade cred S (created S (make (owners_by S cred dir)) dir name) path S.next make
+  made make path dir name place stands free =
+      let inode : Inode = make (owners_by S cred dir) in
       let absent : named S dir name ≡ None = none-from_not_some (named S dir name) free in
       let T : State = created S inode dir name in
       let placed : IsPlace T path dir name =
       place-kept S T (λ n. false) (keeps-created S inode dir name fits stands absent) (λ m nm x e. absurd (cc)) path dir name refl
       (directory-stays S inode dir name fits stands absent dir stands) place in (
         leads-place T path dir name S.next placed (named-new S inode dir name fits stands absent),
+        dir,
+        place.parent,
         inode_at-created-next S inode dir name (absent-fresh S.inodes S.next fits.inodes.fresh),
       )
 
   pub create-done : (path : List ℕ) → OnDone (Has (Create path)) S (attempt_of S cred (Create path))
   create-done path =
       in_parent-done (Has (Create path)) S EEXIST (create_as S cred) path (λ dir name place stands.
-      unless_refused (Has (Create path)) S (is_some (named S dir name)) EEXIST (Becomes (created S (new_file (owners_by cred)) dir name) S.next) (λ free.
-      made (new_file (owners_by cred)) path dir name place stands free))
+      unless_refused (Has (Create path)) S (is_some (named S dir name)) EEXIST (Becomes (created S (new_file (owners_by S cred dir)) dir name) S.next) (λ free.
+      made new_file path dir name place stands free))
 
   pub mkdir-done : (path : List ℕ) → OnDone (Has (Mkdir path)) S (attempt_of S cred (Mkdir path))
   mkdir-done path =
       in_parent-done (Has (Mkdir path)) S EEXIST (mkdir_as S cred) path (λ dir name place stands.
-      let T : State = created S (new_directory (owners_by cred)) dir name in
+      let T : State = created S (new_directory (owners_by S cred dir)) dir name in
       unless_refused (Has (Mkdir path)) S (is_some (named S dir name)) EEXIST (unless_too_many_links T S.next) (λ free.
       unless_refused (Has (Mkdir path)) S (has_too_many_links T) EMLINK (Becomes T S.next) (λ few.
-      made (new_directory (owners_by cred)) path dir name place stands free)))
+      made new_directory path dir name place stands free)))
 
   -- ---- what is changed
 
@@ -138,13 +142,14 @@ module _ (S : State) (cred : Caller) (lawful : IsLawful S) where
       unless_refused P S (nat_lt S.file_limit size) EFBIG becomes (λ below.
       changed path number inode (λ x. record x { file = after_truncate x.file size }) leads there))))
 
-  pub chown-done : (path : List ℕ) (uid gid : Option ℕ) → OnDone (Has (Chown path uid gid)) S (attempt_of S cred (Chown path uid gid))
-  chown-done path uid gid =
-      let P : ℕ → State → Type 0 = Has (Chown path uid gid) in
-      at_path-done P S (chown_at S cred uid gid) path (λ number inode leads there.
-      unless_refused P S (not (may_give cred inode (renewed uid gid inode.owners))) EPERM
-      (Becomes (with_inode S number (with_owners inode (renewed uid gid inode.owners))) number) (λ may.
-      changed path number inode (λ x. with_owners x (renewed uid gid x.owners)) leads there))
+  pub chown-done : (path : List ℕ) (uid gid project : Option ℕ)
+      → OnDone (Has (Chown path uid gid project)) S (attempt_of S cred (Chown path uid gid project))
+  chown-done path uid gid project =
+      let P : ℕ → State → Type 0 = Has (Chown path uid gid project) in
+      at_path-done P S (chown_at S cred uid gid project) path (λ number inode leads there.
+      unless_refused P S (not (may_give cred inode (renewed uid gid project inode.owners))) EPERM
+      (Becomes (with_inode S number (with_owners inode (renewed uid gid project inode.owners))) number) (λ may.
+      changed path number inode (λ x. with_owners x (renewed uid gid project x.owners)) leads there))
 
   -- ---- limits, graces and looks
 

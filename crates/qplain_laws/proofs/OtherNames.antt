@@ -116,14 +116,14 @@ module _ (S : State) (cred : Caller) (lawful : IsLawful S) (dir : ℕ) (name : L
   attempt_of-stays : (call : Call) → All (Apart S dir name) (changed_paths call) → OnDone (Stays S dir name) S (attempt_of S cred call)
   attempt_of-stays (Create path) apart =
       in_parent-done (Stays S dir name) S EEXIST (create_as S cred) path (λ d nm place stands.
-      unless_refused (Stays S dir name) S (is_some (named S d nm)) EEXIST (Becomes (created S (new_file (owners_by cred)) d nm) S.next) (λ free.
-      stays-made S dir name lawful.parts (new_file (owners_by cred)) path d nm (All-head (Apart S dir name) path [] apart) place free))
+      unless_refused (Stays S dir name) S (is_some (named S d nm)) EEXIST (Becomes (created S (new_file (owners_by S cred d)) d nm) S.next) (λ free.
+      stays-made S dir name lawful.parts (new_file (owners_by S cred d)) path d nm (All-head (Apart S dir name) path [] apart) place free))
   attempt_of-stays (Mkdir path) apart =
       in_parent-done (Stays S dir name) S EEXIST (mkdir_as S cred) path (λ d nm place stands.
-      let T : State = created S (new_directory (owners_by cred)) d nm in
+      let T : State = created S (new_directory (owners_by S cred d)) d nm in
       unless_refused (Stays S dir name) S (is_some (named S d nm)) EEXIST (unless_too_many_links T S.next) (λ free.
       few-stays T S.next
-      (stays-made S dir name lawful.parts (new_directory (owners_by cred)) path d nm (All-head (Apart S dir name) path [] apart) place free)))
+      (stays-made S dir name lawful.parts (new_directory (owners_by S cred d)) path d nm (All-head (Apart S dir name) path [] apart) place free)))
   attempt_of-stays (Write path off bytes) apart = write-stays path off bytes
   attempt_of-stays (Truncate path size) apart = truncate-stays path size
   attempt_of-stays (Read path off len) apart =
@@ -136,10 +136,10 @@ module _ (S : State) (cred : Caller) (lawful : IsLawful S) (dir : ℕ) (name : L
   attempt_of-stays (Rename from to) apart =
       rename-stays from to (All-head (Apart S dir name) from (to ∷ []) apart)
       (All-head (Apart S dir name) to [] (All-tail (Apart S dir name) from (to ∷ []) apart))
-  attempt_of-stays (Chown path uid gid) apart =
-      at_path-done (Stays S dir name) S (chown_at S cred uid gid) path (λ number inode leads there.
-      unless_refused (Stays S dir name) S (not (may_give cred inode (renewed uid gid inode.owners))) EPERM
-      (Becomes (with_inode S number (with_owners inode (renewed uid gid inode.owners))) number) (λ may. refl))
+  attempt_of-stays (Chown path uid gid project) apart =
+      at_path-done (Stays S dir name) S (chown_at S cred uid gid project) path (λ number inode leads there.
+      unless_refused (Stays S dir name) S (not (may_give cred inode (renewed uid gid project inode.owners))) EPERM
+      (Becomes (with_inode S number (with_owners inode (renewed uid gid project inode.owners))) number) (λ may. refl))
   attempt_of-stays (SetQuota kind id limits) apart =
       let becomes : Attempt = Becomes (with_limits_of S kind id limits) 0 in
       unless_refused (Stays S dir name) S (not (is_superuser cred)) EPERM (cond (not (is_declared S kind id)) (Refuse ESRCH) becomes) (λ may.

@@ -130,7 +130,7 @@ module _ (S : State) where
         let tests : ℕ → List ℕ → List Test = λ dir name. (is_some (named S dir name), EEXIST) ∷ [] in
         of_parent EEXIST path tests (create_as S cred) (λ dir name. answered (tests dir name) (Becomes _ _) tt)
     decided (Mkdir path) =
-        let T : ℕ → List ℕ → State = λ dir name. created S (new_directory (owners_by cred)) dir name in
+        let T : ℕ → List ℕ → State = λ dir name. created S (new_directory (owners_by S cred dir)) dir name in
         let tests : ℕ → List ℕ → List Test = λ dir name.
         (is_some (named S dir name), EEXIST) ∷ (has_too_many_links (T dir name), EMLINK) ∷ [] in
         of_parent EEXIST path tests (mkdir_as S cred) (λ dir name. answered (tests dir name) (Becomes _ _) tt)
@@ -184,10 +184,10 @@ module _ (S : State) where
         reached (inner dir name) (rename_to S cred to dir name) (led_to (named S dir name)) (λ number inode.
         of_parent EBUSY to (tests dir name number inode) (rename_as S cred to dir name number inode) (λ to_dir to_name.
         over (components to) dir name number inode to_dir to_name (named S to_dir to_name))))
-    decided (Chown path uid gid) =
-        let forbidden : Inode → Bool = λ inode. not (may_give cred inode (renewed uid gid inode.owners)) in
+    decided (Chown path uid gid project) =
+        let forbidden : Inode → Bool = λ inode. not (may_give cred inode (renewed uid gid project inode.owners)) in
         let tests : ℕ → Inode → List Test = λ number inode. (forbidden inode, EPERM) ∷ [] in
-        of_path path tests (chown_at S cred uid gid) (λ number inode. answered (tests number inode) (Becomes _ _) tt)
+        of_path path tests (chown_at S cred uid gid project) (λ number inode. answered (tests number inode) (Becomes _ _) tt)
     decided (SetQuota kind id limits) =
         answered ((not (is_superuser cred), EPERM) ∷ (not (is_declared S kind id), ESRCH) ∷ []) (Becomes _ _) tt
     decided (SetGrace graces) = answered ((not (is_superuser cred), EPERM) ∷ []) (Becomes _ _) tt

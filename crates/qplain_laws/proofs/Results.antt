@@ -64,7 +64,7 @@ few-created S inode dir name fits absent few = by inode.dir refl few
 pub known-created : (S : State) (cred : Caller) (inode : Inode) (dir : ℕ) → FitsTogether S → IsOwn S cred dir inode → is_known S cred ≡ true
     → is_directory S dir ≡ true → AreKnown S inode.owners
 known-created S cred inode dir fits own known stands =
-    subst (AreKnown S) (sym own) (known-made S cred dir known (known-project S dir fits stands))
+    subst (AreKnown S) (sym own.owners) (known-made S cred dir known (known-project S dir fits stands))
 
 -- every plain result fits together
 pub results_fit : (S : State) (cred : Caller) → FitsTogether S → HoldsOfResults FitsTogether S cred

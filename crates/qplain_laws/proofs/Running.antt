@@ -2,8 +2,9 @@
 use Rattle.std.proofs.Common.{◌≡◌, ℕ, ◌+◌, Bool, true, false, ◌&&◌, ◌==◌, cond, List, [], ◌∷◌, map, Option, Some, None, refl, sym, ap, subst, ◌∙◌, tests, arith}
 use Rattle.std.specs.List.{find}
 use Rattle.std.specs.Option.{option_map}
+use Rattle.std.proofs.lemmas.Bool.{and_parts}
 use Rattle.qrules.specs.declared.kind.Kind.{Kind}
-use Rattle.qrules.specs.declared.kind.Kind.TheVariants.{User, Group}
+use Rattle.qrules.proofs.Ranks.{same_kind}
 use Rattle.qrules.specs.declared.limits.Limits.{Limits}
 use Rattle.qrules.specs.Sort.{Sort, Inodes, Blocks, grace_of}
 use Rattle.qrules.specs.Account.{is_over_soft}
@@ -51,19 +52,11 @@ find-left test f same left (h ∷ hs) = by (find-left test f same left hs) (test
 -- new limits of one principal are not found with another
 apart : (kind other : Kind) (id number : ℕ) (h : Holder) → (is_same_kind other kind && number == id) ≡ false → is_holder kind id h ≡ true
     → is_holder other number h ≡ false
-apart kind other id number h differ is = by kind other h.kind differ is
-  where
-    ids : (a b c : ℕ) → (a == b) ≡ false → (b == c) ≡ true → (a == c) ≡ false
-    ids a b c x y = grind (arith, tests, x, y)
-
-    by : (k l m : Kind) → (is_same_kind l k && number == id) ≡ false → (is_same_kind k m && id == h.id) ≡ true
-        → (is_same_kind l m && number == h.id) ≡ false
-    by User User User d e = ids number id h.id d e
-    by Group Group Group d e = ids number id h.id d e
-    by User Group User d e = refl
-    by Group User Group d e = refl
-    by User l Group d e = cc
-    by Group l User d e = cc
+apart kind other id number h differ is =
+    let parts = and_parts (is_same_kind kind h.kind) (id == h.id) is in
+    let kinds : kind ≡ h.kind = same_kind kind h.kind parts.0 in
+    let ids : id ≡ h.id = grind (arith, tests, parts.1) in
+    (λ i. is_same_kind other (sym kinds i) && number == sym ids i) ∙ differ
 
 kept-limits : (kind other : Kind) (id number : ℕ) (limits : Limits) → (is_same_kind other kind && number == id) ≡ false → (hs : List Holder)
     → find (is_holder kind id) (map (λ h. cond (is_holder other number h) (relimited limits h) h) hs) ≡ find (is_holder kind id) hs
@@ -96,7 +89,7 @@ same-holder kind id S T (Link from to) other may = ap (λ (U : State). find (is_
 same-holder kind id S T (Unlink path) other may = kept-settings kind id S T may.settings
 same-holder kind id S T (Rmdir path) other may = kept-settings kind id S T may.settings
 same-holder kind id S T (Rename from to) other may = kept-settings kind id S T may.settings
-same-holder kind id S T (Chown path uid gid) other may = kept-settings kind id S T may.0
+same-holder kind id S T (Chown path uid gid project) other may = kept-settings kind id S T may.0
 same-holder kind id S T (SetQuota k n limits) other may =
     ap (λ (U : State). find (is_holder kind id) U.holders) may ∙ kept-limits kind k id n limits other S.holders
 same-holder kind id S T (SetGrace graces) other may = ap (λ (U : State). find (is_holder kind id) U.holders) may

@@ -47,5 +47,5 @@ files_stay_right_sized S cred moment call right =
 
 pub start_is_right_sized : StartIsRightSized
 start_is_right_sized s =
-    All-cons (λ inode. IsRightSized (start s).file_limit inode.file) root [] (right_sized-empty (start s).file_limit)
+    All-cons (λ inode. IsRightSized (start s).file_limit inode.file) (root s) [] (right_sized-empty (start s).file_limit)
     (All-nil (λ inode. IsRightSized (start s).file_limit inode.file))

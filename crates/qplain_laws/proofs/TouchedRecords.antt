@@ -5,7 +5,7 @@ use Rattle.std.specs.Option.{option_map}
 use Rattle.std.proofs.lemmas.Bool.{and_parts, ne_eqb}
 use Rattle.std.proofs.lemmas.List.Elements.{All-head, All-tail}
 use Rattle.qrules.specs.declared.kind.Kind.{Kind}
-use Rattle.qrules.specs.declared.kind.Kind.TheVariants.{User, Group}
+use Rattle.qrules.proofs.Ranks.{same_kind}
 use Rattle.qrules.specs.Sort.{Sort, Inodes, Blocks}
 use Rattle.qrules.specs.Account.{HasEnds}
 use Rattle.qplain.specs.declared.call.Call.{Call}
@@ -44,13 +44,7 @@ found-parts P test (g ∷ hs) h all is = by (found-parts P test hs h (All-tail P
 holder-is : (kind : Kind) (id : ℕ) (h : Holder) → is_holder kind id h ≡ true → (kind ≡ h.kind) × (id ≡ h.id)
 holder-is kind id h is =
     let parts = and_parts (is_same_kind kind h.kind) (id == h.id) is in
-    (by kind h.kind parts.0, grind (arith, tests, parts.1))
-  where
-    by : (k l : Kind) → is_same_kind k l ≡ true → k ≡ l
-    by User User e = refl
-    by User Group e = cc
-    by Group User e = cc
-    by Group Group e = refl
+    (same_kind kind h.kind parts.0, grind (arith, tests, parts.1))
 
 module _ (S T : State) (moment : ℕ) (lawful : IsLawful S) (kind : Kind) (id : ℕ)
     (uses : (sort : Sort) → use_of T kind id sort ≡ use_of S kind id sort) where

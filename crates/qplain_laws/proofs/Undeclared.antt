@@ -13,8 +13,13 @@ use Rattle.qplain.specs.declared.refusal.Refusal.TheVariants.{EDQUOT, ENOSPC}
 use Rattle.qplain.specs.Caller.{Caller, is_superuser}
 use Rattle.qplain.specs.State.{Holder, Inode, State}
 use Rattle.qplain.specs.Use.{owner}
-use Rattle.qplain.specs.Decision.{fault_of_holder, first_refusal, is_too_full}
-use Rattle.qplain_laws.specs.Laws.{KindsStay, UndeclaredOwnNothing, UndeclaredRefuseNothing, has_kind, identity_of, is_known_owner}
+use Rattle.qplain.specs.declared.reply.Reply.TheVariants.{Refused}
+use Rattle.qplain.specs.Attempt.{Attempt, Refuse, Answer, Becomes}
+use Rattle.qplain.specs.Calls.{attempt}
+use Rattle.qplain.specs.Decision.{fault_of_holder, first_refusal, is_too_full, refusal_between}
+use Rattle.qplain.specs.Step.{settle, settled}
+use Rattle.qplain_laws.specs.Laws.{KindsStay, UndeclaredOwnNothing, UndeclaredRefuseNothing, has_kind, identity_of, is_for_limits, is_known_owner}
+use Rattle.qplain_laws.proofs.Answering.{MayBecome, TellsNone, attempt-none, is_refused}
 use Rattle.qplain_laws.proofs.Balance.{kind-declared}
 use Rattle.qplain_laws.proofs.Kept.{setups_stay}
 
@@ -48,10 +53,36 @@ between-declared true superuser r kind over e = cc
 between-declared false true r kind over e = cc
 between-declared false false r kind over e = e
 
-pub undeclared_refuse_nothing : UndeclaredRefuseNothing
-undeclared_refuse_nothing old new cred moment kind over refused =
+-- so is a plain result refused
+decided-declared : (old new : State) (cred : Caller) (moment : ℕ) (kind : Kind) (over : Over)
+    → refusal_between old new cred moment ≡ Some (EDQUOT kind over) → has_kind old kind ≡ true
+decided-declared old new cred moment kind over refused =
     quota-declared (fault_of_holder old new moment) kind over old.holders
     (between-declared (is_too_full new) (is_superuser cred) (first_refusal (fault_of_holder old new moment) old.holders) kind over refused)
+
+-- and no attempt is refused for a quota by itself
+settle-declared : (S : State) (cred : Caller) (moment : ℕ) (kind : Kind) (over : Over) (P : State → Type 0) (a : Attempt) → TellsNone P a
+    → (settle S cred moment a).1 ≡ Refused (EDQUOT kind over) → has_kind S kind ≡ true
+settle-declared S cred moment kind over P (Refuse r) tells is =
+    let same : r ≡ EDQUOT kind over = cc in
+    let clash : is_for_limits (EDQUOT kind over) ≡ false = ap is_for_limits (sym same) ∙ tells.none in
+    absurd (cc)
+settle-declared S cred moment kind over P (Answer reply) tells is =
+    let granted : is_refused reply ≡ false = tells.none.1 in
+    let refused : is_refused reply ≡ true = ap is_refused is in
+    absurd (cc)
+settle-declared S cred moment kind over P (Becomes new number) tells is = by (refusal_between S new cred moment) refl is
+  where
+    by : (o : Option Refusal) → refusal_between S new cred moment ≡ o → (settled S new number moment o).1 ≡ Refused (EDQUOT kind over)
+        → has_kind S kind ≡ true
+    by (Some r) for told =
+        let same : r ≡ EDQUOT kind over = cc in
+        decided-declared S new cred moment kind over (for ∙ ap Some same)
+    by None for told = cc
+
+pub undeclared_refuse_nothing : UndeclaredRefuseNothing
+undeclared_refuse_nothing S cred moment call kind over refused =
+    settle-declared S cred moment kind over (MayBecome S call) (attempt S cred moment call) (attempt-none S cred moment call) refused
 
 -- holders of the same identities are of the same kinds
 same-kinds : (kind : Kind) (hs : List Holder) → list_any (λ h. is_same_kind kind h.kind) hs ≡ list_any (λ i. is_same_kind kind i.0) (map identity_of hs)

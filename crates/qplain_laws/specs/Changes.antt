@@ -135,7 +135,8 @@ abbrev pub TotalsAreMoved : Type 0
 TotalsAreMoved =
     (S : State) (cred : Caller) (moment : ℕ)
     → ((from to : List ℕ) → change_of (step S cred moment (Link from to)).1 ≡ no_change)
-    × ((path : List ℕ) (uid gid : Option ℕ) → change_of (step S cred moment (Chown path uid gid)).1 ≡ no_change)
+    × ((path : List ℕ) (uid gid project : Option ℕ)
+    → change_of (step S cred moment (Chown path uid gid project)).1 ≡ no_change)
 
 -- the paths whose last names a call gives or takes
 abbrev pub changed_paths : Call → List (List ℕ)

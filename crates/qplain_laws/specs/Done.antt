@@ -4,6 +4,7 @@ use Rattle.qblocks.specs.File.{after_truncate, after_write}
 use Rattle.qplain.specs.declared.call.Call.{Call}
 use Rattle.qplain.specs.declared.call.Call.TheVariants.{Create, Mkdir, Write, Truncate, Link, Unlink, Rmdir, Rename, Chown, SetQuota, SetGrace}
 use Rattle.qplain.specs.declared.change.Change.{Change}
+use Rattle.qplain.specs.declared.owners.Owners.{Owners}
 use Rattle.qplain.specs.declared.refusal.Refusal.TheVariants.{ENOENT}
 use Rattle.qplain.specs.declared.reply.Reply.TheVariants.{Done}
 use Rattle.qplain.specs.Caller.{Caller}
@@ -34,13 +35,17 @@ IsChanged old new path number change =
     LeadsTo old path number × (inode : Inode) × (inode_at old number ≡ Some inode)
     × (inode_at new number ≡ Some (change inode))
 
+-- the path leads to an inode that was made in the parent of its name, with the owners of what the caller makes there
+abbrev pub IsMade : Caller → State → State → List ℕ → ℕ → (Owners → Inode) → Type 0
+IsMade cred old new path number make =
+    LeadsTo new path number × (dir : ℕ) × (parent old (components path) ≡ Ok dir)
+    × (inode_at new number ≡ Some (make (owners_by old cred dir)))
+
 -- what a caller's call has done that was answered `Done` with this number: a rename of a path to another that led to
 -- the same inode leaves both, and a call that only asks is never done
 abbrev pub HasDone : Caller → State → Call → ℕ → State → Type 0
-HasDone cred old (Create path) number new =
-    LeadsTo new path number × (inode_at new number ≡ Some (new_file (owners_by cred)))
-HasDone cred old (Mkdir path) number new =
-    LeadsTo new path number × (inode_at new number ≡ Some (new_directory (owners_by cred)))
+HasDone cred old (Create path) number new = IsMade cred old new path number new_file
+HasDone cred old (Mkdir path) number new = IsMade cred old new path number new_directory
 HasDone cred old (Write path off bytes) number new =
     IsChanged old new path number (λ inode. record inode { file = after_write inode.file off bytes })
 HasDone cred old (Truncate path size) number new =
@@ -50,8 +55,8 @@ HasDone cred old (Unlink path) number new = LeadsTo old path number × LeadsNowh
 HasDone cred old (Rmdir path) number new = LeadsTo old path number × LeadsNowhere new path
 HasDone cred old (Rename from to) number new =
     LeadsTo old from number × LeadsTo new to number × (LeadsTo old to number ⊎ HasLeft old new from)
-HasDone cred old (Chown path uid gid) number new =
-    IsChanged old new path number (λ inode. with_owners inode (renewed uid gid inode.owners))
+HasDone cred old (Chown path uid gid project) number new =
+    IsChanged old new path number (λ inode. with_owners inode (renewed uid gid project inode.owners))
 HasDone cred old (SetQuota kind id limits) number new = limits_at new kind id ≡ Some limits
 HasDone cred old (SetGrace graces) number new = new.graces ≡ graces
 HasDone cred old call number new = ⊥

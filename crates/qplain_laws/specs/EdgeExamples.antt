@@ -23,9 +23,9 @@ BothLimitsAtOnce = Plays
     ((line 0 root_caller (SetQuota Group 100 (record free { block_hard = 4; inode_hard = 1 })), done 0 0 0)
     ∷ (line 0 ann (Create (codes "/b")), done 2 0 1) ∷ (line 0 bob create_a, done 3 0 1)
     ∷ (line 0 bob (fill_a 0 8192), done 3 2 0)
-    ∷ (line 0 bob (Chown (codes "/a") None (Some 100)), Refused (EDQUOT Group InodeHard))
+    ∷ (line 0 bob (Chown (codes "/a") None (Some 100) None), Refused (EDQUOT Group InodeHard))
     ∷ (line 0 root_caller (SetQuota Group 100 (record free { block_hard = 4 })), done 0 0 0)
-    ∷ (line 0 bob (Chown (codes "/a") None (Some 100)), Refused (EDQUOT Group BlockHard)) ∷ [])
+    ∷ (line 0 bob (Chown (codes "/a") None (Some 100) None), Refused (EDQUOT Group BlockHard)) ∷ [])
 
 -- graces of 50 seconds for blocks and 60 for inodes: from 1000 the inodes' ends at 1060, from 1005 the blocks' at 1055
 abbrev pub TwoGraces : Type 0

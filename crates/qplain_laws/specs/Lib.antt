@@ -12,4 +12,5 @@ pub mod Examples
 pub mod MoreExamples
 pub mod NameExamples
 pub mod EdgeExamples
+pub mod ProjectExamples
 pub mod Replaces

@@ -79,7 +79,7 @@ abbrev pub tests_of : State → Caller → Call → List Test
 tests_of S cred (Create path) = of_place S EEXIST path (λ dir name. (is_some (named S dir name), EEXIST) ∷ [])
 tests_of S cred (Mkdir path) = of_place S EEXIST path (λ dir name.
     (is_some (named S dir name), EEXIST)
-    ∷ (has_too_many_links (created S (new_directory (owners_by cred)) dir name), EMLINK) ∷ [])
+    ∷ (has_too_many_links (created S (new_directory (owners_by S cred dir)) dir name), EMLINK) ∷ [])
 tests_of S cred (Write path off bytes) = of_path S path (λ number inode.
     (inode.dir, EISDIR) ∷ (not (may_write cred inode), EACCES)
     ∷ (not (length bytes == 0) && nat_lt S.file_limit (off + length bytes), EFBIG) ∷ [])
@@ -97,8 +97,8 @@ tests_of S cred (Rmdir path) = of_place S EBUSY path (λ dir name. of_name S dir
 tests_of S cred (Rename from to) = of_place S EBUSY from (λ dir name. of_name S dir name (λ number inode.
     of_place S EBUSY to (λ to_dir to_name.
     rename_tests S cred (components to) dir name number inode to_dir to_name (named S to_dir to_name))))
-tests_of S cred (Chown path uid gid) = of_path S path (λ number inode.
-    (not (may_give cred inode (renewed uid gid inode.owners)), EPERM) ∷ [])
+tests_of S cred (Chown path uid gid project) = of_path S path (λ number inode.
+    (not (may_give cred inode (renewed uid gid project inode.owners)), EPERM) ∷ [])
 tests_of S cred (SetQuota kind id limits) =
     (not (is_superuser cred), EPERM) ∷ (not (is_declared S kind id), ESRCH) ∷ []
 tests_of S cred (SetGrace graces) = (not (is_superuser cred), EPERM) ∷ []

@@ -1,7 +1,7 @@
 //! The laws of the plain machine, each the contract of a function that does nothing when it runs.
 ghost use Rattle.qplain_laws.specs.Refusals.{RefusalsComeInOrder};
 ghost use Rattle.qplain_laws.specs.Order.{LinksComeFirst, OverwritesAreGranted};
-ghost use Rattle.qplain_laws.specs.Laws.{AllStayReached, EndsAreTheRules, EndsStay, GivingBackIsGranted, LimitsHold, LimitsStay, NewLimitsAreTheRules, NumbersGoOn, OwnersHold, RefusalsChangeNothing, RightsHold, SetupsStay, StartIsLawful, StartIsReached, StepsStayLawful, UsersAndGroupsStand, UsesAddUp};
+ghost use Rattle.qplain_laws.specs.Laws.{AllStayReached, EndsAreTheRules, EndsStay, GivingBackIsGranted, KindsStay, LimitsHold, LimitsStay, NewLimitsAreTheRules, NumbersGoOn, OwnersHold, ProjectsAreInherited, RefusalsChangeNothing, RightsHold, SetupsStay, StartIsLawful, StartIsReached, StepsStayLawful, UndeclaredOwnNothing, UndeclaredRefuseNothing, UsersAndGroupsStand, UsesAddUp};
 
 /// Totals and inode numbers stay within the bounds, and a grace end stands exactly where use is over its soft limit.
 /// Principals, inodes and names stand once and in order. Every inode has declared owners and as many names as it may, a
@@ -87,11 +87,17 @@ pub fn inodes_stay_reached()
 
 /// From a lawful state no call of anybody but the superuser changes an inode of others, what it holds or whose it is,
 /// but for an inode whose last name goes; or takes away, moves or replaces a name that leads to an inode of others in
-/// a directory of others. Nor does one make an inode another user's or another
-/// project's, or that of a group that is not the caller's.
+/// a directory of others. Nor does one make an inode another user's or another project's, or that of a group that is
+/// not the caller's.
 pub fn rights_hold()
     ensures others { RightsHold }
     ensures owners { OwnersHold }
+{}
+
+/// From a lawful state an inode that a call makes has the project of the directory in which its name stands, and none
+/// where that has none.
+pub fn projects_are_inherited()
+    ensures { ProjectsAreInherited }
 {}
 
 /// The grace ends and the new limits of the plain machine are those of a quota record.

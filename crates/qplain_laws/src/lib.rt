@@ -8,12 +8,14 @@ pub use changes::{
 };
 pub use examples::{
     more_worked_examples, worked_examples, worked_examples_at_edges, worked_examples_of_names,
+    worked_examples_of_projects,
 };
 pub use journals::{changes_are_small, journals_stay_lawful, tallies_add_up};
 pub use laws::{
     ends_stay, giving_back_is_granted, holders_keep_the_rules, inodes_stay_reached, limits_hold,
-    links_come_first, numbers_go_on, overwrites_are_granted, refusals_change_nothing,
-    refusals_come_in_order, rights_hold, setups_stay, stores_stay_lawful, uses_add_up,
+    links_come_first, numbers_go_on, overwrites_are_granted, projects_are_inherited,
+    refusals_change_nothing, refusals_come_in_order, rights_hold, setups_stay, stores_stay_lawful,
+    undeclared_kinds_do_nothing, uses_add_up,
 };
 
 mod changes;
