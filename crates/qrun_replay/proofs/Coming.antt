@@ -7,7 +7,7 @@ use Rattle.qplain.specs.Setups.{Setting}
 use Rattle.qrun_replay.specs.declared.outcome.Outcome.{Outcome}
 use Rattle.qplain.specs.declared.transcript.Transcript.{Transcript}
 use Rattle.qplain.specs.Journals.{IsJournal, IsWorkers, Written}
-use Rattle.qrun_replay.specs.Left.{IsLeftOf, IsOneOf}
+use Rattle.qrun_replay.specs.Left.{AreOfEdition, IsLeftOf, IsOneOf}
 use Rattle.qrun_replay.specs.Replays.{IsReplayOf, transcripts_in}
 use Rattle.qplain.specs.Transcripts.{Belongs}
 use Rattle.qrun_replay.specs.Runs.{AreTranscriptsOf, IsOutcomeOf}
@@ -25,13 +25,14 @@ use Rattle.qrun_replay.proofs.Stats.{legal-fair}
 -- the journal of a store that was played on by N workers is one
 pub journal_left : (setting : Setting) (journal : List Entry) (workers : ℕ) → IsLawful (start setting) → IsLegal (start setting) journal
     → length journal ≤ max_entries_of setting.edition → IsWorkers workers → All (IsOneOf workers) journal
+    → AreOfEdition setting.edition journal
     → IsJournal (record { edition = setting.edition; workers = workers; entries = journal })
-journal_left setting journal workers lawful legal few are each = record {
+journal_left setting journal workers lawful legal few are each own = record {
   workers = are;
   few = few;
   each = λ k d less.
       let one = each k d less in
-      (one.0, one.1, legal-fair (start setting) journal lawful legal k d less);
+      (one.0, (one.1, (legal-fair (start setting) journal lawful legal k d less, own k d less)));
 }
 
 -- what is left of a store that was played on by the workers of scripts

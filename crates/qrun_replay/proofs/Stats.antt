@@ -127,8 +127,8 @@ module _ (S : State) (cred : Caller) where
       → IsFair (rename_over S cred to dir name number inode to_dir to_name target)
   fair-rename to dir name number inode to_dir to_name target = search (either, refused, answered, becomes) depth 12
 
-  fair-chown : (uid gid : Option ℕ) (number : ℕ) (inode : Inode) → IsFair (chown_at S cred uid gid number inode)
-  fair-chown uid gid number inode = search (either, refused, becomes)
+  fair-chown : (uid gid project : Option ℕ) (number : ℕ) (inode : Inode) → IsFair (chown_at S cred uid gid project number inode)
+  fair-chown uid gid project number inode = search (either, refused, becomes)
 
   fair-quota_from : (o : Option Holder) → IsFair (quota_from S o)
   fair-quota_from None = refused ESRCH
@@ -156,8 +156,8 @@ module _ (S : State) (cred : Caller) where
       fair-at_name S (rename_to S cred to dir name) dir name (λ number inode there.
       fair-in_parent S EBUSY (rename_as S cred to dir name number inode) to (λ to_dir to_name.
       fair-rename (components to) dir name number inode to_dir to_name (named S to_dir to_name))))
-  fair-attempt_of (Chown path uid gid) lawful =
-      fair-at_path S (chown_at S cred uid gid) path (λ number inode there. fair-chown uid gid number inode)
+  fair-attempt_of (Chown path uid gid project) lawful =
+      fair-at_path S (chown_at S cred uid gid project) path (λ number inode there. fair-chown uid gid project number inode)
   fair-attempt_of (SetQuota kind id limits) lawful = search (either, refused, becomes)
   fair-attempt_of (SetGrace graces) lawful = search (either, refused, becomes)
   fair-attempt_of (Quota kind id) lawful =

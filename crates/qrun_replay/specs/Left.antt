@@ -1,10 +1,12 @@
 -- What is left of a journaled store that was played on. No public clause cites this module.
-use Rattle.std.specs.Prelude.{◌≡◌, ℕ, ◌<◌, ◌≤◌, List, [], map, length, Result}
+use Rattle.std.specs.Prelude.{◌≡◌, ℕ, ◌<◌, ◌≤◌, true, List, [], map, length, All, Result}
 use Rattle.qplain.specs.declared.board.Board.{Board}
 use Rattle.qplain.specs.declared.entry.Entry.{Entry}
 use Rattle.qplain.specs.declared.look_fault.LookFault.{LookFault}
 use Rattle.qplain.specs.declared.transcript.Transcript.{Transcript}
+use Rattle.qplain.specs.declared.edition.Edition.{Edition}
 use Rattle.qplain.specs.Editions.{max_entries_of}
+use Rattle.qplain.specs.Projects.{is_of_edition}
 use Rattle.qplain.specs.Setups.{Setting}
 use Rattle.qplain.specs.State.{start}
 use Rattle.qplain.specs.Journal.{IsLegal, play, tally_of}
@@ -15,6 +17,10 @@ use Rattle.qrun_replay.specs.declared.outcome.Outcome.{Outcome}
 -- the entry is of one of N workers
 abbrev pub IsOneOf : ℕ → Entry → Type 0
 IsOneOf workers e = (0 < e.worker) × (e.worker ≤ workers)
+
+-- the entries name what those of this edition may
+abbrev pub AreOfEdition : Edition → List Entry → Type 0
+AreOfEdition edition journal = All (λ e. is_of_edition edition e ≡ true) journal
 
 -- the store that this legal journal leaves, with its tally, its own records and differences, of which there are none,
 -- beside N workers, these transcripts and what these looks at the boards were given

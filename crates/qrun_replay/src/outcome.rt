@@ -1,7 +1,7 @@
 ghost use Rattle.std.specs.Prelude.{◌≤◌, length, All, IfOk};
 ghost use Rattle.qplain.specs.Editions.{max_entries_of};
 ghost use Rattle.qplain.specs.Journals.{IsWorkers};
-ghost use Rattle.qrun_replay.specs.Left.{IsLeftOf, IsOneOf};
+ghost use Rattle.qrun_replay.specs.Left.{AreOfEdition, IsLeftOf, IsOneOf};
 
 use qaudit::Difference;
 use qaudit_checks::audit;
@@ -37,6 +37,7 @@ pub fn outcome_of(
     requires workers { IsWorkers workers }
     requires few { length store.journal ≤ max_entries_of store.setting.edition }
     requires each { All (IsOneOf workers) store.journal }
+    requires of_edition { AreOfEdition store.setting.edition store.journal }
     ensures { IfOk result (IsLeftOf store.setting store.journal workers transcripts boards) }
 {
     let kept = store.store();

@@ -1,4 +1,5 @@
-//! The accounts of a store: the quota records of its users, groups and projects and its totals, kept and never recounted.
+//! The accounts of a store: the quota records of its users, groups and projects, and its totals, kept and never
+//! recounted.
 #![tactic(auto)]
 
 pub use accounts::Accounts;

@@ -1,6 +1,7 @@
-use Rattle.std.proofs.Common.{◌≡◌, ◌≤◌, length, sym, subst, ap, ◌∙◌}
+use Rattle.std.proofs.Common.{◌≡◌, ◌≤◌, length, refl, sym, subst, ap, ◌∙◌}
 use Rattle.qplain.specs.declared.edition.Edition.{Edition}
 use Rattle.qplain.specs.Editions.{max_entries_of}
+use Rattle.qrun_replay.specs.Left.{AreOfEdition}
 use Rattle.qrun.specs.Told.{lines_of}
 use Rattle.qrun.proofs.Told.{gathered_told, one_of}
 use Rattle.qrun.proofs.concluding.make_outcome.Goals as goal
@@ -12,6 +13,10 @@ outcome_of-requires-clause-each c =
     let each = one_of (lines_of c.args.transcripts.items) all.told.shares c.args.transcripts.items c.args.store.journal all.told.told
     all.gathered.belong in
     rw (sym many) each
+
+pub outcome_of-requires-clause-of_edition : goal.outcome_of-requires-clause-of_edition
+outcome_of-requires-clause-of_edition c =
+    subst (λ (e : Edition). AreOfEdition e c.args.store.journal) (sym c.requires.edition) (λ k d less. refl)
 
 pub outcome_of-requires-clause-few : goal.outcome_of-requires-clause-few
 outcome_of-requires-clause-few c =

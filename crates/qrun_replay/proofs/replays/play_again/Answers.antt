@@ -1,6 +1,16 @@
 use Rattle.qrun_replay.proofs.Coming.{again}
 use Rattle.qrun_replay.proofs.replays.play_again.Goals as goal
 
+pub outcome_of-requires-clause-of_edition : goal.outcome_of-requires-clause-of_edition
+outcome_of-requires-clause-of_edition c =
+    rw (
+      c.in_ok-replay_all.ensures.setting,
+      c.in_ok-store.ensures.setting,
+      c.in_ok-replay_all.ensures.ok,
+      c.entries.ensures.entries,
+      c.requires.edition,
+    ) (λ k d less. (c.entries.ensures.lawful.each k d less).1.1.1)
+
 pub returns-clause-replay : goal.returns-clause-replay
 returns-clause-replay c =
     again c.args.setup c.args.journal.now c.in_ok-outcome_of.field-0 c.requires.edition
