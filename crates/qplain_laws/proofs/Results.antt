@@ -10,7 +10,7 @@ use Rattle.qplain.specs.Use.{has_too_many_links, links_of}
 use Rattle.qplain.specs.Arguments.{is_holder, is_known}
 use Rattle.qplain.specs.Names.{created}
 use Rattle.qplain.specs.Quotas.{relimited}
-use Rattle.qplain_laws.specs.Laws.{AreKnown, FitsTogether}
+use Rattle.qplain_laws.specs.Laws.{AreKnown, FitsTogether, IsSound}
 use Rattle.qplain_laws.proofs.Becoming.{HoldsOfResults, IsOwn}
 use Rattle.qplain_laws.proofs.Fitting.{changed_fits, created_fits, fits-map, known-project}
 use Rattle.qplain_laws.proofs.Sound.{known-made}
@@ -43,7 +43,7 @@ relimited_keeps true limits h = (refl, refl)
 relimited_keeps false limits h = (refl, refl)
 
 -- a new file gives no other inode a link, and has one
-pub few-created : (S : State) (inode : Inode) (dir : ℕ) (name : List ℕ) → FitsTogether S → named S dir name ≡ None
+few-created : (S : State) (inode : Inode) (dir : ℕ) (name : List ℕ) → FitsTogether S → named S dir name ≡ None
     → (inode.dir && has_too_many_links (created S inode dir name)) ≡ false → has_too_many_links (created S inode dir name) ≡ false
 few-created S inode dir name fits absent few = by inode.dir refl few
   where
@@ -61,16 +61,24 @@ few-created S inode dir name fits absent few = by inode.dir refl few
         ∙ ap (nat_lt MAX_LINKS) (links_of-new_file S inode dir name fits absent)))
 
 -- what a caller who is known makes in a directory has known owners
-pub known-created : (S : State) (cred : Caller) (inode : Inode) (dir : ℕ) → FitsTogether S → IsOwn S cred dir inode → is_known S cred ≡ true
+known-created : (S : State) (cred : Caller) (inode : Inode) (dir : ℕ) → FitsTogether S → IsOwn S cred dir inode → is_known S cred ≡ true
     → is_directory S dir ≡ true → AreKnown S inode.owners
 known-created S cred inode dir fits own known stands =
     subst (AreKnown S) (sym own.owners) (known-made S cred dir known (known-project S dir fits stands))
+
+-- so its parts fit together then
+pub fits-created : (S : State) (cred : Caller) (inode : Inode) (dir : ℕ) (name : List ℕ) → FitsTogether S → IsOwn S cred dir inode
+    → is_known S cred ≡ true → IsSound inode → is_directory S dir ≡ true → named S dir name ≡ None
+    → (inode.dir && has_too_many_links (created S inode dir name)) ≡ false → FitsTogether (created S inode dir name)
+fits-created S cred inode dir name fits own known sound stands absent few =
+    created_fits S inode dir name fits stands absent (known-created S cred inode dir fits own known stands) sound
+    (few-created S inode dir name fits absent few)
 
 -- every plain result fits together
 pub results_fit : (S : State) (cred : Caller) → FitsTogether S → HoldsOfResults FitsTogether S cred
 results_fit S cred fits = record {
   created = λ inode dir name own known sound stands absent few.
-      created_fits S inode dir name fits stands absent (known-created S cred inode dir fits own known stands) sound (few-created S inode dir name fits absent few);
+      fits-created S cred inode dir name fits own known sound stands absent few;
   changed = λ number inode after there follows may. changed_fits S number inode after there follows fits;
   removed = λ dir name number inode led there empty may.
       removed_fits S dir name number led fits (unfilled S fits number inode there empty);

@@ -15,8 +15,7 @@ use Rattle.qplain.specs.Names.{created, swept, with_name, without_name}
 use Rattle.qplain_laws.specs.Laws.{FitsTogether, LeavesToOthers, RightsHold, is_of_others}
 use Rattle.qplain_laws.proofs.Becoming.{HoldsOfResults, step-becomes}
 use Rattle.qplain_laws.proofs.Trying.{true-from_not}
-use Rattle.qplain_laws.proofs.Fitting.{created_fits}
-use Rattle.qplain_laws.proofs.Results.{few-created, known-created}
+use Rattle.qplain_laws.proofs.Results.{fits-created}
 use Rattle.qplain_laws.proofs.Finding.{more-kept}
 use Rattle.qplain_laws.proofs.Naming.{has_name-with}
 use Rattle.qplain_laws.proofs.Renaming.{named-U, named-V, remove-none, sorted-U}
@@ -175,7 +174,7 @@ results_leave S cred fits other = record {
         inode_at-created-there S inode dir name q (absent-fresh S.inodes S.next fits.inodes.fresh) (ap is_some at) ∙ at in
         while-named (created S inode dir name) q there still
         (has_name-there (created S inode dir name)
-        (created_fits S inode dir name fits stands absent (known-created S cred inode dir fits own known stands) sound (few-created S inode dir name fits absent few)) q (ap is_some still));
+        (fits-created S cred inode dir name fits own known sound stands absent few) q (ap is_some still));
     names = λ parent number name_too leads directory others. named-kept S inode dir name parent number name_too absent leads;
   };
   changed = λ number inode after there follows may. record {

@@ -1,5 +1,6 @@
 -- What one call changes, and what it leaves as it was.
-use Rattle.std.specs.Prelude.{◌≡◌, ◌≢◌, ℕ, ◌+◌, ◌*◌, Bool, true, false, ◌&&◌, ◌==◌, List, [], ◌∷◌, length, All, Option, Some, None, Ok}
+use Rattle.std.specs.Prelude.{◌≡◌, ◌≢◌, ℕ, ◌+◌, ◌*◌, Bool, true, false, ◌&&◌, ◌==◌, List, [], ◌∷◌, length, All, Option}
+use Rattle.std.specs.Prelude.{Some, None, Ok}
 use Rattle.std.specs.List.{find}
 use Rattle.std.specs.Option.{option_map}
 use Rattle.qrules.specs.declared.kind.Kind.{Kind}
@@ -9,7 +10,8 @@ use Rattle.qrules.specs.declared.over.Over.{Over}
 use Rattle.qrules.specs.Sort.{Sort, Inodes, Blocks, grace_of}
 use Rattle.qrules.specs.Account.{Account}
 use Rattle.qplain.specs.declared.call.Call.{Call}
-use Rattle.qplain.specs.declared.call.Call.TheVariants.{Create, Mkdir, Read, Stat, Link, Unlink, Rmdir, Rename, Chown, SetQuota, SetGrace, Quota}
+use Rattle.qplain.specs.declared.call.Call.TheVariants.{Create, Mkdir, Read, Stat, Link, Unlink, Rmdir, Rename, Chown}
+use Rattle.qplain.specs.declared.call.Call.TheVariants.{SetQuota, SetGrace, Quota}
 use Rattle.qplain.specs.declared.placed_row.TheConstants.{MAX_CHANGED_ROWS}
 use Rattle.qplain.specs.declared.refusal.Refusal.TheVariants.{EDQUOT}
 use Rattle.qplain.specs.declared.reply.Reply.TheVariants.{Refused}

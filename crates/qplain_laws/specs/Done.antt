@@ -2,7 +2,8 @@
 use Rattle.std.specs.Prelude.{◌≡◌, ◌⊎◌, ℕ, List, Some, None, Ok, Err}
 use Rattle.qblocks.specs.File.{after_truncate, after_write}
 use Rattle.qplain.specs.declared.call.Call.{Call}
-use Rattle.qplain.specs.declared.call.Call.TheVariants.{Create, Mkdir, Write, Truncate, Link, Unlink, Rmdir, Rename, Chown, SetQuota, SetGrace}
+use Rattle.qplain.specs.declared.call.Call.TheVariants.{Create, Mkdir, Write, Truncate, Link, Unlink, Rmdir, Rename}
+use Rattle.qplain.specs.declared.call.Call.TheVariants.{Chown, SetQuota, SetGrace}
 use Rattle.qplain.specs.declared.change.Change.{Change}
 use Rattle.qplain.specs.declared.owners.Owners.{Owners}
 use Rattle.qplain.specs.declared.refusal.Refusal.TheVariants.{ENOENT}

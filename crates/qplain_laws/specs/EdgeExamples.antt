@@ -2,9 +2,11 @@
 use Rattle.std.specs.Prelude.{ℕ, zero, suc, ◌+◌, ◌-◌, ◌^◌, List, [], ◌∷◌, ◌++◌, Some, None, codes, replicate}
 use Rattle.qrules.specs.declared.kind.Kind.TheVariants.{User, Group}
 use Rattle.qrules.specs.declared.over.Over.TheVariants.{BlockHard, BlockSoft, InodeHard, InodeSoft}
-use Rattle.qplain.specs.declared.call.Call.TheVariants.{Create, Write, Read, Stat as AskStat, Chown, SetQuota, SetGrace, Quota as AskQuota}
+use Rattle.qplain.specs.declared.call.Call.TheVariants.{Create, Write, Read, Stat as AskStat, Chown, SetQuota, SetGrace}
+use Rattle.qplain.specs.declared.call.Call.TheVariants.{Quota as AskQuota}
 use Rattle.qplain.specs.declared.reply.Reply.TheVariants.{Bytes, Quota as QuotaReply, Refused}
-use Rattle.qplain.specs.declared.refusal.Refusal.TheVariants.{EINVAL, ENAMETOOLONG, ENOENT, ENOSPC, EDQUOT, EPERM, ESRCH}
+use Rattle.qplain.specs.declared.refusal.Refusal.TheVariants.{EINVAL, ENAMETOOLONG, ENOENT, ENOSPC, EDQUOT, EPERM}
+use Rattle.qplain.specs.declared.refusal.Refusal.TheVariants.{ESRCH}
 use Rattle.qplain_laws.specs.Examples.{ann, bob, create_a, done, file_of_bob, fill_a, free, line, root_caller}
 use Rattle.qplain_laws.specs.MoreExamples.{Plays}
 

@@ -2,12 +2,15 @@
 use Rattle.std.specs.Prelude.{◌≡◌, ℕ, ◌+◌, ◌^◌, List, [], ◌∷◌, map, Some, None, codes}
 use Rattle.qrules.specs.declared.kind.Kind.TheVariants.{User, Group}
 use Rattle.qrules.specs.declared.over.Over.TheVariants.{BlockHard, InodeHard, InodeSoft}
-use Rattle.qplain.specs.declared.call.Call.TheVariants.{Create, Write, Truncate, Read, Stat as AskStat, Unlink, Chown, SetQuota, Quota as AskQuota}
+use Rattle.qplain.specs.declared.call.Call.TheVariants.{Create, Write, Truncate, Read, Stat as AskStat, Unlink, Chown}
+use Rattle.qplain.specs.declared.call.Call.TheVariants.{SetQuota, Quota as AskQuota}
 use Rattle.qplain.specs.declared.line.Line.{Line}
 use Rattle.qplain.specs.declared.reply.Reply.{Reply}
 use Rattle.qplain.specs.declared.reply.Reply.TheVariants.{Done, Bytes, Quota as QuotaReply, Refused}
-use Rattle.qplain.specs.declared.refusal.Refusal.TheVariants.{EINVAL, ENOENT, ENOTDIR, ENOSPC, EDQUOT, EISDIR, EACCES, EFBIG, EPERM}
-use Rattle.qplain_laws.specs.Examples.{ann, bob, create_a, done, file_of_bob, fill_a, free, line, record_of, replies, root_caller}
+use Rattle.qplain.specs.declared.refusal.Refusal.TheVariants.{EINVAL, ENOENT, ENOTDIR, ENOSPC, EDQUOT, EISDIR, EACCES}
+use Rattle.qplain.specs.declared.refusal.Refusal.TheVariants.{EFBIG, EPERM}
+use Rattle.qplain_laws.specs.Examples.{ann, bob, create_a, done, file_of_bob, fill_a, free, line, record_of, replies}
+use Rattle.qplain_laws.specs.Examples.{root_caller}
 
 -- the script gives these replies on a new store, line by line
 abbrev pub Plays : List (Line × Reply) → Type 0
@@ -123,7 +126,8 @@ abbrev pub OnlyWhatRises : Type 0
 OnlyWhatRises = Plays
     ((line 0 root_caller (SetQuota Group 100 (record free { block_hard = 4; inode_hard = 2 })), done 0 0 0)
     ∷ (line 0 ann create_a, done 2 0 1) ∷ (line 0 ann (fill_a 0 4096), done 2 1 0)
-    ∷ (line 0 bob (Create (codes "/b")), done 3 0 1) ∷ (line 0 bob (Chown (codes "/b") None (Some 100) None), done 3 0 0)
+    ∷ (line 0 bob (Create (codes "/b")), done 3 0 1)
+    ∷ (line 0 bob (Chown (codes "/b") None (Some 100) None), done 3 0 0)
     ∷ (line 0 bob (Create (codes "/c")), done 4 0 1)
     ∷ (line 0 bob (Chown (codes "/c") None (Some 100) None), Refused (EDQUOT Group InodeHard)) ∷ [])
 

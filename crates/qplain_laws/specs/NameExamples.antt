@@ -2,10 +2,12 @@
 use Rattle.std.specs.Prelude.{ℕ, true, false, [], ◌∷◌, Some, None, codes, replicate}
 use Rattle.qrules.specs.declared.kind.Kind.TheVariants.{User}
 use Rattle.qrules.specs.declared.over.Over.TheVariants.{InodeHard}
-use Rattle.qplain.specs.declared.call.Call.TheVariants.{Create, Mkdir, Write, Read, Stat as AskStat, Link, Unlink, Rmdir, Rename, Chown, SetQuota, Quota as AskQuota}
+use Rattle.qplain.specs.declared.call.Call.TheVariants.{Create, Mkdir, Write, Read, Stat as AskStat, Link, Unlink}
+use Rattle.qplain.specs.declared.call.Call.TheVariants.{Rmdir, Rename, Chown, SetQuota, Quota as AskQuota}
 use Rattle.qplain.specs.declared.reply.Reply.{Reply}
 use Rattle.qplain.specs.declared.reply.Reply.TheVariants.{Stat as StatReply, Refused}
-use Rattle.qplain.specs.declared.refusal.Refusal.TheVariants.{EBUSY, EINVAL, ENOENT, ENOTDIR, ENOTEMPTY, EEXIST, ENOSPC, EDQUOT, EISDIR, EPERM}
+use Rattle.qplain.specs.declared.refusal.Refusal.TheVariants.{EBUSY, EINVAL, ENOENT, ENOTDIR, ENOTEMPTY, EEXIST, ENOSPC}
+use Rattle.qplain.specs.declared.refusal.Refusal.TheVariants.{EDQUOT, EISDIR, EPERM}
 use Rattle.qplain_laws.specs.Examples.{ann, bob, create_a, done, fill_a, free, line, record_of, root_caller}
 use Rattle.qplain_laws.specs.MoreExamples.{Plays, less}
 

@@ -1,10 +1,13 @@
 -- The order of refusals, call by call: the tests of each call in a row, of which the first that fails is the answer.
-use Rattle.std.specs.Prelude.{◌≡◌, ℕ, ◌+◌, Bool, true, not, ◌&&◌, ◌||◌, ◌==◌, nat_lt, if◌then◌else◌, List, [], ◌∷◌, length, Option, Some, None, is_some, Result, Ok, Err}
+use Rattle.std.specs.Prelude.{◌≡◌, ℕ, ◌+◌, Bool, true, not, ◌&&◌, ◌||◌, ◌==◌, nat_lt, if◌then◌else◌, List, [], ◌∷◌}
+use Rattle.std.specs.Prelude.{length, Option, Some, None, is_some, Result, Ok, Err}
 use Rattle.std.specs.Option.{option_or}
 use Rattle.qplain.specs.declared.call.Call.{Call}
-use Rattle.qplain.specs.declared.call.Call.TheVariants.{Create, Mkdir, Write, Truncate, Read, Stat, Link, Unlink, Rmdir, Rename, Chown, SetQuota, SetGrace, Quota}
+use Rattle.qplain.specs.declared.call.Call.TheVariants.{Create, Mkdir, Write, Truncate, Read, Stat, Link, Unlink, Rmdir}
+use Rattle.qplain.specs.declared.call.Call.TheVariants.{Rename, Chown, SetQuota, SetGrace, Quota}
 use Rattle.qplain.specs.declared.refusal.Refusal.{Refusal}
-use Rattle.qplain.specs.declared.refusal.Refusal.TheVariants.{EINVAL, ENOENT, ENOTDIR, EEXIST, ENOSPC, EISDIR, EACCES, EFBIG, EPERM, EMLINK, ENOTEMPTY, EBUSY, ESRCH}
+use Rattle.qplain.specs.declared.refusal.Refusal.TheVariants.{EINVAL, ENOENT, ENOTDIR, EEXIST, ENOSPC, EISDIR, EACCES}
+use Rattle.qplain.specs.declared.refusal.Refusal.TheVariants.{EFBIG, EPERM, EMLINK, ENOTEMPTY, EBUSY, ESRCH}
 use Rattle.qplain.specs.declared.reply.Reply.TheVariants.{Refused}
 use Rattle.qplain.specs.Caller.{Caller, is_superuser}
 use Rattle.qplain.specs.State.{Inode, State, inode_at, is_directory, named, new_directory}

@@ -3,7 +3,9 @@ ghost use Rattle.qplain_laws.specs.Bytes.{BytesAreCut, BytesAreRead, BytesAreWri
 ghost use Rattle.qplain_laws.specs.Done.{DoneIsDone};
 ghost use Rattle.qplain_laws.specs.Told.{BytesAreTrue, QuotasAreTrue, StatsAreTrue};
 ghost use Rattle.qplain_laws.specs.Sizes.{FilesStayRightSized, StartIsRightSized};
-ghost use Rattle.qplain_laws.specs.Changes.{AskingChangesNothing, GracesRunOn, NamesCostNothing, OneInodeIsTouched, OtherNamesStay, SettingsStay, SuperuserMeetsNoQuota, TotalsAreMoved, TwoRowsOfEachKind};
+ghost use Rattle.qplain_laws.specs.Changes.{AskingChangesNothing, GracesRunOn, NamesCostNothing, OneInodeIsTouched};
+ghost use Rattle.qplain_laws.specs.Changes.{OtherNamesStay, SettingsStay, SuperuserMeetsNoQuota, TotalsAreMoved};
+ghost use Rattle.qplain_laws.specs.Changes.{TwoRowsOfEachKind};
 
 /// Read, stat and quota, which only ask, leave the state as it is.
 pub fn asking_changes_nothing()

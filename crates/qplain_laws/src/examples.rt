@@ -1,9 +1,20 @@
 //! Worked examples of the plain machine: each clause is one, and holds by computation.
-ghost use Rattle.qplain_laws.specs.Examples.{BoardOfJournal, CreateWriteStat, Editions, EmptyWrite, EntriesOfWorker, ExampleIsGranted, GraceHasEnded, GraceRuns, GracesMoveNone, HardLimit, JournalIsLegal, LimitsAnew, Paths, ReadOverAHole, Rights, SixInodes, SpaceBeforeQuota, SuperuserPasses, TallyOfJournal, UnknownCallers, WhoseLimitFirst, WriteOverAnEdge};
-ghost use Rattle.qplain_laws.specs.MoreExamples.{EndsMove, GrownAgain, InodesGivenBack, LastName, MayGive, MayTruncate, MayUnlink, NoNumberAgain, OnlyWhatRises, OtherGroup, Shorter, ShorterByBytes};
-ghost use Rattle.qplain_laws.specs.EdgeExamples.{BothLimitsAtOnce, ExactlyFull, InsideAFile, LargestLimits, LongestTexts, TwoGraces};
-ghost use Rattle.qplain_laws.specs.NameExamples.{DirectoriesGo, DirectoriesMove, FurtherNames, MayLink, MayMakeDirectories, MayRemoveDirectories, MayRename, NamesMove, NewDirectories};
-ghost use Rattle.qplain_laws.specs.ProjectExamples.{NoProjects, ProjectOfADirectory, ProjectsAreGranted};
+ghost use Rattle.qplain_laws.specs.Examples.{BoardOfJournal, CreateWriteStat, Editions, EmptyWrite, EntriesOfWorker};
+ghost use Rattle.qplain_laws.specs.Examples.{ExampleIsGranted, GraceHasEnded, GraceRuns, GracesMoveNone, HardLimit};
+ghost use Rattle.qplain_laws.specs.Examples.{JournalIsLegal, LimitsAnew, Paths, ReadOverAHole, Rights, SixInodes};
+ghost use Rattle.qplain_laws.specs.Examples.{SpaceBeforeQuota, SuperuserPasses, TallyOfJournal, UnknownCallers};
+ghost use Rattle.qplain_laws.specs.Examples.{WhoseLimitFirst, WriteOverAnEdge};
+ghost use Rattle.qplain_laws.specs.MoreExamples.{EndsMove, GrownAgain, InodesGivenBack, LastName, MayGive, MayTruncate};
+ghost use Rattle.qplain_laws.specs.MoreExamples.{MayUnlink, NoNumberAgain, OnlyWhatRises, OtherGroup, Shorter};
+ghost use Rattle.qplain_laws.specs.MoreExamples.{ShorterByBytes};
+ghost use Rattle.qplain_laws.specs.EdgeExamples.{BothLimitsAtOnce, ExactlyFull, InsideAFile, LargestLimits};
+ghost use Rattle.qplain_laws.specs.EdgeExamples.{LongestTexts, TwoGraces};
+ghost use Rattle.qplain_laws.specs.NameExamples.{DirectoriesGo, DirectoriesMove, FurtherNames, MayLink};
+ghost use Rattle.qplain_laws.specs.NameExamples.{MayMakeDirectories, MayRemoveDirectories, MayRename, NamesMove};
+ghost use Rattle.qplain_laws.specs.NameExamples.{NewDirectories};
+ghost use Rattle.qplain_laws.specs.ProjectExamples.{BoardOfProjects, GraceOfAProject, MayNameProjects, NoProjects};
+ghost use Rattle.qplain_laws.specs.ProjectExamples.{ProjectComesLast, ProjectOfADirectory, ProjectsAreGranted};
+ghost use Rattle.qplain_laws.specs.ProjectExamples.{ProjectsAreKept, ProjectsAreTested};
 
 /// What the definitions answer on small scripts, counted by hand from the rules. It does nothing when it runs.
 pub fn worked_examples()
@@ -73,6 +84,12 @@ pub fn worked_examples_at_edges()
 /// What they answer where projects are declared, and where none is.
 pub fn worked_examples_of_projects()
     ensures projects_are_granted { ProjectsAreGranted }
+    ensures projects_are_tested { ProjectsAreTested }
     ensures project_of_a_directory { ProjectOfADirectory }
+    ensures projects_are_kept { ProjectsAreKept }
+    ensures project_comes_last { ProjectComesLast }
+    ensures grace_of_a_project { GraceOfAProject }
+    ensures may_name_projects { MayNameProjects }
+    ensures board_of_projects { BoardOfProjects }
     ensures no_projects { NoProjects }
 {}

@@ -1,5 +1,6 @@
 //! The laws of whole journals, each the contract of a function that does nothing when it runs.
-ghost use Rattle.qplain_laws.specs.Journals.{ChangesAreSmall, ChangesAreTold, JournalsStayLawful, StepsAreSmall, TalliesAreSmall, TalliesBalance};
+ghost use Rattle.qplain_laws.specs.Journals.{ChangesAreSmall, ChangesAreTold, JournalsStayLawful, StepsAreSmall};
+ghost use Rattle.qplain_laws.specs.Journals.{TalliesAreSmall, TalliesBalance};
 
 /// Whatever entries are played from a new store of a lawful setup, legal or not, a lawful state is left.
 pub fn journals_stay_lawful()

@@ -1,7 +1,11 @@
 //! The laws of the plain machine, each the contract of a function that does nothing when it runs.
 ghost use Rattle.qplain_laws.specs.Refusals.{RefusalsComeInOrder};
 ghost use Rattle.qplain_laws.specs.Order.{LinksComeFirst, OverwritesAreGranted};
-ghost use Rattle.qplain_laws.specs.Laws.{AllStayReached, EndsAreTheRules, EndsStay, GivingBackIsGranted, KindsStay, LimitsHold, LimitsStay, NewLimitsAreTheRules, NumbersGoOn, OwnersHold, ProjectsAreInherited, RefusalsChangeNothing, RightsHold, SetupsStay, StartIsLawful, StartIsReached, StepsStayLawful, UndeclaredOwnNothing, UndeclaredRefuseNothing, UsersAndGroupsStand, UsesAddUp};
+ghost use Rattle.qplain_laws.specs.Laws.{AllStayReached, EndsAreTheRules, EndsStay, GivingBackIsGranted, KindsStay};
+ghost use Rattle.qplain_laws.specs.Laws.{LimitsHold, LimitsStay, NewLimitsAreTheRules, NumbersGoOn, OwnersHold};
+ghost use Rattle.qplain_laws.specs.Laws.{ProjectsAreInherited, RefusalsChangeNothing, RightsHold, SetupsStay};
+ghost use Rattle.qplain_laws.specs.Laws.{StartIsLawful, StartIsReached, StepsStayLawful, UndeclaredOwnNothing};
+ghost use Rattle.qplain_laws.specs.Laws.{UndeclaredRefuseNothing, UsersAndGroupsStand, UsesAddUp};
 
 /// Totals and inode numbers stay within the bounds, and a grace end stands exactly where use is over its soft limit.
 /// Principals, inodes and names stand once and in order. Every inode has declared owners and as many names as it may, a
@@ -52,8 +56,8 @@ pub fn uses_add_up()
     ensures kinds { UsersAndGroupsStand }
 {}
 
-/// Where no principal of a kind is declared, none is after any call; nobody of the kind owns an inode of a lawful state,
-/// and no call is refused for its quota. So a store without projects is one in which there are users and groups alone.
+/// Where no principal of a kind is declared, none is after any call; no inode of a lawful state has an owner of the
+/// kind, and no call is refused for its quota. So a store without projects is one of users and groups alone.
 pub fn undeclared_kinds_do_nothing()
     ensures own { UndeclaredOwnNothing }
     ensures refuse { UndeclaredRefuseNothing }
