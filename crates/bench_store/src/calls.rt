@@ -157,6 +157,7 @@ pub(crate) fn chowns(alloc: Global, chosen: Chosen, owners: &[Owners]) -> io::Re
                 path: chosen.path(alloc, k)?,
                 uid: *uid,
                 gid: *gid,
+                project: None,
             })?;
         }
     }

@@ -37,7 +37,8 @@ pub(crate) fn setting(alloc: Global) -> io::Result<Setup> {
     let mut groups = Vec::new(alloc);
     groups.push(principal(alloc, 0, "root", WIDE)?)?;
     groups.push(principal(alloc, 100, "staff", WIDE)?)?;
-    match Setup::new(MAX_BLOCKS, MAX_INODES, GRACES, users, groups) {
+    let projects = Vec::new(alloc);
+    match Setup::new(MAX_BLOCKS, MAX_INODES, GRACES, users, groups, projects) {
         Ok(setup) => Ok(setup),
         Err(_) => Err(io::Error::from(io::ErrorKind::InvalidInput)),
     }

@@ -213,11 +213,10 @@ impl Accounts {
         ensures { result ≡ option_or (refusal_of self.now.groups Group moment bill.now.groups.to)
             (refusal_of self.now.projects Project moment bill.now.projects.to) }
     {
-        match self.groups.refusal(Kind::Group, moment, bill.groups.to) {
+        let (group, project) = (bill.groups.to, bill.projects.to);
+        match self.groups.refusal(Kind::Group, moment, group) {
             Some(refusal) => Some(refusal),
-            None => self
-                .projects
-                .refusal(Kind::Project, moment, bill.projects.to),
+            None => self.projects.refusal(Kind::Project, moment, project),
         }
     }
 

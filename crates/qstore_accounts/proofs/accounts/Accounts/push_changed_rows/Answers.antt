@@ -1,4 +1,4 @@
-use Rattle.std.proofs.Common.{◌≡◌, ℕ, ◌+◌, List, ◌++◌, append_assoc, length, ap, subst, ◌∙◌}
+use Rattle.std.proofs.Common.{◌≡◌, ◌+◌, List, ◌++◌, append_assoc, length, ap, subst, ◌∙◌}
 use Rattle.qrules.specs.declared.kind.Kind.TheVariants.{Group, Project}
 use Rattle.qplain.specs.declared.placed_row.PlacedRow.{PlacedRow}
 use Rattle.qstore_accounts.specs.Boards.{ArePut}
