@@ -1,8 +1,8 @@
 -- The three parts together: an audit of a lawful state's own rows finds nothing.
 use Rattle.std.proofs.Common.{◌≡◌, [], ◌++◌, get_or, map, not, ap, ◌∙◌}
-use Rattle.std.specs.List.{filter}
+use Rattle.std.specs.List.{filter, filter_map}
 use Rattle.qrules.specs.declared.kind.Kind.{Kind}
-use Rattle.qrules.specs.declared.kind.Kind.TheVariants.{User, Group}
+use Rattle.qrules.specs.declared.kind.Kind.TheVariants.{User, Group, Project}
 use Rattle.qplain.specs.State.{State}
 use Rattle.qplain_laws.specs.Laws.{IsLawful}
 use Rattle.qaudit.specs.declared.difference.Difference.TheVariants.{NoRow, Links}
@@ -26,7 +26,7 @@ uses-agree S =
 owners-agree : (S : State) (kind : Kind) → IsLawful S → owners_without_record kind (counts_by kind (inode_rows S)) (record_rows S) ≡ []
 owners-agree S kind lawful =
     ap (map (NoRow kind)) (filter-none (λ c. not (has_record kind (record_rows S) c.id)) (count_of kind (inode_rows S))
-    (ascending (map (owner_of kind) (inode_rows S))) (not_forgotten S kind lawful.parts.inodes.owners_known))
+    (ascending (filter_map (owner_of kind) (inode_rows S))) (not_forgotten S kind lawful.parts.inodes.owners_known))
 
 -- no link count is off
 links-agree : (S : State) → IsLawful S → link_differences (recount_of (inode_rows S) (name_rows S)).links ≡ []
@@ -37,4 +37,4 @@ links-agree S lawful =
 
 -- an audit of a lawful state's own rows finds nothing
 pub nothing_found : (S : State) → IsLawful S → differences_in S ≡ []
-nothing_found S lawful = λ i. uses-agree S i ++ owners-agree S User lawful i ++ owners-agree S Group lawful i ++ links-agree S lawful i
+nothing_found S lawful = λ i. uses-agree S i ++ owners-agree S User lawful i ++ owners-agree S Group lawful i ++ owners-agree S Project lawful i ++ links-agree S lawful i
