@@ -30,7 +30,6 @@ use Rattle.qplain.specs.Use.{account_of, has_name, has_too_many_links, names_to,
 use Rattle.qplain.specs.Walk.{walk}
 use Rattle.qplain.specs.Arguments.{is_declared}
 use Rattle.qplain.specs.Decision.{ends_after, with_ends_of}
-use Rattle.qplain.specs.Names.{project_of}
 use Rattle.qplain.specs.Quotas.{relimited}
 use Rattle.qplain.specs.Step.{step}
 
@@ -258,11 +257,16 @@ abbrev pub OwnersHold : Type 0
 OwnersHold = (S : State) (cred : Caller) (moment : ℕ) (call : Call) → IsLawful S → is_superuser cred ≡ false
     → KeepsOwners cred S (step S cred moment call).0
 
--- a new inode has the project of the directory in which some name of it stands, and none where that has none
+-- some name of the inode of this number stands in a directory that was there before, and has this project or none
+abbrev pub HasProjectOfItsPlace : State → State → ℕ → Option ℕ → Type 0
+HasProjectOfItsPlace old new number project =
+    (dir : ℕ) × (parent : Inode) × (name : List ℕ) × (inode_at old dir ≡ Some parent) × (parent.dir ≡ true)
+    × (named new dir name ≡ Some number) × (project ≡ parent.owners.project)
+
+-- a new inode has the project of the directory in which its name stands, and none where that has none
 abbrev pub InheritsProject : State → State → Type 0
 InheritsProject old new = (number : ℕ) (after : Inode) → inode_at old number ≡ None → inode_at new number ≡ Some after
-    → (dir : ℕ) × (name : List ℕ) × (is_directory old dir ≡ true) × (named new dir name ≡ Some number)
-    × (after.owners.project ≡ project_of (inode_at old dir))
+    → HasProjectOfItsPlace old new number after.owners.project
 
 -- so it is after every call, whoever makes it
 abbrev pub ProjectsAreInherited : Type 0
