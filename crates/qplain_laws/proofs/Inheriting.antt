@@ -9,7 +9,8 @@ use Rattle.qplain.specs.State.{Inode, NameKey, State, inode_at, is_dir, is_direc
 use Rattle.qplain.specs.Use.{has_name}
 use Rattle.qplain.specs.Files.{with_inode}
 use Rattle.qplain.specs.Names.{created, project_of, swept, with_name, without_name}
-use Rattle.qplain_laws.specs.Laws.{FitsTogether, HasProjectOfItsPlace, InheritsProject, ProjectsAreInherited}
+use Rattle.qplain_laws.specs.Laws.{FitsTogether}
+use Rattle.qplain_laws.specs.ProjectLaws.{HasProjectOfItsPlace, InheritsProject, ProjectsAreInherited}
 use Rattle.qplain_laws.proofs.Becoming.{HoldsOfResults, IsOwn, step-becomes}
 use Rattle.qplain_laws.proofs.Linking.{inode_at-created, inode_at-with_inode, named-created}
 use Rattle.qplain_laws.proofs.Sweeping.{inode_at-swept}
