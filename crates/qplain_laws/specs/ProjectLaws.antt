@@ -1,9 +1,10 @@
 -- The laws of projects: what is made takes that of its directory, and a kind of which nobody is declared does nothing.
-use Rattle.std.specs.Prelude.{◌≡◌, ℕ, true, false, List, All, Option, Some, None}
+use Rattle.std.specs.Prelude.{◌≡◌, ℕ, Bool, true, false, List, All, Option, Some, None, is_some}
 use Rattle.std.specs.Map.{values_of}
 use Rattle.qrules.specs.declared.kind.Kind.{Kind}
 use Rattle.qrules.specs.declared.over.Over.{Over}
 use Rattle.qplain.specs.declared.call.Call.{Call}
+use Rattle.qplain.specs.declared.call.Call.TheVariants.{Chown}
 use Rattle.qplain.specs.declared.refusal.Refusal.TheVariants.{EDQUOT}
 use Rattle.qplain.specs.declared.reply.Reply.TheVariants.{Refused}
 use Rattle.qplain.specs.Caller.{Caller}
@@ -27,6 +28,21 @@ InheritsProject old new = (number : ℕ) (after : Inode) → inode_at old number
 abbrev pub ProjectsAreInherited : Type 0
 ProjectsAreInherited = (S : State) (cred : Caller) (moment : ℕ) (call : Call) → IsLawful S
     → InheritsProject S (step S cred moment call).0
+
+-- the call is a chown that names a project
+abbrev pub gives_project : Call → Bool
+gives_project (Chown path uid gid project) = is_some project
+gives_project call = false
+
+-- every inode that stands before and after has the same project
+pub record KeepsProjects (old new : State) : Type 0 where
+  pub project : (number : ℕ) (inode after : Inode) → inode_at old number ≡ Some inode → inode_at new number ≡ Some after
+      → after.owners.project ≡ inode.owners.project
+
+-- so it is after every other call, whoever calls: a link and a rename keep the project
+abbrev pub ProjectsStay : Type 0
+ProjectsStay = (S : State) (cred : Caller) (moment : ℕ) (call : Call) → IsLawful S → gives_project call ≡ false
+    → KeepsProjects S (step S cred moment call).0
 
 -- in a lawful state nobody of a kind that is not declared owns an inode
 abbrev pub UndeclaredOwnNothing : Type 0

@@ -2,7 +2,7 @@
 ghost use Rattle.qplain_laws.specs.Refusals.{RefusalsComeInOrder};
 ghost use Rattle.qplain_laws.specs.Order.{LinksComeFirst, OverwritesAreGranted};
 ghost use Rattle.qplain_laws.specs.ProjectLaws.{KindsStay, ProjectsAreInherited, UndeclaredOwnNothing};
-ghost use Rattle.qplain_laws.specs.ProjectLaws.{UndeclaredRefuseNothing};
+ghost use Rattle.qplain_laws.specs.ProjectLaws.{ProjectsStay, UndeclaredRefuseNothing};
 ghost use Rattle.qplain_laws.specs.Laws.{AllStayReached, EndsAreTheRules, EndsStay, GivingBackIsGranted, LimitsHold};
 ghost use Rattle.qplain_laws.specs.Laws.{LimitsStay, NewLimitsAreTheRules, NumbersGoOn, OwnersHold};
 ghost use Rattle.qplain_laws.specs.Laws.{RefusalsChangeNothing, RightsHold, SetupsStay, StartIsLawful, StartIsReached};
@@ -103,6 +103,12 @@ pub fn rights_hold()
 /// where that has none.
 pub fn projects_are_inherited()
     ensures { ProjectsAreInherited }
+{}
+
+/// From a lawful state no call but a chown that names a project changes the project of an inode, whoever calls: a link
+/// and a rename keep it.
+pub fn projects_stay()
+    ensures { ProjectsStay }
 {}
 
 /// The grace ends and the new limits of the plain machine are those of a quota record.
