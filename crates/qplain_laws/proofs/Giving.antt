@@ -84,7 +84,7 @@ keeps-changed S cred number inode changed other there may q one after at now =
     by false here then = keeps-itself cred one after (sym at ∙ then)
 
 -- what the sweep leaves stood before
-left-there : (b : Bool) (o : Option Inode) (after : Inode) → cond b o None ≡ Some after → o ≡ Some after
+pub left-there : (b : Bool) (o : Option Inode) (after : Inode) → cond b o None ≡ Some after → o ≡ Some after
 left-there true o after now = now
 left-there false o after now = cc
 

@@ -5,11 +5,12 @@ use Rattle.std.specs.BTreeMap.{is_at}
 use Rattle.std.specs.Cmp.{eq_by_cmp_equiv}
 use Rattle.qplain.specs.declared.owners.Owners.{Owners}
 use Rattle.qplain.specs.Caller.{Caller}
-use Rattle.qplain.specs.State.{Inode, NameKey, State, inode_at, is_directory, named}
+use Rattle.qplain.specs.State.{Inode, NameKey, State, inode_at, is_dir, is_directory, named}
 use Rattle.qplain.specs.Use.{has_name}
 use Rattle.qplain.specs.Files.{with_inode}
 use Rattle.qplain.specs.Names.{created, project_of, swept, with_name, without_name}
-use Rattle.qplain_laws.specs.Laws.{FitsTogether, InheritsProject, ProjectsAreInherited}
+use Rattle.qplain_laws.specs.Laws.{FitsTogether}
+use Rattle.qplain_laws.specs.ProjectLaws.{HasProjectOfItsPlace, InheritsProject, ProjectsAreInherited}
 use Rattle.qplain_laws.proofs.Becoming.{HoldsOfResults, IsOwn, step-becomes}
 use Rattle.qplain_laws.proofs.Linking.{inode_at-created, inode_at-with_inode, named-created}
 use Rattle.qplain_laws.proofs.Sweeping.{inode_at-swept}
@@ -44,16 +45,18 @@ made S cred inode dir name fits own stands free number after absent there =
         ∙ ap (λ b. cond b (Some S.next) (named S dir name)) ((eq_by_cmp_equiv name_key_total).refl (dir, name))
 
     by : (b : Bool) → is_at (nat_cmp number) S.next ≡ b → cond b (Some inode) (inode_at S number) ≡ Some after
-        → (parent : ℕ) × (other : List ℕ) × (is_directory S parent ≡ true) × (named (created S inode dir name) parent other ≡ Some number)
-        × (after.owners.project ≡ project_of (inode_at S parent))
+        → HasProjectOfItsPlace S (created S inode dir name) number after.owners.project
     by true here is =
-        let same : inode ≡ after = cc in (
-          dir,
-          name,
-          stands,
-          leads ∙ ap Some (sym (same-number number S.next here)),
-          ap (λ (i : Inode). i.owners.project) (sym same) ∙ ap (λ (o : Owners). o.project) own.owners,
-        )
+        let same : inode ≡ after = cc in
+        let project : after.owners.project ≡ project_of (inode_at S dir) =
+        ap (λ (i : Inode). i.owners.project) (sym same) ∙ ap (λ (o : Owners). o.project) own.owners in
+        in_parent (inode_at S dir) refl stands project
+      where
+        in_parent : (o : Option Inode) → inode_at S dir ≡ o → is_dir o ≡ true → after.owners.project ≡ project_of o
+            → HasProjectOfItsPlace S (created S inode dir name) number after.owners.project
+        in_parent None found is_dir project = cc
+        in_parent (Some parent) found is_dir project =
+            (dir, parent, name, found, is_dir, leads ∙ ap Some (sym (same-number number S.next here)), project)
     by false here is = absurd (clash (inode_at S number) after absent is)
 
 results_inherit : (S : State) (cred : Caller) → FitsTogether S → HoldsOfResults (InheritsProject S) S cred

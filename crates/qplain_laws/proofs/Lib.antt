@@ -27,6 +27,7 @@ pub mod Settling
 pub mod Rights
 pub mod Giving
 pub mod Inheriting
+pub mod KeptProjects
 pub mod Finding
 pub mod Reaching
 pub mod Leaving

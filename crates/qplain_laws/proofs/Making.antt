@@ -1,7 +1,7 @@
 -- What is done by create, mkdir, write, truncate and chown, by setquota and setgrace.
 use Rattle.std.proofs.Common.{◌≡◌, ℕ, ◌+◌, ◌==◌, Bool, true, false, not, ◌||◌, nat_lt, cond, List, [], ◌∷◌, length, map, Option, Some, None, is_some, refl, sym, subst, ◌∙◌, tests, arith}
 use Rattle.std.specs.List.{find, list_any}
-use Rattle.std.specs.Option.{option_map, unwrap_or}
+use Rattle.std.specs.Option.{option_map}
 use Rattle.std.specs.BTreeMap.{is_at}
 use Rattle.std.specs.Ordering.{nat_cmp}
 use Rattle.std.proofs.lemmas.Bool.{cond-true}

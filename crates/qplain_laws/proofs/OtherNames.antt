@@ -1,7 +1,6 @@
 -- Call by call, every name leads where it led but the last names of the paths that the call changes.
 use Rattle.std.proofs.Common.{◌≡◌, ℕ, ◌+◌, ◌==◌, not, ◌&&◌, ◌||◌, nat_lt, cond, List, [], ◌∷◌, All, length, Option, Some, None, is_some, refl}
 use Rattle.std.specs.List.{find}
-use Rattle.std.specs.Option.{unwrap_or}
 use Rattle.std.proofs.lemmas.List.Elements.{All-head, All-tail}
 use Rattle.qblocks.specs.File.{after_truncate, after_write, read_at}
 use Rattle.qplain.specs.declared.call.Call.{Call}

@@ -1,5 +1,5 @@
 -- The first test of a call that fails is what it is refused for.
-use Rattle.std.proofs.Common.{◌≡◌, ℕ, ◌+◌, ◌==◌, Bool, true, false, not, ◌&&◌, ◌||◌, nat_lt, cond, List, [], ◌∷◌, length, Option, Some, None, is_some, Result, Ok, Err, refl, sym, ap, ◌∙◌, subst}
+use Rattle.std.proofs.Common.{◌≡◌, ℕ, ◌+◌, ◌==◌, Bool, true, false, not, ◌&&◌, ◌||◌, nat_lt, cond, List, [], ◌∷◌, length, Option, Some, None, is_some, Result, Ok, Err, refl, ap, ◌∙◌, subst}
 use Rattle.std.specs.List.{find, list_any}
 use Rattle.std.specs.Option.{option_map, option_or}
 use Rattle.qrules.specs.declared.over.Over.{Over}
@@ -8,7 +8,6 @@ use Rattle.qplain.specs.declared.call.Call.{Call}
 use Rattle.qplain.specs.declared.call.Call.TheVariants.{Create, Mkdir, Write, Truncate, Read, Stat as AskStat, Link, Unlink, Rmdir, Rename, Chown, SetQuota, SetGrace, Quota as AskQuota}
 use Rattle.qplain.specs.declared.refusal.Refusal.{Refusal}
 use Rattle.qplain.specs.declared.refusal.Refusal.TheVariants.{EINVAL, ENOTDIR, EEXIST, ENOSPC, EDQUOT, EISDIR, EACCES, EFBIG, EPERM, EMLINK, ENOTEMPTY, EBUSY, ESRCH}
-use Rattle.qplain.specs.declared.reply.Reply.{Reply}
 use Rattle.qplain.specs.declared.reply.Reply.TheVariants.{Bytes, Done, Refused}
 use Rattle.qplain.specs.Caller.{Caller, is_superuser}
 use Rattle.qplain.specs.State.{Holder, Inode, State, inode_at, is_directory, named, new_directory}
@@ -19,14 +18,14 @@ use Rattle.qplain.specs.Arguments.{is_declared, is_holder, refusal_of_arguments}
 use Rattle.qplain.specs.Attempt.{Attempt, Refuse, Answer, Becomes, at_inode, at_path, at_reached, in_parent, in_reached, no_change, under}
 use Rattle.qplain.specs.Rights.{is_own, may_give, may_remove, may_write}
 use Rattle.qplain.specs.Files.{read_from, stat_at, truncate_at, write_into}
-use Rattle.qplain.specs.Names.{create_as, created, link_as, link_to, mkdir_as, owners_by, rmdir_as, rmdir_at, unless_too_many_links, unlink_as, unlink_at, with_name}
+use Rattle.qplain.specs.Names.{create_as, created, link_as, link_to, mkdir_as, owners_by, rmdir_as, rmdir_at, unlink_as, unlink_at, with_name}
 use Rattle.qplain.specs.Renames.{meets, passes, rename_as, rename_from, rename_over, rename_to, renamed}
 use Rattle.qplain.specs.Owners.{chown_at, renewed}
 use Rattle.qplain.specs.Quotas.{quota_from}
 use Rattle.qplain.specs.Calls.{attempt, attempt_of, unless}
-use Rattle.qplain.specs.Step.{settle, settled, step}
+use Rattle.qplain.specs.Step.{settle, settled}
 use Rattle.qplain_laws.specs.Laws.{is_for_limits}
-use Rattle.qplain_laws.specs.Refusals.{AreInOrder, RefusalsComeInOrder, Test, first_failed, first_refusal_of, in_directory, of_found, of_last, of_reached, rename_tests, tests_of}
+use Rattle.qplain_laws.specs.Refusals.{RefusalsComeInOrder, Test, first_failed, first_refusal_of, in_directory, of_found, of_last, of_reached, rename_tests, tests_of}
 
 -- the attempt is no refusal
 abbrev IsGranted : Attempt → Type 0

@@ -1,5 +1,5 @@
 -- A kind of which no principal is declared owns nothing, refuses nothing, and stays so.
-use Rattle.std.proofs.Common.{◌≡◌, ℕ, Bool, true, false, cond, List, [], ◌∷◌, map, All, slice_index_or, Option, Some, None, ◌||◌, refl, sym, ap, ◌∙◌}
+use Rattle.std.proofs.Common.{◌≡◌, ℕ, Bool, true, false, cond, List, [], ◌∷◌, map, slice_index_or, Option, Some, None, ◌||◌, refl, sym, ap, ◌∙◌}
 use Rattle.std.specs.Option.{option_map, option_or}
 use Rattle.std.specs.List.{list_any}
 use Rattle.std.specs.Map.{values_of}
@@ -18,7 +18,8 @@ use Rattle.qplain.specs.Attempt.{Attempt, Refuse, Answer, Becomes}
 use Rattle.qplain.specs.Calls.{attempt}
 use Rattle.qplain.specs.Decision.{fault_of_holder, first_refusal, is_too_full, refusal_between}
 use Rattle.qplain.specs.Step.{settle, settled}
-use Rattle.qplain_laws.specs.Laws.{KindsStay, UndeclaredOwnNothing, UndeclaredRefuseNothing, has_kind, identity_of, is_for_limits, is_known_owner}
+use Rattle.qplain_laws.specs.ProjectLaws.{KindsStay, UndeclaredOwnNothing, UndeclaredRefuseNothing}
+use Rattle.qplain_laws.specs.Laws.{has_kind, identity_of, is_for_limits, is_known_owner}
 use Rattle.qplain_laws.proofs.Answering.{MayBecome, TellsNone, attempt-none, is_refused}
 use Rattle.qplain_laws.proofs.Balance.{kind-declared}
 use Rattle.qplain_laws.proofs.Kept.{setups_stay}

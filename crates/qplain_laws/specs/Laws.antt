@@ -7,7 +7,6 @@ use Rattle.std.specs.List.{list_any}
 use Rattle.std.specs.List.Sorted.{IsStrictlySortedBy}
 use Rattle.qrules.specs.declared.kind.Kind.{Kind}
 use Rattle.qrules.specs.declared.kind.Kind.TheVariants.{User, Group}
-use Rattle.qrules.specs.declared.over.Over.{Over}
 use Rattle.qrules.specs.Kinds.{is_same_kind}
 use Rattle.qrules.specs.Sort.{Sort, Inodes, Blocks, amount_of, hard_limit, soft_limit, is_over}
 use Rattle.qrules.specs.Account.{Account, HasEnds, count_in, end_in}
@@ -30,7 +29,6 @@ use Rattle.qplain.specs.Use.{account_of, has_name, has_too_many_links, names_to,
 use Rattle.qplain.specs.Walk.{walk}
 use Rattle.qplain.specs.Arguments.{is_declared}
 use Rattle.qplain.specs.Decision.{ends_after, with_ends_of}
-use Rattle.qplain.specs.Names.{project_of}
 use Rattle.qplain.specs.Quotas.{relimited}
 use Rattle.qplain.specs.Step.{step}
 
@@ -257,33 +255,6 @@ pub record KeepsOwners (cred : Caller) (old new : State) : Type 0 where
 abbrev pub OwnersHold : Type 0
 OwnersHold = (S : State) (cred : Caller) (moment : ℕ) (call : Call) → IsLawful S → is_superuser cred ≡ false
     → KeepsOwners cred S (step S cred moment call).0
-
--- a new inode has the project of the directory in which some name of it stands, and none where that has none
-abbrev pub InheritsProject : State → State → Type 0
-InheritsProject old new = (number : ℕ) (after : Inode) → inode_at old number ≡ None → inode_at new number ≡ Some after
-    → (dir : ℕ) × (name : List ℕ) × (is_directory old dir ≡ true) × (named new dir name ≡ Some number)
-    × (after.owners.project ≡ project_of (inode_at old dir))
-
--- so it is after every call, whoever makes it
-abbrev pub ProjectsAreInherited : Type 0
-ProjectsAreInherited = (S : State) (cred : Caller) (moment : ℕ) (call : Call) → IsLawful S
-    → InheritsProject S (step S cred moment call).0
-
--- in a lawful state nobody of a kind that is not declared owns an inode
-abbrev pub UndeclaredOwnNothing : Type 0
-UndeclaredOwnNothing = (S : State) (kind : Kind) → IsLawful S → has_kind S kind ≡ false
-    → All (λ inode. owner kind inode.owners ≡ None) (values_of S.inodes)
-
--- no call is refused for the quota of a kind that is not declared
-abbrev pub UndeclaredRefuseNothing : Type 0
-UndeclaredRefuseNothing =
-    (S : State) (cred : Caller) (moment : ℕ) (call : Call) (kind : Kind) (over : Over)
-    → (step S cred moment call).1 ≡ Refused (EDQUOT kind over) → has_kind S kind ≡ true
-
--- no call declares a kind, and none takes one back
-abbrev pub KindsStay : Type 0
-KindsStay = (S : State) (cred : Caller) (moment : ℕ) (call : Call) (kind : Kind)
-    → has_kind (step S cred moment call).0 kind ≡ has_kind S kind
 
 -- the ends of a holder are those of its record by the rules
 abbrev pub EndsAreTheRules : Type 0

@@ -1,5 +1,6 @@
 -- The laws, and worked examples. A module that no public clause cites says so.
 pub mod Laws
+pub mod ProjectLaws
 pub mod Changes
 pub mod Done
 pub mod Told

@@ -49,7 +49,7 @@ pub fn done_is_done()
 {}
 
 /// What read, stat and quota are told, where they are answered, is of the file, the inode or the principal that they
-/// name; a record is told to its user or its group's members, and to the superuser.
+/// name; a record is told to its user or its group's members, and to the superuser, a project's to the superuser alone.
 pub fn answers_are_true()
     ensures bytes { BytesAreTrue }
     ensures stats { StatsAreTrue }

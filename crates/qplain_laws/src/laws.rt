@@ -1,11 +1,12 @@
 //! The laws of the plain machine, each the contract of a function that does nothing when it runs.
 ghost use Rattle.qplain_laws.specs.Refusals.{RefusalsComeInOrder};
 ghost use Rattle.qplain_laws.specs.Order.{LinksComeFirst, OverwritesAreGranted};
-ghost use Rattle.qplain_laws.specs.Laws.{AllStayReached, EndsAreTheRules, EndsStay, GivingBackIsGranted, KindsStay};
-ghost use Rattle.qplain_laws.specs.Laws.{LimitsHold, LimitsStay, NewLimitsAreTheRules, NumbersGoOn, OwnersHold};
-ghost use Rattle.qplain_laws.specs.Laws.{ProjectsAreInherited, RefusalsChangeNothing, RightsHold, SetupsStay};
-ghost use Rattle.qplain_laws.specs.Laws.{StartIsLawful, StartIsReached, StepsStayLawful, UndeclaredOwnNothing};
-ghost use Rattle.qplain_laws.specs.Laws.{UndeclaredRefuseNothing, UsersAndGroupsStand, UsesAddUp};
+ghost use Rattle.qplain_laws.specs.ProjectLaws.{KindsStay, ProjectsAreInherited, UndeclaredOwnNothing};
+ghost use Rattle.qplain_laws.specs.ProjectLaws.{ProjectsStay, UndeclaredRefuseNothing};
+ghost use Rattle.qplain_laws.specs.Laws.{AllStayReached, EndsAreTheRules, EndsStay, GivingBackIsGranted, LimitsHold};
+ghost use Rattle.qplain_laws.specs.Laws.{LimitsStay, NewLimitsAreTheRules, NumbersGoOn, OwnersHold};
+ghost use Rattle.qplain_laws.specs.Laws.{RefusalsChangeNothing, RightsHold, SetupsStay, StartIsLawful, StartIsReached};
+ghost use Rattle.qplain_laws.specs.Laws.{StepsStayLawful, UsersAndGroupsStand, UsesAddUp};
 
 /// Totals and inode numbers stay within the bounds, and a grace end stands exactly where use is over its soft limit.
 /// Principals, inodes and names stand once and in order. Every inode has declared owners and as many names as it may, a
@@ -102,6 +103,12 @@ pub fn rights_hold()
 /// where that has none.
 pub fn projects_are_inherited()
     ensures { ProjectsAreInherited }
+{}
+
+/// From a lawful state no call but a chown that names a project changes the project of an inode, whoever calls: a link
+/// and a rename keep it.
+pub fn projects_stay()
+    ensures { ProjectsStay }
 {}
 
 /// The grace ends and the new limits of the plain machine are those of a quota record.

@@ -13,7 +13,7 @@ pub use examples::{
 pub use journals::{changes_are_small, journals_stay_lawful, tallies_add_up};
 pub use laws::{
     ends_stay, giving_back_is_granted, holders_keep_the_rules, inodes_stay_reached, limits_hold,
-    links_come_first, numbers_go_on, overwrites_are_granted, projects_are_inherited,
+    links_come_first, numbers_go_on, overwrites_are_granted, projects_are_inherited, projects_stay,
     refusals_change_nothing, refusals_come_in_order, rights_hold, setups_stay, stores_stay_lawful,
     undeclared_kinds_do_nothing, uses_add_up,
 };
