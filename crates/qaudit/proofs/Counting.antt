@@ -17,7 +17,8 @@ use Rattle.qrules.specs.declared.kind.Kind.{Kind}
 use Rattle.qaudit.specs.declared.counts.CountRow.{CountRow}
 use Rattle.qaudit.specs.Differences.{no_use}
 use Rattle.qaudit.specs.Owners.{with_owner, with_row}
-use Rattle.qaudit.specs.Recount.{ascending, blocks_to, count_of, counts_by, is_id, is_owned, owner_of}
+use Rattle.qrules.specs.Kinds.{is_id}
+use Rattle.qaudit.specs.Recount.{ascending, blocks_to, count_of, counts_by, is_owned, owner_of}
 
 keys-match : {K X : Type 0} (o : Ordering) (es fs gs : List (K × X))
     → keys_of (match_ordering o es fs gs) ≡ match_ordering o (keys_of es) (keys_of fs) (keys_of gs)

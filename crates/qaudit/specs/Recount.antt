@@ -6,7 +6,7 @@ use Rattle.std.specs.Ordering.{nat_cmp}
 use Rattle.qrules.specs.declared.inode_row.InodeRow.{InodeRow}
 use Rattle.qrules.specs.declared.kind.Kind.{Kind}
 use Rattle.qrules.specs.declared.kind.Kind.TheVariants.{User, Group, Project}
-use Rattle.qrules.specs.Kinds.{by_kind}
+use Rattle.qrules.specs.Kinds.{by_kind, is_id}
 use Rattle.qrules.specs.declared.name_row.NameRow.{NameRow}
 use Rattle.qaudit.specs.declared.counts.Counts.{Counts}
 use Rattle.qaudit.specs.declared.counts.CountRow.{CountRow}
@@ -15,11 +15,6 @@ use Rattle.qaudit.specs.declared.counts.LinkRow.{LinkRow}
 -- whose the row is: each row is a user's and a group's, and a project's where it tells of one
 abbrev pub owner_of : Kind → InodeRow → Option ℕ
 owner_of kind row = by_kind (Some row.uid) (Some row.gid) row.project kind
-
--- there is an owner, and its id is this one
-abbrev pub is_id : ℕ → Option ℕ → Bool
-is_id id None = false
-is_id id (Some other) = other == id
 
 -- the row is this owner's
 abbrev pub is_owned : Kind → ℕ → InodeRow → Bool

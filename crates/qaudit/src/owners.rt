@@ -5,7 +5,8 @@ ghost use Rattle.std.specs.BTreeSet.{insert_key};
 ghost use Rattle.std.specs.Ordering.{nat_cmp};
 ghost use Rattle.qaudit.specs.Differences.{no_use};
 ghost use Rattle.qaudit.specs.Owners.{counted_at, counted_with, keys_with, with_owner, with_row, with_run};
-ghost use Rattle.qaudit.specs.Recount.{counts_by, is_id, owner_of};
+ghost use Rattle.qrules.specs.Kinds.{is_id};
+ghost use Rattle.qaudit.specs.Recount.{counts_by, owner_of};
 
 use crate::{CountRow, NoMemory};
 use qrules::{InodeRow, Kind};
