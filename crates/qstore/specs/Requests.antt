@@ -11,16 +11,13 @@ use Rattle.qstore_accounts.specs.declared.claim.Slots.{Slots}
 use Rattle.qstore_accounts.specs.Books.{AreBooksOf, Books, HasSlots}
 use Rattle.qstore_accounts.specs.KeptHolders.{IsSlotFor}
 use Rattle.qstore.specs.declared.request.Request.{Request}
+use Rattle.qstore_walk.specs.Owners.{caller_owners}
 use Rattle.qstore.specs.Stored.{IsStorable, Stored}
 
 -- the state is storable, and the books are its own
 pub record IsConsistent (s : Stored) : Type 0 where
   pub sound : IsStorable s.state
   pub books : AreBooksOf s.state s.books
-
--- the owners of a caller's own, in a project, if it is in one
-abbrev pub caller_owners : Caller → Option ℕ → Owners
-caller_owners cred project = record { uid = cred.uid; gid = cred.gid; project = project }
 
 -- the project is declared, if there is one
 abbrev pub is_project : State → Option ℕ → Bool
