@@ -22,11 +22,15 @@ CHUNK = 65_536
 CALLER = "1000:100"
 
 
+def principals(kind, ids):
+    """The tables of these principals, without limits."""
+    return "".join(f'[[{kind}]]\nid = {id}\nname = "{kind[0]}{id}"\n' for id in ids)
+
+
 def config(users=(0, 1000), groups=(0, 100)):
     """A configuration of these users and groups, without limits."""
     head = 'size = "4g"\nnr_inodes = 65536\nblock_grace = 100\ninode_grace = 100\n'
-    ids = [("user", id) for id in users] + [("group", id) for id in groups]
-    return head + "".join(f'[[{kind}]]\nid = {id}\nname = "{kind[0]}{id}"\n' for kind, id in ids)
+    return head + principals("user", users) + principals("group", groups)
 
 
 def repeated(*calls, first=(), lines=LINES):

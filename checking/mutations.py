@@ -50,7 +50,7 @@ CONFIG_WORDS = [
     *NUMBERS,
     *b'"40k" "40K" "1" "4g" "4097m" "9999999999g" "12345678901" "" "ann" "Ann" "a b" "sixteen_letters_"'.split(),
     *b'"seventeen_letters" size nr_inodes block_grace inode_grace user group project id name block_soft "a.b"'.split(),
-    *b"x block_hard inode_soft inode_hard [user] [[user]] [[group]] [] {} [{}] [1] [ ] { } = , . # true inf".split(),
+    *b"x block_hard inode_soft inode_hard [user] [[user]] [[group]] [[project]] [] {} [{}] [1] [ ] { } = , . # true inf".split(),
     *b'nan 2026-01-01 07:32:00 """ \'\'\' " \' \\ "\\u0000" "\\ud800" "\\e" "\\q" "a\\tb" a.b.c user.id "\\n"'.split(),
     *(b"[" * depth + b"]" * depth for depth in (80, 81, 300)),
     *(b"{a=" * depth + b"}" * depth for depth in (80, 81, 300)),

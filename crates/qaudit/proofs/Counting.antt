@@ -1,22 +1,23 @@
 -- Rows counted one after the other come to what the sums over all of them say.
-use Rattle.std.proofs.Common.{◌≡◌, ℕ, ◌+◌, ◌^◌, ◌≤◌, ◌<◌, ◌==◌, Bool, true, false, cond, List, [], ◌∷◌, ◌++◌, length, map, take, get_or, Some, refl, sym, ap, ◌∙◌, append_assoc, arith, add-one, All, count_by, le_trans}
+use Rattle.std.proofs.Common.{◌≡◌, ℕ, ◌+◌, ◌^◌, ◌≤◌, ◌<◌, ◌==◌, Bool, true, false, cond, List, [], ◌∷◌, ◌++◌, length, map, take, get_or, Option, Some, None, refl, sym, ap, ◌∙◌, append_assoc, append-nil, arith, add-one, All, count_by, le_trans}
 use Rattle.std.specs.declared.cmp.Ordering.{Ordering}
 use Rattle.std.specs.declared.cmp.Ordering.TheVariants.{Less, Equal, Greater}
 use Rattle.std.specs.BTreeMap.{insert_entry, is_at}
 use Rattle.std.specs.BTreeSet.{insert_key}
-use Rattle.std.specs.List.{sum_by}
+use Rattle.std.specs.List.{cons_option, filter_map, sum_by}
 use Rattle.std.specs.Map.{keys_of, lookup, values_of}
 use Rattle.std.specs.Option.{unwrap_or}
 use Rattle.std.specs.Ordering.{match_ordering, nat_cmp}
 use Rattle.std.proofs.Math.Seq.{take-suc}
-use Rattle.std.proofs.lemmas.List.{length-take-le, map-append}
-use Rattle.std.proofs.lemmas.List.Elements.{All-head, All-tail}
+use Rattle.std.proofs.lemmas.List.{length-take-le}
+use Rattle.std.proofs.lemmas.List.Elements.{All-head, All-tail, filter_map-append}
 use Rattle.std.proofs.lemmas.List.Sums.{count_by-le-length, fold_push, sum_by-append, sum_by-le-sum_by, sum_by_more_le_part}
 use Rattle.qrules.specs.declared.inode_row.InodeRow.{InodeRow}
 use Rattle.qrules.specs.declared.kind.Kind.{Kind}
 use Rattle.qaudit.specs.declared.counts.CountRow.{CountRow}
 use Rattle.qaudit.specs.Differences.{no_use}
-use Rattle.qaudit.specs.Owners.{with_row}
+use Rattle.qaudit.specs.Owners.{with_owner, with_row}
+use Rattle.qrules.specs.Kinds.{is_id}
 use Rattle.qaudit.specs.Recount.{ascending, blocks_to, count_of, counts_by, is_owned, owner_of}
 
 keys-match : {K X : Type 0} (o : Ordering) (es fs gs : List (K × X))
@@ -39,7 +40,7 @@ entry_of es q = unwrap_or (lookup (is_at (nat_cmp q)) es) (no_use q)
 
 -- these are the owners of these rows, and of each is told what its rows come to
 pub record AreCounted (kind : Kind) (rows : List InodeRow) (owners : List ℕ) (told : ℕ → CountRow) : Type 0 where
-  pub keys : owners ≡ ascending (map (owner_of kind) rows)
+  pub keys : owners ≡ ascending (filter_map (owner_of kind) rows)
   pub counts : (q : ℕ) → told q ≡ count_of kind rows q
 
 -- before the first row
@@ -49,13 +50,18 @@ none_counted kind es none = record {
   counts = λ q. rw none refl;
 }
 
--- one row more of the numbers in order
+-- the numbers in order, with one more where there is one
+with_last : (numbers : List ℕ) (owner : Option ℕ)
+    → ascending (numbers ++ cons_option owner []) ≡ with_owner (ascending numbers) owner
+with_last numbers None = ap ascending (append-nil numbers)
+with_last numbers (Some id) = fold_push (insert_key nat_cmp) [] numbers id
+
+-- one row more of the owners in order
 ascending-push : (kind : Kind) (rows : List InodeRow) (row : InodeRow)
-    → ascending (map (owner_of kind) (rows ++ row ∷ []))
-    ≡ insert_key nat_cmp (ascending (map (owner_of kind) rows)) (owner_of kind row)
+    → ascending (filter_map (owner_of kind) (rows ++ row ∷ []))
+    ≡ with_owner (ascending (filter_map (owner_of kind) rows)) (owner_of kind row)
 ascending-push kind rows row =
-    ap ascending (map-append (owner_of kind) rows (row ∷ []))
-    ∙ fold_push (insert_key nat_cmp) [] (map (owner_of kind) rows) (owner_of kind row)
+    ap ascending (filter_map-append (owner_of kind) rows (row ∷ [])) ∙ with_last (filter_map (owner_of kind) rows) (owner_of kind row)
 
 -- the count of an owner
 abbrev count_row : ℕ → ℕ → ℕ → CountRow
@@ -88,13 +94,13 @@ count_of-push kind rows row q =
 -- one row more
 pub one_counted : (kind : Kind) (rows : List InodeRow) (count : ℕ) (row d : InodeRow) (old new : List ℕ) (before after : ℕ → CountRow)
     → AreCounted kind (take count rows) old before → count < length rows → row ≡ get_or rows count d
-    → new ≡ insert_key nat_cmp old (owner_of kind row)
-    → ((q : ℕ) → after q ≡ cond (owner_of kind row == q) (with_row (before q) row.blocks) (before q))
+    → new ≡ with_owner old (owner_of kind row)
+    → ((q : ℕ) → after q ≡ cond (is_id q (owner_of kind row)) (with_row (before q) row.blocks) (before q))
     → AreCounted kind (take (count + 1) rows) new after
 one_counted kind rows count row d old new before after so_far few is keys counts =
     let first : take (count + 1) rows ≡ take count rows ++ row ∷ [] = rw (add-one, is) (take-suc rows count d few) in
     record {
-      keys = rw first (keys ∙ ap (λ ks. insert_key nat_cmp ks (owner_of kind row)) so_far.keys
+      keys = rw first (keys ∙ ap (λ ks. with_owner ks (owner_of kind row)) so_far.keys
           ∙ sym (ascending-push kind (take count rows) row));
       counts = λ q. rw first (counts q
           ∙ ap (λ n. cond (is_owned kind q row) (with_row n row.blocks) n) (so_far.counts q)

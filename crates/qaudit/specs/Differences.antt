@@ -3,7 +3,7 @@ use Rattle.std.specs.Prelude.{ℕ, Bool, not, ◌&&◌, ◌==◌, List, ◌++◌
 use Rattle.std.specs.List.{filter, find, list_any}
 use Rattle.std.specs.Option.{unwrap_or}
 use Rattle.qrules.specs.declared.kind.Kind.{Kind}
-use Rattle.qrules.specs.declared.kind.Kind.TheVariants.{User, Group}
+use Rattle.qrules.specs.declared.kind.Kind.TheVariants.{User, Group, Project}
 use Rattle.qrules.specs.Kinds.{by_kind, is_same_kind}
 use Rattle.qrules.specs.declared.record_row.RecordRow.{RecordRow}
 use Rattle.qaudit.specs.declared.counts.Counts.{Counts}
@@ -22,7 +22,7 @@ counted_of counts id = unwrap_or (find (λ c. c.id == id) counts) (no_use id)
 
 -- the counts of one kind
 abbrev pub counts_in : Kind → Counts → List CountRow
-counts_in kind counts = by_kind counts.users counts.groups kind
+counts_in kind counts = by_kind counts.users counts.groups counts.projects kind
 
 -- what is counted of whom a record is for
 abbrev pub counted_for : Counts → RecordRow → CountRow
@@ -58,10 +58,12 @@ owners_without_record kind counts records =
 abbrev pub link_differences : List LinkRow → List Difference
 link_differences links = map Links (filter is_off_by_links links)
 
--- the records that are off; then the users and then the groups without a record; then the inodes whose links are off
+-- the records that are off; then the users, the groups and the projects without a record; then the inodes whose links
+-- are off
 abbrev pub differences_of : Counts → List RecordRow → List Difference
 differences_of counts records =
     use_differences counts records
     ++ owners_without_record User counts.users records
     ++ owners_without_record Group counts.groups records
+    ++ owners_without_record Project counts.projects records
     ++ link_differences counts.links

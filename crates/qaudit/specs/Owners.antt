@@ -1,5 +1,5 @@
 -- How the rows of owners are counted, those of one owner in a row together. No public clause cites this module.
-use Rattle.std.specs.Prelude.{ℕ, ◌+◌, ◌==◌, if◌then◌else◌, List}
+use Rattle.std.specs.Prelude.{ℕ, ◌+◌, ◌==◌, if◌then◌else◌, List, Option, Some, None}
 use Rattle.std.specs.BTreeMap.{BTreeMap, get, keys}
 use Rattle.std.specs.BTreeSet.{insert_key}
 use Rattle.std.specs.Option.{unwrap_or}
@@ -18,6 +18,11 @@ with_row count blocks = record { id = count.id; blocks = count.blocks + blocks; 
 -- a count, with that of a run of rows
 abbrev pub with_run : CountRow → CountRow → CountRow
 with_run count run = record { id = count.id; blocks = count.blocks + run.blocks; inodes = count.inodes + run.inodes }
+
+-- the owners with that of a row, which may have none
+abbrev pub with_owner : List ℕ → Option ℕ → List ℕ
+with_owner owners None = owners
+with_owner owners (Some id) = insert_key nat_cmp owners id
 
 -- the owners that are counted, and that of a run, unless it has no rows
 abbrev pub keys_with : BTreeMap ℕ CountRow → CountRow → List ℕ

@@ -1,24 +1,24 @@
 -- What rows of inodes and names come to, whoever made them (quotacheck(8)).
-use Rattle.std.specs.Prelude.{ℕ, ◌+◌, Bool, ◌&&◌, ◌==◌, if◌then◌else◌, List, [], length, map, sum_by, count_by}
+use Rattle.std.specs.Prelude.{ℕ, ◌+◌, Bool, false, ◌&&◌, ◌==◌, if◌then◌else◌, List, [], length, map, sum_by, count_by, Option, Some, None}
 use Rattle.std.specs.BTreeSet.{insert_key}
-use Rattle.std.specs.List.{fold, list_any}
+use Rattle.std.specs.List.{filter_map, fold, list_any}
 use Rattle.std.specs.Ordering.{nat_cmp}
 use Rattle.qrules.specs.declared.inode_row.InodeRow.{InodeRow}
 use Rattle.qrules.specs.declared.kind.Kind.{Kind}
-use Rattle.qrules.specs.declared.kind.Kind.TheVariants.{User, Group}
-use Rattle.qrules.specs.Kinds.{by_kind}
+use Rattle.qrules.specs.declared.kind.Kind.TheVariants.{User, Group, Project}
+use Rattle.qrules.specs.Kinds.{by_kind, is_id}
 use Rattle.qrules.specs.declared.name_row.NameRow.{NameRow}
 use Rattle.qaudit.specs.declared.counts.Counts.{Counts}
 use Rattle.qaudit.specs.declared.counts.CountRow.{CountRow}
 use Rattle.qaudit.specs.declared.counts.LinkRow.{LinkRow}
 
--- whose the row is
-abbrev pub owner_of : Kind → InodeRow → ℕ
-owner_of kind row = by_kind row.uid row.gid kind
+-- whose the row is: each row is a user's and a group's, and a project's where it tells of one
+abbrev pub owner_of : Kind → InodeRow → Option ℕ
+owner_of kind row = by_kind (Some row.uid) (Some row.gid) row.project kind
 
 -- the row is this owner's
 abbrev pub is_owned : Kind → ℕ → InodeRow → Bool
-is_owned kind id row = owner_of kind row == id
+is_owned kind id row = is_id id (owner_of kind row)
 
 -- what the row adds to this owner's blocks
 abbrev pub blocks_to : Kind → ℕ → InodeRow → ℕ
@@ -36,9 +36,9 @@ count_of kind inodes id = record {
 abbrev pub ascending : List ℕ → List ℕ
 ascending numbers = fold (insert_key nat_cmp) [] numbers
 
--- what each owner's rows come to, by id
+-- what each owner's rows come to, by id; a row without an owner of the kind is counted for nobody
 abbrev pub counts_by : Kind → List InodeRow → List CountRow
-counts_by kind inodes = map (count_of kind inodes) (ascending (map (owner_of kind) inodes))
+counts_by kind inodes = map (count_of kind inodes) (ascending (filter_map (owner_of kind) inodes))
 
 -- how many names lead to this number
 abbrev pub names_to : List NameRow → ℕ → ℕ
@@ -65,11 +65,12 @@ link_row inodes names row = record {
   counted = counted_links inodes names row;
 }
 
--- what the rows come to: by user, by group, in all, and the links row by row
+-- what the rows come to: by user, by group, by project, in all, and the links row by row
 abbrev pub recount_of : List InodeRow → List NameRow → Counts
 recount_of inodes names = record {
   users = counts_by User inodes;
   groups = counts_by Group inodes;
+  projects = counts_by Project inodes;
   blocks = sum_by (λ row. row.blocks) inodes;
   inodes = length inodes;
   links = map (link_row inodes names) inodes;

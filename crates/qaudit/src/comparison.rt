@@ -5,7 +5,7 @@ ghost use Rattle.std.specs.BTreeSet.{contains};
 ghost use Rattle.std.specs.List.{find};
 ghost use Rattle.std.specs.Option.{option_or};
 ghost use Rattle.std.specs.Ordering.{nat_cmp};
-ghost use Rattle.qaudit.specs.Differences.{differences_of, has_record, is_off, link_differences, owners_without_record, use_differences};
+ghost use Rattle.qaudit.specs.Differences.{counts_in, differences_of, has_record, is_off, link_differences, owners_without_record, use_differences};
 
 use crate::owners::count_at;
 use crate::{CountRow, Counts, Difference, LinkRow, NoMemory};
@@ -96,10 +96,12 @@ fn push_uses(
 {
     let users = by_id(alloc, counts.users.as_slice())?;
     let groups = by_id(alloc, counts.groups.as_slice())?;
+    let projects = by_id(alloc, counts.projects.as_slice())?;
     for record in records {
         let counted = match record.kind {
             Kind::User => count_at(&users, record.id),
             Kind::Group => count_at(&groups, record.id),
+            Kind::Project => count_at(&projects, record.id),
         };
         push_use(alloc, counted, record, differences)?;
     }
@@ -122,19 +124,31 @@ fn push_owner(
     Ok(())
 }
 
+/// The counts of one kind.
+fn counts_in(kind: Kind, counts: &Counts) -> &[CountRow]
+    ensures { result.now ≡ counts_in kind counts.now }
+{
+    match kind {
+        Kind::User => counts.users.as_slice(),
+        Kind::Group => counts.groups.as_slice(),
+        Kind::Project => counts.projects.as_slice(),
+    }
+}
+
 /// Appends the owners of a kind that were counted and have no record.
 fn push_owners(
     alloc: Global,
     kind: Kind,
-    counts: &[CountRow],
+    counts: &Counts,
     records: &[RecordRow],
     differences: &mut Vec<Difference>,
 ) -> Result<(), NoMemory>
     ensures { OnOk result (differences.new.items
-        ≡ differences.old.items ++ owners_without_record kind counts.now records.now) }
+        ≡ differences.old.items ++ owners_without_record kind (counts_in kind counts.now) records.now) }
 {
     let recorded = recorded(alloc, kind, records)?;
-    for counted in counts {
+    let owners = counts_in(kind, counts);
+    for counted in owners {
         push_owner(kind, *counted, recorded.contains(&counted.id), differences)?;
     }
     Ok(())
@@ -153,8 +167,8 @@ fn push_links(links: &[LinkRow], differences: &mut Vec<Difference>) -> Result<()
 }
 
 /// Holds counts against quota records (quotacheck(8)): first the records, in order, that show other blocks or inodes
-/// than were counted; then the users, and then the groups, that own something and have no record; then the inodes whose
-/// link counts differ.
+/// than were counted; then the users, the groups and the projects that own something and have no record; then the
+/// inodes whose link counts differ.
 ///
 /// Of an id that stands in several counts the first one counts. O((i + r) log (i + r)) for counts of i rows and r
 /// records; an Err is out of memory, and leaves nothing made.
@@ -167,20 +181,9 @@ pub fn compare(
 {
     let mut differences = Vec::new(alloc);
     push_uses(alloc, counts, records, &mut differences)?;
-    push_owners(
-        alloc,
-        Kind::User,
-        counts.users.as_slice(),
-        records,
-        &mut differences,
-    )?;
-    push_owners(
-        alloc,
-        Kind::Group,
-        counts.groups.as_slice(),
-        records,
-        &mut differences,
-    )?;
+    push_owners(alloc, Kind::User, counts, records, &mut differences)?;
+    push_owners(alloc, Kind::Group, counts, records, &mut differences)?;
+    push_owners(alloc, Kind::Project, counts, records, &mut differences)?;
     push_links(counts.links.as_slice(), &mut differences)?;
     Ok(differences)
 }

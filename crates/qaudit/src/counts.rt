@@ -28,6 +28,8 @@ pub struct Counts {
     pub users: Items<CountRow>,
     /// The groups that own a row, by id.
     pub groups: Items<CountRow>,
+    /// The projects that own a row, by id: a row may have none.
+    pub projects: Items<CountRow>,
     /// Blocks of 4096 bytes, in all rows.
     pub blocks: u64,
     /// How many rows of inodes there are.

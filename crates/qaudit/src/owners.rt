@@ -4,7 +4,8 @@ ghost use Rattle.std.specs.BTreeMap.{keys};
 ghost use Rattle.std.specs.BTreeSet.{insert_key};
 ghost use Rattle.std.specs.Ordering.{nat_cmp};
 ghost use Rattle.qaudit.specs.Differences.{no_use};
-ghost use Rattle.qaudit.specs.Owners.{counted_at, counted_with, keys_with, with_row, with_run};
+ghost use Rattle.qaudit.specs.Owners.{counted_at, counted_with, keys_with, with_owner, with_row, with_run};
+ghost use Rattle.qrules.specs.Kinds.{is_id};
 ghost use Rattle.qaudit.specs.Recount.{counts_by, owner_of};
 
 use crate::{CountRow, NoMemory};
@@ -12,12 +13,14 @@ use qrules::{InodeRow, Kind};
 use std::alloc::Global;
 use std::collections::BTreeMap;
 
-fn owner_of(kind: Kind, row: &InodeRow) -> u32
+/// Whose a row is. It may have no project.
+fn owner_of(kind: Kind, row: &InodeRow) -> Option<u32>
     ensures { result ≡ owner_of kind row.now }
 {
     match kind {
-        Kind::User => row.uid,
-        Kind::Group => row.gid,
+        Kind::User => Some(row.uid),
+        Kind::Group => Some(row.gid),
+        Kind::Project => row.project,
     }
 }
 
@@ -110,6 +113,25 @@ fn count_row(
     Ok(())
 }
 
+/// Counts one more row, if it has an owner.
+fn count_owned(
+    counts: &mut BTreeMap<u32, CountRow>,
+    run: &mut CountRow,
+    owner: Option<u32>,
+    blocks: u32,
+) -> Result<(), NoMemory>
+    requires blocks { (q : ℕ) → (counted_with counts.old run.old q).blocks + blocks < 2 ^ 64 }
+    requires inodes { (q : ℕ) → (counted_with counts.old run.old q).inodes + 1 < 2 ^ 64 }
+    ensures keys { OnOk result (keys_with counts.new run.new ≡ with_owner (keys_with counts.old run.old) owner) }
+    ensures counts { OnOk result ((q : ℕ) → counted_with counts.new run.new q ≡ (if is_id q owner
+        then with_row (counted_with counts.old run.old q) blocks else counted_with counts.old run.old q)) }
+{
+    match owner {
+        Some(id) => count_row(counts, run, id, blocks),
+        None => Ok(()),
+    }
+}
+
 /// What each owner's rows come to, by id.
 pub(crate) fn counts_by(
     alloc: Global,
@@ -122,7 +144,7 @@ pub(crate) fn counts_by(
     let mut counts = BTreeMap::new(alloc);
     let mut run = no_count(0);
     for row in inodes {
-        count_row(&mut counts, &mut run, owner_of(kind, row), row.blocks)?;
+        count_owned(&mut counts, &mut run, owner_of(kind, row), row.blocks)?;
     }
     add_run(&mut counts, run)?;
     let mut rows = Vec::with_capacity(alloc, counts.len())?;

@@ -20,8 +20,8 @@ fn blocks_of(inodes: &[InodeRow]) -> u64
     blocks
 }
 
-/// Counts rows of inodes and of names afresh, whoever made them: what each user and each group owns, all blocks and
-/// inodes, and the links of each inode (quotacheck(8)).
+/// Counts rows of inodes and of names afresh, whoever made them: what each user, each group and each project owns,
+/// all blocks and inodes, and the links of each inode (quotacheck(8)).
 ///
 /// Numbers and ids may stand in several rows. Blocks are of 4096 bytes; all of them must fit 64 bits, as those of 2^32
 /// rows do. O((i + n) log (i + n)) for i rows of inodes and n of names; an Err is out of memory, and leaves nothing
@@ -34,6 +34,7 @@ pub fn recount(alloc: Global, inodes: &[InodeRow], names: &[NameRow]) -> Result<
     Ok(Counts {
         users: Items::new(counts_by(alloc, Kind::User, inodes)?),
         groups: Items::new(counts_by(alloc, Kind::Group, inodes)?),
+        projects: Items::new(counts_by(alloc, Kind::Project, inodes)?),
         blocks,
         inodes: inodes.len() as u64,
         links: Items::new(link_rows(alloc, inodes, names)?),

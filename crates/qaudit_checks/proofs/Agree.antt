@@ -37,4 +37,6 @@ links-agree S lawful =
 
 -- an audit of a lawful state's own rows finds nothing
 pub nothing_found : (S : State) → IsLawful S → differences_in S ≡ []
-nothing_found S lawful = λ i. uses-agree S i ++ owners-agree S User lawful i ++ owners-agree S Group lawful i ++ owners-agree S Project lawful i ++ links-agree S lawful i
+nothing_found S lawful =
+    λ i. uses-agree S i ++ owners-agree S User lawful i ++ owners-agree S Group lawful i ++ owners-agree S Project lawful i
+    ++ links-agree S lawful i

@@ -1,18 +1,19 @@
 -- What a recount finds of each owner of a state's rows is its recounted use.
-use Rattle.std.proofs.Common.{◌≡◌, ℕ, ◌+◌, ◌==◌, Bool, true, false, ◌||◌, cond, count_by, List, [], ◌∷◌, map, length, Option, Some, None, refl, sym, ap, ◌∙◌, arith, sum_by, tests}
+use Rattle.std.proofs.Common.{◌≡◌, ℕ, ◌+◌, ◌==◌, Bool, true, false, ◌||◌, cond, count_by, List, [], ◌∷◌, map, Option, Some, None, refl, sym, ap, ◌∙◌, arith, sum_by, tests}
 use Rattle.std.specs.List.{cons_option, filter_map, find}
 use Rattle.std.specs.Option.{unwrap_or}
 use Rattle.std.proofs.lemmas.Bool.{eqb-true}
 use Rattle.std.proofs.lemmas.List.Sums.{sum_by-cons}
 use Rattle.qrules.specs.declared.inode_row.InodeRow.{InodeRow}
 use Rattle.qrules.specs.declared.kind.Kind.{Kind}
+use Rattle.qrules.specs.Kinds.{is_id}
 use Rattle.qrules.proofs.Ranks.{each_kind}
 use Rattle.qrules.specs.declared.record_row.RecordRow.{RecordRow}
 use Rattle.qrules.specs.Sort.{Inodes, Blocks}
 use Rattle.qplain.specs.State.{Holder, Inode, State}
-use Rattle.qplain.specs.Use.{charge_to, is_id as is_owner_id}
+use Rattle.qplain.specs.Use.{charge_to}
 use Rattle.qaudit.specs.declared.counts.CountRow.{CountRow}
-use Rattle.qaudit.specs.Recount.{ascending, blocks_to, count_of, counts_by, is_id, is_owned, owner_of, recount_of}
+use Rattle.qaudit.specs.Recount.{ascending, blocks_to, count_of, counts_by, is_owned, owner_of, recount_of}
 use Rattle.qaudit.specs.Differences.{counted_for, counted_of, counts_in, is_off, no_use}
 use Rattle.qstore.specs.Rows.{inode_row_of, record_row_of}
 use Rattle.qaudit_checks.specs.OwnRows.{inode_rows, name_rows}
@@ -80,20 +81,13 @@ counted-own kind rows id =
       | false ↦ λ among. no_count kind rows id (sym (among-ascending id (filter_map (owner_of kind) rows)) ∙ among)
     ] refl
 
--- an id is asked alike of a row's owner and of an inode's
-alike : (id : ℕ) (o : Option ℕ) → is_id id o ≡ is_owner_id id o
-alike id None = refl
-alike id (Some n) = refl
-
 same_blocks : (S : State) (kind : Kind) (id : ℕ) (e : ℕ × Inode) → blocks_to kind id (inode_row_of S e) ≡ charge_to kind id Blocks e.1
 same_blocks S kind id e =
-    each_kind (λ k. blocks_to k id (inode_row_of S e) ≡ charge_to k id Blocks e.1) refl refl
-    (ap (λ b. cond b (length e.1.file.allocated) 0) (alike id e.1.owners.project)) kind
+    each_kind (λ k. blocks_to k id (inode_row_of S e) ≡ charge_to k id Blocks e.1) refl refl refl kind
 
 same_inodes : (S : State) (kind : Kind) (id : ℕ) (e : ℕ × Inode) → cond (is_owned kind id (inode_row_of S e)) 1 0 ≡ charge_to kind id Inodes e.1
 same_inodes S kind id e =
-    each_kind (λ k. cond (is_owned k id (inode_row_of S e)) 1 0 ≡ charge_to k id Inodes e.1) refl refl
-    (ap (λ b. cond b 1 0) (alike id e.1.owners.project)) kind
+    each_kind (λ k. cond (is_owned k id (inode_row_of S e)) 1 0 ≡ charge_to k id Inodes e.1) refl refl refl kind
 
 -- the counts of a kind are those that a recount makes of it
 counts-kind : (kind : Kind) (S : State) → counts_in kind (recount_of (inode_rows S) (name_rows S)) ≡ counts_by kind (inode_rows S)

@@ -44,8 +44,8 @@ NameKey = ℕ × List ℕ
 abbrev pub name_key_cmp : NameKey → NameKey → Ordering
 name_key_cmp = then_cmp (on (λ p. p.0) nat_cmp) (on (λ p. p.1) (slice_cmp nat_cmp))
 
--- the bounds, the file limit, the graces, the holders (users by id, then groups, then projects), inodes by number, names
--- by key, and the number of the next inode
+-- the bounds, the file limit, the graces, the holders (users by id, then groups, then projects), inodes by number,
+-- names by key, and the number of the next inode
 pub record State : Type 0 where
   pub size : ℕ
   pub most_inodes : ℕ

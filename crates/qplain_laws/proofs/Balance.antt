@@ -10,12 +10,12 @@ use Rattle.std.specs.Map.{values_of}
 use Rattle.std.proofs.lemmas.List.Sums.{sum_by-cons}
 use Rattle.std.proofs.lemmas.List.Elements.{All-head, All-tail}
 use Rattle.qrules.specs.declared.kind.Kind.{Kind}
-use Rattle.qrules.specs.Kinds.{is_same_kind, rank_of}
+use Rattle.qrules.specs.Kinds.{is_id, is_same_kind, rank_of}
 use Rattle.qrules.specs.declared.kind.Kind.TheVariants.{User, Group}
 use Rattle.qrules.specs.Sort.{Sort}
 use Rattle.qplain.specs.declared.bounds.TheConstants.{ROOT}
 use Rattle.qplain.specs.State.{Holder, Inode, State, holder_cmp, inode_at, is_dir}
-use Rattle.qplain.specs.Use.{belongs_to, charge_to, is_id, owner, weight}
+use Rattle.qplain.specs.Use.{belongs_to, charge_to, owner, weight}
 use Rattle.qplain.specs.Arguments.{is_holder}
 use Rattle.qplain_laws.specs.Laws.{AreKnown, UsersAndGroupsStand, UsesAddUp, has_kind, is_known_owner}
 use Rattle.qplain_laws.proofs.Fitting.{known-owners}

@@ -10,12 +10,12 @@ use Rattle.std.specs.Ordering.{nat_cmp, ordering_then}
 use Rattle.std.proofs.lemmas.Bool.{or_parts}
 use Rattle.qrules.specs.declared.kind.Kind.{Kind}
 use Rattle.qrules.specs.declared.over.Over.{Over}
-use Rattle.qrules.specs.Kinds.{is_same_kind, kinds, rank_of}
+use Rattle.qrules.specs.Kinds.{is_id, is_same_kind, kinds, rank_of}
 use Rattle.qrules.proofs.Ranks.{AreRanked, each_listed, kinds_ranked, same_kind-refl}
 use Rattle.qplain.specs.declared.refusal.Refusal.{Refusal}
 use Rattle.qplain.specs.declared.refusal.Refusal.TheVariants.{EDQUOT}
 use Rattle.qplain.specs.State.{Holder, Inode, State, holder_cmp}
-use Rattle.qplain.specs.Use.{is_id, owner}
+use Rattle.qplain.specs.Use.{owner}
 use Rattle.qplain.specs.Decision.{fault_of_holder, first_refusal}
 use Rattle.qplain_laws.specs.Replaces.{Replaces}
 use Rattle.qplain_laws.proofs.Balance.{each-apart, held-once, is_held}

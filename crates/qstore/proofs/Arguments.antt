@@ -12,7 +12,8 @@ use Rattle.qplain.specs.State.{State}
 use Rattle.qplain.specs.Walk.{is_too_long, is_well_formed}
 use Rattle.qplain.specs.Arguments.{has_bad_number, is_declared, paths_of, refusal_of_arguments}
 use Rattle.qstore_walk.specs.Paths.{paths_fault}
-use Rattle.qstore.specs.Requests.{are_declared, caller_owners}
+use Rattle.qstore_walk.specs.Owners.{caller_owners}
+use Rattle.qstore.specs.Requests.{are_declared}
 
 -- the refusal by its tests
 abbrev by_tests : Bool → Bool → Bool → Bool → Bool → Bool → Bool → Option Refusal

@@ -19,7 +19,7 @@ use Rattle.qstore.specs.declared.store.Store.TheInside.{Inside}
 
 -- the root directory has the links of a directory with no name in it
 links-by : (s : Setting) (number : ℕ) (b : Bool)
-    → cond b (Some 2) None ≡ option_map (λ inode. links_of (start s) number inode.dir) (cond b (Some root) None)
+    → cond b (Some 2) None ≡ option_map (λ inode. links_of (start s) number inode.dir) (cond b (Some (root s)) None)
 links-by s number true = refl
 links-by s number false = refl
 
@@ -32,7 +32,7 @@ one-in-order = (tt, tt)
 
 module _ (s : Setting) (a : Inside) (books : AreBooksOf (start s) a.accounts) (limit : a.file_limit ≡ file_limit_of s.edition)
     (bound : file_limit_of s.edition ≤ MAX_SIZE) (next : a.next ≡ 2)
-    (inodes : a.tree.inodes ≡ (ROOT, root) ∷ []) (names : a.tree.names ≡ []) (links : a.tree.links ≡ (ROOT, 2) ∷ []) where
+    (inodes : a.tree.inodes ≡ (ROOT, root s) ∷ []) (names : a.tree.names ≡ []) (links : a.tree.links ≡ (ROOT, 2) ∷ []) where
   -- the state of a new store
   pub state-begun : state_of a ≡ start s
   state-begun = λ i. record {

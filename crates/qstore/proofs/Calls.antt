@@ -31,14 +31,15 @@ use Rattle.qstore_accounts.specs.Books.{ledger_in}
 use Rattle.qstore_accounts.proofs.Holders.{declared-kept}
 use Rattle.qstore_tree.specs.Tree.{IsSameTree, RoomyTree}
 use Rattle.qstore.specs.declared.store.Store.TheInside.{Inside}
-use Rattle.qstore.specs.declared.file_type.FileType.{FileType}
-use Rattle.qstore.specs.declared.file_type.FileType.TheVariants.{File as AFile, Directory}
+use Rattle.qstore_change.specs.declared.file_type.FileType.{FileType}
+use Rattle.qstore_change.specs.declared.file_type.FileType.TheVariants.{File as AFile, Directory}
 use Rattle.qstore.specs.declared.store.write.Target.{Target}
 use Rattle.qstore.specs.Kept.{state_of, stored_of}
-use Rattle.qstore.specs.FileTypes.{inode_new}
+use Rattle.qstore_change.specs.FileTypes.{inode_new}
 use Rattle.qstore.specs.Targets.{IsTarget}
 use Rattle.qstore.specs.Decided.{IsAsked}
-use Rattle.qstore.specs.Requests.{IsConsistent, are_declared, caller_owners, is_project}
+use Rattle.qstore_walk.specs.Owners.{caller_owners}
+use Rattle.qstore.specs.Requests.{IsConsistent, are_declared, is_project}
 use Rattle.qstore_change.specs.Changes.{altered, altered_at}
 use Rattle.qstore.specs.Stored.{IsSameStore, Stored}
 use Rattle.qstore_accounts.specs.Replacements.{IsClaimed}

@@ -6,6 +6,5 @@ pub mod Told
 pub mod Requests
 pub mod Decided
 pub mod Targets
-pub mod FileTypes
 pub mod Renamings
 pub mod Kept

@@ -11,6 +11,7 @@ use Rattle.qstore_accounts.specs.declared.claim.Slots.{Slots}
 use Rattle.qstore_accounts.specs.Books.{AreBooksOf, Books, HasSlots}
 use Rattle.qstore_accounts.specs.KeptHolders.{IsSlotFor}
 use Rattle.qstore.specs.declared.request.Request.{Request}
+use Rattle.qstore_walk.specs.Owners.{caller_owners}
 use Rattle.qstore.specs.Stored.{IsStorable, Stored}
 
 -- the state is storable, and the books are its own
@@ -18,9 +19,15 @@ pub record IsConsistent (s : Stored) : Type 0 where
   pub sound : IsStorable s.state
   pub books : AreBooksOf s.state s.books
 
--- the owners of a caller's own, in a project, if it is in one
-abbrev pub caller_owners : Caller → Option ℕ → Owners
-caller_owners cred project = record { uid = cred.uid; gid = cred.gid; project = project }
+-- the project is declared, if there is one
+abbrev pub is_project : State → Option ℕ → Bool
+is_project S None = true
+is_project S (Some id) = is_declared S Project id
+
+-- the owners are declared
+abbrev pub are_declared : State → Owners → Bool
+are_declared S owners =
+    is_declared S User owners.uid && is_declared S Group owners.gid && is_project S owners.project
 
 -- the store is consistent, and the caller is declared, whose records stand in it where the request says
 pub record CanDecide (s : Stored) (request : Request) : Type 0 where
@@ -36,21 +43,11 @@ pub record IsChecked (s : Stored) (cred : Caller) (moment : ℕ) (call : Call) (
   pub callers : HasSlots s.books slots (caller_owners cred None)
   pub numbers : has_bad_number s.state call ≡ false
 
--- the project is declared, if there is one
-abbrev pub is_project : State → Option ℕ → Bool
-is_project S None = true
-is_project S (Some id) = is_declared S Project id
-
--- the owners are declared
-abbrev pub are_declared : State → Owners → Bool
-are_declared S owners =
-    is_declared S User owners.uid && is_declared S Group owners.gid && is_project S owners.project
-
 -- the slots are those of the same user and group, and of this project, if there is one
-pub record IsWithProject (b : Books) (slots : Slots) (project : Option ℕ) (with : Slots) : Type 0 where
-  pub user : with.user ≡ slots.user
-  pub group : with.group ≡ slots.group
-  pub project : IsSlotFor b.projects with.project project
+pub record IsWithProject (b : Books) (slots : Slots) (id : Option ℕ) (more : Slots) : Type 0 where
+  pub user : more.user ≡ slots.user
+  pub group : more.group ≡ slots.group
+  pub project : IsSlotFor b.projects more.project id
 
 -- the directory is there, and has no such name
 pub record IsFree (S : State) (dir : ℕ) (name : List ℕ) : Type 0 where

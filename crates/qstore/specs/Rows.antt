@@ -13,6 +13,7 @@ inode_row_of S e = record {
   dir = e.1.dir;
   uid = e.1.owners.uid;
   gid = e.1.owners.gid;
+  project = e.1.owners.project;
   blocks = length e.1.file.allocated;
   links = links_of S e.0 e.1.dir;
 }

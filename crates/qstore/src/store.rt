@@ -13,9 +13,10 @@ ghost use Rattle.qstore.specs.Stored.{IsSameStore, IsStorable, Stored};
 ghost use Rattle.qstore.specs.Decided.{CanDecide, IsDecisionOf};
 ghost use Rattle.qstore.specs.Ready.{CanCarryOut, IsReady, IsRefused, committed, wants_no_memory};
 
-use crate::{Call, Cred, Decision, NoMemory, Plan, Ready, Reply, Request, Setup, root_owners};
+use crate::{Call, Cred, Decision, NoMemory, Plan, Ready, Reply, Request, Setup};
 use qstore_accounts::{Accounts, Bill};
 use qstore_tree::Tree;
+use qstore_walk::root_owners;
 use std::alloc::Global;
 use std::marker::Model;
 

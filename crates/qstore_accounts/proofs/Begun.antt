@@ -3,7 +3,7 @@ use Rattle.std.proofs.Common.{◌≡◌, ℕ, zero, suc, ◌+◌, Bool, true, fa
 use Rattle.std.proofs.lemmas.List.Elements.{All-cons, All-nil}
 use Rattle.qrules.specs.declared.kind.Kind.{Kind}
 use Rattle.qrules.specs.declared.kind.Kind.TheVariants.{User, Group, Project}
-use Rattle.qrules.specs.Kinds.{by_kind}
+use Rattle.qrules.specs.Kinds.{by_kind, is_id}
 use Rattle.qrules.proofs.Ranks.{each_kind}
 use Rattle.qrules.specs.declared.graces.Graces.{Graces}
 use Rattle.qrules.specs.Sort.{Sort, Inodes, Blocks, is_over}
@@ -12,7 +12,7 @@ use Rattle.qrules.specs.Grace.{next_end, unused, with_ends}
 use Rattle.qplain.specs.declared.principal.Principal.{Principal}
 use Rattle.qplain.specs.Setups.{Setting, principals_in}
 use Rattle.qplain.specs.State.{declared_in, holder_of, root, root_project, start}
-use Rattle.qplain.specs.Use.{is_id, owner, use_of, weight}
+use Rattle.qplain.specs.Use.{owner, use_of, weight}
 use Rattle.qstore_accounts.specs.KeptHolders.{IsCountedIn, holder_in}
 use Rattle.qstore_accounts.specs.Ledgers.{new_holder}
 use Rattle.qstore_accounts.specs.Books.{AreBooksOf}

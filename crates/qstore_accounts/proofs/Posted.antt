@@ -8,8 +8,9 @@ use Rattle.qrules.specs.declared.graces.Graces.{Graces}
 use Rattle.qrules.specs.Sort.{Inodes, Blocks}
 use Rattle.qrules.specs.Account.{Account, HasEnds}
 use Rattle.qrules.specs.Grace.{with_ends}
+use Rattle.qrules.specs.Kinds.{is_id}
 use Rattle.qplain.specs.State.{Inode, State}
-use Rattle.qplain.specs.Use.{account_of, is_id, owner, use_of}
+use Rattle.qplain.specs.Use.{account_of, owner, use_of}
 use Rattle.qplain.specs.Decision.{ends_after, with_ends_of}
 use Rattle.qplain_laws.specs.Replaces.{is_owned}
 use Rattle.qplain_laws.proofs.Replacing.{account-other}

@@ -5,8 +5,9 @@ use Rattle.std.proofs.lemmas.List.Elements.{All-get_or}
 use Rattle.qrules.specs.declared.kind.Kind.{Kind}
 use Rattle.qrules.specs.declared.record.TheConstants.{MAX_USE}
 use Rattle.qrules.specs.Sort.{Sort, Inodes, Blocks}
+use Rattle.qrules.specs.Kinds.{is_id}
 use Rattle.qplain.specs.State.{Inode, State}
-use Rattle.qplain.specs.Use.{belongs_to, is_id, owner, use_of, weight}
+use Rattle.qplain.specs.Use.{belongs_to, owner, use_of, weight}
 use Rattle.qplain_laws.specs.Replaces.{charge_of, weight_of}
 use Rattle.qplain_laws.proofs.Replacing.{use-le-total}
 use Rattle.qstore_accounts.specs.declared.claim.OwnerClaim.{OwnerClaim}

@@ -2,3 +2,4 @@
 pub mod Paths
 pub mod Parents
 pub mod Faults
+pub mod Owners

@@ -5,6 +5,7 @@
 pub use call_paths::paths_fault;
 pub use directory::{has_all_links, is_empty};
 pub use links::{FurtherName, further_name};
+pub use owners::{caller_owners, renewed, root_owners};
 pub use path::last_of;
 pub use renames::{Renaming, find_renaming, is_its_own, rename_fault};
 pub use rights::{is_own, may_give, may_remove, may_write};
@@ -14,6 +15,7 @@ pub use walk::{Found, LastComponent, find, inode, last_component};
 mod call_paths;
 mod directory;
 mod links;
+mod owners;
 mod path;
 mod renames;
 mod rights;

@@ -1,7 +1,7 @@
 -- The words for kinds of principals and for limits.
 use Rattle.std.specs.Prelude.{ℕ, List, codes}
 use Rattle.qrules.specs.declared.kind.Kind.{Kind}
-use Rattle.qrules.specs.declared.kind.Kind.TheVariants.{User, Group}
+use Rattle.qrules.specs.declared.kind.Kind.TheVariants.{User, Group, Project}
 use Rattle.qrules.specs.declared.over.Over.{Over}
 use Rattle.qrules.specs.declared.over.Over.TheVariants.{InodeHard, InodeSoft, BlockHard, BlockSoft}
 
@@ -9,6 +9,7 @@ use Rattle.qrules.specs.declared.over.Over.TheVariants.{InodeHard, InodeSoft, Bl
 abbrev pub kind_text : Kind → List ℕ
 kind_text User = codes "user"
 kind_text Group = codes "group"
+kind_text Project = codes "project"
 
 -- a limit's words
 abbrev pub over_text : Over → List ℕ

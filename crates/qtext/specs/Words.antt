@@ -55,6 +55,6 @@ number_of fault most word = at_most fault most (numeral word)
 abbrev pub number : List ℕ → Result ℕ TextKind
 number word = number_of BadNumber (2 ^ 64 - 1) word
 
--- the id of a user or group, of 32 bits, or else the fault
+-- the id of a user, a group or a project, of 32 bits, or else the fault
 abbrev pub id_of : TextKind → List ℕ → Result ℕ TextKind
 id_of fault word = number_of fault (2 ^ 32 - 1) word

@@ -53,7 +53,7 @@ pub fn number(word: &[u8]) -> Result<u64, ReadFault>
     number_of(TextKind::BadNumber, u64::MAX, word)
 }
 
-/// The id of a user or group, or the fault.
+/// The id of a user, a group or a project, or the fault.
 pub fn id_of(fault: TextKind, word: &[u8]) -> Result<u32, ReadFault>
     ensures { Gives result (id_of fault word.now) }
 {

@@ -10,6 +10,7 @@ pub fn kind_word(kind: Kind) -> &'static [u8]
     match kind {
         Kind::User => b"user",
         Kind::Group => b"group",
+        Kind::Project => b"project",
     }
 }
 

@@ -21,7 +21,9 @@ use Rattle.qplain.specs.Held.{HasLawfulStat, IsReply, IsHeld}
 use Rattle.qtext_read.proofs.ArgumentsFound.{any_number}
 use Rattle.qtext_read.proofs.CallersFound.{any_caller}
 use Rattle.qtext_read.proofs.CallsFound.{journaled_found}
+use Rattle.qtext_read.proofs.Editions.{OnlyInTwo, is_of_its_edition}
 use Rattle.qtext_read.proofs.RepliesFound.{any_reply}
+use Rattle.qplain.specs.Projects.{reply_names_project}
 use Rattle.qplain.specs.declared.edition.Edition.{Edition}
 use Rattle.qplain.specs.declared.edition.Edition.TheVariants.{One, Two}
 use Rattle.qplain.specs.Editions.{max_entries_of}
@@ -65,19 +67,20 @@ edition_found : (word : List ℕ) (e : Edition) → edition_of word ≡ Ok e →
 unfolding edition_of
 edition_found word e same = edition_by word e (bytes_eq word (codes "1")) (bytes_eq word (codes "2")) refl refl same
 
-answer_found : (words : List (List ℕ)) (r : Reply) → answer_in words ≡ Ok r → (codes "=>" ∷ reply_words r ≡ words) × IsReply r
+answer_found : (edition : Edition) (words : List (List ℕ)) (r : Reply) → answer_in edition words ≡ Ok r
+    → (codes "=>" ∷ reply_words r ≡ words) × IsReply r × OnlyInTwo edition (reply_names_project r)
 unfolding answer_in
-answer_found [] r e = absurd (cc e)
-answer_found (arrow ∷ words) r e =
-    let is = kept (bytes_eq arrow (codes "=>")) (reply_in words) BadReply r e in
-    let so = any_reply words r is.1 in
-    (rw (so.0, same_word arrow (codes "=>") is.0) refl, so.1)
+answer_found edition [] r e = absurd (cc e)
+answer_found edition (arrow ∷ words) r e =
+    let is = kept (bytes_eq arrow (codes "=>")) (reply_in edition words) BadReply r e in
+    let so = any_reply edition words r is.1 in
+    (rw (so.0, same_word arrow (codes "=>") is.0) refl, so.1, so.2)
 
 -- ---- lines
 
--- an entry of one of N workers, whose parts are what their types can hold
-abbrev pub IsEntry : ℕ → Entry → Type 0
-IsEntry workers e = IsEntryOf workers e × IsHeld e
+-- an entry that a journal with this head may have, whose parts are what their types can hold
+abbrev pub IsEntry : Head → Entry → Type 0
+IsEntry head e = IsEntryOf head.edition head.workers e × IsHeld e
 
 lawful : (r : Reply) → IsReply r → HasLawfulStat r
 lawful (Done ino change) fits = tt
@@ -86,27 +89,27 @@ lawful (StatReply stat) fits = fits.empty
 lawful (QuotaReply quota) fits = tt
 lawful (Refused refusal) fits = tt
 
-in_found : (workers : ℕ) (ws : List (List ℕ)) (entry : Entry) → workers ≤ 16 → entry_in workers ws ≡ Ok entry
-    → (entry_words entry ≡ ws) × IsEntry workers entry
+in_found : (head : Head) (ws : List (List ℕ)) (entry : Entry) → head.workers ≤ 16 → entry_in head ws ≡ Ok entry
+    → (entry_words entry ≡ ws) × IsEntry head entry
 unfolding entry_in
-in_found workers [] entry few e = absurd (cc e)
-in_found workers (w ∷ []) entry few e = step_found (worker_of workers w) _ e λ worker is e. absurd (cc e)
-in_found workers (w ∷ m ∷ []) entry few e =
-    word_found (any_worker workers few) w _ e λ worker is_worker worker_fits e.
+in_found head [] entry few e = absurd (cc e)
+in_found head (w ∷ []) entry few e = step_found (worker_of head.workers w) _ e λ worker is e. absurd (cc e)
+in_found head (w ∷ m ∷ []) entry few e =
+    word_found (any_worker head.workers few) w _ e λ worker is_worker worker_fits e.
     word_found any_number m _ e λ moment is_moment moment_fits e.
     absurd (cc e)
-in_found workers (w ∷ m ∷ c ∷ behind) entry few e =
-    word_found (any_worker workers few) w _ e λ worker is_worker worker_fits e.
+in_found head (w ∷ m ∷ c ∷ behind) entry few e =
+    word_found (any_worker head.workers few) w _ e λ worker is_worker worker_fits e.
     word_found any_number m _ e λ moment is_moment moment_fits e.
     word_found any_caller c _ e λ cred is_cred cred_fits e.
-    step_found (journaled_call_in behind) _ e λ called is_called e.
-    step_found (answer_in (drop called.1 behind)) _ e λ reply is_reply e.
-    let call = journaled_found behind called is_called in
-    let answer = answer_found (drop called.1 behind) reply is_reply in
+    step_found (journaled_call_in head.edition behind) _ e λ called is_called e.
+    step_found (answer_in head.edition (drop called.1 behind)) _ e λ reply is_reply e.
+    let call = journaled_found head.edition behind called is_called in
+    let answer = answer_found head.edition (drop called.1 behind) reply is_reply in
     rw (← same_ok e) (
       rw (is_worker, is_moment, is_cred, call.0, answer.0, take-append-drop called.1 behind) refl,
       (
-        (worker_fits.0, worker_fits.1, lawful reply answer.1),
+        (worker_fits.0, worker_fits.1, lawful reply answer.1, is_of_its_edition head.edition _ call.2 answer.2),
         record { moment = moment_fits; cred = cred_fits; call = call.1; reply = answer.1 },
       ),
     )
@@ -116,7 +119,7 @@ pub record HoldsEntry (head : Head) (l : RawLine) (entry : Entry) : Type 0 where
   pub whole : l.whole ≡ true
   pub few : l.number ≤ max_entries_of head.edition + 1
   pub text : join_with_byte 32 (entry_words entry) ≡ l.bytes
-  pub fits : IsEntry head.workers entry
+  pub fits : IsEntry head entry
 
 pub entry_found : (head : Head) (l : RawLine) (entry : Entry) → head.workers ≤ 16 → at_entry head l ≡ Ok entry → HoldsEntry head l entry
 unfolding at_entry journal_entry_of
@@ -124,7 +127,7 @@ entry_found head l entry few e =
     let near = passed (nat_lt (max_entries_of head.edition + 1) l.number) _ TooMany entry (in_line_found l.number (journal_entry_of head l) e) in
     let whole = passed (not l.whole) _ Cut entry near.1 in
     let text = passed (not (list_all is_text_byte l.bytes)) _ BadByte entry whole.1 in
-    let so = in_found head.workers (words l.bytes) entry few text.1 in
+    let so = in_found head (words l.bytes) entry few text.1 in
     record {
       whole = not_false l.whole whole.0;
       few = ltb-false (max_entries_of head.edition + 1) l.number near.0;

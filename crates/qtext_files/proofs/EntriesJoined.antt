@@ -29,7 +29,7 @@ verb_first (Link from to) = record { first = _; others = _; is = refl }
 verb_first (Unlink path) = record { first = _; others = _; is = refl }
 verb_first (Rmdir path) = record { first = _; others = _; is = refl }
 verb_first (Rename from to) = record { first = _; others = _; is = refl }
-verb_first (Chown path uid gid) = record { first = _; others = _; is = refl }
+verb_first (Chown path uid gid project) = record { first = _; others = _; is = refl }
 verb_first (SetQuota kind id limits) = record { first = _; others = _; is = refl }
 verb_first (SetGrace graces) = record { first = _; others = _; is = refl }
 verb_first (Quota kind id) = record { first = _; others = _; is = refl }

@@ -16,6 +16,7 @@ use Rattle.qtext_read.proofs.ArgumentsAgain.{decimal_word}
 use Rattle.qtext_read.proofs.CallersAgain.{caller_again, caller_word}
 use Rattle.qtext_read.proofs.CallsAgain.{IsWord, any_number, call_word}
 use Rattle.qtext_read.proofs.JournaledAgain.{journaled_again}
+use Rattle.qtext_read.proofs.Editions.{parts_of_edition}
 use Rattle.qtext_read.proofs.RepliesAgain.{reply_again, reply_word}
 use Rattle.qplain.specs.declared.edition.Edition.{Edition}
 use Rattle.qplain.specs.declared.edition.Edition.TheVariants.{One, Two}
@@ -32,9 +33,10 @@ use Rattle.qplain.specs.Held.{IsHeld}
 
 -- ---- entries
 
-entries : (workers : ℕ) (es : List Entry) → AllByRecursion (IsEntryOf workers) es → AllByRecursion IsHeld es → AllByRecursion (IsEntry workers) es
-entries workers [] of held = tt
-entries workers (e ∷ es) of held = ((of.0, held.0), entries workers es of.1 held.1)
+entries : (head : Head) (es : List Entry) → AllByRecursion (IsEntryOf head.edition head.workers) es → AllByRecursion IsHeld es
+    → AllByRecursion (IsEntry head) es
+entries head [] of held = tt
+entries head (e ∷ es) of held = ((of.0, held.0), entries head es of.1 held.1)
 
 -- ---- words
 
@@ -61,8 +63,8 @@ workers_again workers is =
     let none : (workers == 0) ≡ false = grind (arith, tests) in
     rw (number_again BadHead 16 workers (omega arith) few, none) refl
 
-entry_word : (workers : ℕ) (e : Entry) → workers ≤ 16 → IsEntry workers e → AllByRecursion IsWord (entry_words e)
-entry_word workers e few fits =
+entry_word : (head : Head) (e : Entry) → head.workers ≤ 16 → IsEntry head e → AllByRecursion IsWord (entry_words e)
+entry_word head e few fits =
     let le = fits.0.1 in (
       decimal_word e.worker (omega (arith, le)),
       (
@@ -87,30 +89,31 @@ head_word : (edition : Edition) (workers : ℕ) → IsWorkers workers → AllByR
 head_word edition workers is =
     let few = is.1 in (refl, (refl, (edition_word edition, (refl, (decimal_word workers (omega (arith, few)), tt)))))
 
-in_again : (workers : ℕ) (e : Entry) → workers ≤ 16 → IsEntry workers e → entry_in workers (entry_words e) ≡ Ok e
+in_again : (head : Head) (e : Entry) → head.workers ≤ 16 → IsEntry head e → entry_in head (entry_words e) ≡ Ok e
 unfolding entry_in answer_in
-in_again workers e few fits =
+in_again head e few fits =
+    let of = parts_of_edition head.edition e fits.0.3 in
     rw (
-      worker_again workers e.worker few fits.0.0 fits.0.1,
+      worker_again head.workers e.worker few fits.0.0 fits.0.1,
       any_number e.moment fits.1.moment,
       caller_again e.cred fits.1.cred,
-      journaled_again e.call fits.1.call (codes "=>" ∷ reply_words e.reply),
+      journaled_again head.edition e.call fits.1.call of.0 (reply_words e.reply),
       drop_front (call_words e.call) (codes "=>" ∷ reply_words e.reply),
-      reply_again e.reply fits.1.reply,
+      reply_again head.edition e.reply fits.1.reply of.1,
     ) refl
 
 -- ---- lines
 
-at_again : (head : Head) (n : ℕ) (e : Entry) → head.workers ≤ 16 → n ≤ max_entries_of head.edition + 1 → IsEntry head.workers e
+at_again : (head : Head) (n : ℕ) (e : Entry) → head.workers ≤ 16 → n ≤ max_entries_of head.edition + 1 → IsEntry head e
     → at_entry head (record { number = n; bytes = join_with_byte 32 (entry_words e); whole = true }) ≡ Ok e
 unfolding at_entry journal_entry_of
 at_again head n e few le fits =
     let near : ltb (max_entries_of head.edition + 1) n ≡ false = le-ltb _ _ le in
-    let word = entry_word head.workers e few fits in
-    rw (near, joined_is_text _ _ word, joined_parts _ _ word, in_again head.workers e few fits) refl
+    let word = entry_word head e few fits in
+    rw (near, joined_is_text _ _ word, joined_parts _ _ word, in_again head e few fits) refl
 
 each_again : (head : Head) (n : ℕ) (es : List Entry) → head.workers ≤ 16 → n + length es ≤ max_entries_of head.edition + 2
-    → AllByRecursion (IsEntry head.workers) es
+    → AllByRecursion (IsEntry head) es
     → each_of (at_entry head) (raw_lines_from n (parts 10 (flat_map entry_text es))) ≡ Ok es
 unfolding each_of
 each_again head n [] few le fits = ap (each_of (at_entry head)) (no_line n)
@@ -118,7 +121,7 @@ each_again head n (e ∷ es) few le fits =
     let near : n ≤ max_entries_of head.edition + 1 = omega arith in
     let rest : n + 1 + length es ≤ max_entries_of head.edition + 2 = omega arith in
     ap (each_of (at_entry head)) (raw_again n (decimal e.worker) (decimal e.moment ∷ caller_text e.cred
-    ∷ (call_words e.call ++ codes "=>" ∷ reply_words e.reply)) (flat_map entry_text es) (entry_word head.workers e few fits.0))
+    ∷ (call_words e.call ++ codes "=>" ∷ reply_words e.reply)) (flat_map entry_text es) (entry_word head e few fits.0))
     ∙ rw (at_again head n e few near fits.0, each_again head (n + 1) es few rest fits.1) refl
 
 head_again : (head : Head) → IsWorkers head.workers
@@ -137,7 +140,7 @@ journal_again j is held =
     let head : Head = record { edition = j.edition; workers = j.workers } in
     let lines = raw_again 1 (codes "quotafs") (codes "journal" ∷ edition_text j.edition ∷ codes "workers" ∷ decimal j.workers ∷ [])
     (flat_map entry_text j.entries) (head_word j.edition j.workers is.workers) in
-    let each = entries j.workers j.entries (recursion_from_All (IsEntryOf j.workers) j.entries is.each) held in
+    let each = entries head j.entries (recursion_from_All (IsEntryOf j.edition j.workers) j.entries is.each) held in
     rw (lines, head_again head is.workers, each_again head 2 j.entries workers (omega (arith, few)) each) refl
 
 -- what was answered, where a journal was spelled out

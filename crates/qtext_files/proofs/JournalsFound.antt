@@ -38,7 +38,7 @@ cut_at n l = record { number = n; bytes = l; whole = false } ∷ []
 record AreEntries (head : Head) (n : ℕ) (text : List ℕ) (entries : List Entry) : Type 0 where
   pub same : flat_map entry_text entries ≡ text
   pub few : n + length entries ≤ max_entries_of head.edition + 2
-  pub each : AllByRecursion (IsEntry head.workers) entries
+  pub each : AllByRecursion (IsEntry head) entries
 
 no_entry_cut : (head : Head) (n : ℕ) (l : List ℕ) (entries : List Entry) (empty : Bool) → head.workers ≤ 16 → n ≤ max_entries_of head.edition + 2
     → eqb (length l) 0 ≡ empty → each_of (at_entry head) (cond empty [] (cut_at n l)) ≡ Ok entries → AreEntries head n l entries
@@ -58,10 +58,10 @@ no_head_cut l j false e =
     not_whole (head_found first head (in_line_found 1 (head_of first) is_head)).whole
 
 -- entries of the workers, and what their types hold
-both : (workers : ℕ) (entries : List Entry) → AllByRecursion (IsEntry workers) entries
-    → AllByRecursion (IsEntryOf workers) entries × AllByRecursion IsHeld entries
-both workers [] fits = (tt, tt)
-both workers (e ∷ entries) fits = let rest = both workers entries fits.1 in ((fits.0.0, rest.0), (fits.0.1, rest.1))
+both : (head : Head) (entries : List Entry) → AllByRecursion (IsEntry head) entries
+    → AllByRecursion (IsEntryOf head.edition head.workers) entries × AllByRecursion IsHeld entries
+both head [] fits = (tt, tt)
+both head (e ∷ entries) fits = let rest = both head entries fits.1 in ((fits.0.0, rest.0), (fits.0.1, rest.1))
 
 entries_found : (head : Head) (n : ℕ) (ls : List (List ℕ)) (entries : List Entry) → head.workers ≤ 16 → n ≤ max_entries_of head.edition + 2
     → each_of (at_entry head) (raw_lines_from n ls) ≡ Ok entries → AreEntries head n (join_with_byte 10 ls) entries
@@ -95,9 +95,9 @@ lines_found (l ∷ m ∷ ls) j e =
       record {
         workers = so.fits;
         few = omega (arith, rest.few);
-        each = All-from_recursion (IsEntryOf head.workers) entries (both head.workers entries rest.each).0;
+        each = All-from_recursion (IsEntryOf head.edition head.workers) entries (both head entries rest.each).0;
       },
-      (both head.workers entries rest.each).1,
+      (both head entries rest.each).1,
     )
 
 -- a journal that was read is the text in its one spelling: its parts are what its type keeps, and what their types can hold

@@ -1,7 +1,8 @@
 -- Journals whose entries were all spelled out by who could read them: they are read again.
-use Rattle.std.proofs.Common.{◌≡◌, ℕ, ◌+◌, ◌<◌, List, [], ◌∷◌, drop, drop-cons, get_or, length, sym, subst, ◌∙◌, ap, add-one}
+use Rattle.std.proofs.Common.{◌≡◌, ℕ, ◌+◌, ◌<◌, List, [], ◌∷◌, drop, drop-cons, get_or, length, add-one}
 use Rattle.std.specs.List.{AllByRecursion}
 use Rattle.std.proofs.lemmas.List.Elements.{recursion_from_All}
+use Rattle.qplain.specs.declared.edition.Edition.{Edition}
 use Rattle.qplain.specs.declared.entry.Entry.{Entry}
 use Rattle.qplain.specs.Held.{HasLawfulStat, IsHeld}
 use Rattle.qplain.specs.Journals.{IsEntryOf, IsJournal, Written}
@@ -12,14 +13,15 @@ use Rattle.qtext_files.proofs.JournalsAgain.{journal_again}
 abbrev pub IsSpelled : Entry → Type 0
 IsSpelled e = HasLawfulStat e.reply → IsHeld e
 
-held : (workers : ℕ) (es : List Entry) → AllByRecursion (IsEntryOf workers) es → AllByRecursion IsSpelled es → AllByRecursion IsHeld es
-held workers [] of spelled = tt
-held workers (e ∷ es) of spelled = (spelled.0 of.0.2, held workers es of.1 spelled.1)
+held : (edition : Edition) (workers : ℕ) (es : List Entry) → AllByRecursion (IsEntryOf edition workers) es
+    → AllByRecursion IsSpelled es → AllByRecursion IsHeld es
+held edition workers [] of spelled = tt
+held edition workers (e ∷ es) of spelled = (spelled.0 of.0.2, held edition workers es of.1 spelled.1)
 
 -- a journal whose entries are spelled out is read again
 pub can_be_read : (j : Written) → IsJournal j → AllByRecursion IsSpelled j.entries → CanBeRead j
 can_be_read j is spelled =
-    journal_again j is (held j.workers j.entries (recursion_from_All (IsEntryOf j.workers) j.entries is.each) spelled)
+    journal_again j is (held j.edition j.workers j.entries (recursion_from_All (IsEntryOf j.edition j.workers) j.entries is.each) spelled)
 
 -- one more entry is spelled out
 pub one_more : (es : List Entry) (i : ℕ) (e d : Entry) → e ≡ get_or es i d → i < length es → IsSpelled e

@@ -27,26 +27,26 @@ worker_of workers word = do
   if worker == 0 then Err BadNumber else Ok worker
 
 -- => and a reply
-unfoldable pub answer_in : List (List ℕ) → Result Reply TextKind
-answer_in [] = Err BadReply
-answer_in (arrow ∷ reply) = if bytes_eq arrow (codes "=>") then reply_in reply else Err BadReply
+unfoldable pub answer_in : Edition → List (List ℕ) → Result Reply TextKind
+answer_in edition [] = Err BadReply
+answer_in edition (arrow ∷ reply) = if bytes_eq arrow (codes "=>") then reply_in edition reply else Err BadReply
 
--- WORKER MOMENT CALLER CALL => REPLY
-unfoldable pub entry_in : ℕ → List (List ℕ) → Result Entry TextKind
-entry_in workers [] = Err BadNumber
-entry_in workers (w ∷ []) = do
-  worker ← worker_of workers w
+-- WORKER MOMENT CALLER CALL => REPLY in a journal with this head
+unfoldable pub entry_in : Head → List (List ℕ) → Result Entry TextKind
+entry_in head [] = Err BadNumber
+entry_in head (w ∷ []) = do
+  worker ← worker_of head.workers w
   Err BadNumber
-entry_in workers (w ∷ m ∷ []) = do
-  worker ← worker_of workers w
+entry_in head (w ∷ m ∷ []) = do
+  worker ← worker_of head.workers w
   moment ← number m
   Err BadCred
-entry_in workers (w ∷ m ∷ c ∷ behind) = do
-  worker ← worker_of workers w
+entry_in head (w ∷ m ∷ c ∷ behind) = do
+  worker ← worker_of head.workers w
   moment ← number m
   cred ← caller_of c
-  called ← journaled_call_in behind
-  reply ← answer_in (drop called.1 behind)
+  called ← journaled_call_in head.edition behind
+  reply ← answer_in head.edition (drop called.1 behind)
   Ok (record { worker = worker; cred = cred; moment = moment; call = called.0; reply = reply })
 
 -- the entry in a line of a journal with this head, or the first thing wrong in it
@@ -55,7 +55,7 @@ journal_entry_of head l =
     if nat_lt (max_entries_of head.edition + 1) l.number then Err TooMany
     else if not l.whole then Err Cut
     else if not (list_all is_text_byte l.bytes) then Err BadByte
-    else entry_in head.workers (words l.bytes)
+    else entry_in head (words l.bytes)
 
 -- the word is the one that stands in every head
 unfoldable pub head_keyword : List ℕ → List ℕ → Result Unit TextKind

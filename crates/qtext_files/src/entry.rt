@@ -8,7 +8,7 @@ use crate::callers::Callers;
 use crate::head::Head;
 use crate::lines::ReadLine;
 use crate::raw_line::NextLine;
-use qplain::{Entry, Reply};
+use qplain::{Edition, Entry, Reply};
 use qtext::{ReadFault, TextKind, number, number_of};
 use qtext_read::{Paths, journaled_call_in, reply_in};
 use std::alloc::Global;
@@ -27,48 +27,48 @@ fn worker_of(workers: u64, word: &[u8]) -> Result<u64, ReadFault>
 
 /// `=>` and a reply.
 #[tactic(auto, unfolding(crate::specs::Journals::answer_in))]
-fn answer_in(alloc: Global, words: &[&[u8]]) -> Result<Reply, ReadFault>
-    ensures { Gives result (answer_in (map (λ word. word.now) words.now)) }
+fn answer_in(alloc: Global, edition: Edition, words: &[&[u8]]) -> Result<Reply, ReadFault>
+    ensures { Gives result (answer_in edition (map (λ word. word.now) words.now)) }
 {
     match words {
         [] => Err(ReadFault::Fault(TextKind::BadReply)),
         [arrow, reply @ ..] => {
             if *arrow == b"=>".as_slice() {
-                return reply_in(alloc, reply);
+                return reply_in(alloc, edition, reply);
             }
             Err(ReadFault::Fault(TextKind::BadReply))
         }
     }
 }
 
-/// `WORKER MOMENT CALLER CALL => REPLY`.
+/// `WORKER MOMENT CALLER CALL => REPLY` in a journal with this head.
 #[tactic(auto, unfolding(crate::specs::Journals::entry_in))]
 fn entry_in<'a>(
     alloc: Global,
     callers: &mut Callers<'a>,
     paths: &mut Paths<'a>,
-    workers: u64,
+    head: Head,
     words: &[&'a [u8]],
 ) -> Result<Entry, ReadFault>
-    ensures { Gives result (entry_in workers (map (λ word. word.now) words.now)) }
+    ensures { Gives result (entry_in head (map (λ word. word.now) words.now)) }
 {
     match words {
         [] => Err(ReadFault::Fault(TextKind::BadNumber)),
         [worker] => {
-            worker_of(workers, worker)?;
+            worker_of(head.workers, worker)?;
             Err(ReadFault::Fault(TextKind::BadNumber))
         }
         [worker, moment] => {
-            worker_of(workers, worker)?;
+            worker_of(head.workers, worker)?;
             number(moment)?;
             Err(ReadFault::Fault(TextKind::BadCred))
         }
         [worker, moment, cred, behind @ ..] => {
-            let worker = worker_of(workers, worker)?;
+            let worker = worker_of(head.workers, worker)?;
             let moment = number(moment)?;
             let cred = callers.read(alloc, cred)?;
-            let (call, taken) = journaled_call_in(alloc, paths, behind)?;
-            let reply = answer_in(alloc, behind.split_at(taken).1)?;
+            let (call, taken) = journaled_call_in(alloc, paths, head.edition, behind)?;
+            let reply = answer_in(alloc, head.edition, behind.split_at(taken).1)?;
             Ok(Entry {
                 worker,
                 cred,
@@ -117,7 +117,7 @@ impl<'a> ReadLine<'a> for EntryReader<'a> {
             self.alloc,
             &mut self.callers,
             &mut self.paths,
-            self.head.workers,
+            self.head,
             words,
         )
     }

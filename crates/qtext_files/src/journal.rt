@@ -60,7 +60,7 @@ fn journal_in(alloc: Global, text: &[u8]) -> Result<Journal, TextFault>
 /// The first line is `quotafs journal E workers W`, E the edition, 1 or 2, and W from 1 to 16. Each further one is
 /// `WORKER MOMENT CALLER CALL => REPLY`, the worker from 1 to W, with a line feed after it; there are at most 65,536 in
 /// edition 1, and 1,048,576 in edition 2.
-/// Data are in lower case, and no call is `fill`. Lines count from 1.
+/// Data are in lower case, and no call is `fill`. In edition 1 nothing names a project. Lines count from 1.
 impl FromText for Journal {
     ghost use Rattle.std.specs.List.{AllByRecursion};
     ghost use Rattle.qtext_files.specs.Journals.{journal_of};

@@ -1,18 +1,22 @@
 -- Calls that are spelled out are read again.
-use Rattle.std.proofs.Common.{◌≡◌, ℕ, ◌-◌, ◌<◌, ◌^◌, true, List, Ok, refl, arith, decimal}
+use Rattle.std.proofs.Common.{◌≡◌, ℕ, ◌-◌, ◌<◌, ◌^◌, true, List, Some, None, Ok, refl, arith, decimal}
 use Rattle.std.specs.List.{list_all, AllByRecursion}
 use Rattle.qrules.specs.declared.limits.Limits.{Limits}
+use Rattle.qrules.specs.declared.kind.Kind.TheVariants.{Project}
+use Rattle.qrules.specs.Kinds.{is_same_kind}
 use Rattle.qplain.specs.Paths.{is_path_byte}
+use Rattle.qplain.specs.declared.edition.Edition.TheVariants.{Two}
 use Rattle.qplain.specs.declared.call.Call.{Call}
 use Rattle.qplain.specs.declared.call.Call.TheVariants.{Create, Mkdir, Write, Truncate, Read, Stat, Link, Unlink, Rmdir, Rename, Chown, SetQuota, SetGrace, Quota}
 use Rattle.qtext.specs.declared.text_fault.TextKind.TheVariants.{BadNumber}
 use Rattle.qtext.specs.Words.{number}
 use Rattle.qtext.proofs.WordsAgain.{number_again, data_again}
 use Rattle.qtext_read.specs.Verbs.{verb_of}
-use Rattle.qtext_read.specs.Calls.{create_of, mkdir_of, write_of, truncate_of, read_of, stat_of, link_of, unlink_of, rmdir_of, rename_of, chown_of, limits_of, setquota_of, setgrace_of, quota_of, path_call_of, call_of, call_in}
+use Rattle.qtext_read.specs.Calls.{create_of, mkdir_of, write_of, truncate_of, read_of, stat_of, link_of, unlink_of, rmdir_of, rename_of, chown_of, chown_to_project_of, limits_of, setquota_of, setgrace_of, quota_of, path_call_of, call_of, call_in}
 use Rattle.qtext_read.specs.Spelling.{limits_words, call_words}
 use Rattle.qplain.specs.Held.{AreLimits, IsCall}
-use Rattle.qtext_read.proofs.ArgumentsAgain.{path_again, kind_again, owner_again, any_id, decimal_word, data_word, kind_word, id_word, owner_word}
+use Rattle.qtext_read.proofs.ArgumentsAgain.{path_again, kind_again, owner_again, any_id, decimal_word, data_word, kind_word, id_word, owner_word, project_word}
+use Rattle.qtext_read.proofs.Editions.{in_two}
 
 -- each byte of the word prints
 abbrev pub IsWord : List ℕ → Type 0
@@ -39,7 +43,8 @@ call_word (Link from to) fits = (refl, (fits.0.each, (fits.1.each, tt)))
 call_word (Unlink p) fits = (refl, (fits.each, tt))
 call_word (Rmdir p) fits = (refl, (fits.each, tt))
 call_word (Rename from to) fits = (refl, (fits.0.each, (fits.1.each, tt)))
-call_word (Chown p uid gid) fits = (refl, (fits.0.each, (owner_word uid fits.1, (owner_word gid fits.2, tt))))
+call_word (Chown p uid gid project) fits =
+    (refl, (fits.0.each, (owner_word uid fits.1, (owner_word gid fits.2, project_word project fits.3))))
 call_word (SetQuota kind id limits) fits = (refl, (kind_word kind, (id_word id fits.0, limits_word limits fits.1)))
 call_word (SetGrace graces) fits = (refl, (decimal_word graces.block fits.0, (decimal_word graces.inode fits.1, tt)))
 call_word (Quota kind id) fits = (refl, (kind_word kind, (id_word id fits, tt)))
@@ -57,10 +62,10 @@ limits_again l fits = rw (
   any_number l.inode_hard fits.inode_hard,
 ) refl
 
--- the call whose words these are
+-- the call of a script whose words these are
 pub call_again : (k : Call) → IsCall k → call_in (call_words k) ≡ Ok k
 unfolding call_in verb_of call_of path_call_of create_of mkdir_of write_of truncate_of read_of stat_of link_of unlink_of rmdir_of rename_of chown_of
-    setquota_of setgrace_of quota_of
+    chown_to_project_of setquota_of setgrace_of quota_of
 call_again (Create p) k = rw (path_again p k) refl
 call_again (Mkdir p) k = rw (path_again p k) refl
 call_again (Stat p) k = rw (path_again p k) refl
@@ -71,7 +76,9 @@ call_again (Link from to) k = rw (path_again from k.0, path_again to k.1) refl
 call_again (Unlink p) k = rw (path_again p k) refl
 call_again (Rmdir p) k = rw (path_again p k) refl
 call_again (Rename from to) k = rw (path_again from k.0, path_again to k.1) refl
-call_again (Chown p uid gid) k = rw (path_again p k.0, owner_again uid k.1, owner_again gid k.2) refl
-call_again (SetQuota kind id limits) k = rw (kind_again kind, any_id id k.0, limits_again limits k.1) refl
+call_again (Chown p uid gid None) k = rw (path_again p k.0, owner_again uid k.1, owner_again gid k.2) refl
+call_again (Chown p uid gid (Some project)) k =
+    rw (path_again p k.0, owner_again uid k.1, owner_again gid k.2, any_id project k.3) refl
+call_again (SetQuota kind id limits) k = rw (kind_again Two kind (in_two (is_same_kind Project kind)), any_id id k.0, limits_again limits k.1) refl
 call_again (SetGrace graces) k = rw (any_number graces.block k.0, any_number graces.inode k.1) refl
-call_again (Quota kind id) k = rw (kind_again kind, any_id id k) refl
+call_again (Quota kind id) k = rw (kind_again Two kind (in_two (is_same_kind Project kind)), any_id id k) refl

@@ -1,5 +1,6 @@
--- That arguments, callers, calls and replies that are spelled out are read again, that what was read is spelled so, and that
+-- What edition 1 lacks; that arguments, callers, calls and replies that are spelled out are read again, that what was read is spelled so, and that
 -- the text of a reply is its words.
+pub mod Editions
 pub mod ArgumentsAgain
 pub mod CallersAgain
 pub mod CallsAgain

@@ -6,6 +6,8 @@ use Rattle.std.proofs.lemmas.Bool.{and_parts, cases_lt}
 use Rattle.hex.specs.Hex.{IsBytes, encode_with, lower_digits}
 use Rattle.qrules.specs.declared.over.Over.{Over}
 use Rattle.qrules.specs.declared.over.Over.TheVariants.{InodeHard, InodeSoft, BlockHard, BlockSoft}
+use Rattle.qplain.specs.declared.edition.Edition.{Edition}
+use Rattle.qplain.specs.Projects.{reply_names_project}
 use Rattle.qplain.specs.declared.refusal.Refusal.TheVariants.{EINVAL, ENAMETOOLONG, ENOENT, ENOTDIR, EEXIST, ENOSPC, EDQUOT, EISDIR, EACCES, EFBIG, EPERM, EMLINK, ENOTEMPTY, EBUSY, ESRCH}
 use Rattle.qplain.specs.declared.reply.Reply.{Reply}
 use Rattle.qplain.specs.declared.reply.Reply.TheVariants.{Done, Bytes, Stat as StatReply, Quota as QuotaReply, Refused}
@@ -20,6 +22,7 @@ use Rattle.qtext_read.specs.RepliesSpelled.{reply_words}
 use Rattle.qplain.specs.Held.{IsEnd, IsReply}
 use Rattle.qtext_read.proofs.ArgumentsAgain.{data_word, decimal_word, digits_lack_dash, id_word, kind_again, kind_word}
 use Rattle.qtext_read.proofs.CallsAgain.{IsWord, any_number, limits_again}
+use Rattle.qtext_read.proofs.Editions.{OnlyInTwo}
 
 -- ---- data in lower case
 
@@ -84,9 +87,9 @@ empty_directory false size blocks empty = refl
 empty_directory true size blocks empty = let parts = empty refl in rw (parts.0, parts.1) refl
 
 -- the reply whose words these are
-pub reply_again : (r : Reply) → IsReply r → reply_in (reply_words r) ≡ Ok r
+pub reply_again : (edition : Edition) (r : Reply) → IsReply r → OnlyInTwo edition (reply_names_project r) → reply_in edition (reply_words r) ≡ Ok r
 unfolding reply_word_of reply_of words_of_reply done_of rise_of keyword signed bytes_of stat_of type_of quota_of refusal_of edquot_of
-reply_again (Done ino c) fits =
+reply_again edition (Done ino c) fits old =
     rw (
       any_number ino fits.0,
       any_number c.blocks_charged fits.1.blocks_charged,
@@ -94,8 +97,8 @@ reply_again (Done ino c) fits =
       any_number c.inodes_charged fits.1.inodes_charged,
       any_number c.inodes_released fits.1.inodes_released,
     ) refl
-reply_again (Bytes bytes) fits = rw (lower_data bytes fits, data_again bytes fits) refl
-reply_again (StatReply s) fits =
+reply_again edition (Bytes bytes) fits old = rw (lower_data bytes fits, data_again bytes fits) refl
+reply_again edition (StatReply s) fits old =
     rw (
       any_number s.ino fits.ino,
       type_again s.dir,
@@ -106,7 +109,7 @@ reply_again (StatReply s) fits =
       any_number s.links fits.links,
       empty_directory s.dir s.size s.blocks fits.empty,
     ) refl
-reply_again (QuotaReply q) fits =
+reply_again edition (QuotaReply q) fits old =
     rw (
       any_number q.blocks fits.blocks,
       any_number q.inodes fits.inodes,
@@ -114,21 +117,21 @@ reply_again (QuotaReply q) fits =
       end_again q.block_end fits.block_end,
       end_again q.inode_end fits.inode_end,
     ) refl
-reply_again (Refused EINVAL) fits = refl
-reply_again (Refused ENAMETOOLONG) fits = refl
-reply_again (Refused ENOENT) fits = refl
-reply_again (Refused ENOTDIR) fits = refl
-reply_again (Refused EEXIST) fits = refl
-reply_again (Refused ENOSPC) fits = refl
-reply_again (Refused (EDQUOT kind over)) fits = rw (kind_again kind, over_again over) refl
-reply_again (Refused EISDIR) fits = refl
-reply_again (Refused EACCES) fits = refl
-reply_again (Refused EFBIG) fits = refl
-reply_again (Refused EPERM) fits = refl
-reply_again (Refused EMLINK) fits = refl
-reply_again (Refused ENOTEMPTY) fits = refl
-reply_again (Refused EBUSY) fits = refl
-reply_again (Refused ESRCH) fits = refl
+reply_again edition (Refused EINVAL) fits old = refl
+reply_again edition (Refused ENAMETOOLONG) fits old = refl
+reply_again edition (Refused ENOENT) fits old = refl
+reply_again edition (Refused ENOTDIR) fits old = refl
+reply_again edition (Refused EEXIST) fits old = refl
+reply_again edition (Refused ENOSPC) fits old = refl
+reply_again edition (Refused (EDQUOT kind over)) fits old = rw (kind_again edition kind old, over_again over) refl
+reply_again edition (Refused EISDIR) fits old = refl
+reply_again edition (Refused EACCES) fits old = refl
+reply_again edition (Refused EFBIG) fits old = refl
+reply_again edition (Refused EPERM) fits old = refl
+reply_again edition (Refused EMLINK) fits old = refl
+reply_again edition (Refused ENOTEMPTY) fits old = refl
+reply_again edition (Refused EBUSY) fits old = refl
+reply_again edition (Refused ESRCH) fits old = refl
 
 -- ---- each byte of a word prints
 

@@ -5,9 +5,12 @@ use Rattle.std.specs.List.{list_any}
 use Rattle.std.specs.Str.{bytes_eq}
 use Rattle.std.proofs.lemmas.Bool.{eqb-true, or_parts}
 use Rattle.qrules.specs.declared.over.Over.TheVariants.{InodeHard, InodeSoft, BlockHard, BlockSoft}
+use Rattle.qplain.specs.declared.edition.Edition.{Edition}
+use Rattle.qplain.specs.Projects.{reply_names_project}
 use Rattle.qplain.specs.declared.refusal.Refusal.{Refusal}
 use Rattle.qplain.specs.declared.refusal.Refusal.TheVariants.{EINVAL, ENAMETOOLONG, ENOENT, ENOTDIR, EEXIST, ENOSPC, EISDIR, EACCES, EFBIG, EPERM, EMLINK, ENOTEMPTY, EBUSY, ESRCH}
 use Rattle.qplain.specs.declared.reply.Reply.{Reply}
+use Rattle.qplain.specs.declared.reply.Reply.TheVariants.{Refused as RefusedReply}
 use Rattle.qtext.specs.declared.text_fault.TextKind.{TextKind}
 use Rattle.qtext.specs.declared.text_fault.TextKind.TheVariants.{BadReply}
 use Rattle.qtext.specs.Data.{data_of}
@@ -23,6 +26,7 @@ use Rattle.qplain.specs.Held.{IsEnd, IsReply}
 use Rattle.qtext_read.specs.declared.reply_word.ReplyWord.{ReplyWord}
 use Rattle.qtext_read.specs.declared.reply_word.ReplyWord.TheVariants.{Done, Bytes, Stat, Quota, Refused}
 use Rattle.qtext_read.proofs.ArgumentsFound.{any_id, any_kind, any_limits, any_number}
+use Rattle.qtext_read.proofs.Editions.{OnlyInTwo}
 
 -- ---- words
 
@@ -67,29 +71,33 @@ end_found word end e =
     chosen (λ o. (end_text o ≡ word) × IsEnd o) word (codes "-") None _ end e (λ dash. rw dash (refl, tt))
     (λ e. word_found any_number word _ e (λ n is fits e. rw (← same_ok e) (is, fits)))
 
--- a refusal of this name, or of one of others
-named : (word name : List ℕ) (x : Refusal) (others : Result Refusal TextKind) (y : Refusal) → refusal_words x ≡ name ∷ []
-    → (others ≡ Ok y → refusal_words y ≡ word ∷ []) → cond (bytes_eq word name) (Ok x) others ≡ Ok y → refusal_words y ≡ word ∷ []
-named word name x others y is other e =
-    chosen (λ r. refusal_words r ≡ word ∷ []) word name x others y e (λ same. is ∙ rw same refl) other
+-- a refusal that is spelled in one word is no quota's
+record IsNamed (word : List ℕ) (r : Refusal) : Type 0 where
+  pub same : refusal_words r ≡ word ∷ []
+  pub no_project : reply_names_project (RefusedReply r) ≡ false
 
-refusal_found : (word : List ℕ) (r : Refusal) → refusal_of word ≡ Ok r → refusal_words r ≡ word ∷ []
+-- a refusal of this name, or of one of others
+named : (word name : List ℕ) (x : Refusal) (others : Result Refusal TextKind) (y : Refusal) → IsNamed name x
+    → (others ≡ Ok y → IsNamed word y) → cond (bytes_eq word name) (Ok x) others ≡ Ok y → IsNamed word y
+named word name x others y is other e = chosen (IsNamed word) word name x others y e (λ same. rw same is) other
+
+refusal_found : (word : List ℕ) (r : Refusal) → refusal_of word ≡ Ok r → IsNamed word r
 unfolding refusal_of
 refusal_found word r e =
-    named word (codes "EINVAL") EINVAL _ r refl
-    (named word (codes "ENAMETOOLONG") ENAMETOOLONG _ r refl
-    (named word (codes "ENOENT") ENOENT _ r refl
-    (named word (codes "ENOTDIR") ENOTDIR _ r refl
-    (named word (codes "EEXIST") EEXIST _ r refl
-    (named word (codes "ENOSPC") ENOSPC _ r refl
-    (named word (codes "EISDIR") EISDIR _ r refl
-    (named word (codes "EACCES") EACCES _ r refl
-    (named word (codes "EFBIG") EFBIG _ r refl
-    (named word (codes "EPERM") EPERM _ r refl
-    (named word (codes "EMLINK") EMLINK _ r refl
-    (named word (codes "ENOTEMPTY") ENOTEMPTY _ r refl
-    (named word (codes "EBUSY") EBUSY _ r refl
-    (named word (codes "ESRCH") ESRCH _ r refl (λ none. absurd (cc none)))))))))))))))
+    named word (codes "EINVAL") EINVAL _ r (record { same = refl; no_project = refl })
+    (named word (codes "ENAMETOOLONG") ENAMETOOLONG _ r (record { same = refl; no_project = refl })
+    (named word (codes "ENOENT") ENOENT _ r (record { same = refl; no_project = refl })
+    (named word (codes "ENOTDIR") ENOTDIR _ r (record { same = refl; no_project = refl })
+    (named word (codes "EEXIST") EEXIST _ r (record { same = refl; no_project = refl })
+    (named word (codes "ENOSPC") ENOSPC _ r (record { same = refl; no_project = refl })
+    (named word (codes "EISDIR") EISDIR _ r (record { same = refl; no_project = refl })
+    (named word (codes "EACCES") EACCES _ r (record { same = refl; no_project = refl })
+    (named word (codes "EFBIG") EFBIG _ r (record { same = refl; no_project = refl })
+    (named word (codes "EPERM") EPERM _ r (record { same = refl; no_project = refl })
+    (named word (codes "EMLINK") EMLINK _ r (record { same = refl; no_project = refl })
+    (named word (codes "ENOTEMPTY") ENOTEMPTY _ r (record { same = refl; no_project = refl })
+    (named word (codes "EBUSY") EBUSY _ r (record { same = refl; no_project = refl })
+    (named word (codes "ESRCH") ESRCH _ r (record { same = refl; no_project = refl }) (λ none. absurd (cc none)))))))))))))))
     e
 
 keyword_found : (wanted word : List ℕ) (u : Unit {0}) → keyword wanted word ≡ Ok u → wanted ≡ word
@@ -134,24 +142,34 @@ empty_found dir size blocks e is =
     let both = or_parts _ _ (rw is at e) in
     (eqb-true size 0 (not_false _ both.0), eqb-true blocks 0 (not_false _ both.1))
 
-reply_found : (first : ReplyWord) (words : List (List ℕ)) (r : Reply) → reply_of first words ≡ Ok r
-    → (reply_words r ≡ first_text first ∷ words) × IsReply r
+-- the reply is spelled in these words, its parts are what their types can hold, and in edition 1 it names no project
+record IsRead (edition : Edition) (words : List (List ℕ)) (r : Reply) : Type 0 where
+  pub same : reply_words r ≡ words
+  pub fits : IsReply r
+  pub old : OnlyInTwo edition (reply_names_project r)
+
+reply_found : (edition : Edition) (first : ReplyWord) (words : List (List ℕ)) (r : Reply) → reply_of edition first words ≡ Ok r
+    → IsRead edition (first_text first ∷ words) r
 unfolding reply_of done_of bytes_of stat_of quota_of edquot_of
-reply_found Done (n ∷ b ∷ bu ∷ bd ∷ i ∷ iu ∷ id ∷ []) r e =
+reply_found edition Done (n ∷ b ∷ bu ∷ bd ∷ i ∷ iu ∷ id ∷ []) r e =
     word_found any_number n _ e λ ino is_ino ino_fits e.
     step_found (rise_of (codes "blocks") b bu bd) _ e λ blocks are_blocks e.
     step_found (rise_of (codes "inodes") i iu id) _ e λ inodes are_inodes e.
     let so = rise_found (codes "blocks") b bu bd blocks are_blocks in
     let also = rise_found (codes "inodes") i iu id inodes are_inodes in
-    rw (← same_ok e) (
-      rw (is_ino, so.is_up, so.is_down, also.is_up, also.is_down, ← so.same, ← also.same) refl,
-      (ino_fits, record { blocks_charged = so.charged; blocks_released = so.released; inodes_charged = also.charged; inodes_released = also.released }),
-    )
-reply_found Bytes (digits ∷ []) r e =
+    rw (← same_ok e) (record {
+      same = rw (is_ino, so.is_up, so.is_down, also.is_up, also.is_down, ← so.same, ← also.same) refl;
+      fits = (
+        ino_fits,
+        record { blocks_charged = so.charged; blocks_released = so.released; inodes_charged = also.charged; inodes_released = also.released },
+      );
+      old = λ _. refl;
+    })
+reply_found edition Bytes (digits ∷ []) r e =
     let low = passed (list_any is_ascii_uppercase digits) _ BadReply r e in
     step_found (data_of digits) _ low.1 λ bytes are e.
-    rw (← same_ok e) (rw (data_found digits bytes are low.0) refl, data_fits digits bytes are)
-reply_found Stat (n ∷ t ∷ u ∷ g ∷ s ∷ b ∷ l ∷ []) r e =
+    rw (← same_ok e) (record { same = rw (data_found digits bytes are low.0) refl; fits = data_fits digits bytes are; old = λ _. refl })
+reply_found edition Stat (n ∷ t ∷ u ∷ g ∷ s ∷ b ∷ l ∷ []) r e =
     word_found any_number n _ e λ ino is_ino ino_fits e.
     word_found type_found t _ e λ dir is_dir dir_fits e.
     word_found (any_id BadReply) u _ e λ uid is_uid uid_fits e.
@@ -160,9 +178,9 @@ reply_found Stat (n ∷ t ∷ u ∷ g ∷ s ∷ b ∷ l ∷ []) r e =
     word_found any_number b _ e λ blocks is_blocks blocks_fits e.
     word_found any_number l _ e λ links is_links links_fits e.
     let empty = passed (dir && (not (size == 0) || not (blocks == 0))) _ BadReply r e in
-    rw (← same_ok empty.1) (
-      rw (is_ino, is_dir, is_uid, is_gid, is_size, is_blocks, is_links) refl,
-      record {
+    rw (← same_ok empty.1) (record {
+      same = rw (is_ino, is_dir, is_uid, is_gid, is_size, is_blocks, is_links) refl;
+      fits = record {
         ino = ino_fits;
         uid = uid_fits;
         gid = gid_fits;
@@ -170,40 +188,50 @@ reply_found Stat (n ∷ t ∷ u ∷ g ∷ s ∷ b ∷ l ∷ []) r e =
         blocks = blocks_fits;
         links = links_fits;
         empty = empty_found dir size blocks empty.0;
-      },
-    )
-reply_found Quota (b ∷ i ∷ bs ∷ bh ∷ is ∷ ih ∷ be ∷ ie ∷ []) r e =
+      };
+      old = λ _. refl;
+    })
+reply_found edition Quota (b ∷ i ∷ bs ∷ bh ∷ is ∷ ih ∷ be ∷ ie ∷ []) r e =
     word_found any_number b _ e λ blocks is_blocks blocks_fits e.
     word_found any_number i _ e λ inodes is_inodes inodes_fits e.
     step_found (limits_of bs bh is ih) _ e λ limits are_limits e.
     word_found end_found be _ e λ block_end is_block_end block_end_fits e.
     word_found end_found ie _ e λ inode_end is_inode_end inode_end_fits e.
     let so = any_limits bs bh is ih limits are_limits in
-    rw (← same_ok e) (
-      rw (is_blocks, is_inodes, is_block_end, is_inode_end) (ap (λ (ws : List (List ℕ)). codes "quota" ∷ b ∷ i ∷ (ws ++ be ∷ ie ∷ [])) so.0),
-      record { blocks = blocks_fits; inodes = inodes_fits; limits = so.1; block_end = block_end_fits; inode_end = inode_end_fits },
-    )
-reply_found Refused (name ∷ []) r e =
+    rw (← same_ok e) (record {
+      same = rw (is_blocks, is_inodes, is_block_end, is_inode_end)
+          (ap (λ (ws : List (List ℕ)). codes "quota" ∷ b ∷ i ∷ (ws ++ be ∷ ie ∷ [])) so.0);
+      fits = record { blocks = blocks_fits; inodes = inodes_fits; limits = so.1; block_end = block_end_fits; inode_end = inode_end_fits };
+      old = λ _. refl;
+    })
+reply_found edition Refused (name ∷ []) r e =
     step_found (refusal_of name) _ e λ refusal is e.
-    rw (← same_ok e) (rw (refusal_found name refusal is) refl, tt)
-reply_found Refused (name ∷ k ∷ o ∷ []) r e =
+    let so = refusal_found name refusal is in
+    rw (← same_ok e) (record { same = rw so.same refl; fits = tt; old = λ _. so.no_project })
+reply_found edition Refused (name ∷ k ∷ o ∷ []) r e =
     step_found (keyword (codes "EDQUOT") name) _ e λ u same e.
-    word_found any_kind k _ e λ kind is_kind kind_fits e.
+    word_found (any_kind edition) k _ e λ kind is_kind kind_fits e.
     word_found over_found o _ e λ over is_over over_fits e.
-    rw (← same_ok e) (rw (is_kind, is_over, ← keyword_found (codes "EDQUOT") name u same) refl, tt)
-reply_found first words r e = absurd (cc e)
+    rw (← same_ok e) (record {
+      same = rw (is_kind, is_over, ← keyword_found (codes "EDQUOT") name u same) refl;
+      fits = tt;
+      old = kind_fits;
+    })
+reply_found edition first words r e = absurd (cc e)
 
-all_found : (words : List (List ℕ)) (r : Reply) → words_of_reply words ≡ Ok r → (reply_words r ≡ words) × IsReply r
+all_found : (edition : Edition) (words : List (List ℕ)) (r : Reply) → words_of_reply edition words ≡ Ok r → IsRead edition words r
 unfolding words_of_reply
-all_found [] r e = absurd (cc e)
-all_found (w ∷ words) r e =
+all_found edition [] r e = absurd (cc e)
+all_found edition (w ∷ words) r e =
     step_found (reply_word_of w) _ e λ first is e.
-    let so = reply_found first words r e in
-    (so.0 ∙ rw (first_found w first is) refl, so.1)
+    let so = reply_found edition first words r e in
+    record { same = so.same ∙ rw (first_found w first is) refl; fits = so.fits; old = so.old }
 
 -- the words that a reply was read from are those that it is spelled in
-pub any_reply : (words : List (List ℕ)) (r : Reply) → reply_in words ≡ Ok r → (reply_words r ≡ words) × IsReply r
-any_reply words r e = all_found words r (good (words_of_reply words) e)
+pub any_reply : (edition : Edition) (words : List (List ℕ)) (r : Reply) → reply_in edition words ≡ Ok r
+    → (reply_words r ≡ words) × IsReply r × OnlyInTwo edition (reply_names_project r)
+any_reply edition words r e =
+    let so = all_found edition words r (good (words_of_reply edition words) e) in (so.same, so.fits, so.old)
   where
     good : (read : Result Reply TextKind) → as_bad_reply read ≡ Ok r → read ≡ Ok r
     good (Ok x) e = e

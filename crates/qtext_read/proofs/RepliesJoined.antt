@@ -2,7 +2,7 @@
 use Rattle.std.proofs.Common.{◌≡◌, Bool, true, false, refl, decimal}
 use Rattle.std.specs.List.{join_with_byte}
 use Rattle.std.proofs.lemmas.List.{append-nil}
-use Rattle.qrules.specs.declared.kind.Kind.TheVariants.{User, Group}
+use Rattle.qrules.specs.declared.kind.Kind.TheVariants.{User, Group, Project}
 use Rattle.qplain.specs.declared.refusal.Refusal.TheVariants.{EINVAL, ENAMETOOLONG, ENOENT, ENOTDIR, EEXIST, ENOSPC, EDQUOT, EISDIR, EACCES, EFBIG, EPERM, EMLINK, ENOTEMPTY, EBUSY, ESRCH}
 use Rattle.qplain.specs.declared.reply.Reply.{Reply}
 use Rattle.qplain.specs.declared.reply.Reply.TheVariants.{Done, Bytes, Stat as StatReply, Quota as QuotaReply, Refused}
@@ -28,6 +28,7 @@ reply_joined (Refused EEXIST) = refl
 reply_joined (Refused ENOSPC) = refl
 reply_joined (Refused (EDQUOT User over)) = rw (append-nil (over_text over)) refl
 reply_joined (Refused (EDQUOT Group over)) = rw (append-nil (over_text over)) refl
+reply_joined (Refused (EDQUOT Project over)) = rw (append-nil (over_text over)) refl
 reply_joined (Refused EISDIR) = refl
 reply_joined (Refused EACCES) = refl
 reply_joined (Refused EFBIG) = refl

@@ -1,8 +1,10 @@
--- The call that a verb and its arguments spell. Arguments are read from left to right.
-use Rattle.std.specs.Prelude.{ℕ, List, [], ◌∷◌, Result, Ok, Err, replicate}
+-- The call that a verb and its arguments spell in texts of an edition. Arguments are read from left to right.
+use Rattle.std.specs.Prelude.{ℕ, List, [], ◌∷◌, Some, None, Result, Ok, Err, replicate}
 use Rattle.qrules.specs.declared.limits.Limits.{Limits}
 use Rattle.qplain.specs.declared.call.Call.{Call}
 use Rattle.qplain.specs.declared.call.Call.TheVariants.{Create, Mkdir, Write, Truncate, Read, Stat, Link, Unlink, Rmdir, Rename, Chown, SetQuota, SetGrace, Quota}
+use Rattle.qplain.specs.declared.edition.Edition.{Edition}
+use Rattle.qplain.specs.declared.edition.Edition.TheVariants.{Two}
 use Rattle.qtext.specs.declared.text_fault.TextKind.{TextKind}
 use Rattle.qtext.specs.declared.text_fault.TextKind.TheVariants.{BadNumber, BadVerb, WordCount}
 use Rattle.qtext_read.specs.declared.call.TheConstants.{MAX_FILL}
@@ -96,7 +98,16 @@ chown_of p u g = do
   path ← path_of p
   uid ← owner_of u
   gid ← owner_of g
-  Ok (Chown path uid gid)
+  Ok (Chown path uid gid None)
+
+-- chown PATH UID GID PROJECT: the project is an id, since one that stays is left out
+unfoldable pub chown_to_project_of : List ℕ → List ℕ → List ℕ → List ℕ → Result Call TextKind
+chown_to_project_of p u g j = do
+  path ← path_of p
+  uid ← owner_of u
+  gid ← owner_of g
+  project ← id_of BadNumber j
+  Ok (Chown path uid gid (Some project))
 
 -- BSOFT BHARD ISOFT IHARD
 unfoldable pub limits_of : List ℕ → List ℕ → List ℕ → List ℕ → Result Limits TextKind
@@ -108,9 +119,9 @@ limits_of bs bh is ih = do
   Ok (record { block_soft = block_soft; block_hard = block_hard; inode_soft = inode_soft; inode_hard = inode_hard })
 
 -- setquota KIND ID BSOFT BHARD ISOFT IHARD
-unfoldable pub setquota_of : List ℕ → List ℕ → List ℕ → List ℕ → List ℕ → List ℕ → Result Call TextKind
-setquota_of k i bs bh is ih = do
-  kind ← kind_of k
+unfoldable pub setquota_of : Edition → List ℕ → List ℕ → List ℕ → List ℕ → List ℕ → List ℕ → Result Call TextKind
+setquota_of edition k i bs bh is ih = do
+  kind ← kind_of edition k
   id ← id_of BadNumber i
   limits ← limits_of bs bh is ih
   Ok (SetQuota kind id limits)
@@ -123,9 +134,9 @@ setgrace_of b i = do
   Ok (SetGrace (record { block = block; inode = inode }))
 
 -- quota KIND ID
-unfoldable pub quota_of : List ℕ → List ℕ → Result Call TextKind
-quota_of k i = do
-  kind ← kind_of k
+unfoldable pub quota_of : Edition → List ℕ → List ℕ → Result Call TextKind
+quota_of edition k i = do
+  kind ← kind_of edition k
   id ← id_of BadNumber i
   Ok (Quota kind id)
 
@@ -141,27 +152,28 @@ path_call_of verb.Rename (f ∷ t ∷ []) = rename_of f t
 path_call_of _ _ = Err WordCount
 
 -- as many arguments as the verb takes, each in its place
-unfoldable pub call_of : Verb → List (List ℕ) → Result Call TextKind
-call_of verb.Write (p ∷ o ∷ d ∷ []) = write_of p o d
-call_of verb.Fill (p ∷ o ∷ c ∷ b ∷ []) = fill_of p o c b
-call_of verb.Truncate (p ∷ s ∷ []) = truncate_of p s
-call_of verb.Read (p ∷ o ∷ l ∷ []) = read_of p o l
-call_of verb.Chown (p ∷ u ∷ g ∷ []) = chown_of p u g
-call_of verb.SetQuota (k ∷ i ∷ bs ∷ bh ∷ is ∷ ih ∷ []) = setquota_of k i bs bh is ih
-call_of verb.SetGrace (b ∷ i ∷ []) = setgrace_of b i
-call_of verb.Quota (k ∷ i ∷ []) = quota_of k i
-call_of verb.Create paths = path_call_of verb.Create paths
-call_of verb.Mkdir paths = path_call_of verb.Mkdir paths
-call_of verb.Stat paths = path_call_of verb.Stat paths
-call_of verb.Link paths = path_call_of verb.Link paths
-call_of verb.Unlink paths = path_call_of verb.Unlink paths
-call_of verb.Rmdir paths = path_call_of verb.Rmdir paths
-call_of verb.Rename paths = path_call_of verb.Rename paths
-call_of _ _ = Err WordCount
+unfoldable pub call_of : Edition → Verb → List (List ℕ) → Result Call TextKind
+call_of edition verb.Write (p ∷ o ∷ d ∷ []) = write_of p o d
+call_of edition verb.Fill (p ∷ o ∷ c ∷ b ∷ []) = fill_of p o c b
+call_of edition verb.Truncate (p ∷ s ∷ []) = truncate_of p s
+call_of edition verb.Read (p ∷ o ∷ l ∷ []) = read_of p o l
+call_of edition verb.Chown (p ∷ u ∷ g ∷ []) = chown_of p u g
+call_of edition verb.Chown (p ∷ u ∷ g ∷ j ∷ []) = chown_to_project_of p u g j
+call_of edition verb.SetQuota (k ∷ i ∷ bs ∷ bh ∷ is ∷ ih ∷ []) = setquota_of edition k i bs bh is ih
+call_of edition verb.SetGrace (b ∷ i ∷ []) = setgrace_of b i
+call_of edition verb.Quota (k ∷ i ∷ []) = quota_of edition k i
+call_of edition verb.Create paths = path_call_of verb.Create paths
+call_of edition verb.Mkdir paths = path_call_of verb.Mkdir paths
+call_of edition verb.Stat paths = path_call_of verb.Stat paths
+call_of edition verb.Link paths = path_call_of verb.Link paths
+call_of edition verb.Unlink paths = path_call_of verb.Unlink paths
+call_of edition verb.Rmdir paths = path_call_of verb.Rmdir paths
+call_of edition verb.Rename paths = path_call_of verb.Rename paths
+call_of _ _ _ = Err WordCount
 
--- the call that words spell, the first of them its verb
+-- the call that words of a script spell, the first of them its verb: scripts are of edition 2
 unfoldable pub call_in : List (List ℕ) → Result Call TextKind
 call_in [] = Err BadVerb
 call_in (v ∷ arguments) = do
   verb ← verb_of v
-  call_of verb arguments
+  call_of Two verb arguments

@@ -1,10 +1,11 @@
--- Replies read from the words that spell them (profile).
+-- Replies of a journal of an edition read from the words that spell them (profile).
 use Rattle.std.specs.Prelude.{ℕ, ◌==◌, ◌&&◌, ◌||◌, Bool, true, false, not, List, [], ◌∷◌, codes, Option, Some, None, Result, Ok, Err, if◌then◌else◌}
 use Rattle.std.specs.Char.{is_ascii_uppercase}
 use Rattle.std.specs.List.{list_any}
 use Rattle.std.specs.Str.{bytes_eq}
 use Rattle.qrules.specs.declared.over.Over.{Over}
 use Rattle.qrules.specs.declared.over.Over.TheVariants.{InodeHard, InodeSoft, BlockHard, BlockSoft}
+use Rattle.qplain.specs.declared.edition.Edition.{Edition}
 use Rattle.qplain.specs.declared.refusal.Refusal.{Refusal}
 use Rattle.qplain.specs.declared.refusal.Refusal.TheVariants.{EINVAL, ENAMETOOLONG, ENOENT, ENOTDIR, EEXIST, ENOSPC, EDQUOT, EISDIR, EACCES, EFBIG, EPERM, EMLINK, ENOTEMPTY, EBUSY, ESRCH}
 use Rattle.qplain.specs.declared.reply.Reply.{Reply}
@@ -143,31 +144,31 @@ quota_of b i bs bh is ih be ie = do
   }))
 
 -- EDQUOT KIND OVER
-unfoldable pub edquot_of : List ℕ → List ℕ → List ℕ → Result Reply TextKind
-edquot_of name k o = do
+unfoldable pub edquot_of : Edition → List ℕ → List ℕ → List ℕ → Result Reply TextKind
+edquot_of edition name k o = do
   same ← keyword (codes "EDQUOT") name
-  kind ← kind_of k
+  kind ← kind_of edition k
   over ← over_of o
   Ok (replies.Refused (EDQUOT kind over))
 
 -- as many words as the first wants, each in its place
-unfoldable pub reply_of : ReplyWord → List (List ℕ) → Result Reply TextKind
-reply_of Done (n ∷ b ∷ bu ∷ bd ∷ i ∷ iu ∷ id ∷ []) = done_of n b bu bd i iu id
-reply_of Bytes (digits ∷ []) = bytes_of digits
-reply_of Stat (n ∷ t ∷ u ∷ g ∷ s ∷ b ∷ l ∷ []) = stat_of n t u g s b l
-reply_of Quota (b ∷ i ∷ bs ∷ bh ∷ is ∷ ih ∷ be ∷ ie ∷ []) = quota_of b i bs bh is ih be ie
-reply_of Refused (name ∷ []) = do
+unfoldable pub reply_of : Edition → ReplyWord → List (List ℕ) → Result Reply TextKind
+reply_of edition Done (n ∷ b ∷ bu ∷ bd ∷ i ∷ iu ∷ id ∷ []) = done_of n b bu bd i iu id
+reply_of edition Bytes (digits ∷ []) = bytes_of digits
+reply_of edition Stat (n ∷ t ∷ u ∷ g ∷ s ∷ b ∷ l ∷ []) = stat_of n t u g s b l
+reply_of edition Quota (b ∷ i ∷ bs ∷ bh ∷ is ∷ ih ∷ be ∷ ie ∷ []) = quota_of b i bs bh is ih be ie
+reply_of edition Refused (name ∷ []) = do
   refusal ← refusal_of name
   Ok (replies.Refused refusal)
-reply_of Refused (name ∷ kind ∷ over ∷ []) = edquot_of name kind over
-reply_of _ _ = Err BadReply
+reply_of edition Refused (name ∷ kind ∷ over ∷ []) = edquot_of edition name kind over
+reply_of _ _ _ = Err BadReply
 
 -- the reply of words, whatever may be wrong with them
-unfoldable pub words_of_reply : List (List ℕ) → Result Reply TextKind
-words_of_reply [] = Err BadReply
-words_of_reply (w ∷ ws) = do
+unfoldable pub words_of_reply : Edition → List (List ℕ) → Result Reply TextKind
+words_of_reply edition [] = Err BadReply
+words_of_reply edition (w ∷ ws) = do
   first ← reply_word_of w
-  reply_of first ws
+  reply_of edition first ws
 
 -- whatever is wrong is one fault
 abbrev pub as_bad_reply : Result Reply TextKind → Result Reply TextKind
@@ -175,5 +176,5 @@ as_bad_reply (Ok reply) = Ok reply
 as_bad_reply (Err kind) = Err BadReply
 
 -- the reply that words spell
-abbrev pub reply_in : List (List ℕ) → Result Reply TextKind
-reply_in ws = as_bad_reply (words_of_reply ws)
+abbrev pub reply_in : Edition → List (List ℕ) → Result Reply TextKind
+reply_in edition ws = as_bad_reply (words_of_reply edition ws)

@@ -1,17 +1,12 @@
 -- How replies are spelled out in words, each in its one spelling.
-use Rattle.std.specs.Prelude.{◌≡◌, ℕ, ◌<◌, ◌^◌, true, List, [], ◌∷◌, codes, decimal, Option, Some, None, if◌then◌else◌}
-use Rattle.hex.specs.Hex.{IsBytes}
-use Rattle.qplain.specs.declared.change.Change.{Change}
-use Rattle.qplain.specs.declared.quota.Quota.{Quota}
+use Rattle.std.specs.Prelude.{ℕ, List, [], ◌∷◌, codes, decimal, if◌then◌else◌}
 use Rattle.qplain.specs.declared.refusal.Refusal.{Refusal}
 use Rattle.qplain.specs.declared.refusal.Refusal.TheVariants.{EINVAL, ENAMETOOLONG, ENOENT, ENOTDIR, EEXIST, ENOSPC, EDQUOT, EISDIR, EACCES, EFBIG, EPERM, EMLINK, ENOTEMPTY, EBUSY, ESRCH}
 use Rattle.qplain.specs.declared.reply.Reply.{Reply}
 use Rattle.qplain.specs.declared.reply.Reply.TheVariants.{Done, Bytes, Stat as StatReply, Quota as QuotaReply, Refused}
-use Rattle.qplain.specs.declared.stat.Stat.{Stat}
 use Rattle.qtext.specs.Pieces.{data_text}
 use Rattle.qtext.specs.RuleWords.{kind_text, over_text}
 use Rattle.qtext_read.specs.Replies.{end_text}
-use Rattle.qplain.specs.Held.{AreLimits}
 
 -- a refusal's name, and for a quota whose it is and which of its limits
 abbrev pub refusal_words : Refusal → List (List ℕ)

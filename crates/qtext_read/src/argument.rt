@@ -4,9 +4,9 @@ ghost use Rattle.std.specs.Char.{is_ascii_uppercase};
 ghost use Rattle.std.specs.List.{list_any};
 ghost use Rattle.qtext.specs.Gives.{Gives};
 ghost use Rattle.qtext.specs.Data.{data_of};
-ghost use Rattle.qtext_read.specs.Arguments.{path_of, kind_of, owner_of};
+ghost use Rattle.qtext_read.specs.Arguments.{path_of, kind_of, project_kind_of, owner_of};
 
-use qplain::{Data, Path, SharedItems};
+use qplain::{Data, Edition, Path, SharedItems};
 use qrules::Kind;
 use qtext::{ReadFault, TextKind, data_of as bytes_of, id_of};
 use std::alloc::Global;
@@ -29,16 +29,30 @@ pub(crate) fn data_of(alloc: Global, word: &[u8]) -> Result<Data, ReadFault>
     Ok(Data::new(SharedItems::new(bytes.into_vec())?))
 }
 
-/// `user` or `group`.
+/// The kind of projects, which edition 1 does not have.
+#[tactic(auto, unfolding(crate::specs::Arguments::project_kind_of))]
+fn project_kind_of(edition: Edition) -> Result<Kind, ReadFault>
+    ensures { Gives result (project_kind_of edition) }
+{
+    match edition {
+        Edition::One => Err(ReadFault::Fault(TextKind::BadWord)),
+        Edition::Two => Ok(Kind::Project),
+    }
+}
+
+/// `user` or `group`, or in edition 2 `project`.
 #[tactic(auto, unfolding(crate::specs::Arguments::kind_of))]
-pub(crate) fn kind_of(word: &[u8]) -> Result<Kind, ReadFault>
-    ensures { Gives result (kind_of word.now) }
+pub(crate) fn kind_of(edition: Edition, word: &[u8]) -> Result<Kind, ReadFault>
+    ensures { Gives result (kind_of edition word.now) }
 {
     if word == b"user".as_slice() {
         return Ok(Kind::User);
     }
     if word == b"group".as_slice() {
         return Ok(Kind::Group);
+    }
+    if word == b"project".as_slice() {
+        return project_kind_of(edition);
     }
     Err(ReadFault::Fault(TextKind::BadWord))
 }

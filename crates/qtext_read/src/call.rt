@@ -1,13 +1,13 @@
 //! Calls as words.
 ghost use Rattle.std.specs.Prelude.{map};
 ghost use Rattle.qtext.specs.Gives.{Gives};
-ghost use Rattle.qtext_read.specs.Calls.{write_of, fill_of, truncate_of, read_of, chown_of, limits_of, setquota_of, setgrace_of, quota_of, call_of, call_in};
+ghost use Rattle.qtext_read.specs.Calls.{write_of, fill_of, truncate_of, read_of, chown_of, chown_to_project_of, limits_of, setquota_of, setgrace_of, quota_of, call_of, call_in};
 
 use crate::argument::{data_of, kind_of, owner_of};
 use crate::path_call::path_call_of;
 use crate::paths::Paths;
 use crate::verb::{Verb, verb_of};
-use qplain::{Call, Data};
+use qplain::{Call, Data, Edition};
 use qrules::{Graces, Limits};
 use qtext::{ReadFault, TextKind, byte_of, id_of, number, number_of};
 use std::alloc::Global;
@@ -96,7 +96,35 @@ fn chown_of<'a>(
     let path = paths.read(alloc, path, &[uid, gid])?;
     let uid = owner_of(uid)?;
     let gid = owner_of(gid)?;
-    Ok(Call::Chown { path, uid, gid })
+    Ok(Call::Chown {
+        path,
+        uid,
+        gid,
+        project: None,
+    })
+}
+
+#[tactic(auto, unfolding(crate::specs::Calls::chown_to_project_of))]
+fn chown_to_project_of<'a>(
+    alloc: Global,
+    paths: &mut Paths<'a>,
+    path: &'a [u8],
+    uid: &[u8],
+    gid: &[u8],
+    project: &[u8],
+) -> Result<Call, ReadFault>
+    ensures { Gives result (chown_to_project_of path.now uid.now gid.now project.now) }
+{
+    let path = paths.read(alloc, path, &[uid, gid, project])?;
+    let uid = owner_of(uid)?;
+    let gid = owner_of(gid)?;
+    let project = Some(id_of(TextKind::BadNumber, project)?);
+    Ok(Call::Chown {
+        path,
+        uid,
+        gid,
+        project,
+    })
 }
 
 #[tactic(auto, unfolding(crate::specs::Calls::limits_of))]
@@ -122,6 +150,7 @@ pub(crate) fn limits_of(
 
 #[tactic(auto, unfolding(crate::specs::Calls::setquota_of))]
 fn setquota_of(
+    edition: Edition,
     kind: &[u8],
     id: &[u8],
     block_soft: &[u8],
@@ -129,9 +158,10 @@ fn setquota_of(
     inode_soft: &[u8],
     inode_hard: &[u8],
 ) -> Result<Call, ReadFault>
-    ensures { Gives result (setquota_of kind.now id.now block_soft.now block_hard.now inode_soft.now inode_hard.now) }
+    ensures { Gives result (setquota_of edition kind.now id.now block_soft.now block_hard.now inode_soft.now
+        inode_hard.now) }
 {
-    let kind = kind_of(kind)?;
+    let kind = kind_of(edition, kind)?;
     let id = id_of(TextKind::BadNumber, id)?;
     let limits = limits_of(block_soft, block_hard, inode_soft, inode_hard)?;
     Ok(Call::SetQuota { kind, id, limits })
@@ -149,23 +179,24 @@ fn setgrace_of(block: &[u8], inode: &[u8]) -> Result<Call, ReadFault>
 }
 
 #[tactic(auto, unfolding(crate::specs::Calls::quota_of))]
-fn quota_of(kind: &[u8], id: &[u8]) -> Result<Call, ReadFault>
-    ensures { Gives result (quota_of kind.now id.now) }
+fn quota_of(edition: Edition, kind: &[u8], id: &[u8]) -> Result<Call, ReadFault>
+    ensures { Gives result (quota_of edition kind.now id.now) }
 {
-    let kind = kind_of(kind)?;
+    let kind = kind_of(edition, kind)?;
     let id = id_of(TextKind::BadNumber, id)?;
     Ok(Call::Quota { kind, id })
 }
 
-/// The call of a verb and its arguments, of which there are as many as it takes.
+/// The call of a verb and its arguments, of which there are as many as it takes; chown may have a project.
 #[tactic(auto, unfolding(crate::specs::Calls::call_of))]
 pub(crate) fn call_of<'a>(
     alloc: Global,
     paths: &mut Paths<'a>,
+    edition: Edition,
     verb: Verb,
     arguments: &[&'a [u8]],
 ) -> Result<Call, ReadFault>
-    ensures { Gives result (call_of verb (map (λ word. word.now) arguments.now)) }
+    ensures { Gives result (call_of edition verb (map (λ word. word.now) arguments.now)) }
 {
     match (verb, arguments) {
         (Verb::Write, [path, off, data]) => write_of(alloc, paths, path, off, data),
@@ -173,11 +204,16 @@ pub(crate) fn call_of<'a>(
         (Verb::Truncate, [path, size]) => truncate_of(alloc, paths, path, size),
         (Verb::Read, [path, off, len]) => read_of(alloc, paths, path, off, len),
         (Verb::Chown, [path, uid, gid]) => chown_of(alloc, paths, path, uid, gid),
+        (Verb::Chown, [path, uid, gid, project]) => {
+            chown_to_project_of(alloc, paths, path, uid, gid, project)
+        }
         (Verb::SetQuota, [kind, id, block_soft, block_hard, inode_soft, inode_hard]) => {
-            setquota_of(kind, id, block_soft, block_hard, inode_soft, inode_hard)
+            setquota_of(
+                edition, kind, id, block_soft, block_hard, inode_soft, inode_hard,
+            )
         }
         (Verb::SetGrace, [block, inode]) => setgrace_of(block, inode),
-        (Verb::Quota, [kind, id]) => quota_of(kind, id),
+        (Verb::Quota, [kind, id]) => quota_of(edition, kind, id),
         (
             Verb::Create
             | Verb::Mkdir
@@ -192,7 +228,7 @@ pub(crate) fn call_of<'a>(
     }
 }
 
-/// The call that words spell, the first of them its verb.
+/// The call that words of a script spell, the first of them its verb. Scripts are of edition 2.
 ///
 /// Of faults the first is reported: the verb, the count of arguments, the arguments from left to right. That a call is
 /// read says nothing of whether a store takes it. An Err gives no call. Its paths share the bytes of their text where
@@ -209,7 +245,7 @@ pub fn call_in<'a>(
         [] => Err(ReadFault::Fault(TextKind::BadVerb)),
         [verb, arguments @ ..] => {
             let verb = verb_of(verb)?;
-            call_of(alloc, paths, verb, arguments)
+            call_of(alloc, paths, Edition::Two, verb, arguments)
         }
     }
 }

@@ -1,17 +1,17 @@
-//! Calls as journals have them: without `fill`, and with data in lower case.
-ghost use Rattle.std.specs.Prelude.{◌≡◌, ◌≤◌, length, map, IfOk};
+//! Calls as journals have them: without `fill`, and with data in lower case. In edition 1 they name no project.
+ghost use Rattle.std.specs.Prelude.{◌≡◌, ◌≤◌, ◌+◌, length, map, IfOk};
 ghost use Rattle.qtext.specs.Gives.{Gives};
-ghost use Rattle.qtext_read.specs.Journaled.{arity, in_one_case, journaled_call_in, journaled_call_of, journaled_verb_of};
+ghost use Rattle.qtext_read.specs.Journaled.{argument_count, arity, counted_call_of, has_project, in_one_case, is_project, journaled_call_in, journaled_call_of, journaled_verb_of};
 
 use crate::argument::has_upper_case;
 use crate::call::call_of;
 use crate::paths::Paths;
 use crate::verb::{Verb, verb_of};
-use qplain::Call;
+use qplain::{Call, Edition};
 use qtext::{ReadFault, TextKind};
 use std::alloc::Global;
 
-/// As many arguments as a verb takes.
+/// As many arguments as a verb takes, where chown names no project.
 fn arity(verb: Verb) -> usize
     ensures { result ≡ arity verb }
 {
@@ -21,6 +21,37 @@ fn arity(verb: Verb) -> usize
         Verb::Write | Verb::Read | Verb::Chown => 3,
         Verb::Fill => 4,
         Verb::SetQuota => 6,
+    }
+}
+
+/// Whether the fourth word behind chown is a project: in edition 2, unless it is the arrow before the reply.
+fn is_project(edition: Edition, word: &[u8]) -> bool
+    ensures { result ≡ is_project edition word.now }
+{
+    match edition {
+        Edition::One => false,
+        Edition::Two => word != b"=>".as_slice(),
+    }
+}
+
+/// Whether these are the words behind a chown that names a project.
+fn has_project(edition: Edition, verb: Verb, behind: &[&[u8]]) -> bool
+    ensures { result ≡ has_project edition verb (map (λ word. word.now) behind.now) }
+{
+    match (verb, behind) {
+        (Verb::Chown, [_, _, _, fourth, ..]) => is_project(edition, fourth),
+        _ => false,
+    }
+}
+
+/// How many of the words behind a verb are its arguments.
+fn argument_count(edition: Edition, verb: Verb, behind: &[&[u8]]) -> usize
+    ensures { result ≡ argument_count edition verb (map (λ word. word.now) behind.now) }
+{
+    if has_project(edition, verb, behind) {
+        4
+    } else {
+        arity(verb)
     }
 }
 
@@ -52,20 +83,42 @@ fn in_one_case(verb: Verb, arguments: &[&[u8]]) -> bool
 fn journaled_call_of<'a>(
     alloc: Global,
     paths: &mut Paths<'a>,
+    edition: Edition,
     verb: Verb,
     arguments: &[&'a [u8]],
 ) -> Result<Call, ReadFault>
-    ensures { Gives result (journaled_call_of verb (map (λ word. word.now) arguments.now)) }
+    ensures { Gives result (journaled_call_of edition verb (map (λ word. word.now) arguments.now)) }
 {
-    let call = call_of(alloc, paths, verb, arguments)?;
+    let call = call_of(alloc, paths, edition, verb, arguments)?;
     if !in_one_case(verb, arguments) {
         return Err(ReadFault::Fault(TextKind::BadHex));
     }
     Ok(call)
 }
 
+/// The call of a verb that so many of the words behind it belong to, and how many words it has.
+#[tactic(auto, unfolding(crate::specs::Journaled::counted_call_of))]
+fn counted_call_of<'a>(
+    alloc: Global,
+    paths: &mut Paths<'a>,
+    edition: Edition,
+    verb: Verb,
+    count: usize,
+    behind: &[&'a [u8]],
+) -> Result<(Call, usize), ReadFault>
+    ensures call { Gives result (counted_call_of edition verb count (map (λ word. word.now) behind.now)) }
+    ensures within { IfOk result (λ read. read.1 ≤ 1 + length behind.now) }
+{
+    let Some((arguments, after)) = behind.split_at_checked(count) else {
+        return Err(ReadFault::Fault(TextKind::WordCount));
+    };
+    paths.go_before(after);
+    let call = journaled_call_of(alloc, paths, edition, verb, arguments)?;
+    Ok((call, 1 + count))
+}
+
 /// The call that words begin with, the first of them its verb, and how many words it has, in the one spelling that
-/// journals have: without `fill`, and with data in lower case.
+/// journals of this edition have: without `fill`, with data in lower case, and in edition 1 with no project.
 ///
 /// Of faults the first is reported: the verb, too few arguments, the arguments from left to right. An Err gives no
 /// call.
@@ -73,22 +126,18 @@ fn journaled_call_of<'a>(
 pub fn journaled_call_in<'a>(
     alloc: Global,
     paths: &mut Paths<'a>,
+    edition: Edition,
     words: &[&'a [u8]],
 ) -> Result<(Call, usize), ReadFault>
-    ensures call { Gives result (journaled_call_in (map (λ word. word.now) words.now)) }
+    ensures call { Gives result (journaled_call_in edition (map (λ word. word.now) words.now)) }
     ensures within { IfOk result (λ read. read.1 ≤ length words.now) }
 {
     match words {
         [] => Err(ReadFault::Fault(TextKind::BadVerb)),
         [verb, behind @ ..] => {
             let verb = journaled_verb_of(verb)?;
-            let arity = arity(verb);
-            let Some((arguments, after)) = behind.split_at_checked(arity) else {
-                return Err(ReadFault::Fault(TextKind::WordCount));
-            };
-            paths.go_before(after);
-            let call = journaled_call_of(alloc, paths, verb, arguments)?;
-            Ok((call, 1 + arity))
+            let count = argument_count(edition, verb, behind);
+            counted_call_of(alloc, paths, edition, verb, count, behind)
         }
     }
 }

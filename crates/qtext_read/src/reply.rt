@@ -1,12 +1,12 @@
 //! Replies read from words.
 ghost use Rattle.std.specs.Prelude.{map};
 ghost use Rattle.qtext.specs.Gives.{Gives};
-ghost use Rattle.qtext_read.specs.RepliesRead.{as_bad_reply, bytes_of, done_of, edquot_of, end_of, keyword, quota_of, rise_of, reply_in, reply_of, signed, stat_of, type_of, words_of_reply};
+ghost use Rattle.qtext_read.specs.RepliesRead.{as_bad_reply, bytes_of, done_of, edquot_of, end_of, keyword, quota_of, rise_of, reply_in, reply_of, signed, stat_of, words_of_reply};
 
 use crate::argument::{has_upper_case, kind_of};
 use crate::call::limits_of;
-use crate::reply_word::{ReplyWord, over_of, refusal_of, reply_word_of};
-use qplain::{Change, Quota, Refusal, Reply, SharedItems, Stat};
+use crate::reply_word::{ReplyWord, over_of, refusal_of, reply_word_of, type_of};
+use qplain::{Change, Edition, Quota, Refusal, Reply, SharedItems, Stat};
 use qtext::{ReadFault, TextKind, data_of, id_of, number};
 use std::alloc::Global;
 
@@ -88,20 +88,6 @@ fn bytes_of(alloc: Global, digits: &[u8]) -> Result<Reply, ReadFault>
     Ok(Reply::Bytes(SharedItems::new(bytes.into_vec())?))
 }
 
-/// `dir` or `file`.
-#[tactic(auto, unfolding(crate::specs::RepliesRead::type_of))]
-fn type_of(word: &[u8]) -> Result<bool, ReadFault>
-    ensures { Gives result (type_of word.now) }
-{
-    if word == b"dir".as_slice() {
-        return Ok(true);
-    }
-    if word == b"file".as_slice() {
-        return Ok(false);
-    }
-    Err(ReadFault::Fault(TextKind::BadReply))
-}
-
 /// `INO dir UID GID 0 0 LINKS` or `INO file UID GID SIZE BLOCKS LINKS`.
 #[tactic(auto, unfolding(crate::specs::RepliesRead::stat_of))]
 fn stat_of(
@@ -179,19 +165,24 @@ fn quota_of(
 
 /// `EDQUOT KIND OVER`.
 #[tactic(auto, unfolding(crate::specs::RepliesRead::edquot_of))]
-fn edquot_of(name: &[u8], kind: &[u8], over: &[u8]) -> Result<Reply, ReadFault>
-    ensures { Gives result (edquot_of name.now kind.now over.now) }
+fn edquot_of(edition: Edition, name: &[u8], kind: &[u8], over: &[u8]) -> Result<Reply, ReadFault>
+    ensures { Gives result (edquot_of edition name.now kind.now over.now) }
 {
     keyword(b"EDQUOT", name)?;
-    let kind = kind_of(kind)?;
+    let kind = kind_of(edition, kind)?;
     let over = over_of(over)?;
     Ok(Reply::Refused(Refusal::EDQUOT(kind, over)))
 }
 
 /// The reply of a first word and those after it, of which there are as many as it takes.
 #[tactic(auto, unfolding(crate::specs::RepliesRead::reply_of))]
-fn reply_of(alloc: Global, first: ReplyWord, words: &[&[u8]]) -> Result<Reply, ReadFault>
-    ensures { Gives result (reply_of first (map (λ word. word.now) words.now)) }
+fn reply_of(
+    alloc: Global,
+    edition: Edition,
+    first: ReplyWord,
+    words: &[&[u8]],
+) -> Result<Reply, ReadFault>
+    ensures { Gives result (reply_of edition first (map (λ word. word.now) words.now)) }
 {
     match (first, words) {
         (ReplyWord::Done, [ino, blocks, up, down, inodes, inodes_up, inodes_down]) => {
@@ -217,32 +208,33 @@ fn reply_of(alloc: Global, first: ReplyWord, words: &[&[u8]]) -> Result<Reply, R
             blocks, inodes, block_soft, block_hard, inode_soft, inode_hard, block_end, inode_end,
         ),
         (ReplyWord::Refused, [name]) => Ok(Reply::Refused(refusal_of(name)?)),
-        (ReplyWord::Refused, [name, kind, over]) => edquot_of(name, kind, over),
+        (ReplyWord::Refused, [name, kind, over]) => edquot_of(edition, name, kind, over),
         _ => Err(ReadFault::Fault(TextKind::BadReply)),
     }
 }
 
 /// The reply that words spell, whatever may be wrong with them.
 #[tactic(auto, unfolding(crate::specs::RepliesRead::words_of_reply))]
-fn words_of_reply(alloc: Global, words: &[&[u8]]) -> Result<Reply, ReadFault>
-    ensures { Gives result (words_of_reply (map (λ word. word.now) words.now)) }
+fn words_of_reply(alloc: Global, edition: Edition, words: &[&[u8]]) -> Result<Reply, ReadFault>
+    ensures { Gives result (words_of_reply edition (map (λ word. word.now) words.now)) }
 {
     match words {
         [] => Err(ReadFault::Fault(TextKind::BadReply)),
         [first, others @ ..] => {
             let first = reply_word_of(first)?;
-            reply_of(alloc, first, others)
+            reply_of(alloc, edition, first, others)
         }
     }
 }
 
 /// The reply that words spell, in the one spelling that replies have: lower-case data, numbers without leading zeros.
+/// In edition 1 it names no project.
 ///
 /// All that may be wrong with them is one fault, BadReply. An Err gives no reply.
-pub fn reply_in(alloc: Global, words: &[&[u8]]) -> Result<Reply, ReadFault>
-    ensures { Gives result (reply_in (map (λ word. word.now) words.now)) }
+pub fn reply_in(alloc: Global, edition: Edition, words: &[&[u8]]) -> Result<Reply, ReadFault>
+    ensures { Gives result (reply_in edition (map (λ word. word.now) words.now)) }
 {
-    match words_of_reply(alloc, words) {
+    match words_of_reply(alloc, edition, words) {
         Err(ReadFault::Fault(_)) => Err(ReadFault::Fault(TextKind::BadReply)),
         read => read,
     }

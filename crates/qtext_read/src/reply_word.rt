@@ -1,6 +1,6 @@
-//! The words that replies begin with, and the names of refusals and limits.
+//! The words that replies begin with, and the names of refusals, of limits and of what an inode is.
 ghost use Rattle.qtext.specs.Gives.{Gives};
-ghost use Rattle.qtext_read.specs.RepliesRead.{over_of, refusal_of, reply_word_of};
+ghost use Rattle.qtext_read.specs.RepliesRead.{over_of, refusal_of, reply_word_of, type_of};
 
 use qplain::Refusal;
 use qrules::Over;
@@ -105,6 +105,20 @@ pub(crate) fn over_of(word: &[u8]) -> Result<Over, ReadFault>
     }
     if word == b"block-soft".as_slice() {
         return Ok(Over::BlockSoft);
+    }
+    Err(ReadFault::Fault(TextKind::BadReply))
+}
+
+/// `dir` or `file`.
+#[tactic(auto, unfolding(crate::specs::RepliesRead::type_of))]
+pub(crate) fn type_of(word: &[u8]) -> Result<bool, ReadFault>
+    ensures { Gives result (type_of word.now) }
+{
+    if word == b"dir".as_slice() {
+        return Ok(true);
+    }
+    if word == b"file".as_slice() {
+        return Ok(false);
     }
     Err(ReadFault::Fault(TextKind::BadReply))
 }

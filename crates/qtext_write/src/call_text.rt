@@ -7,6 +7,7 @@ ghost use Rattle.qtext.specs.Pieces.{data_text};
 ghost use Rattle.qtext.specs.RuleWords.{kind_text};
 ghost use Rattle.qtext.specs.Written.{Passes};
 ghost use Rattle.qtext_read.specs.Spelling.{call_words, limits_words, owner_text};
+ghost use Rattle.qtext_write.specs.Texts.{project_text};
 
 use crate::data_text::put_input;
 use qplain::{Call, Data, Path};
@@ -126,8 +127,20 @@ fn put_owner(line: &mut TextLine, owner: Option<u32>)
     }
 }
 
+/// Puts a space and a project's id, and nothing where there is none.
+fn put_project(line: &mut TextLine, project: Option<u32>)
+    requires { length line.old + 21 ≤ LINE_ROOM }
+    ensures text { line.new ≡ line.old ++ project_text project }
+    ensures short { length line.new ≤ length line.old + 21 }
+    ensures held { IsOwner project }
+{
+    if let Some(id) = project {
+        line.field(id as u64);
+    }
+}
+
 /// `chown PATH UID GID`.
-fn put_chown<W: Write>(
+fn put_user_and_group<W: Write>(
     out: &mut W,
     line: &mut TextLine,
     path: &Path,
@@ -137,7 +150,7 @@ fn put_chown<W: Write>(
     requires { length line.old ≤ CALL_PLACE }
     ensures passes { Passes (W.contents out.old) (W.contents out.new) result
         (line.old ++ (((codes "chown " ++ path.now) ++ 32 ∷ owner_text uid) ++ 32 ∷ owner_text gid)) line.new }
-    ensures short { IfOk result (λ _. length line.new ≤ CALL_ROOM) }
+    ensures short { IfOk result (λ _. length line.new ≤ WORD_ROOM + 42) }
     ensures held { IfOk result (λ _. ArePathBytes path.now × IsOwner uid × IsOwner gid) }
 {
     put_path(out, line, b"chown ", path)?;
@@ -146,11 +159,31 @@ fn put_chown<W: Write>(
     Ok(())
 }
 
+/// `chown PATH UID GID`, and a project where there is one.
+fn put_chown<W: Write>(
+    out: &mut W,
+    line: &mut TextLine,
+    path: &Path,
+    uid: Option<u32>,
+    gid: Option<u32>,
+    project: Option<u32>,
+) -> Result<(), RefusedWrite>
+    requires { length line.old ≤ CALL_PLACE }
+    ensures passes { Passes (W.contents out.old) (W.contents out.new) result
+        (line.old ++ join_with_byte 32 (call_words (Call.Chown path.now uid gid project))) line.new }
+    ensures short { IfOk result (λ _. length line.new ≤ CALL_ROOM) }
+    ensures held { IfOk result (λ _. ArePathBytes path.now × IsOwner uid × IsOwner gid × IsOwner project) }
+{
+    put_user_and_group(out, line, path, uid, gid)?;
+    put_project(line, project);
+    Ok(())
+}
+
 /// Puts a verb, which has a space after it, a kind and an id.
 fn put_owned(line: &mut TextLine, verb: &[u8], kind: Kind, id: u32)
-    requires { length line.old + length verb.now + 26 ≤ LINE_ROOM }
+    requires { length line.old + length verb.now + 28 ≤ LINE_ROOM }
     ensures text { line.new ≡ line.old ++ (verb.now ++ (kind_text kind ++ 32 ∷ decimal id)) }
-    ensures short { length line.new ≤ length line.old + length verb.now + 26 }
+    ensures short { length line.new ≤ length line.old + length verb.now + 28 }
 {
     line.text(verb);
     line.text(kind_word(kind));
@@ -204,7 +237,12 @@ pub fn put_call<W: Write>(out: &mut W, line: &mut TextLine, call: &Call) -> Resu
         Call::Unlink { path } => put_path(out, line, b"unlink ", path),
         Call::Rmdir { path } => put_path(out, line, b"rmdir ", path),
         Call::Rename { from, to } => put_paths(out, line, b"rename ", from, to),
-        Call::Chown { path, uid, gid } => put_chown(out, line, path, *uid, *gid),
+        Call::Chown {
+            path,
+            uid,
+            gid,
+            project,
+        } => put_chown(out, line, path, *uid, *gid, *project),
         Call::SetQuota { kind, id, limits } => Ok(put_setquota(line, *kind, *id, limits)),
         Call::SetGrace { graces } => Ok(put_setgrace(line, graces)),
         Call::Quota { kind, id } => Ok(put_owned(line, b"quota ", *kind, *id)),

@@ -1,4 +1,4 @@
-//! Runs scripts of calls on a shared store of files in memory, with user and group disk quotas.
+//! Runs scripts of calls on a shared store of files in memory, with disk quotas for users, groups and projects.
 #![tactic(auto)]
 
 use machine_files::MachineFiles;

@@ -5,11 +5,11 @@ ghost use Rattle.qrules.specs.declared.kind.Kind.TheVariants.{User, Group};
 ghost use Rattle.qplain.specs.Arguments.{has_bad_number, is_declared, is_undeclared, refusal_of_arguments};
 ghost use Rattle.qstore.specs.Requests.{IsChecked, IsConsistent};
 
-use crate::{Call, Cred, Refusal, Store, caller_owners};
+use crate::{Call, Cred, Refusal, Store};
 use qplain::MAX_DATA;
 use qrules::{Kind, MAX_MOMENT};
 use qstore_accounts::Slots;
-use qstore_walk::paths_fault;
+use qstore_walk::{caller_owners, paths_fault};
 
 impl Store {
     /// Whether this principal is declared.

@@ -2,24 +2,11 @@
 ghost use Rattle.std.specs.Prelude.{◌≡◌, ◌||◌, false};
 ghost use Rattle.qrules.specs.declared.kind.Kind.TheVariants.{User, Group, Project};
 ghost use Rattle.qplain.specs.Arguments.{is_undeclared};
-ghost use Rattle.qplain.specs.Owners.{renewed};
 ghost use Rattle.qstore.specs.Decided.{CanDecide, IsDecisionOf};
 
 use crate::{Call, Exchange, Ready, Refusal, Request, Store};
-use qplain::Owners;
 use qstore_change::TreeChange;
-use qstore_walk::{Found, find, may_give};
-
-/// The owners with those that are named.
-fn renewed(uid: Option<u32>, gid: Option<u32>, project: Option<u32>, owners: Owners) -> Owners
-    ensures { result ≡ renewed uid gid project owners }
-{
-    Owners {
-        uid: uid.unwrap_or(owners.uid),
-        gid: gid.unwrap_or(owners.gid),
-        project: project.or(owners.project),
-    }
-}
+use qstore_walk::{Found, find, may_give, renewed};
 
 impl Store {
     /// Decides other owners of an inode; what is None stays.

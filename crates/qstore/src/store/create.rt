@@ -6,24 +6,11 @@ ghost use Rattle.qplain.specs.State.{State, inode_at, is_directory};
 ghost use Rattle.qstore_tree.specs.Room.{Room};
 ghost use Rattle.qstore_change.specs.Changes.{CanChange, CanCreate, changed};
 ghost use Rattle.qstore.specs.Decided.{CanDecide, IsConsistent, IsDecision, IsDecisionOf, IsFree};
-ghost use Rattle.qstore.specs.FileTypes.{inode_new};
+ghost use Rattle.qstore_change.specs.FileTypes.{inode_new};
 
-use crate::{Call, Decision, Exchange, FileType, Ready, Refusal, Request, Store, caller_owners};
-use qplain::Owners;
-use qstore_change::TreeChange;
-use qstore_walk::{inode, last_component};
-
-/// The change by which a new inode comes to stand.
-fn creation(sort: FileType, dir: u64, name: String, owners: Owners) -> TreeChange
-    ensures made { (S : State) → changed S result ≡ created S (inode_new sort owners) dir (string_bytes name) }
-    ensures can { (S : State) (room : Room) → CanCreate S room dir (string_bytes name)
-        → CanChange S room result }
-{
-    match sort {
-        FileType::File => TreeChange::Create { dir, name, owners },
-        FileType::Directory => TreeChange::Mkdir { dir, name, owners },
-    }
-}
+use crate::{Call, Decision, Exchange, Ready, Refusal, Request, Store};
+use qstore_change::{FileType, creation};
+use qstore_walk::{caller_owners, inode, last_component};
 
 impl Store {
     /// Decides the creation of a file, and makes room for it.

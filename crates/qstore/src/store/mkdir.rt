@@ -3,7 +3,8 @@ ghost use Rattle.qplain.specs.Names.{created, owners_by, unless_too_many_links};
 ghost use Rattle.qplain.specs.State.{new_directory};
 ghost use Rattle.qstore.specs.Decided.{CanDecide, IsDecision, IsDecisionOf, IsFree};
 
-use crate::{Call, Decision, FileType, Ready, Refusal, Request, Store};
+use crate::{Call, Decision, Ready, Refusal, Request, Store};
+use qstore_change::FileType;
 use qstore_walk::{has_all_links, last_component};
 
 impl Store {

@@ -5,7 +5,8 @@ ghost use Rattle.qplain.specs.State.{is_directory, named};
 ghost use Rattle.qstore_walk.specs.Paths.{name_in};
 ghost use Rattle.qstore.specs.Decided.{CanDecide, IsDecision, IsDecisionOf};
 
-use crate::{Call, Decision, Exchange, FileType, Path, Ready, Refusal, Request, Store};
+use crate::{Call, Decision, Exchange, Path, Ready, Refusal, Request, Store};
+use qstore_change::FileType;
 use qstore_tree::Content;
 use qstore_walk::{inode, is_empty, last_component, may_remove};
 

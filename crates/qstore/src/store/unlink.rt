@@ -7,11 +7,11 @@ ghost use Rattle.qstore_tree.specs.Room.{Room};
 ghost use Rattle.qstore_walk.specs.Paths.{name_in};
 ghost use Rattle.qstore_change.specs.Changes.{CanChange, changed};
 ghost use Rattle.qstore.specs.Decided.{CanDecide, IsAsked, IsDecision, IsDecisionOf};
-ghost use Rattle.qstore.specs.FileTypes.{CanRemove};
+ghost use Rattle.qstore_change.specs.FileTypes.{CanRemove};
 
-use crate::{Call, Decision, Exchange, FileType, Path, Ready, Refusal, Request, Store};
+use crate::{Call, Decision, Exchange, Path, Ready, Refusal, Request, Store};
 use qstore_accounts::Claim;
-use qstore_change::TreeChange;
+use qstore_change::{FileType, removal};
 use qstore_tree::{Content, Node};
 use qstore_walk::{inode, last_component, may_remove};
 
@@ -21,18 +21,6 @@ pub(super) fn left_of(node: &Node, claim: Claim) -> Option<Claim>
     ensures last { node.now.links ≤ 1 → result ≡ None }
 {
     if node.links > 1 { Some(claim) } else { None }
-}
-
-/// The change by which the last name of a path goes, and what it leads to, if that has no other.
-fn removal(sort: FileType, dir: u64, path: Path, number: u64) -> TreeChange
-    ensures made { (S : State) → changed S result ≡ swept (without_name S dir (name_in path)) }
-    ensures can { (S : State) (room : Room) → CanRemove sort S dir number (name_in path)
-        → CanChange S room result }
-{
-    match sort {
-        FileType::File => TreeChange::Unlink { dir, path, number },
-        FileType::Directory => TreeChange::Rmdir { dir, path, number },
-    }
 }
 
 impl Store {

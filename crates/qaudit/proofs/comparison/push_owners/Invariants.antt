@@ -4,4 +4,4 @@ use Rattle.qaudit.proofs.comparison.push_owners.Given as goal
 
 abbrev pub invariant-loop-counted : goal.invariant-loop-counted
 invariant-loop-counted l = l.differences.items
-    ≡ l.fn.differences.items ++ owners_without_record l.kind (take l.counted-index l.counts) l.records
+    ≡ l.fn.differences.items ++ owners_without_record l.kind (take l.counted-index l.owners) l.records

@@ -7,21 +7,21 @@ use Rattle.qaudit.proofs.owners.counts_by.Goals as goal
 pub loop-row-init : goal.loop-row-init
 loop-row-init c = rw c.no_count-run.ensures (none_counted c.args.kind _ c.new-counts.ensures.empty)
 
-pub count_row-requires-clause-blocks : goal.count_row-requires-clause-blocks
-count_row-requires-clause-blocks c q =
+pub count_owned-requires-clause-blocks : goal.count_owned-requires-clause-blocks
+count_owned-requires-clause-blocks c q =
     blocks_fit c.args.kind c.args.inodes.now c.loop-row.row-index _ _ _ _ q
     c.loop-row.invariant c.loop-row-test.true refl c.requires.fits
 
-pub count_row-requires-clause-inodes : goal.count_row-requires-clause-inodes
-count_row-requires-clause-inodes c q =
+pub count_owned-requires-clause-inodes : goal.count_owned-requires-clause-inodes
+count_owned-requires-clause-inodes c q =
     let few = inodes_fit c.args.kind c.args.inodes.now c.loop-row.row-index _ _ q c.loop-row.invariant c.loop-row-test.true in
     grind (arith, few)
 
 pub loop-row-preserved : goal.loop-row-preserved
 loop-row-preserved c =
     one_counted c.args.kind c.args.inodes.now c.loop-row.row-index _ _ _ _ _ _ c.loop-row.invariant c.loop-row-test.true refl
-    (rw c.owner_of.ensures at c.in_ok-count_row.ensures.keys)
-    (λ q. rw c.owner_of.ensures at (c.in_ok-count_row.ensures.counts q))
+    (rw c.owner_of.ensures at c.in_ok-count_owned.ensures.keys)
+    (λ q. rw c.owner_of.ensures at (c.in_ok-count_owned.ensures.counts q))
 
 pub add_run-requires-clause-blocks : goal.add_run-requires-clause-blocks
 add_run-requires-clause-blocks c =

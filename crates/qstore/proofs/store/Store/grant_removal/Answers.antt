@@ -2,7 +2,7 @@ use Rattle.std.proofs.Common.{refl, ap, subst, sym, ◌∙◌}
 use Rattle.qplain.specs.Names.{swept, without_name}
 use Rattle.qplain.specs.State.{State}
 use Rattle.qstore_walk.specs.Paths.{name_in}
-use Rattle.qstore.specs.FileTypes.{CanRemove}
+use Rattle.qstore_change.specs.FileTypes.{CanRemove}
 use Rattle.qstore.proofs.Deciding.{decision-billed, decision-unbilled, decision-unmade}
 use Rattle.qstore.proofs.store.Store.grant_removal.Goals as goal
 

@@ -6,8 +6,9 @@ use Rattle.qstore.specs.declared.request.Exchange.{Exchange}
 use Rattle.qstore.specs.declared.ready.Plan.TheVariants.{Change}
 use Rattle.qstore.specs.declared.ready.Ready.{Ready}
 use Rattle.qstore.specs.Decided.{IsBilled}
-use Rattle.qstore.specs.Requests.{are_declared, caller_owners}
-use Rattle.qstore.specs.FileTypes.{inode_new}
+use Rattle.qstore_walk.specs.Owners.{caller_owners}
+use Rattle.qstore.specs.Requests.{are_declared}
+use Rattle.qstore_change.specs.FileTypes.{inode_new}
 use Rattle.qstore.specs.Kept.{stored_of}
 use Rattle.qstore.specs.Stored.{Stored}
 use Rattle.qstore.specs.Told.{told}

@@ -1,9 +1,9 @@
--- What changes of files and of directories have in common. No public clause cites this module.
+-- What changes of files and of directories have in common.
 use Rattle.std.specs.Prelude.{ℕ, List}
 use Rattle.qplain.specs.declared.owners.Owners.{Owners}
 use Rattle.qplain.specs.State.{Inode, State, new_directory, new_file}
-use Rattle.qstore.specs.declared.file_type.FileType.{FileType}
-use Rattle.qstore.specs.declared.file_type.FileType.TheVariants.{File, Directory}
+use Rattle.qstore_change.specs.declared.file_type.FileType.{FileType}
+use Rattle.qstore_change.specs.declared.file_type.FileType.TheVariants.{File, Directory}
 use Rattle.qstore_change.specs.Changes.{CanRmdir, CanUnlink}
 
 -- an empty file or directory of these owners
