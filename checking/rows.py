@@ -1,13 +1,15 @@
 """The rows of checking/, read: what the program is run on, and what it has to answer.
 
 - FOLDER/ROW.txt is a script, FOLDER/config.toml its configuration, and FOLDER/ROW.MOMENT.out the whole text that it
-  prints with the report at that moment. The folder `examples` has the answers for the scripts of examples/.
+  prints with the report at that moment. The folder `examples` has the answers for the scripts of examples/, where a
+  script has the configuration of its name, or else farm.toml.
 - configs/THEME.rows: a line is a list of old and new pieces of configs/good.toml, in pairs, and last what is then told:
   a fault, or a line that the outcome of the empty script has.
 - scripts/THEME.rows: a line is the bytes of a script, and its fault.
 - ROW.journal beside ROW.txt is the whole journal of that run; that of any other row is put together of the script and
   of the answers in ROW.MOMENT.out (`journal_of`).
-- journals/ROW.journal is a journal, and journals/ROW.0.out the whole text that its replay prints.
+- journals/ROW.journal is a journal, and journals/ROW.0.out the whole text that its replay prints; likewise in
+  project_journals, whose configuration has projects.
 - journals/THEME.rows: a line is the bytes of a journal, and its fault, or the place of a reply that does not fit.
 - renames/THEME.rows: a line is a caller, the two paths of a rename after renames/before.txt, the step of its call that
   decides, its answer, and what a stat of some paths answers then.
@@ -26,7 +28,9 @@ BUILT = ROOT / "crates/quotafs/out/quotafs"
 EXAMPLE = CHECKING / "a/config.toml"
 EMPTY = CHECKING / "a/empty.txt"
 # The folders of the worked examples of the formats, and of examples/.
-WORKED = "a", "a0", "a0_group_blocks", "a0_group_inodes", "examples"
+WORKED = "a", "a0", "a0_group_blocks", "a0_group_inodes", "a_projects", "examples"
+# The folders of journals, each with its configuration.
+JOURNALS = "journals", "project_journals"
 FAILED = b"- failed OutOfMemory\n"
 # How a run may end without an outcome where an allocation is refused.
 WITHOUT = {
@@ -180,8 +184,10 @@ def played():
         folder, script = out.parent, out.name.split(".")[0] + ".txt"
         refuses = folder.name in WORKED or script == "one_call_of_each_kind.txt"
         if folder.name == "examples":
-            yield out, ROOT / "examples/farm.toml", ROOT / "examples" / script, refuses
-        elif folder.name != "journals":
+            own = (ROOT / "examples" / script).with_suffix(".toml")
+            config = own if own.exists() else ROOT / "examples/farm.toml"
+            yield out, config, ROOT / "examples" / script, refuses
+        elif folder.name not in JOURNALS:
             yield out, folder / "config.toml", folder / script, refuses
 
 
@@ -203,10 +209,9 @@ def journals(work):
 
 def replays(work):
     """Journals that are played, those that are refused, and those that do not fit."""
-    folder = CHECKING / "journals"
-    for journal in sorted(folder.glob("*.journal")):
-        words = ["replay", "--config", folder / "config.toml", journal]
-        yield Case(f"journals/{journal.stem}", words, 0, journal.with_suffix(".0.out").read_bytes(), refuses=True)
+    for journal in sorted(file for folder in JOURNALS for file in (CHECKING / folder).glob("*.journal")):
+        name, out = f"{journal.parent.name}/{journal.stem}", journal.with_suffix(".0.out").read_bytes()
+        yield Case(name, ["replay", "--config", journal.parent / "config.toml", journal], 0, out, refuses=True)
     for name, number, (text, told), file in listed("journals/*.rows"):
         (work / file).write_bytes(text.encode("latin-1"))
         status, fault = (3, told) if told.startswith("mismatch ") else (2, f"journal: {told}")

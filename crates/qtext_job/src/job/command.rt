@@ -17,7 +17,7 @@ fn config<'a>(alloc: Global) -> Arg<'a>
     Arg::new(alloc, "config")
         .long("config")
         .value_name("FILE")
-        .help("The configuration: bounds, graces, users and groups, in TOML")
+        .help("The configuration: bounds, graces, users, groups and projects, in TOML")
         .required(true)
         .action(ArgAction::Set)
 }

@@ -13,13 +13,14 @@ A line of a script is MOMENT UID:GID[,GROUP..] CALL. The calls:
   unlink PATH
   rmdir PATH
   rename FROM TO
-  chown PATH UID GID
+  chown PATH UID GID [PROJECT]
   setquota KIND ID BSOFT BHARD ISOFT IHARD
   setgrace BLOCK INODE
   quota KIND ID
 Moments and graces are seconds. DATA is hexadecimal digits, two a byte, or - for
-no byte, and BYTE two of them. KIND is user or group. Limits of blocks are KiB,
-those of inodes numbers, and 0 is none. An owner that chown has as - stays.
+no byte, and BYTE two of them. KIND is user, group or project. Limits of blocks
+are KiB, those of inodes numbers, and 0 is none. An owner that chown has as -
+stays, and so does a project that it does not name.
 
 Example, a script of two lines:
   0 1001:100 create /notes
