@@ -45,14 +45,15 @@ id_is_project id lt = rw (digits_lack_arrow (decimal id) (are_digits id (omega (
 -- the call whose words these are, and how many they are, where an arrow stands after them
 pub journaled_again : (edition : Edition) (k : Call) → IsCall k → OnlyInTwo edition (call_names_project k) → (rest : List (List ℕ))
     → journaled_call_in edition (call_words k ++ codes "=>" ∷ rest) ≡ Ok (k, length (call_words k))
-unfolding journaled_call_in counted_call_of journaled_verb_of journaled_call_of in_one_case verb_of call_of path_call_of create_of mkdir_of write_of truncate_of read_of
-    stat_of link_of unlink_of rmdir_of rename_of chown_of chown_to_project_of setquota_of limits_of setgrace_of quota_of
+unfolding journaled_call_in counted_call_of journaled_verb_of journaled_call_of in_one_case verb_of call_of path_call_of create_of mkdir_of write_of
+    truncate_of read_of stat_of link_of unlink_of rmdir_of rename_of chown_of chown_to_project_of setquota_of limits_of setgrace_of quota_of
 journaled_again edition (Create p) k old rest = rw (enough_1 (length (codes "=>" ∷ rest)), path_again p k) refl
 journaled_again edition (Mkdir p) k old rest = rw (enough_1 (length (codes "=>" ∷ rest)), path_again p k) refl
 journaled_again edition (Stat p) k old rest = rw (enough_1 (length (codes "=>" ∷ rest)), path_again p k) refl
 journaled_again edition (Unlink p) k old rest = rw (enough_1 (length (codes "=>" ∷ rest)), path_again p k) refl
 journaled_again edition (Rmdir p) k old rest = rw (enough_1 (length (codes "=>" ∷ rest)), path_again p k) refl
-journaled_again edition (Write p off bytes) k old rest = rw (enough_3 (length (codes "=>" ∷ rest)), path_again p k.0, any_number off k.1, data_again bytes k.2, lower_data bytes k.2) refl
+journaled_again edition (Write p off bytes) k old rest =
+    rw (enough_3 (length (codes "=>" ∷ rest)), path_again p k.0, any_number off k.1, data_again bytes k.2, lower_data bytes k.2) refl
 journaled_again edition (Read p off len) k old rest = rw (enough_3 (length (codes "=>" ∷ rest)), path_again p k.0, any_number off k.1, any_number len k.2) refl
 journaled_again edition (Truncate p size) k old rest = rw (enough_2 (length (codes "=>" ∷ rest)), path_again p k.0, any_number size k.1) refl
 journaled_again edition (Link from to) k old rest = rw (enough_2 (length (codes "=>" ∷ rest)), path_again from k.0, path_again to k.1) refl
@@ -69,6 +70,7 @@ journaled_again Two (Chown p uid gid (Some project)) k old rest =
       owner_again gid k.2,
       any_id project k.3,
     ) refl
-journaled_again edition (SetQuota kind id limits) k old rest = rw (enough_6 (length (codes "=>" ∷ rest)), kind_again edition kind old, any_id id k.0, limits_again limits k.1) refl
+journaled_again edition (SetQuota kind id limits) k old rest =
+    rw (enough_6 (length (codes "=>" ∷ rest)), kind_again edition kind old, any_id id k.0, limits_again limits k.1) refl
 journaled_again edition (SetGrace graces) k old rest = rw (enough_2 (length (codes "=>" ∷ rest)), any_number graces.block k.0, any_number graces.inode k.1) refl
 journaled_again edition (Quota kind id) k old rest = rw (enough_2 (length (codes "=>" ∷ rest)), kind_again edition kind old, any_id id k) refl
