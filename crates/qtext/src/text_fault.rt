@@ -24,7 +24,7 @@ pub enum TextKind {
     /// There are too few or too many arguments.
     #[error("word count")]
     WordCount,
-    /// A path is empty, or a kind is none of `user`, `group` and `project`; in a journal of edition 1 `project` is none.
+    /// A path is empty, or a kind is none of `user`, `group` and, in edition 2, `project`.
     #[error("bad word")]
     BadWord,
     /// Data are not hexadecimal digits, two a byte.

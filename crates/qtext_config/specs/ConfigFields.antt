@@ -48,3 +48,12 @@ unfoldable pub tables_at : List ℕ → Members → Result (List Members) Cause
 tables_at key table = do
   list ← list_at key table
   each_of (table_of key) list
+
+-- the tables of the list that stands at the key, if one does: none where nothing stands
+abbrev pub tables_if_any : List ℕ → Members → Option Data → Result (List Members) Cause
+tables_if_any key table None = Ok []
+tables_if_any key table (Some value) = tables_at key table
+
+-- the tables of the list at a key that may be absent
+unfoldable pub optional_tables_at : List ℕ → Members → Result (List Members) Cause
+optional_tables_at key table = tables_if_any key table (get_member key table)

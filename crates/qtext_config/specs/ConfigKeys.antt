@@ -7,15 +7,15 @@ use Rattle.std.specs.Str.{bytes_eq}
 use Rattle.toml.specs.Data.{Members, no_members, member}
 use Rattle.qtext.specs.Reading.{◌>>=◌}
 use Rattle.qtext_config.specs.ConfigFaults.{Cause, Field}
-use Rattle.qtext_config.specs.ConfigFields.{tables_at}
+use Rattle.qtext_config.specs.ConfigFields.{optional_tables_at, tables_at}
 
 -- the keys of a document
 abbrev pub document_keys : List (List ℕ)
 document_keys =
     codes "size" ∷ codes "nr_inodes" ∷ codes "block_grace" ∷ codes "inode_grace" ∷ codes "user" ∷ codes "group"
-    ∷ []
+    ∷ codes "project" ∷ []
 
--- the keys of a user's or a group's table
+-- the keys of a user's, a group's or a project's table
 abbrev pub principal_keys : List (List ℕ)
 principal_keys =
     codes "id" ∷ codes "name" ∷ codes "block_soft" ∷ codes "block_hard" ∷ codes "inode_soft"
@@ -44,10 +44,11 @@ abbrev pub no_unknown : Option (List ℕ) → Result (Unit {0}) Cause
 no_unknown None = Ok tt
 no_unknown (Some key) = Err (Field key)
 
--- every key is known: first those of the document, then those of all tables of both lists
+-- every key is known: first those of the document, then those of all tables of its lists
 unfoldable pub known_keys : Members → Result (Unit {0}) Cause
 known_keys document = do
   _ ← no_unknown (least_unknown document_keys (keys_of document))
   users ← tables_at (codes "user") document
   groups ← tables_at (codes "group") document
-  no_unknown (least_unknown principal_keys (flat_map keys_of (users ++ groups)))
+  projects ← optional_tables_at (codes "project") document
+  no_unknown (least_unknown principal_keys (flat_map keys_of (users ++ groups ++ projects)))

@@ -1,6 +1,6 @@
--- Users and groups as a configuration writes them.
+-- Users, groups and projects as a configuration writes them.
 use Rattle.std.specs.Prelude.{List, ℕ, Option, Some, None, Result, Ok, codes, if◌then◌else◌}
-use Rattle.toml.specs.Data.{Members}
+use Rattle.toml.specs.Data.{Data, Members, get_member}
 use Rattle.qplain.specs.Principals.{is_principal_name}
 use Rattle.qtext_config.specs.declared.config.principal.WrittenPrincipal.{WrittenPrincipal}
 use Rattle.qtext.specs.Reading.{◌>>=◌, each_of}
@@ -40,3 +40,14 @@ unfoldable pub principals_at : List ℕ → Members → Result (List WrittenPrin
 principals_at key document = do
   tables ← tables_at key document
   each_of principal_of tables
+
+-- the principals of the list that stands at the key, if one does
+abbrev pub principals_if_any : List ℕ → Members → Option Data → Result (Option (List WrittenPrincipal)) Cause
+principals_if_any key document None = Ok None
+principals_if_any key document (Some value) = do
+  principals ← principals_at key document
+  Ok (Some principals)
+
+-- the principals of the list at a key that may be absent
+unfoldable pub optional_principals_at : List ℕ → Members → Result (Option (List WrittenPrincipal)) Cause
+optional_principals_at key document = principals_if_any key document (get_member key document)

@@ -1,5 +1,5 @@
 -- What a text writes as a configuration, and what is read of it.
-use Rattle.std.specs.Prelude.{ℕ, ℤ, pos, negsuc, ◌^◌, nat_lt, if◌then◌else◌, List, Option, Some, None, Result, Ok, Err, codes}
+use Rattle.std.specs.Prelude.{ℕ, ℤ, pos, negsuc, ◌^◌, nat_lt, ◌==◌, if◌then◌else◌, List, [], length, Option, Some, None, Result, Ok, Err, codes}
 use Rattle.toml.specs.Data.{Members}
 use Rattle.toml.specs.Parse.{parse_document}
 use Rattle.qrules.specs.declared.limits.Limits.{Limits}
@@ -13,7 +13,7 @@ use Rattle.qtext.specs.Reading.{◌>>=◌, each_of}
 use Rattle.qtext_config.specs.ConfigFaults.{Cause, EndsFor, Range, Text, cause_of_setup}
 use Rattle.qtext_config.specs.ConfigFields.{found, integer_at, text_at}
 use Rattle.qtext_config.specs.ConfigKeys.{known_keys}
-use Rattle.qtext_config.specs.ConfigPrincipals.{principals_at}
+use Rattle.qtext_config.specs.ConfigPrincipals.{optional_principals_at, principals_at}
 use Rattle.qtext_config.specs.ConfigSize.{blocks_of_size}
 
 -- the size in blocks that stands at the key
@@ -31,6 +31,7 @@ fields_of document = do
   inode_grace ← integer_at (codes "inode_grace") document
   users ← principals_at (codes "user") document
   groups ← principals_at (codes "group") document
+  projects ← optional_principals_at (codes "project") document
   Ok (record {
     blocks = blocks;
     inodes = inodes;
@@ -38,6 +39,7 @@ fields_of document = do
     inode_grace = inode_grace;
     users = users;
     groups = groups;
+    projects = projects;
   })
 
 -- the number that an integer is; a negative one is out of range
@@ -66,6 +68,11 @@ declared_of written = do
   limits ← limits_of written
   Ok (record { id = id; name = written.name; limits = limits })
 
+-- the projects that are declared: none where no list of them stands; a list without any is out of range
+unfoldable pub projects_of : Option (List WrittenPrincipal) → Result (List Principal) Cause
+projects_of None = Ok []
+projects_of (Some projects) = if length projects == 0 then Err Range else each_of declared_of projects
+
 -- the setting, or the cause of the fault that a setup of it has
 abbrev pub unless_refused : Setting → Option SetupFault → Result Setting Cause
 unless_refused given None = Ok given
@@ -83,7 +90,8 @@ setting_of written = do
   inode_grace ← number_of written.inode_grace
   users ← each_of declared_of written.users
   groups ← each_of declared_of written.groups
-  accepted (setting written.blocks inodes (record { block = block_grace; inode = inode_grace }) users groups)
+  projects ← projects_of written.projects
+  accepted (setting written.blocks inodes (record { block = block_grace; inode = inode_grace }) users groups projects)
 
 -- the document, unless TOML refuses the text
 abbrev pub document_of : Option Members → Result Members Cause

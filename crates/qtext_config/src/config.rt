@@ -37,13 +37,13 @@ impl Config {
     ///
     /// `size` is a text, in bytes: 1 to 10 digits, the first not 0, then nothing, `k`, `m` or `g` for
     /// 2^10, 2^20 or 2^30. It is rounded up to whole blocks of 4096 bytes. `nr_inodes` is an integer,
-    /// and so are `block_grace` and `inode_grace`, in seconds. `user` and `group` are lists of tables,
-    /// each with `id`, `name` and optionally `block_soft` and `block_hard`, in KiB, and `inode_soft` and
-    /// `inode_hard`, 0 where absent, which is no limit.
+    /// and so are `block_grace` and `inode_grace`, in seconds. `user` and `group`, and `project` where projects are
+    /// declared, are lists of tables, each with `id`, `name` and optionally `block_soft` and `block_hard`, in KiB, and
+    /// `inode_soft` and `inode_hard`, 0 where absent, which is no limit. Without the key `project` there are none.
     ///
     /// In range are a size of 1 to 2^20 blocks, 1 to 65,536 inodes, graces of 1 to 2^32 - 1, limits of 0 to 2^40, ids
-    /// of 0 to 2^32 - 1, and 1 to 64 users and groups each, id 0 among them. A name is 1 to 16 bytes of `a` to `z`,
-    /// `0` to `9`, `_` and `-`, the first a letter.
+    /// of 0 to 2^32 - 1, and 1 to 64 of each kind that has its list, id 0 among them. A name is 1 to 16 bytes of `a` to
+    /// `z`, `0` to `9`, `_` and `-`, the first a letter.
     ///
     /// The first fault counts: that of the text; the first field that is missing, of another kind or of
     /// another form, in the order above; the least unknown key, of the document and then of all its

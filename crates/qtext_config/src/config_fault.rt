@@ -16,13 +16,13 @@ pub enum ConfigFault {
     /// The value at this key is missing, of another kind or of another form, or the key is not known.
     #[error("field {0}")]
     Field(String),
-    /// A number is outside its range, or there are not 1 to 64 principals of a kind.
+    /// A number is outside its range, or there are not 1 to 64 principals of a kind that has its list.
     #[error("range")]
     Range,
     /// Two principals of one kind have the same id or the same name.
     #[error("duplicate")]
     Duplicate,
-    /// A kind lacks id 0.
+    /// A kind that has its list lacks id 0.
     #[error("no zero")]
     NoZero,
     #[error("memory")]

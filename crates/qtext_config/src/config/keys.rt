@@ -7,22 +7,23 @@ ghost use Rattle.qtext_config.specs.ConfigFaults.{GivesBy};
 ghost use Rattle.qtext_config.specs.ConfigKeys.{document_keys, is_unknown, keys_of, known_keys, least_unknown, lesser_of, no_unknown, principal_keys};
 
 use super::field::field;
-use super::tables::tables_at;
+use super::tables::{optional_tables_at, tables_at};
 use crate::ConfigFault;
 use std::alloc::Global;
 use toml::Table;
 
 /// The keys of a document.
-const DOCUMENT_KEYS: [&str; 6] = [
+const DOCUMENT_KEYS: [&str; 7] = [
     "size",
     "nr_inodes",
     "block_grace",
     "inode_grace",
     "user",
     "group",
+    "project",
 ];
 
-/// The keys of a user's or a group's table.
+/// The keys of a user's, a group's or a project's table.
 const PRINCIPAL_KEYS: [&str; 6] = [
     "id",
     "name",
@@ -40,7 +41,8 @@ pub(super) fn known_keys(alloc: Global, document: &Table) -> Result<(), ConfigFa
     no_unknown(alloc, unknown_of_document(document))?;
     let users = tables_at(alloc, document, "user")?;
     let groups = tables_at(alloc, document, "group")?;
-    no_unknown(alloc, unknown_of_tables(&users, &groups))
+    let projects = optional_tables_at(alloc, document, "project")?;
+    no_unknown(alloc, unknown_of_tables(&users, &groups, &projects))
 }
 
 fn no_unknown(alloc: Global, key: Option<&str>) -> Result<(), ConfigFault>
@@ -59,11 +61,17 @@ fn unknown_of_document(document: &Table) -> Option<&str>
     least_unknown(None, document, &DOCUMENT_KEYS)
 }
 
-fn unknown_of_tables<'a>(users: &[&'a Table], groups: &[&'a Table]) -> Option<&'a str>
+fn unknown_of_tables<'a>(
+    users: &[&'a Table],
+    groups: &[&'a Table],
+    projects: &[&'a Table],
+) -> Option<&'a str>
     ensures { option_map (λ key. key.now) result ≡ least_unknown principal_keys
-        (flat_map keys_of (map (λ t. table_view t.now) users.now ++ map (λ t. table_view t.now) groups.now)) }
+        (flat_map keys_of (map (λ t. table_view t.now) users.now ++ map (λ t. table_view t.now) groups.now
+        ++ map (λ t. table_view t.now) projects.now)) }
 {
-    unknown_after(unknown_after(None, users), groups)
+    let least = unknown_after(unknown_after(None, users), groups);
+    unknown_after(least, projects)
 }
 
 /// The least unknown key of these tables, or the least so far.

@@ -1,12 +1,12 @@
-//! Users and groups as a configuration writes them.
+//! Users, groups and projects as a configuration writes them.
 
 ghost use Rattle.std.specs.Prelude.{◌≡◌, map};
 ghost use Rattle.toml.specs.View.{table_view};
 ghost use Rattle.qtext.specs.Reading.{each_of};
 ghost use Rattle.qtext_config.specs.ConfigFaults.{GivesBy};
-ghost use Rattle.qtext_config.specs.ConfigPrincipals.{name_at, principal_of, principals_at};
+ghost use Rattle.qtext_config.specs.ConfigPrincipals.{name_at, optional_principals_at, principal_of, principals_at};
 
-use super::field::{field, integer_at, limit_at, text_at};
+use super::field::{field, integer_at, limit_at, text_at, value_at};
 use super::tables::tables_at;
 use crate::ConfigFault;
 use qplain::is_principal_name;
@@ -14,7 +14,7 @@ use qrules::{Items, PrincipalName};
 use std::alloc::Global;
 use toml::Table;
 
-/// A user or a group, whose numbers may still be out of range.
+/// A user, a group or a project, whose numbers may still be out of range.
 #[derive(Debug, Drop)]
 pub(super) struct WrittenPrincipal {
     pub id: i64,
@@ -36,6 +36,22 @@ pub(super) fn principals_at(
 {
     let tables = tables_at(alloc, document, key)?;
     principals_of(alloc, &tables)
+}
+
+/// The principals of the list at a key, and None where the key is absent.
+#[tactic(auto, unfolding(crate::specs::ConfigPrincipals::optional_principals_at))]
+pub(super) fn optional_principals_at(
+    alloc: Global,
+    document: &Table,
+    key: &str,
+) -> Result<Option<Items<WrittenPrincipal>>, ConfigFault>
+    ensures { GivesBy (λ principals. principals) result
+        (optional_principals_at key.now (table_view document.now)) }
+{
+    match value_at(document, key) {
+        Some(_) => Ok(Some(principals_at(alloc, document, key)?)),
+        None => Ok(None),
+    }
 }
 
 fn principals_of(alloc: Global, tables: &[&Table]) -> Result<Items<WrittenPrincipal>, ConfigFault>

@@ -4,7 +4,7 @@ ghost use Rattle.std.specs.Prelude.{◌≡◌, IfOk};
 ghost use Rattle.qplain.specs.declared.edition.Edition.TheVariants.{Two};
 ghost use Rattle.qtext.specs.Reading.{each_of};
 ghost use Rattle.qtext_config.specs.ConfigFaults.{GivesBy};
-ghost use Rattle.qtext_config.specs.Configs.{ReadsSetup, declared_of, id_of, limits_of, number_of, setting_of};
+ghost use Rattle.qtext_config.specs.Configs.{ReadsSetup, declared_of, id_of, limits_of, number_of, projects_of, setting_of};
 
 use super::principal::WrittenPrincipal;
 use super::written::WrittenConfig;
@@ -24,8 +24,29 @@ pub(super) fn setup_of(alloc: Global, written: WrittenConfig) -> Result<Setup, C
     let inode = number_of(written.inode_grace)?;
     let users = each_declared(alloc, written.users)?;
     let groups = each_declared(alloc, written.groups)?;
+    let projects = projects_of(alloc, written.projects)?;
     let graces = Graces { block, inode };
-    Ok(Setup::new(written.blocks, inodes, graces, users, groups)?)
+    Ok(Setup::new(written.blocks, inodes, graces, users, groups, projects)?)
+}
+
+/// The projects that are declared: none where no list of them stands. A list without any is out of range, as for the
+/// other kinds, which a `Setup` could not tell from no list.
+#[tactic(auto, unfolding(crate::specs::Configs::projects_of))]
+fn projects_of(
+    alloc: Global,
+    projects: Option<Items<WrittenPrincipal>>,
+) -> Result<Vec<Principal>, ConfigFault>
+    ensures { GivesBy (λ declared. declared.items) result (projects_of projects) }
+{
+    match projects {
+        Some(projects) => {
+            if projects.as_slice().is_empty() {
+                return Err(ConfigFault::Range);
+            }
+            each_declared(alloc, projects)
+        }
+        None => Ok(Vec::new(alloc)),
+    }
 }
 
 fn each_declared(

@@ -4,7 +4,7 @@ ghost use Rattle.std.specs.Prelude.{◌≡◌, map, option_map};
 ghost use Rattle.toml.specs.View.{array_view, table_view, view};
 ghost use Rattle.qtext.specs.Reading.{each_of};
 ghost use Rattle.qtext_config.specs.ConfigFaults.{GivesBy};
-ghost use Rattle.qtext_config.specs.ConfigFields.{list_at, list_of, table_of, tables_at, values_of};
+ghost use Rattle.qtext_config.specs.ConfigFields.{list_at, list_of, optional_tables_at, table_of, tables_at, values_of};
 
 use super::field::{field, value_at};
 use crate::ConfigFault;
@@ -62,4 +62,20 @@ pub(super) fn tables_at<'a>(
 {
     let list = list_at(alloc, table, key)?;
     tables_of(alloc, list, key)
+}
+
+/// The tables of the list at a key, and none where the key is absent.
+#[tactic(auto, unfolding(crate::specs::ConfigFields::optional_tables_at))]
+pub(super) fn optional_tables_at<'a>(
+    alloc: Global,
+    table: &'a Table,
+    key: &str,
+) -> Result<Vec<&'a Table>, ConfigFault>
+    ensures { GivesBy (λ tables. map (λ t. table_view t.now) tables.items) result
+        (optional_tables_at key.now (table_view table.now)) }
+{
+    match value_at(table, key) {
+        Some(_) => tables_at(alloc, table, key),
+        None => Ok(Vec::new(alloc)),
+    }
 }

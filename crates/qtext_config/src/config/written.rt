@@ -6,7 +6,7 @@ ghost use Rattle.qtext_config.specs.ConfigFaults.{GivesBy};
 ghost use Rattle.qtext_config.specs.Configs.{fields_of, size_at};
 
 use super::field::{field, integer_at, text_at};
-use super::principal::{WrittenPrincipal, principals_at};
+use super::principal::{WrittenPrincipal, optional_principals_at, principals_at};
 use super::size::blocks_of_size;
 use crate::ConfigFault;
 use qrules::Items;
@@ -22,6 +22,8 @@ pub(super) struct WrittenConfig {
     pub inode_grace: i64,
     pub users: Items<WrittenPrincipal>,
     pub groups: Items<WrittenPrincipal>,
+    /// None where the document has no list of them.
+    pub projects: Option<Items<WrittenPrincipal>>,
 }
 
 /// The fields of a document. The first that is missing, of another kind or of another form is at fault.
@@ -35,6 +37,7 @@ pub(super) fn fields_of(alloc: Global, document: &Table) -> Result<WrittenConfig
     let inode_grace = integer_at(alloc, document, "inode_grace")?;
     let users = principals_at(alloc, document, "user")?;
     let groups = principals_at(alloc, document, "group")?;
+    let projects = optional_principals_at(alloc, document, "project")?;
     Ok(WrittenConfig {
         blocks,
         inodes,
@@ -42,6 +45,7 @@ pub(super) fn fields_of(alloc: Global, document: &Table) -> Result<WrittenConfig
         inode_grace,
         users,
         groups,
+        projects,
     })
 }
 

@@ -17,4 +17,5 @@ returns c =
       c.in_ok-inode_grace.ensures,
       c.in_ok-users.ensures,
       c.in_ok-groups.ensures,
+      c.in_ok-projects.ensures,
     ))
