@@ -29,6 +29,7 @@ no_identity = record {
     graces = record { block = 0; inode = 0 };
     users = [];
     groups = [];
+    projects = [];
   };
   history = record { number = 0; log_name = 0; cells_name = 0 };
   counters = record {
