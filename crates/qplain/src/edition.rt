@@ -6,8 +6,8 @@ ghost use Rattle.qplain.specs.Editions.{file_limit_of, max_entries_of};
 
 use crate::{FILE_LIMIT, MAX_ENTRIES, OLD_FILE_LIMIT, OLD_MAX_ENTRIES};
 
-/// The edition of the rules that a store keeps and that a journal tells of: they differ in the largest file, and in how
-/// many entries a journal may have.
+/// The edition of the rules that a store keeps and that a journal tells of: they differ in the largest file, in how
+/// many entries a journal may have, and in whether it names projects.
 #[derive(Clone, Copy, Debug, PartialEq, Eq)]
 pub enum Edition {
     One,

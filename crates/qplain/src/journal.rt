@@ -7,7 +7,8 @@ use qrules::Items;
 use std::marker::Model;
 
 /// What happened to a store: its edition, how many workers there were, 1 to 16, and their entries in order, at most
-/// 65,536 in edition 1 and 1,048,576 in edition 2. A stat of a directory tells of no bytes and no blocks.
+/// 65,536 in edition 1 and 1,048,576 in edition 2. A stat of a directory tells of no bytes and no blocks, and in
+/// edition 1 no entry names a project.
 #[derive(Debug, PartialEq, Eq, Drop)]
 pub struct Journal {
     edition: Edition,

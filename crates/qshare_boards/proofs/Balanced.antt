@@ -1,6 +1,8 @@
 -- The board of whatever is played is whole.
-use Rattle.std.proofs.Common.{◌≡◌, ℕ, Bool, true, false, ◌||◌, cond, List, [], ◌∷◌, map, filter, sum_by, Result, Ok, Err, IfOk, refl, sym, ap, ◌∙◌, subst, arith}
+use Rattle.std.proofs.Common.{◌≡◌, ℕ, ◌<◌, Bool, true, false, cond, List, [], ◌∷◌, ◌++◌, length, map, filter, sum_by, Result, Ok, Err, IfOk, refl, sym, ap, ◌∙◌, subst, arith}
 use Rattle.std.specs.List.{list_any}
+use Rattle.std.proofs.lemmas.Bool.{or_right}
+use Rattle.std.proofs.lemmas.List.Folds.{list_any-append}
 use Rattle.std.proofs.lemmas.List.Sums.{sum_by-cons}
 use Rattle.std.proofs.lemmas.List.Elements.{All-map}
 use Rattle.qrules.specs.declared.board_row.BoardRow.{BoardRow}
@@ -14,11 +16,13 @@ use Rattle.qplain.specs.declared.board.Board.{Board}
 use Rattle.qplain.specs.declared.entry.Entry.{Entry}
 use Rattle.qplain.specs.declared.look_fault.LookFault.{LookFault}
 use Rattle.qplain.specs.Setups.{IsLawfulSetup, Setting}
-use Rattle.qplain.specs.State.{Holder, State, start}
+use Rattle.qplain.specs.declared.principal.Principal.{Principal}
+use Rattle.qplain.specs.State.{Holder, State, declared_in, holder_of, start}
 use Rattle.qplain.specs.Use.{total_of, use_of}
-use Rattle.qplain.specs.Journal.{play, row_of}
+use Rattle.qplain.specs.Journal.{play, played, row_of}
 use Rattle.qplain_laws.specs.Laws.{IsLawful, has_kind, uses_of}
 use Rattle.qplain_laws.proofs.Balance.{users_and_groups_stand, uses_add_up}
+use Rattle.qplain_laws.proofs.Undeclared.{kinds_stay}
 use Rattle.qplain_laws.proofs.Tallying.{journals_stay_lawful, size-played}
 use Rattle.qshare_boards.specs.Boards.{shown_of}
 use Rattle.qshare_boards.specs.Laws.{BoardsAreWhole}
@@ -55,11 +59,23 @@ rows_add_up S kind sort (h ∷ hs) =
     one_more S kind sort h (filter (λ r. is_same_kind kind r.kind) (map (row_of S) hs)) (filter (λ g. is_same_kind kind g.kind) hs)
     (is_same_kind kind h.kind) refl (rows_add_up S kind sort hs)
 
--- a kind has rows where somebody of it is declared
-kind_of_rows : (S : State) (kind : Kind) (hs : List Holder)
-    → list_any (λ r. is_same_kind kind r.kind) (map (row_of S) hs) ≡ list_any (λ h. is_same_kind kind h.kind) hs
-kind_of_rows S kind [] = refl
-kind_of_rows S kind (h ∷ hs) = ap (λ b. is_same_kind kind h.kind || b) (kind_of_rows S kind hs)
+-- no entry declares a kind, and none takes one back
+kind_played : (S : State) (kind : Kind) (journal : List Entry) → has_kind (play S journal) kind ≡ has_kind S kind
+kind_played S kind [] = refl
+kind_played S kind (e ∷ rest) = kind_played (played S e).0 kind rest ∙ kinds_stay S e.cred e.moment e.call kind
+
+-- projects that a setup declares are those of a new store
+any_project : (ps : List Principal) → 0 < length ps → list_any (λ h. is_same_kind Project h.kind) (map (holder_of Project) ps) ≡ true
+any_project [] some = absurd (omega (arith, some))
+any_project (p ∷ ps) some = refl
+
+projects_begun : (s : Setting) → 0 < length s.projects → has_kind (start s) Project ≡ true
+projects_begun s some =
+    let is : Holder → Bool = λ h. is_same_kind Project h.kind in
+    let later = list_any-append is (declared_in Group s) (declared_in Project s)
+    ∙ or_right (list_any is (declared_in Group s)) (list_any is (declared_in Project s)) (any_project s.projects some) in
+    list_any-append is (declared_in User s) (declared_in Group s ++ declared_in Project s)
+    ∙ or_right (list_any is (declared_in User s)) (list_any is (declared_in Group s ++ declared_in Project s)) later
 
 pub boards_are_whole : BoardsAreWhole
 boards_are_whole s history setup =
@@ -67,6 +83,8 @@ boards_are_whole s history setup =
     let lawful : IsLawful S = journals_stay_lawful s history setup in
     let sizes = size-played (start s) history in
     let stand = users_and_groups_stand S lawful in
+    let projects : 0 < length s.projects → has_kind S Project ≡ true =
+    λ some. kind_played (start s) Project history ∙ projects_begun s some in
     let sums : (kind : Kind) (sort : Sort) → has_kind S kind ≡ true → sum_in (shown_of (start s) history) kind sort ≡ total_of S sort =
     λ kind sort declared. rows_add_up S kind sort S.holders ∙ uses_add_up S kind sort lawful declared in
     record {
@@ -74,8 +92,8 @@ boards_are_whole s history setup =
       group_blocks = sums Group Blocks stand.1;
       user_inodes = sums User Inodes stand.0;
       group_inodes = sums Group Inodes stand.1;
-      project_blocks = λ any. sums Project Blocks (sym (kind_of_rows S Project S.holders) ∙ any);
-      project_inodes = λ any. sums Project Inodes (sym (kind_of_rows S Project S.holders) ∙ any);
+      project_blocks = λ some. sums Project Blocks (projects some);
+      project_inodes = λ some. sums Project Inodes (projects some);
       blocks_fit = omega (arith, lawful.blocks_fit, sizes.0);
       inodes_fit = omega (arith, lawful.inodes_fit, sizes.1);
       ends_stand = All-map (λ (r : BoardRow). HasEnds (account_in r)) (row_of S) S.holders lawful.ends_stand;

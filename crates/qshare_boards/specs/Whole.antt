@@ -1,6 +1,6 @@
 -- What a reader may rely on in a board.
-use Rattle.std.specs.Prelude.{◌≡◌, ℕ, ◌≤◌, ◌==◌, Bool, true, ◌&&◌, List, filter, length, sum_by, All, Option, Some}
-use Rattle.std.specs.List.{find, list_any}
+use Rattle.std.specs.Prelude.{◌≡◌, ℕ, ◌<◌, ◌≤◌, ◌==◌, Bool, ◌&&◌, List, filter, length, sum_by, All, Option, Some}
+use Rattle.std.specs.List.{find}
 use Rattle.qrules.specs.declared.board_row.BoardRow.{BoardRow}
 use Rattle.qrules.specs.declared.kind.Kind.{Kind}
 use Rattle.qrules.specs.declared.kind.Kind.TheVariants.{User, Group, Project}
@@ -27,19 +27,15 @@ account_in r = record {
 abbrev pub sum_in : Board → Kind → Sort → ℕ
 sum_in b kind sort = sum_by (λ r. count_in sort (account_in r)) (filter (λ r. is_same_kind kind r.kind) b.rows)
 
--- some row is of this kind
-abbrev pub has_rows_of : Board → Kind → Bool
-has_rows_of b kind = list_any (λ r. is_same_kind kind r.kind) b.rows
-
--- users, groups and, where there are any, projects each use all that is used, no more than there is, and a grace end
+-- users, groups and, where any is declared, projects each use all that is used, no more than there is, and a grace end
 -- stands exactly where use is over that soft limit
 pub record IsWhole (setting : Setting) (b : Board) : Type 0 where
   pub user_blocks : sum_in b User Blocks ≡ b.blocks
   pub group_blocks : sum_in b Group Blocks ≡ b.blocks
   pub user_inodes : sum_in b User Inodes ≡ b.inodes
   pub group_inodes : sum_in b Group Inodes ≡ b.inodes
-  pub project_blocks : has_rows_of b Project ≡ true → sum_in b Project Blocks ≡ b.blocks
-  pub project_inodes : has_rows_of b Project ≡ true → sum_in b Project Inodes ≡ b.inodes
+  pub project_blocks : 0 < length setting.projects → sum_in b Project Blocks ≡ b.blocks
+  pub project_inodes : 0 < length setting.projects → sum_in b Project Inodes ≡ b.inodes
   pub blocks_fit : b.blocks ≤ setting.blocks
   pub inodes_fit : b.inodes ≤ setting.inodes
   pub ends_stand : All (λ r. HasEnds (account_in r)) b.rows

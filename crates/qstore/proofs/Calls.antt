@@ -39,7 +39,7 @@ use Rattle.qstore_change.specs.FileTypes.{inode_new}
 use Rattle.qstore.specs.Targets.{IsTarget}
 use Rattle.qstore.specs.Decided.{IsAsked}
 use Rattle.qstore_walk.specs.Owners.{caller_owners}
-use Rattle.qstore.specs.Requests.{IsConsistent, are_declared, is_project}
+use Rattle.qstore.specs.Requests.{IsConsistent, are_declared, is_declared_if_any}
 use Rattle.qstore_change.specs.Changes.{altered, altered_at}
 use Rattle.qstore.specs.Stored.{IsSameStore, Stored}
 use Rattle.qstore_accounts.specs.Replacements.{IsClaimed}
@@ -86,13 +86,13 @@ give-refused S cred owners number inode may =
     λ i. cond (not (may i)) (Refuse EPERM) (Becomes (with_inode S number (with_owners inode owners)) number)
 
 -- owners that are known are declared
-project-known : (S : State) (project : Option ℕ) → is_known_owner S Project project ≡ true → is_project S project ≡ true
+project-known : (S : State) (project : Option ℕ) → is_known_owner S Project project ≡ true → is_declared_if_any S project ≡ true
 project-known S None known = refl
 project-known S (Some id) known = known
 
 pub known-declared : (S : State) (owners : Owners) → AreKnown S owners → are_declared S owners ≡ true
 known-declared S owners known =
-    and_from (is_declared S User owners.uid && is_declared S Group owners.gid) (is_project S owners.project)
+    and_from (is_declared S User owners.uid && is_declared S Group owners.gid) (is_declared_if_any S owners.project)
     (and_from (is_declared S User owners.uid) (is_declared S Group owners.gid) (known User) (known Group))
     (project-known S owners.project (known Project))
 
@@ -106,8 +106,8 @@ named-id S kind (Some id) own named is = by (is_declared S kind id) named
     by true n = refl
     by false n = cc
 
-named-project : (S : State) (id own : Option ℕ) → is_undeclared S Project id ≡ false → is_project S own ≡ true
-    → is_project S (option_or id own) ≡ true
+named-project : (S : State) (id own : Option ℕ) → is_undeclared S Project id ≡ false → is_declared_if_any S own ≡ true
+    → is_declared_if_any S (option_or id own) ≡ true
 named-project S None own named is = is
 named-project S (Some id) own named is = named-id S Project (Some id) id named (by (is_declared S Project id) named)
   where
@@ -122,10 +122,10 @@ pub named-declared : (S : State) (uid gid project : Option ℕ) (owners : Owners
 named-declared S uid gid project owners named own =
     let last = or_parts (is_undeclared S User uid || is_undeclared S Group gid) (is_undeclared S Project project) named in
     let first = or_parts (is_undeclared S User uid) (is_undeclared S Group gid) last.0 in
-    let all = and_parts (is_declared S User owners.uid && is_declared S Group owners.gid) (is_project S owners.project) own in
+    let all = and_parts (is_declared S User owners.uid && is_declared S Group owners.gid) (is_declared_if_any S owners.project) own in
     let both = and_parts (is_declared S User owners.uid) (is_declared S Group owners.gid) all.0 in
     and_from (is_declared S User (unwrap_or uid owners.uid) && is_declared S Group (unwrap_or gid owners.gid))
-    (is_project S (option_or project owners.project))
+    (is_declared_if_any S (option_or project owners.project))
     (and_from (is_declared S User (unwrap_or uid owners.uid)) (is_declared S Group (unwrap_or gid owners.gid))
     (named-id S User uid owners.uid first.0 both.0) (named-id S Group gid owners.gid first.1 both.1))
     (named-project S project owners.project last.1 all.1)
@@ -134,7 +134,7 @@ named-declared S uid gid project owners named own =
 pub made-declared : (S : State) (cred : Caller) (dir : ℕ) → FitsTogether S → are_declared S (caller_owners cred None) ≡ true
     → is_directory S dir ≡ true → are_declared S (owners_by S cred dir) ≡ true
 made-declared S cred dir fits known stands =
-    and_from (is_declared S User cred.uid && is_declared S Group cred.gid) (is_project S (project_of (inode_at S dir)))
+    and_from (is_declared S User cred.uid && is_declared S Group cred.gid) (is_declared_if_any S (project_of (inode_at S dir)))
     (and_parts (is_declared S User cred.uid && is_declared S Group cred.gid) true known).0
     (project-known S (project_of (inode_at S dir)) (known-project S dir fits stands))
 

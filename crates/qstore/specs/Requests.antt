@@ -20,14 +20,14 @@ pub record IsConsistent (s : Stored) : Type 0 where
   pub books : AreBooksOf s.state s.books
 
 -- the project is declared, if there is one
-abbrev pub is_project : State → Option ℕ → Bool
-is_project S None = true
-is_project S (Some id) = is_declared S Project id
+abbrev pub is_declared_if_any : State → Option ℕ → Bool
+is_declared_if_any S None = true
+is_declared_if_any S (Some id) = is_declared S Project id
 
 -- the owners are declared
 abbrev pub are_declared : State → Owners → Bool
 are_declared S owners =
-    is_declared S User owners.uid && is_declared S Group owners.gid && is_project S owners.project
+    is_declared S User owners.uid && is_declared S Group owners.gid && is_declared_if_any S owners.project
 
 -- the store is consistent, and the caller is declared, whose records stand in it where the request says
 pub record CanDecide (s : Stored) (request : Request) : Type 0 where

@@ -10,7 +10,7 @@ ghost use Rattle.qstore_accounts.specs.Books.{HasSlots};
 ghost use Rattle.qstore_accounts.specs.Replacements.{IsClaimed};
 ghost use Rattle.qstore_change.specs.Changes.{CanChange, changed};
 ghost use Rattle.qstore.specs.Decided.{CanDecide, IsAsked, IsBilled, IsConsistent, IsDecision, IsUnbilled};
-ghost use Rattle.qstore.specs.Requests.{IsWithProject, are_declared, is_project};
+ghost use Rattle.qstore.specs.Requests.{IsWithProject, are_declared, is_declared_if_any};
 ghost use Rattle.qstore.specs.Stored.{IsSameStore};
 
 use crate::{Exchange, Ready, Refusal, Request, Store};
@@ -37,44 +37,27 @@ impl Store {
         ensures slots { IfSome result (λ slots. HasSlots self.now.books slots owners) }
         ensures whole { IsConsistent self.now }
     {
-        let project = None;
-        match (
-            self.accounts.slot(Kind::User, owners.uid),
-            self.accounts.slot(Kind::Group, owners.gid),
-        ) {
-            (Some(user), Some(group)) => {
-                self.with_project(
-                    Slots {
-                        user,
-                        group,
-                        project,
-                    },
-                    owners.project,
-                )
-            }
-            _ => None,
-        }
+        let user = self.accounts.slot(Kind::User, owners.uid)?;
+        let group = self.accounts.slot(Kind::Group, owners.gid)?;
+        let alone = Slots {
+            user,
+            group,
+            project: None,
+        };
+        self.with_project(alone, owners.project)
     }
 
     /// The slots of a user and of a group, with that of a project, if there is one: all, if it is declared.
     #[inline(always)]
     fn with_project(&self, slots: Slots, project: Option<u32>) -> Option<Slots>
-        ensures declared { is_some result ≡ is_project self.now.state project }
+        ensures declared { is_some result ≡ is_declared_if_any self.now.state project }
         ensures slots { IfSome result (IsWithProject self.now.books slots project) }
     {
-        let Some(id) = project else {
-            return Some(Slots {
-                project: None,
-                ..slots
-            });
-        };
-        match self.accounts.slot(Kind::Project, id) {
-            Some(slot) => Some(Slots {
-                project: Some(slot),
-                ..slots
-            }),
+        let project = match project {
+            Some(id) => Some(self.accounts.slot(Kind::Project, id)?),
             None => None,
-        }
+        };
+        Some(Slots { project, ..slots })
     }
 
     /// The same, where those of the caller are found already.

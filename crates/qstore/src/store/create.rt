@@ -34,6 +34,7 @@ impl Store {
         requires directory { is_directory self.now.state dir ≡ true }
         ensures { result ≡ project_of (inode_at self.now.state dir) }
     {
+        // The directory would say the same: this saves its look-up.
         if self.accounts.has_no_projects() {
             return None;
         }
