@@ -135,15 +135,37 @@ def one_processor():
         os.sched_setaffinity(0, allowed)
 
 
+def watched(work, scripts, *options, config=EXAMPLE):
+    """A run with 1000 boards: whether they are its journal's and that comes again, the outcome without them, the
+    journal, and the versions that were shown."""
+    (status, out, err), journal, again = run(work, scripts, "--boards", "1000", *options, config=config)
+    rest, looks = parted(out)
+    whole = looks and len(looks) == 1_000 and all(map(SHOWN.fullmatch, looks)) and are_lawful(looks, journal)
+    versions = {look.split()[1] for look in looks} if looks else set()
+    return bool(whole and comes_again((status, rest, err), again)), rest, journal, versions
+
+
 def crowd(work, *options):
     """A run of 15 busy workers and 1000 boards: whether all holds of it, and the versions that were shown."""
     scripts = [busy(worker, 1_024) for worker in range(1, 16)]
-    (status, out, err), journal, again = run(work, scripts, "--boards", "1000", *options)
-    rest, looks = parted(out)
-    whole = looks and len(looks) == 1_000 and all(map(SHOWN.fullmatch, looks)) and are_lawful(looks, journal)
+    right, _, journal, versions = watched(work, scripts, *options)
     head = journal.startswith(b"quotafs journal 2 workers 15\n") and journal.count(b"\n") == 1 + 15 * 4_096
-    versions = {look.split()[1] for look in looks} if looks else set()
-    return bool(whole and head and comes_again((status, rest, err), again)), versions
+    return right and head, versions
+
+
+def six_rows(work):
+    """Whether 1000 boards beside a worker that gives a file to another user, group and project, and back, on and on,
+    leave its outcome: each such call changes six rows of a board, and the run holds each board against its journal, row
+    by row. The last call is that of a row of checking/, and so is the report."""
+    row = CHECKING / "projects/a_chown_changes_six_rows.txt"
+    *begin, there = row.read_bytes().splitlines(keepends=True)
+    back, reply = b"0 0:0 chown /w/a 1001 0 7\n", b"%d done 3 blocks +0 -0 inodes +0 -0\n"
+    script, first, last = b"".join(begin) + there + (back + there) * 20_000, len(begin) + 1, len(begin) + 40_001
+    told = row.with_suffix(".0.out").read_bytes()
+    told = told.replace(reply % first, b"".join(reply % place for place in range(first, last + 1)), 1)
+    told = told.replace(b" calls %d\n" % first, b" calls %d\n" % last)
+    right, rest, _, versions = watched(work, [script], config=row.parent / "config.toml")
+    return right and rest == told and len(versions) > 1
 
 
 def in_batches(work, batch):
@@ -179,6 +201,7 @@ def checks(work):
     yield "15 workers and 1000 boards, one processor", all(right for right, _ in alone), True
     yield "15 workers and 1000 boards: the course of use", all(len(versions) > 1 for _, versions in runs), True
     yield ".. on one processor", any(len(versions) > 1 for _, versions in alone), True
+    yield "1000 boards beside chowns that change six rows", six_rows(work), True
     yield "examples/boards", example(), True
     for batch in [1, 2, 63, 64]:
         yield f"batches of {batch}", in_batches(work, batch), True

@@ -10,7 +10,8 @@
   of the answers in ROW.MOMENT.out (`journal_of`).
 - journals/ROW.journal is a journal, and journals/ROW.0.out the whole text that its replay prints; likewise in
   project_journals, whose configuration has projects.
-- journals/THEME.rows: a line is the bytes of a journal, and its fault, or the place of a reply that does not fit.
+- journals/THEME.rows: a line is the bytes of a journal, and its fault, or the place of a reply that does not fit;
+  likewise in project_journals.
 - renames/THEME.rows: a line is a caller, the two paths of a rename after renames/before.txt, the step of its call that
   decides, its answer, and what a stat of some paths answers then.
 - command_lines.rows: a line is the words, the status, the output and the error output, in the folder `a`. Two dots at
@@ -209,14 +210,15 @@ def journals(work):
 
 def replays(work):
     """Journals that are played, those that are refused, and those that do not fit."""
-    for journal in sorted(file for folder in JOURNALS for file in (CHECKING / folder).glob("*.journal")):
-        name, out = f"{journal.parent.name}/{journal.stem}", journal.with_suffix(".0.out").read_bytes()
-        yield Case(name, ["replay", "--config", journal.parent / "config.toml", journal], 0, out, refuses=True)
-    for name, number, (text, told), file in listed("journals/*.rows"):
-        (work / file).write_bytes(text.encode("latin-1"))
-        status, fault = (3, told) if told.startswith("mismatch ") else (2, f"journal: {told}")
-        words = ["replay", "--config", EXAMPLE, work / file]
-        yield Case(name, words, status, err=f"quotafs: {fault}\n".encode(), refuses=number == 1)
+    for folder in JOURNALS:
+        head = ["replay", "--config", CHECKING / folder / "config.toml"]
+        for journal in sorted((CHECKING / folder).glob("*.journal")):
+            out = journal.with_suffix(".0.out").read_bytes()
+            yield Case(f"{folder}/{journal.stem}", [*head, journal], 0, out, refuses=True)
+        for name, number, (text, told), file in listed(f"{folder}/*.rows"):
+            (work / file).write_bytes(text.encode("latin-1"))
+            status, fault = (3, told) if told.startswith("mismatch ") else (2, f"journal: {told}")
+            yield Case(name, [*head, work / file], status, err=f"quotafs: {fault}\n".encode(), refuses=number == 1)
 
 
 def listed(pattern):

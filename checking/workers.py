@@ -17,15 +17,15 @@ SIX_FILES = [b"".join(b"0 1001:0,100 create /%c\n" % name for name in names) for
 SIX_REPLIES = [*(DONE % ino for ino in range(2, 7)), NO_SPACE]
 
 
-def run(work, scripts, *options):
+def run(work, scripts, *options, config=EXAMPLE):
     """The answer of a run of these scripts, its journal, and what a replay of that answers."""
     names = []
     for number, script in enumerate(scripts, 1):
         names.append(work / f"worker.{number}")
         names[-1].write_bytes(script)
     journal = work / "workers.journal"
-    answer = call(["run", "--config", EXAMPLE, "--journal", journal, *options, *names])
-    return answer, journal.read_bytes(), call(["replay", "--config", EXAMPLE, journal])
+    answer = call(["run", "--config", config, "--journal", journal, *options, *names])
+    return answer, journal.read_bytes(), call(["replay", "--config", config, journal])
 
 
 def replies_of(journal):

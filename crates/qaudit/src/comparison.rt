@@ -5,7 +5,8 @@ ghost use Rattle.std.specs.BTreeSet.{contains};
 ghost use Rattle.std.specs.List.{find};
 ghost use Rattle.std.specs.Option.{option_or};
 ghost use Rattle.std.specs.Ordering.{nat_cmp};
-ghost use Rattle.qaudit.specs.Differences.{counts_in, differences_of, has_record, is_off, link_differences, owners_without_record, use_differences};
+ghost use Rattle.qaudit.specs.Differences.{counts_in, differences_of, has_record, is_off, link_differences};
+ghost use Rattle.qaudit.specs.Differences.{owners_without_record, use_differences};
 
 use crate::owners::count_at;
 use crate::{CountRow, Counts, Difference, LinkRow, NoMemory};

@@ -6,7 +6,8 @@ use Rattle.std.specs.Map.{lookup}
 use Rattle.std.proofs.lemmas.Map.Entries.{lookup-filter-keys}
 use Rattle.qblocks.specs.File.{after_truncate, after_write}
 use Rattle.qplain.specs.declared.call.Call.{Call}
-use Rattle.qplain.specs.declared.call.Call.TheVariants.{Create, Mkdir, Write, Truncate, Read, Stat as AskStat, Link, Unlink, Rmdir, Rename, Chown, SetQuota, SetGrace, Quota as AskQuota}
+use Rattle.qplain.specs.declared.call.Call.TheVariants.{Create, Mkdir, Write, Truncate, Read, Stat as AskStat, Link, Unlink, Rmdir, Rename, Chown, SetQuota}
+use Rattle.qplain.specs.declared.call.Call.TheVariants.{SetGrace, Quota as AskQuota}
 use Rattle.qplain.specs.declared.owners.Owners.{Owners}
 use Rattle.qplain.specs.declared.refusal.Refusal.{Refusal}
 use Rattle.qplain.specs.declared.refusal.Refusal.TheVariants.{EEXIST, EISDIR, EACCES, EFBIG, EMLINK, EPERM}

@@ -1,5 +1,6 @@
 -- The first test of a call that fails is what it is refused for.
-use Rattle.std.proofs.Common.{◌≡◌, ℕ, ◌+◌, ◌==◌, Bool, true, false, not, ◌&&◌, ◌||◌, nat_lt, cond, List, [], ◌∷◌, length, Option, Some, None, is_some, Result, Ok, Err, refl, ap, ◌∙◌, subst}
+use Rattle.std.proofs.Common.{◌≡◌, ℕ, ◌+◌, ◌==◌, Bool, true, false, not, ◌&&◌, ◌||◌, nat_lt, cond, List, [], ◌∷◌, length, Option, Some, None, is_some, Result}
+use Rattle.std.proofs.Common.{Ok, Err, refl, ap, ◌∙◌, subst}
 use Rattle.std.specs.List.{find, list_any}
 use Rattle.std.specs.Option.{option_map, option_or}
 use Rattle.qrules.specs.declared.over.Over.{Over}
@@ -25,7 +26,8 @@ use Rattle.qplain.specs.Quotas.{quota_from}
 use Rattle.qplain.specs.Calls.{attempt, attempt_of, unless}
 use Rattle.qplain.specs.Step.{settle, settled}
 use Rattle.qplain_laws.specs.Laws.{is_for_limits}
-use Rattle.qplain_laws.specs.Refusals.{RefusalsComeInOrder, Test, first_failed, first_refusal_of, in_directory, of_found, of_last, of_reached, rename_tests, tests_of}
+use Rattle.qplain_laws.specs.Refusals.{RefusalsComeInOrder, Test, first_failed, first_refusal_of, in_directory, of_found, of_last, of_reached, rename_tests}
+use Rattle.qplain_laws.specs.Refusals.{tests_of}
 
 -- the attempt is no refusal
 abbrev IsGranted : Attempt → Type 0

@@ -112,7 +112,7 @@ ProjectsAreKept = PlaysThere (Begun
     ∷ (line 0 bob (Create (codes "/w/x")), Refused (EDQUOT Project InodeHard))
     ∷ (line 0 bob (Create (codes "/e/x")), done 7 0 1) ∷ []))
 
--- the user is tested before the group, and the group before the project; the superuser passes all three
+-- the user is tested before the group, and the group before the project, whose limit the superuser passes
 abbrev pub ProjectComesLast : Type 0
 ProjectComesLast = PlaysThere (Begun
     ((line 0 root_caller (SetQuota User 1001 (record free { block_hard = 4 })), done 0 0 0)

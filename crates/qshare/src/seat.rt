@@ -94,10 +94,10 @@ impl<S: StoreId> Seat<S, Viewer<S>> {
     /// and waits for nobody.
     ///
     /// The board is that of a legal history, which begins with all that the seat had seen, and is seen then. It is
-    /// whole: users' blocks add up to the total and groups' too, inodes likewise, totals are within the setup's bounds,
-    /// and a grace end stands exactly where use is over that soft limit. An Err is NoBoard where no board was handed
-    /// out that has all that the seat has seen, reported first, after which the seat is wholly as it was, or
-    /// OutOfMemory, after which it is so but for what it has seen.
+    /// whole: users' blocks add up to the total, and so do groups', and projects' where any is declared, inodes
+    /// likewise, totals are within the setup's bounds, and a grace end stands exactly where use is over that soft
+    /// limit. An Err is NoBoard where no board was handed out that has all that the seat has seen, reported first,
+    /// after which the seat is wholly as it was, or OutOfMemory, after which it is so but for what it has seen.
     pub fn board(&mut self) -> Result<Board, LookFault>
         ensures look { HasLooked S.id.setting self.old self.new result }
         ensures board { IsBoardAnswer (start S.id.setting) self.new.seen result }

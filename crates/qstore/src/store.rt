@@ -65,9 +65,9 @@ impl Model for Store {
 
 impl Store {
     /// A new store of a setup. It holds the root directory, inode 1 of user 0, group 0 and, where projects are
-    /// declared, project 0; the next number is 2, and a file has at most 2^30 bytes in edition 1 and 2^40 in edition 2 (tmpfs(5), profile). The hashes of names begin at
-    /// `seed`, any number: who does not know it cannot search for names that collide, and no answer depends on it.
-    /// After an Err nothing was made. O(n) for n principals.
+    /// declared, project 0; the next number is 2, and a file has at most 2^30 bytes in edition 1 and 2^40 in edition 2
+    /// (tmpfs(5), profile). The hashes of names begin at `seed`, any number: who does not know it cannot search for
+    /// names that collide, and no answer depends on it. After an Err nothing was made. O(n) for n principals.
     pub fn new(alloc: Global, setup: Setup, seed: u64) -> Result<Store, NoMemory>
         ensures { IfOk result (λ s. s.state ≡ start setup) }
     {

@@ -1,5 +1,6 @@
 //! The accounts of a store: its records, its totals, its bounds and its graces.
-ghost use Rattle.std.specs.Prelude.{◌≡◌, ℕ, ◌+◌, ◌≤◌, ◌||◌, ◌==◌, length, nat_lt, map, None, Some, Option, IfOk, IfErr, OnOk, IfSome, is_some, option_copied, true};
+ghost use Rattle.std.specs.Prelude.{◌≡◌, ℕ, ◌+◌, ◌≤◌, ◌||◌, ◌==◌, length, nat_lt, map, None, Some, Option, IfOk, IfErr};
+ghost use Rattle.std.specs.Prelude.{OnOk, IfSome, is_some, option_copied, true};
 ghost use Rattle.std.specs.Option.{option_map, option_or};
 ghost use Rattle.std.specs.List.{AllPairs, find};
 ghost use Rattle.qrules.specs.declared.kind.Kind.{Kind};

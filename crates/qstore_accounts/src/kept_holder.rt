@@ -1,4 +1,4 @@
-//! A user or a group as a store keeps it.
+//! A principal as a store keeps it.
 ghost use Rattle.std.specs.Prelude.{◌≡◌, ◌==◌, ◌≤◌, if◌then◌else◌, IfOk};
 ghost use Rattle.qrules.specs.Grace.{unused, with_ends};
 ghost use Rattle.std.specs.Option.{option_map};
@@ -10,7 +10,7 @@ use qplain::{NoMemory, Principal, Refusal};
 use qrules::{BoardRow, Graces, Kind, Limits, MAX_GRACE, PrincipalName, Record, RecordRow};
 use std::alloc::Global;
 
-/// A user or a group, with its quota record.
+/// A principal, with its quota record.
 #[derive(Drop)]
 pub struct KeptHolder {
     pub id: u32,

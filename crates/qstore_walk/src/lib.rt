@@ -1,5 +1,5 @@
-//! Paths, walks along the names of a tree, and what calls ask of it before they change it. No question changes
-//! anything.
+//! Paths, walks along the names of a tree, what calls ask of it before they change it, and whose an inode is that they
+//! make or give. No question changes anything.
 #![tactic(auto)]
 
 pub use call_paths::paths_fault;

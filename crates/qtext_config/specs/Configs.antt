@@ -1,5 +1,6 @@
 -- What a text writes as a configuration, and what is read of it.
-use Rattle.std.specs.Prelude.{ℕ, ℤ, pos, negsuc, ◌^◌, nat_lt, ◌==◌, if◌then◌else◌, List, [], length, Option, Some, None, Result, Ok, Err, codes}
+use Rattle.std.specs.Prelude.{ℕ, ℤ, pos, negsuc, ◌^◌, nat_lt, ◌==◌, if◌then◌else◌, List, [], length, Option, Some, None}
+use Rattle.std.specs.Prelude.{Result, Ok, Err, codes}
 use Rattle.toml.specs.Data.{Members}
 use Rattle.toml.specs.Parse.{parse_document}
 use Rattle.qrules.specs.declared.limits.Limits.{Limits}

@@ -12,7 +12,8 @@ use Rattle.qtext.specs.declared.text_fault.TextKind.TheVariants.{BadNumber}
 use Rattle.qtext.specs.Words.{number}
 use Rattle.qtext.proofs.WordsAgain.{number_again, data_again}
 use Rattle.qtext_read.specs.Verbs.{verb_of}
-use Rattle.qtext_read.specs.Calls.{create_of, mkdir_of, write_of, truncate_of, read_of, stat_of, link_of, unlink_of, rmdir_of, rename_of, chown_of, chown_to_project_of, limits_of, setquota_of, setgrace_of, quota_of, path_call_of, call_of, call_in}
+use Rattle.qtext_read.specs.Calls.{create_of, mkdir_of, write_of, truncate_of, read_of, stat_of, link_of, unlink_of, rmdir_of, rename_of, chown_of}
+use Rattle.qtext_read.specs.Calls.{chown_to_project_of, limits_of, setquota_of, setgrace_of, quota_of, path_call_of, call_of, call_in}
 use Rattle.qtext_read.specs.Spelling.{limits_words, call_words}
 use Rattle.qplain.specs.Held.{AreLimits, IsCall}
 use Rattle.qtext_read.proofs.ArgumentsAgain.{path_again, kind_again, owner_again, any_id, decimal_word, data_word, kind_word, id_word, owner_word, project_word}

@@ -19,8 +19,10 @@ use Rattle.qtext_read.specs.declared.call.TheConstants.{MAX_FILL}
 use Rattle.qtext_read.specs.declared.verb.Verb.{Verb}
 use Rattle.qtext_read.specs.declared.verb.Verb.TheVariants as verb
 use Rattle.qtext_read.specs.Verbs.{verb_of}
-use Rattle.qtext_read.specs.Calls.{create_of, mkdir_of, write_of, fill_of, truncate_of, read_of, stat_of, link_of, unlink_of, rmdir_of, rename_of, chown_of, chown_to_project_of, limits_of, setquota_of, setgrace_of, quota_of, path_call_of, call_of, call_in}
-use Rattle.qtext_read.specs.Journaled.{argument_count, arity, counted_call_of, has_project, in_one_case, is_fill, journaled_call_in, journaled_call_of, journaled_verb_of}
+use Rattle.qtext_read.specs.Calls.{create_of, mkdir_of, write_of, fill_of, truncate_of, read_of, stat_of, link_of, unlink_of, rmdir_of, rename_of, chown_of}
+use Rattle.qtext_read.specs.Calls.{chown_to_project_of, limits_of, setquota_of, setgrace_of, quota_of, path_call_of, call_of, call_in}
+use Rattle.qtext_read.specs.Journaled.{argument_count, arity, counted_call_of, has_project, in_one_case, is_fill, journaled_call_in, journaled_call_of}
+use Rattle.qtext_read.specs.Journaled.{journaled_verb_of}
 use Rattle.qtext_read.specs.Spelling.{call_words}
 use Rattle.qplain.specs.Held.{IsCall}
 use Rattle.qtext_read.proofs.ArgumentsFound.{any_id, any_kind, any_limits, any_number, any_owner, any_path}

@@ -8,7 +8,8 @@ use Rattle.qplain.specs.Projects.{call_names_project}
 use Rattle.qplain.specs.declared.call.Call.TheVariants.{Create, Mkdir, Write, Truncate, Read, Stat, Link, Unlink, Rmdir, Rename, Chown, SetQuota, SetGrace, Quota}
 use Rattle.qtext.proofs.WordsAgain.{are_digits, data_again}
 use Rattle.qtext_read.specs.Verbs.{verb_of}
-use Rattle.qtext_read.specs.Calls.{create_of, mkdir_of, write_of, truncate_of, read_of, stat_of, link_of, unlink_of, rmdir_of, rename_of, chown_of, chown_to_project_of, limits_of, setquota_of, setgrace_of, quota_of, path_call_of, call_of}
+use Rattle.qtext_read.specs.Calls.{create_of, mkdir_of, write_of, truncate_of, read_of, stat_of, link_of, unlink_of, rmdir_of, rename_of, chown_of}
+use Rattle.qtext_read.specs.Calls.{chown_to_project_of, limits_of, setquota_of, setgrace_of, quota_of, path_call_of, call_of}
 use Rattle.qtext_read.specs.Journaled.{counted_call_of, in_one_case, is_project, journaled_call_in, journaled_call_of, journaled_verb_of}
 use Rattle.qtext_read.specs.Spelling.{call_words}
 use Rattle.qplain.specs.Held.{IsCall}

@@ -1,7 +1,8 @@
 //! Calls as words.
 ghost use Rattle.std.specs.Prelude.{map};
 ghost use Rattle.qtext.specs.Gives.{Gives};
-ghost use Rattle.qtext_read.specs.Calls.{write_of, fill_of, truncate_of, read_of, chown_of, chown_to_project_of, limits_of, setquota_of, setgrace_of, quota_of, call_of, call_in};
+ghost use Rattle.qtext_read.specs.Calls.{write_of, fill_of, truncate_of, read_of, chown_of, chown_to_project_of};
+ghost use Rattle.qtext_read.specs.Calls.{limits_of, setquota_of, setgrace_of, quota_of, call_of, call_in};
 
 use crate::argument::{data_of, kind_of, owner_of};
 use crate::path_call::path_call_of;

@@ -1,7 +1,8 @@
 //! Calls as journals have them: without `fill`, and with data in lower case. In edition 1 they name no project.
 ghost use Rattle.std.specs.Prelude.{◌≡◌, ◌≤◌, ◌+◌, length, map, IfOk};
 ghost use Rattle.qtext.specs.Gives.{Gives};
-ghost use Rattle.qtext_read.specs.Journaled.{argument_count, arity, counted_call_of, has_project, in_one_case, is_project, journaled_call_in, journaled_call_of, journaled_verb_of};
+ghost use Rattle.qtext_read.specs.Journaled.{argument_count, arity, counted_call_of, has_project, in_one_case};
+ghost use Rattle.qtext_read.specs.Journaled.{is_project, journaled_call_in, journaled_call_of, journaled_verb_of};
 
 use crate::argument::has_upper_case;
 use crate::call::call_of;

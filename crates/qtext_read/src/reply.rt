@@ -1,7 +1,8 @@
 //! Replies read from words.
 ghost use Rattle.std.specs.Prelude.{map};
 ghost use Rattle.qtext.specs.Gives.{Gives};
-ghost use Rattle.qtext_read.specs.RepliesRead.{as_bad_reply, bytes_of, done_of, edquot_of, end_of, keyword, quota_of, rise_of, reply_in, reply_of, signed, stat_of, words_of_reply};
+ghost use Rattle.qtext_read.specs.RepliesRead.{as_bad_reply, bytes_of, done_of, edquot_of, end_of, keyword, quota_of};
+ghost use Rattle.qtext_read.specs.RepliesRead.{rise_of, reply_in, reply_of, signed, stat_of, words_of_reply};
 
 use crate::argument::{has_upper_case, kind_of};
 use crate::call::limits_of;

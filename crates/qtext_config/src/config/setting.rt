@@ -4,7 +4,8 @@ ghost use Rattle.std.specs.Prelude.{◌≡◌, IfOk};
 ghost use Rattle.qplain.specs.declared.edition.Edition.TheVariants.{Two};
 ghost use Rattle.qtext.specs.Reading.{each_of};
 ghost use Rattle.qtext_config.specs.ConfigFaults.{GivesBy};
-ghost use Rattle.qtext_config.specs.Configs.{ReadsSetup, declared_of, id_of, limits_of, number_of, projects_of, setting_of};
+ghost use Rattle.qtext_config.specs.Configs.{ReadsSetup, declared_of, id_of, limits_of, number_of, projects_of};
+ghost use Rattle.qtext_config.specs.Configs.{setting_of};
 
 use super::principal::WrittenPrincipal;
 use super::written::WrittenConfig;
