@@ -32,7 +32,7 @@ journal_left setting journal workers lawful legal few are each own = record {
   few = few;
   each = λ k d less.
       let one = each k d less in
-      (one.0, (one.1, (legal-fair (start setting) journal lawful legal k d less, own k d less)));
+      (one.0, one.1, legal-fair (start setting) journal lawful legal k d less, own k d less);
 }
 
 -- what is left of a store that was played on by the workers of scripts

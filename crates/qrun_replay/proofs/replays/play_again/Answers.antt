@@ -9,7 +9,7 @@ outcome_of-requires-clause-of_edition c =
       c.in_ok-replay_all.ensures.ok,
       c.entries.ensures.entries,
       c.requires.edition,
-    ) (λ k d less. (c.entries.ensures.lawful.each k d less).1.1.1)
+    ) (λ k d less. (c.entries.ensures.lawful.each k d less).3)
 
 pub returns-clause-replay : goal.returns-clause-replay
 returns-clause-replay c =
