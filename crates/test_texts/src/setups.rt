@@ -3,7 +3,7 @@
 use qplain::{Principal, Setup};
 use std::alloc::{AllocError, Global};
 
-/// Writes the table of a user or group.
+/// Writes the table of a user, a group or a project.
 fn put_principal(out: &mut String, kind: &str, principal: &Principal) -> Result<(), AllocError> {
     let id = principal.id;
     let name = principal.name.as_str();
@@ -33,6 +33,9 @@ pub(crate) fn text_of(alloc: Global, setup: &Setup) -> Result<String, AllocError
     }
     for group in setup.groups() {
         put_principal(&mut out, "group", group)?;
+    }
+    for project in setup.projects() {
+        put_principal(&mut out, "project", project)?;
     }
     Ok(out)
 }
