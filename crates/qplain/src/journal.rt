@@ -31,7 +31,8 @@ impl Model for Journal {
 impl Journal {
     ghost use Rattle.qplain.specs.Journals.{IsJournal};
 
-    /// A journal of 1 to 16 workers with no more entries than its edition lets it have, each of one of them.
+    /// A journal of 1 to 16 workers with no more entries than its edition lets it have, each of one of them. In edition
+    /// 1 no entry names a project.
     pub fn new(edition: Edition, workers: u64, entries: Items<Entry>) -> Self
         requires { IsJournal (record { edition = edition; workers = workers; entries = entries }) }
         ensures { result ≡ record { edition = edition; workers = workers; entries = entries } }
