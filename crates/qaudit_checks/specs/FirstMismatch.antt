@@ -1,5 +1,6 @@
 -- The first place at which a journal and a part of its transcripts differ. No public clause cites this module.
-use Rattle.std.specs.Prelude.{◌≡◌, ℕ, ◌+◌, ◌<◌, ◌≤◌, ◌⊎◌, ◌++◌, List, length, slice_get, take, drop, All, Option, Some, None, IfSome, Result, IsOk, nat_lt, if◌then◌else◌}
+use Rattle.std.specs.Prelude.{◌≡◌, ℕ, ◌+◌, ◌<◌, ◌≤◌, ◌⊎◌, ◌++◌, List, length, slice_get, take, drop, All, Option}
+use Rattle.std.specs.Prelude.{Some, None, IfSome, Result, IsOk, nat_lt, if◌then◌else◌}
 use Rattle.qplain.specs.declared.call_fault.CallFault.{CallFault}
 use Rattle.qplain.specs.declared.entry.Entry.{Entry}
 use Rattle.qplain.specs.declared.line.Line.{Line}

@@ -5,7 +5,8 @@
 --     after_truncate f size      the file at another size
 --     read_at f off len          the bytes that a read gives
 --     touches off n k            the write of n bytes at off touches the block k
-use Rattle.std.specs.Prelude.{◌≡◌, ℕ, zero, suc, ◌+◌, ◌-◌, ◌*◌, ◌/◌, Bool, ◌&&◌, ◌||◌, ◌==◌, nat_le, nat_lt, if◌then◌else◌, List, [], ◌∷◌, ◌++◌, length, take, drop, filter, replicate}
+use Rattle.std.specs.Prelude.{◌≡◌, ℕ, zero, suc, ◌+◌, ◌-◌, ◌*◌, ◌/◌, Bool, ◌&&◌, ◌||◌, ◌==◌, nat_le, nat_lt}
+use Rattle.std.specs.Prelude.{if◌then◌else◌, List, [], ◌∷◌, ◌++◌, length, take, drop, filter, replicate}
 use Rattle.std.specs.List.{list_any}
 use Rattle.qblocks.specs.declared.block.TheConstants.{BLOCK_SIZE}
 

@@ -3,7 +3,9 @@
 --     row_filled row j    it holds a block
 --     row_byte row o      the byte at the offset o in the row, or 0
 --     Puts ..             what a write does to bytes, to slots and to the blocks that are spare
-use Rattle.std.specs.Prelude.{◌≡◌, ℕ, zero, suc, ◌+◌, ◌-◌, ◌/◌, ◌%◌, ◌<◌, ◌≤◌, Bool, ◌||◌, ◌&&◌, nat_le, nat_lt, nat_eq, if◌then◌else◌, List, length, slice_index, slice_index_or, is_some, Option, Some, None}
+use Rattle.std.specs.Prelude.{◌≡◌, ℕ, zero, suc, ◌+◌, ◌-◌, ◌/◌, ◌%◌, ◌<◌, ◌≤◌, Bool, ◌||◌, ◌&&◌, nat_le, nat_lt}
+use Rattle.std.specs.Prelude.{nat_eq, if◌then◌else◌, List, length, slice_index, slice_index_or, is_some, Option, Some}
+use Rattle.std.specs.Prelude.{None}
 use Rattle.qblocks.specs.declared.block.TheConstants.{BLOCK_SIZE}
 use Rattle.qblocks.specs.declared.row.TheConstants.{ROW_BLOCKS}
 

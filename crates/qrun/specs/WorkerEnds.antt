@@ -1,7 +1,8 @@
 -- What the ends of the workers of a run make of it.
 use Rattle.std.specs.Prelude.{◌≡◌, ℕ, ◌-◌, ◌<◌, ◌≤◌, List, length, take, slice_index_or, All}
 use Rattle.qrun.specs.declared.run_fault.RunFault.{RunFault}
-use Rattle.qrun.specs.declared.run_fault.RunFault.TheVariants.{Memory, NotStarted as TellsNotStarted, Mismatch, NoReader}
+use Rattle.qrun.specs.declared.run_fault.RunFault.TheVariants.{Memory, NotStarted as TellsNotStarted, Mismatch}
+use Rattle.qrun.specs.declared.run_fault.RunFault.TheVariants.{NoReader}
 use Rattle.qrun.specs.declared.worker_end.WorkerEnd.{WorkerEnd}
 use Rattle.qrun.specs.declared.worker_end.WorkerEnd.TheVariants.{Done, NotStarted}
 

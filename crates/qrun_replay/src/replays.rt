@@ -8,7 +8,8 @@ ghost use Rattle.qplain.specs.State.{start};
 ghost use Rattle.qrun_replay.specs.declared.outcome.Outcome.{Outcome};
 ghost use Rattle.qrun_replay.specs.declared.replay_fault.ReplayFault.TheVariants.{Mismatch};
 ghost use Rattle.qrun_replay.specs.Runs.{IsOutcomeOf};
-ghost use Rattle.qrun_replay.specs.Replays.{GivesBack, IsFirstMismatch, IsMismatchAfter, IsReplayOf, line_of_entry, transcript_in, transcripts_in};
+ghost use Rattle.qrun_replay.specs.Replays.{GivesBack, IsFirstMismatch, IsMismatchAfter, IsReplayOf, line_of_entry};
+ghost use Rattle.qrun_replay.specs.Replays.{transcript_in, transcripts_in};
 
 use crate::outcome::outcome_of;
 use crate::{Outcome, ReplayFault};

@@ -2,7 +2,11 @@
 use Rattle.std.specs.Prelude.{◌≡◌, Bool, true, false}
 use Rattle.qrules.specs.Range.{are_graces_in_range}
 use Rattle.qplain.specs.declared.call.Call.{Call}
-use Rattle.qplain.specs.declared.call.Call.TheVariants.{Create as CreateCall, Mkdir as MkdirCall, Write as WriteCall, Truncate as TruncateCall, Read, Stat, Link as LinkCall, Unlink as UnlinkCall, Rmdir as RmdirCall, Rename as RenameCall, Chown as ChownCall, SetQuota, SetGrace, Quota}
+use Rattle.qplain.specs.declared.call.Call.TheVariants.{Create as CreateCall, Mkdir as MkdirCall, Write as WriteCall}
+use Rattle.qplain.specs.declared.call.Call.TheVariants.{Truncate as TruncateCall, Read, Stat, Link as LinkCall}
+use Rattle.qplain.specs.declared.call.Call.TheVariants.{Unlink as UnlinkCall, Rmdir as RmdirCall}
+use Rattle.qplain.specs.declared.call.Call.TheVariants.{Rename as RenameCall, Chown as ChownCall, SetQuota, SetGrace}
+use Rattle.qplain.specs.declared.call.Call.TheVariants.{Quota}
 use Rattle.qplain.specs.declared.refusal.Refusal.{Refusal}
 use Rattle.qplain.specs.declared.reply.Reply.{Reply}
 use Rattle.qplain.specs.declared.reply.Reply.TheVariants.{Refused}

@@ -1,5 +1,6 @@
 //! The quota records of one kind of principal, in the order of their ids.
-ghost use Rattle.std.specs.Prelude.{◌≡◌, ℕ, ◌+◌, ◌≤◌, ◌<◌, ◌++◌, ◌==◌, List, length, map, IfOk, OnOk, IfSome, is_some, Option, Some};
+ghost use Rattle.std.specs.Prelude.{◌≡◌, ℕ, ◌+◌, ◌≤◌, ◌<◌, ◌++◌, ◌==◌, List, length, map, IfOk, OnOk, IfSome};
+ghost use Rattle.std.specs.Prelude.{is_some, Option, Some};
 ghost use Rattle.std.specs.Option.{option_map};
 ghost use Rattle.std.specs.List.{list_any, slice_get};
 ghost use Rattle.std.specs.List.Sorted.{IsStrictlyIncreasing};
@@ -9,7 +10,8 @@ ghost use Rattle.qplain.specs.State.{Inode, State};
 ghost use Rattle.qstore_accounts.specs.KeptHolders.{AreById, IsSlotOf};
 ghost use Rattle.qstore_accounts.specs.Bills.{ArePlaced, post, posted};
 ghost use Rattle.qstore_accounts.specs.Boards.{board_row_of};
-ghost use Rattle.qstore_accounts.specs.Ledgers.{ArePosted, AreTimesInRange, holder_row, IsFinal, IsHolderAt, IsLedgerReplacement, new_holder, refusal_of};
+ghost use Rattle.qstore_accounts.specs.Ledgers.{ArePosted, AreTimesInRange, holder_row, IsFinal, IsHolderAt};
+ghost use Rattle.qstore_accounts.specs.Ledgers.{IsLedgerReplacement, new_holder, refusal_of};
 
 use crate::bill::{Posting, Postings};
 use crate::claim::{OwnerClaim, apart, weight_at};

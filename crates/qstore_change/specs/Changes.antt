@@ -1,5 +1,6 @@
 -- What a change makes of a state's inodes and names, and when it may be made.
-use Rattle.std.specs.Prelude.{◌≡◌, ℕ, ◌+◌, ◌<◌, ◌≤◌, ◌==◌, ◌&&◌, not, true, false, List, length, string_bytes, is_some, Option, Some, None, IfSome}
+use Rattle.std.specs.Prelude.{◌≡◌, ℕ, ◌+◌, ◌<◌, ◌≤◌, ◌==◌, ◌&&◌, not, true, false, List, length, string_bytes}
+use Rattle.std.specs.Prelude.{is_some, Option, Some, None, IfSome}
 use Rattle.qblocks.specs.declared.file.TheConstants.{MAX_SIZE}
 use Rattle.qblocks.specs.File.{after_truncate, after_write}
 use Rattle.qblocks.specs.WriteRoom.{IsReadyToPut}
@@ -13,7 +14,8 @@ use Rattle.qstore_tree.specs.Room.{Room, file_room, name_room}
 use Rattle.qstore_tree.specs.TreeOf.{IsFile}
 use Rattle.qstore_walk.specs.Paths.{name_in}
 use Rattle.qstore_change.specs.declared.tree_change.TreeChange.{TreeChange}
-use Rattle.qstore_change.specs.declared.tree_change.TreeChange.TheVariants.{Create, Mkdir, Write, Truncate, Unlink, Rmdir, Link, Rename, Chown}
+use Rattle.qstore_change.specs.declared.tree_change.TreeChange.TheVariants.{Create, Mkdir, Write, Truncate, Unlink}
+use Rattle.qstore_change.specs.declared.tree_change.TreeChange.TheVariants.{Rmdir, Link, Rename, Chown}
 
 -- the state in which the inode of this number, if it is there, is changed so
 abbrev pub altered_at : State → ℕ → (Inode → Inode) → Option Inode → State

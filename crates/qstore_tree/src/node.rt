@@ -1,5 +1,6 @@
 //! One inode, as a store keeps it.
-ghost use Rattle.std.specs.Prelude.{◌≡◌, ◌+◌, ◌<◌, ◌≤◌, ◌==◌, ◌^◌, ◌++◌, [], length, map, string_bytes, None, false, true, is_some, IfOk, IfSome, IsPermutation, OnOk};
+ghost use Rattle.std.specs.Prelude.{◌≡◌, ◌+◌, ◌<◌, ◌≤◌, ◌==◌, ◌^◌, ◌++◌, [], length, map, string_bytes, None, false};
+ghost use Rattle.std.specs.Prelude.{true, is_some, IfOk, IfSome, IsPermutation, OnOk};
 ghost use Rattle.std.specs.Ordering.{nat_cmp};
 ghost use Rattle.std.specs.Cmp.Lexicographic.{slice_cmp};
 ghost use Rattle.std.specs.BTreeMap.{insert_entry, is_at};
@@ -10,7 +11,8 @@ ghost use Rattle.qplain.specs.State.{new_directory, new_file};
 ghost use Rattle.qplain.specs.Owners.{with_owners};
 ghost use Rattle.qstore_tree.specs.InOrder.{in_order};
 ghost use Rattle.qstore_tree.specs.Names.{LosesName, name_row};
-ghost use Rattle.qstore_tree.specs.Nodes.{IsSameNode, inode_of, is_dir_content, name_room_in, names_in, node_row, roomy_file_in};
+ghost use Rattle.qstore_tree.specs.Nodes.{IsSameNode, inode_of, is_dir_content, name_room_in, names_in, node_row};
+ghost use Rattle.qstore_tree.specs.Nodes.{roomy_file_in};
 
 use crate::names::Names;
 use qblocks::{BlockFile, MAX_SIZE, Spare};

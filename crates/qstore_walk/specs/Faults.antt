@@ -1,5 +1,6 @@
 -- Which of its own tests a call fails first, by what they ask. No public clause cites this module.
-use Rattle.std.specs.Prelude.{ℕ, ◌+◌, ◌==◌, ◌&&◌, Bool, true, not, nat_lt, if◌then◌else◌, is_some, List, Option, Some, None}
+use Rattle.std.specs.Prelude.{ℕ, ◌+◌, ◌==◌, ◌&&◌, Bool, true, not, nat_lt, if◌then◌else◌, is_some, List, Option, Some}
+use Rattle.std.specs.Prelude.{None}
 use Rattle.qplain.specs.declared.bounds.TheConstants.{MAX_LINKS}
 use Rattle.qplain.specs.declared.refusal.Refusal.{Refusal}
 use Rattle.qplain.specs.declared.refusal.Refusal.TheVariants.{EEXIST, EINVAL, EISDIR, EMLINK, ENOTDIR, ENOTEMPTY, EPERM}

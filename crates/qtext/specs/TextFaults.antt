@@ -2,7 +2,8 @@
 use Rattle.std.specs.Prelude.{ℕ, List, codes}
 use Rattle.qtext.specs.declared.text_fault.TextKind.{TextKind}
 use Rattle.qtext.specs.declared.text_fault.TextFault.{TextFault}
-use Rattle.qtext.specs.declared.text_fault.TextKind.TheVariants.{Cut, BadByte, BadNumber, BadCred, BadVerb, WordCount, BadWord, BadHex, TooMany, Memory, BadHead, BadReply}
+use Rattle.qtext.specs.declared.text_fault.TextKind.TheVariants.{Cut, BadByte, BadNumber, BadCred, BadVerb, WordCount}
+use Rattle.qtext.specs.declared.text_fault.TextKind.TheVariants.{BadWord, BadHex, TooMany, Memory, BadHead, BadReply}
 
 -- the number of a fault
 abbrev pub text_kind_number : TextKind → ℕ

@@ -1,5 +1,6 @@
 -- The fields of a table of a configuration.
-use Rattle.std.specs.Prelude.{ℕ, ℤ, pos, List, [], ◌∷◌, Option, Some, None, option_and_then, option_map, Result, Ok, Err}
+use Rattle.std.specs.Prelude.{ℕ, ℤ, pos, List, [], ◌∷◌, Option, Some, None, option_and_then, option_map, Result, Ok}
+use Rattle.std.specs.Prelude.{Err}
 use Rattle.toml.specs.Data.{Data, Items, Members, no_items, item, as_str, as_integer, as_array, as_table, get_member}
 use Rattle.qtext.specs.Reading.{◌>>=◌, each_of}
 use Rattle.qtext_config.specs.ConfigFaults.{Cause, Field}

@@ -1,5 +1,6 @@
 -- Sizes as a configuration writes them.
-use Rattle.std.specs.Prelude.{◌==◌, ◌&&◌, not, nat_le, ℕ, ◌*◌, ◌^◌, Bool, false, if◌then◌else◌, List, [], ◌∷◌, length, take, drop, Option, Some, None, option_map}
+use Rattle.std.specs.Prelude.{◌==◌, ◌&&◌, not, nat_le, ℕ, ◌*◌, ◌^◌, Bool, false, if◌then◌else◌, List, [], ◌∷◌, length}
+use Rattle.std.specs.Prelude.{take, drop, Option, Some, None, option_map}
 use Rattle.std.specs.List.{prefix_len}
 use Rattle.std.specs.Int.{div_ceil}
 use Rattle.std.specs.Char.{is_ascii_digit}

@@ -3,7 +3,8 @@ ghost use Rattle.std.specs.Prelude.{◌≡◌, ◌∷◌, [], ℕ, IfOk, IfErr, 
 ghost use Rattle.clap.specs.Words.{first_of, found_of, kind_of, rows_of, subcommand_rows_of};
 ghost use Rattle.clap.specs.declared.error.kind.ErrorKind.TheVariants.{OutOfMemory};
 ghost use Rattle.qtext_job.specs.declared.line_fault.LineFault.TheVariants.{Memory};
-ghost use Rattle.qtext_job.specs.Jobs.{AreScriptsIn, FailsUnless, IsAskedBy, IsJobOf, IsNamedBy, IsNumberAt, IsRefusalOf, IsToldBy};
+ghost use Rattle.qtext_job.specs.Jobs.{AreScriptsIn, FailsUnless, IsAskedBy, IsJobOf, IsNamedBy, IsNumberAt};
+ghost use Rattle.qtext_job.specs.Jobs.{IsRefusalOf, IsToldBy};
 
 use crate::LineFault;
 use clap::error::ErrorKind;

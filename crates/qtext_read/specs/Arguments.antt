@@ -1,5 +1,6 @@
 -- Paths, kinds and owners as words.
-use Rattle.std.specs.Prelude.{ℕ, ◌==◌, ◌&&◌, not, List, length, codes, Option, Some, None, Result, Ok, Err, if◌then◌else◌}
+use Rattle.std.specs.Prelude.{ℕ, ◌==◌, ◌&&◌, not, List, length, codes, Option, Some, None, Result, Ok, Err}
+use Rattle.std.specs.Prelude.{if◌then◌else◌}
 use Rattle.std.specs.List.{list_all}
 use Rattle.std.specs.Str.{bytes_eq}
 use Rattle.qrules.specs.declared.kind.Kind.{Kind}

@@ -2,7 +2,8 @@
 use Rattle.std.specs.Prelude.{ℕ, List, [], ◌∷◌, Some, None, Result, Ok, Err, replicate}
 use Rattle.qrules.specs.declared.limits.Limits.{Limits}
 use Rattle.qplain.specs.declared.call.Call.{Call}
-use Rattle.qplain.specs.declared.call.Call.TheVariants.{Create, Mkdir, Write, Truncate, Read, Stat, Link, Unlink, Rmdir, Rename, Chown, SetQuota, SetGrace, Quota}
+use Rattle.qplain.specs.declared.call.Call.TheVariants.{Create, Mkdir, Write, Truncate, Read, Stat, Link, Unlink}
+use Rattle.qplain.specs.declared.call.Call.TheVariants.{Rmdir, Rename, Chown, SetQuota, SetGrace, Quota}
 use Rattle.qplain.specs.declared.edition.Edition.{Edition}
 use Rattle.qplain.specs.declared.edition.Edition.TheVariants.{Two}
 use Rattle.qtext.specs.declared.text_fault.TextKind.{TextKind}

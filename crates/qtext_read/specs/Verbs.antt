@@ -4,7 +4,8 @@ use Rattle.std.specs.Str.{bytes_eq}
 use Rattle.qtext.specs.declared.text_fault.TextKind.{TextKind}
 use Rattle.qtext.specs.declared.text_fault.TextKind.TheVariants.{BadVerb}
 use Rattle.qtext_read.specs.declared.verb.Verb.{Verb}
-use Rattle.qtext_read.specs.declared.verb.Verb.TheVariants.{Create, Mkdir, Write, Fill, Truncate, Read, Stat, Link, Unlink, Rmdir, Rename, Chown, SetQuota, SetGrace, Quota}
+use Rattle.qtext_read.specs.declared.verb.Verb.TheVariants.{Create, Mkdir, Write, Fill, Truncate, Read, Stat, Link}
+use Rattle.qtext_read.specs.declared.verb.Verb.TheVariants.{Unlink, Rmdir, Rename, Chown, SetQuota, SetGrace, Quota}
 
 -- the verb that a word spells
 unfoldable pub verb_of : List ℕ → Result Verb TextKind

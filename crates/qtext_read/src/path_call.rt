@@ -1,7 +1,8 @@
 //! The calls whose arguments are paths alone.
 ghost use Rattle.std.specs.Prelude.{map};
 ghost use Rattle.qtext.specs.Gives.{Gives};
-ghost use Rattle.qtext_read.specs.Calls.{create_of, mkdir_of, stat_of, link_of, unlink_of, rmdir_of, rename_of, path_call_of};
+ghost use Rattle.qtext_read.specs.Calls.{create_of, mkdir_of, stat_of, link_of, unlink_of, rmdir_of, rename_of};
+ghost use Rattle.qtext_read.specs.Calls.{path_call_of};
 
 use crate::paths::Paths;
 use crate::verb::Verb;

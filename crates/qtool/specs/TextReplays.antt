@@ -5,7 +5,8 @@ use Rattle.qplain.specs.Setups.{Setting, in_edition}
 use Rattle.qplain.specs.State.{start}
 use Rattle.qrun_replay.specs.declared.outcome.Outcome.{Outcome}
 use Rattle.qrun_replay.specs.declared.replay_fault.ReplayFault.{ReplayFault}
-use Rattle.qrun_replay.specs.declared.replay_fault.ReplayFault.TheVariants.{Memory as WantsMemory, Mismatch as TellsMismatch}
+use Rattle.qrun_replay.specs.declared.replay_fault.ReplayFault.TheVariants.{Memory as WantsMemory}
+use Rattle.qrun_replay.specs.declared.replay_fault.ReplayFault.TheVariants.{Mismatch as TellsMismatch}
 use Rattle.qrun_replay.specs.Replays.{IsAsBefore, IsFirstMismatch}
 use Rattle.qtext.specs.declared.text_fault.TextFault.{TextFault}
 use Rattle.qtext.specs.declared.text_fault.TextKind.{TextKind}

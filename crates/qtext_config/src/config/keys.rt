@@ -4,7 +4,8 @@ ghost use Rattle.std.specs.Prelude.{◌≡◌, ◌++◌, fold, map, option_map};
 ghost use Rattle.std.specs.List.{filter, flat_map};
 ghost use Rattle.toml.specs.View.{table_view};
 ghost use Rattle.qtext_config.specs.ConfigFaults.{GivesBy};
-ghost use Rattle.qtext_config.specs.ConfigKeys.{document_keys, is_unknown, keys_of, known_keys, least_unknown, lesser_of, no_unknown, principal_keys};
+ghost use Rattle.qtext_config.specs.ConfigKeys.{document_keys, is_unknown, keys_of, known_keys, least_unknown};
+ghost use Rattle.qtext_config.specs.ConfigKeys.{lesser_of, no_unknown, principal_keys};
 
 use super::field::field;
 use super::tables::{optional_tables_at, tables_at};

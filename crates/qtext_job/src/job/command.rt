@@ -166,7 +166,8 @@ fn replay<'a>(alloc: Global) -> Result<Command<'a>, AllocError>
 pub(crate) fn command<'a>(alloc: Global) -> Result<Command<'a>, AllocError>
     ensures { IfOk result (λ c. app_of c ≡ line.quotafs) }
 {
-    let about = "A shared store of files in memory, with disk quotas for users, groups and projects";
+    let about =
+        "A shared store of files in memory, with disk quotas for users, groups and projects";
     let command = named(alloc, "quotafs", about)
         .version("0.1.0")
         .subcommand_required(true);
