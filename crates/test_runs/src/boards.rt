@@ -1,8 +1,8 @@
 //! Boards checked against a journal: some that were written by hand, and those of a run.
 
-use crate::given::{lines, setup};
+use crate::given::{journal, lines, setup};
 use qaudit_checks::{BoardFault, check_boards, check_looks};
-use qplain::{Board, Edition, Entry, Line, LookFault, MAX_LINES, Refusal, Reply, Script};
+use qplain::{Board, Edition, Line, LookFault, MAX_LINES, Script};
 use qrules::{BoardRow, Items, Kind, Limits};
 use qrun::{NoGate, Options, run_scripts};
 use qrun_replay::Outcome;
@@ -11,28 +11,17 @@ use std::sync::Wait;
 use std::test::Fail;
 use std::thread::Threads;
 
-/// A file that is made, written and asked about.
-const CALLS: &[u8] = b"0 1001:0 create /a\n0 1001:0 write /a 0 78\n0 1001:0 stat /a\n";
+/// The journal of a file that is made, written and asked about. Its replies, at which no check looks, are not a store's.
+const JOURNAL: &[u8] = b"\
+quotafs journal 2 workers 1
+1 0 1001:0 create /a => refused EEXIST
+1 0 1001:0 write /a 0 78 => refused EEXIST
+1 0 1001:0 stat /a => refused EEXIST
+";
 
 /// A file that comes and goes.
 const COMES_AND_GOES: &[u8] =
     b"0 1001:0 create /a\n0 1001:0 write /a 0 78\n0 1001:0 stat /a\n0 1001:0 unlink /a\n";
-
-/// The journal of these calls. Its replies, at which no check looks, are not a store's.
-fn journal(alloc: Global) -> Result<Vec<Entry>, Fail> {
-    let lines = lines(alloc, CALLS)?;
-    let mut journal: Vec<Entry> = Vec::new(alloc);
-    for line in lines.as_slice() {
-        journal.push(Entry {
-            worker: 1,
-            cred: line.cred.copy()?,
-            moment: line.moment,
-            call: line.call.copy()?,
-            reply: Reply::Refused(Refusal::EEXIST),
-        })?;
-    }
-    Ok(journal)
-}
 
 /// A row without limits.
 fn row(kind: Kind, id: u32, blocks: u64, inodes: u64) -> BoardRow {
@@ -61,39 +50,51 @@ fn board(alloc: Global, version: u64, bob: u64, all: u64) -> Result<Board, Fail>
     })
 }
 
-/// Holds boards against the journal.
-fn checked(alloc: Global, boards: &[Board]) -> Result<Result<(), BoardFault>, Fail> {
-    let setup = setup(alloc)?;
-    let journal = journal(alloc)?;
-    Ok(check_boards(alloc, &setup, &journal, boards, 0))
+/// Such boards.
+fn boards(alloc: Global, rows: &[(u64, u64, u64)]) -> Result<Vec<Board>, Fail> {
+    let mut boards = Vec::new(alloc);
+    for (version, bob, all) in rows {
+        boards.push(board(alloc, *version, *bob, *all)?)?;
+    }
+    Ok(boards)
 }
+
+/// Holds such boards against the journal.
+fn checked(alloc: Global, rows: &[(u64, u64, u64)]) -> Result<Result<(), BoardFault>, Fail> {
+    let boards = boards(alloc, rows)?;
+    let journal = journal(alloc, JOURNAL)?;
+    let setup = setup(alloc)?;
+    Ok(check_boards(alloc, &setup, journal.entries(), &boards, 0))
+}
+
+// One is right, one wrong in a row alone, one in all, one falls, and one is beyond the journal.
+const ROWS: [(&[(u64, u64, u64)], Result<(), BoardFault>); 5] = [
+    (&[(1, 0, 0), (2, 1, 1)], Ok(())),
+    (&[(2, 2, 1)], Err(BoardFault::Board(1))),
+    (&[(1, 0, 0), (2, 2, 2)], Err(BoardFault::Board(2))),
+    (&[(2, 1, 1), (1, 0, 0)], Err(BoardFault::Board(2))),
+    (&[(4, 1, 1)], Err(BoardFault::Board(1))),
+];
 
 #[test]
 fn the_first_board_that_fails_is_told(rt: HostRuntime) -> Result<(), Fail> {
-    let alloc = rt.alloc();
-    let right = vec![in alloc; board(alloc, 1, 0, 0)?, board(alloc, 2, 1, 1)?]?;
-    assert_eq!(rt; checked(alloc, &right)?, Ok(()));
-    let row_alone = vec![in alloc; board(alloc, 2, 2, 1)?]?;
-    assert_eq!(rt; checked(alloc, &row_alone)?, Err(BoardFault::Board(1)));
-    let all = vec![in alloc; board(alloc, 1, 0, 0)?, board(alloc, 2, 2, 2)?]?;
-    assert_eq!(rt; checked(alloc, &all)?, Err(BoardFault::Board(2)));
-    let falling = vec![in alloc; board(alloc, 2, 1, 1)?, board(alloc, 1, 0, 0)?]?;
-    assert_eq!(rt; checked(alloc, &falling)?, Err(BoardFault::Board(2)));
-    let beyond = vec![in alloc; board(alloc, 4, 1, 1)?]?;
-    assert_eq!(rt; checked(alloc, &beyond)?, Err(BoardFault::Board(1)));
+    for (rows, found) in ROWS {
+        assert_eq!(rt; checked(rt.alloc(), rows)?, found);
+    }
     Ok(())
+}
+
+/// Holds a look without a board and one with a board against the journal.
+fn looks_checked(alloc: Global) -> Result<Result<(), BoardFault>, Fail> {
+    let looks = vec![in alloc; Err(LookFault::NoBoard), Ok(board(alloc, 3, 1, 1)?)]?;
+    let journal = journal(alloc, JOURNAL)?;
+    let setup = setup(alloc)?;
+    Ok(check_looks(alloc, &setup, journal.entries(), &looks, 0))
 }
 
 #[test]
 fn a_look_without_a_board_is_passed_over(rt: HostRuntime) -> Result<(), Fail> {
-    let alloc = rt.alloc();
-    let setup = setup(alloc)?;
-    let journal = journal(alloc)?;
-    let shown: Result<Board, LookFault> = Ok(board(alloc, 3, 1, 1)?);
-    let failed: Result<Board, LookFault> = Err(LookFault::NoBoard);
-    let looks = vec![in alloc; failed, shown]?;
-    let found = check_looks(alloc, &setup, &journal, &looks, 0);
-    assert_eq!(rt; found, Ok(()));
+    assert_eq!(rt; looks_checked(rt.alloc())?, Ok(()));
     Ok(())
 }
 

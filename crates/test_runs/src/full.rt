@@ -1,15 +1,15 @@
 //! A journal that is full: who calls is told so, each time, and nothing changes.
 ghost use Rattle.std.specs.Prelude.{◌≡◌};
 
-use crate::given::{line, setup};
-use crate::looks::{CREATE, STAT, WRITE, board, call, record};
+use crate::given::{lines, setup};
+use crate::looks::{LINES, board, call, record};
+use crate::seats::end;
 use qplain::{CallFault, Line, Receipt, Tallies};
 use qrules::Kind;
-use qshare::{Boards, Opened, Seat, Share, Shared, Viewer};
+use qshare::{Boards, Ended, Opened, Seat, Share, Shared, Viewer};
 use qshare_history::StoreId;
 use std::alloc::Global;
 use std::marker::Brand;
-use std::process::Abort;
 use std::sync::Wait;
 use std::test::Fail;
 
@@ -32,18 +32,16 @@ fn repeat<S: StoreId, B: Boards<S>, W: Wait>(
 /// Makes a file, writes a block of it, and asks about it until the journal has 1,048,576 entries.
 fn fill<S: StoreId, B: Boards<S>, W: Wait>(
     rt: &W,
-    alloc: Global,
     shared: &Shared<S, B>,
     seat: &mut Seat<S, Viewer<S>>,
-) -> Result<bool, Fail> {
-    let create = line(alloc, CREATE)?;
-    let write = line(alloc, WRITE)?;
-    let stat = line(alloc, STAT)?;
-    Ok(
-        repeat(rt, shared, seat, &create, 1)
-            && repeat(rt, shared, seat, &write, 1)
-            && repeat(rt, shared, seat, &stat, 1_048_574),
-    )
+    lines: &[Line],
+) -> bool {
+    let [create, write, stat] = lines else {
+        return false;
+    };
+    let made = call(rt, shared, seat, create);
+    let written = call(rt, shared, seat, write);
+    made.is_some() && written.is_some() && repeat(rt, shared, seat, stat, 1_048_574)
 }
 
 /// Whether a call was told of a full journal.
@@ -75,35 +73,60 @@ fn apply_is_full<S: StoreId, B: Boards<S>, W: Wait>(
     is_full(&answer) && room == 64
 }
 
-/// A call of either seat, by itself and under the lock, is told of a full journal, and the board is as it was.
-fn refuse<S: StoreId, B: Boards<S>, W: Wait + Abort>(
+/// Whether a call of a seat is told of a full journal, by itself and under the lock.
+fn is_refused<S: StoreId, B: Boards<S>, W: Wait>(
+    rt: &W,
+    shared: &Shared<S, B>,
+    seat: &mut Seat<S, Viewer<S>>,
+    line: &Line,
+) -> bool {
+    let by_itself = call_is_full(rt, shared, seat, line);
+    apply_is_full(rt, shared, seat, line) && by_itself
+}
+
+/// Whether a call of either seat is told of a full journal, and the board is as it was.
+fn refuse<S: StoreId, B: Boards<S>, W: Wait>(
     rt: &W,
     shared: &Shared<S, B>,
     first: &mut Seat<S, Viewer<S>>,
     second: &mut Seat<S, Viewer<S>>,
     line: &Line,
-) {
-    assert!(rt; call_is_full(rt, shared, first, line) && apply_is_full(rt, shared, first, line));
-    assert!(rt; apply_is_full(rt, shared, second, line) && call_is_full(rt, shared, second, line));
-    assert_eq!(rt; board(second), Ok((1_048_576, 1, 2)));
-    assert_eq!(rt; record(second, Kind::User, 1001), Ok((1_048_576, 1, 1)));
+) -> bool {
+    let refused = [
+        is_refused(rt, shared, first, line),
+        is_refused(rt, shared, second, line),
+    ];
+    let shown = (board(second), record(second, Kind::User, 1001));
+    refused == [true, true] && shown == (Ok((1_048_576, 1, 2)), Ok((1_048_576, 1, 1)))
 }
 
-/// Ends the store: the journal has its 1,048,576 calls, and no other was counted.
-fn end<S: StoreId, B: Boards<S>, W: Wait + Abort>(
+/// Calls that would change the store, and one that the rules would refuse.
+const REFUSED: &[u8] = b"0 1001:0 unlink /a\n0 1001:0 create /a\n0 1001:0 create /b\n";
+
+/// Fills the journal of a store of two seats. Whether every further call is refused.
+fn fill_and_refuse<S: StoreId, B: Boards<S>, W: Wait>(
     rt: &W,
-    alloc: Global,
-    shared: Shared<S, B>,
-    first: Seat<S, Viewer<S>>,
-    second: Seat<S, Viewer<S>>,
-) -> Result<(), Fail> {
-    let mut shares: Vec<Share<S>> = Vec::new(alloc);
-    shares.push(first.finish())?;
-    shares.push(second.finish())?;
-    let Ok(store) = shared.end(rt, shares) else {
-        return Err(Fail::from("an end"));
+    shared: &Shared<S, B>,
+    seats: &mut [Seat<S, Viewer<S>>],
+    lines: &[Line],
+    refused: &[Line],
+) -> bool {
+    let [first, second] = seats else {
+        return false;
     };
-    let ended = store.into_parts();
+    if !fill(rt, shared, first, lines) {
+        return false;
+    }
+    for line in refused {
+        if !refuse(rt, shared, first, second, line) {
+            return false;
+        }
+    }
+    true
+}
+
+/// Whether the journal of a store that has ended has its 1,048,576 calls, and no other was counted.
+fn is_whole(ended: &Ended) -> bool {
     let tallies = Tallies {
         blocks_charged: 1,
         blocks_released: 0,
@@ -111,41 +134,47 @@ fn end<S: StoreId, B: Boards<S>, W: Wait + Abort>(
         inodes_released: 0,
         calls: 1_048_576,
     };
-    assert_eq!(rt; ended.tallies, tallies);
-    assert_eq!(rt; ended.journal.len(), 1_048_576);
-    Ok(())
+    ended.tallies == tallies && ended.journal.len() == 1_048_576
 }
 
-/// Fills the journal of a store of two seats, and then makes calls that would change it, or that the rules refuse.
-fn seated<S: StoreId, R: Wait + Abort>(rt: &R, alloc: Global, opened: Opened) -> Result<(), Fail>
+/// Fills the journal of a store of two seats, makes further calls, and ends it. Whether all comes out.
+fn play<S: StoreId, B: Boards<S>, W: Wait>(
+    rt: &W,
+    shared: Shared<S, B>,
+    mut seats: Vec<Seat<S, Viewer<S>>>,
+    shares: Vec<Share<S>>,
+    given: (&[Line], &[Line]),
+) -> Result<bool, Fail> {
+    let (lines, refused) = given;
+    let is_full = fill_and_refuse(rt, &shared, seats.as_mut_slice(), lines, refused);
+    let ended = end(rt, shared, seats, shares)?;
+    Ok(is_full && is_whole(&ended))
+}
+
+/// The same over a new store.
+fn seated<S: StoreId, R: Wait>(
+    rt: &R,
+    alloc: Global,
+    opened: Opened,
+    given: (&[Line], &[Line]),
+) -> Result<bool, Fail>
     requires { opened ≡ S.id }
 {
-    let Ok((shared, mut seats)) = opened.with_viewers::<S, &R>(rt) else {
-        return Err(Fail::from("a store"));
-    };
-    let Some(mut second) = seats.pop() else {
-        return Err(Fail::from("two seats"));
-    };
-    let Some(mut first) = seats.pop() else {
-        return Err(Fail::from("two seats"));
-    };
-    assert!(rt; fill(rt, alloc, &shared, &mut first)?);
-    for text in [
-        b"0 1001:0 unlink /a\n",
-        b"0 1001:0 create /a\n",
-        b"0 1001:0 create /b\n",
-    ] {
-        let line = line(alloc, text)?;
-        refuse(rt, &shared, &mut first, &mut second, &line);
+    match opened.with_viewers::<S, &R>(rt) {
+        Ok((shared, seats)) => play(rt, shared, seats, Vec::new(alloc), given),
+        Err(_) => Err(Fail::from("a store")),
     }
-    end(rt, alloc, shared, first, second)
 }
 
 #[test]
 fn a_full_journal_stays_as_it_is(rt: HostRuntime) -> Result<(), Fail> {
     let alloc = rt.alloc();
-    let Ok(opened) = Opened::new(alloc, setup(alloc)?, 2, 0) else {
-        return Err(Fail::from("a store"));
-    };
-    seated::<Brand, _>(&rt, alloc, opened)
+    let told = lines(alloc, LINES)?;
+    let refused = lines(alloc, REFUSED)?;
+    let given = (told.as_slice(), refused.as_slice());
+    match Opened::new(alloc, setup(alloc)?, 2, 0) {
+        Ok(opened) => assert!(rt; seated::<Brand, _>(&rt, alloc, opened, given)?),
+        Err(_) => return Err(Fail::from("a store")),
+    }
+    Ok(())
 }

@@ -1,32 +1,34 @@
 //! Journals checked against a transcript that was written by hand.
 ghost use Rattle.std.specs.Prelude.{◌≡◌, length, IfOk};
 
-use crate::given::{FIRST_FILES, lines};
+use crate::given::{FIRST_FILES, journal, lines};
 use qaudit_checks::{Mismatch, gather};
-use qplain::{CallFault, Entry, Receipt, Refusal, Reply, Transcript};
+use qplain::{CallFault, Receipt, Refusal, Reply, Transcript};
 use qrules::Items;
 use std::alloc::Global;
 use std::test::Fail;
 
-/// The journal in which each of these workers, up to three, makes the next of the first files, and is refused so.
-fn journal(alloc: Global, workers: &[u64], refusal: Refusal) -> Result<Vec<Entry>, Fail> {
-    let lines = lines(alloc, FIRST_FILES)?;
-    let lines = lines.as_slice();
-    let mut journal: Vec<Entry> = Vec::new(alloc);
-    for at in 0..workers.len() {
-        if at < lines.len() {
-            let line = &lines[at];
-            journal.push(Entry {
-                worker: workers[at],
-                cred: line.cred.copy()?,
-                moment: line.moment,
-                call: line.call.copy()?,
-                reply: Reply::Refused(refusal),
-            })?;
-        }
-    }
-    Ok(journal)
-}
+/// The journal in which the first worker makes the first files, and is told that a name is there.
+const ONE_WORKER: &[u8] = b"\
+quotafs journal 2 workers 2
+1 0 1001:0 create /a => refused EEXIST
+1 0 1001:0 create /b => refused EEXIST
+1 0 1001:0 create /c => refused EEXIST
+";
+
+/// The same, where the second worker makes the last file.
+const TWO_WORKERS: &[u8] = b"\
+quotafs journal 2 workers 2
+1 0 1001:0 create /a => refused EEXIST
+1 0 1001:0 create /b => refused EEXIST
+2 0 1001:0 create /c => refused EEXIST
+";
+
+/// The first entry alone.
+const ONE_ENTRY: &[u8] = b"\
+quotafs journal 2 workers 2
+1 0 1001:0 create /a => refused EEXIST
+";
 
 /// The transcript of the first worker, who makes the first files at the places 1 to 3, and is refused so each time.
 fn transcript(alloc: Global, refusal: Refusal) -> Result<Transcript, Fail>
@@ -47,33 +49,32 @@ fn transcript(alloc: Global, refusal: Refusal) -> Result<Transcript, Fail>
     })
 }
 
-/// Holds the journal of these workers, who were told that a name is there, against the transcript with this refusal.
-fn told(alloc: Global, workers: &[u64], refusal: Refusal) -> Result<Result<(), Mismatch>, Fail> {
-    let journal = journal(alloc, workers, Refusal::EEXIST)?;
+/// Holds a journal against the transcript with this refusal.
+fn told(alloc: Global, text: &[u8], refusal: Refusal) -> Result<Result<(), Mismatch>, Fail> {
+    let journal = journal(alloc, text)?;
     let transcript = transcript(alloc, refusal)?;
     let transcripts = vec![in alloc; transcript]?;
-    Ok(gather(&journal, &transcripts))
+    Ok(gather(journal.entries(), &transcripts))
 }
 
 #[test]
 fn another_reply_is_no_match(rt: HostRuntime) -> Result<(), Fail> {
-    let same = told(rt.alloc(), &[1, 1, 1], Refusal::EEXIST)?;
-    assert_eq!(rt; same, Ok(()));
-    let other = told(rt.alloc(), &[1, 1, 1], Refusal::ENOSPC)?;
-    assert_eq!(rt; other, Err(Mismatch { place: 1 }));
+    let same = told(rt.alloc(), ONE_WORKER, Refusal::EEXIST)?;
+    let other = told(rt.alloc(), ONE_WORKER, Refusal::ENOSPC)?;
+    assert_eq!(rt; (same, other), (Ok(()), Err(Mismatch { place: 1 })));
     Ok(())
 }
 
 #[test]
 fn an_entry_of_nobody_is_no_match(rt: HostRuntime) -> Result<(), Fail> {
-    let found = told(rt.alloc(), &[1, 1, 2], Refusal::EEXIST)?;
+    let found = told(rt.alloc(), TWO_WORKERS, Refusal::EEXIST)?;
     assert_eq!(rt; found, Err(Mismatch { place: 3 }));
     Ok(())
 }
 
 #[test]
 fn a_receipt_that_is_left_over_is_no_match(rt: HostRuntime) -> Result<(), Fail> {
-    let found = told(rt.alloc(), &[1], Refusal::EEXIST)?;
+    let found = told(rt.alloc(), ONE_ENTRY, Refusal::EEXIST)?;
     assert_eq!(rt; found, Err(Mismatch { place: 2 }));
     Ok(())
 }

@@ -1,5 +1,5 @@
 //! What the tests begin with. An Err says what was wanted, where there was no memory for it.
-use qplain::{Line, Script, Setup};
+use qplain::{Journal, Line, Script, Setup};
 use qrules::Items;
 use qtext_config::Config;
 use qtext_files::FromText;
@@ -35,12 +35,11 @@ pub(crate) fn lines(alloc: Global, text: &[u8]) -> Result<Items<Line>, &'static 
     Ok(script(alloc, text)?.into_lines())
 }
 
-/// The line of a script of one line.
-pub(crate) fn line(alloc: Global, text: &[u8]) -> Result<Line, &'static str> {
-    let mut lines = lines(alloc, text)?.into_vec();
-    match lines.pop() {
-        Some(line) => Ok(line),
-        None => Err("a line"),
+/// A journal.
+pub(crate) fn journal(alloc: Global, text: &[u8]) -> Result<Journal, &'static str> {
+    match Journal::read(alloc, text) {
+        Ok(journal) => Ok(journal),
+        Err(_) => Err("the journal"),
     }
 }
 

@@ -1,14 +1,13 @@
 //! Two seats of one store, in one thread: what one is shown of the calls of the other.
 ghost use Rattle.std.specs.Prelude.{◌≡◌};
 
-use crate::given::{line, setup};
+use crate::given::{lines, setup};
 use qplain::{CallFault, Line, LookFault, Receipt, Refusal, Reply};
 use qrules::Kind;
 use qshare::{Boards, Held, Opened, Seat, Shared, Viewer};
 use qshare_history::StoreId;
 use std::alloc::Global;
 use std::marker::Brand;
-use std::process::Abort;
 use std::sync::Wait;
 use std::test::Fail;
 
@@ -25,14 +24,8 @@ enum Story {
     Dropped,
 }
 
-/// Makes a file.
-pub(crate) const CREATE: &[u8] = b"0 1001:0 create /a\n";
-
-/// Writes a block of it.
-pub(crate) const WRITE: &[u8] = b"0 1001:0 write /a 0 78\n";
-
-/// Asks about it.
-pub(crate) const STAT: &[u8] = b"0 1001:0 stat /a\n";
+/// The lines of all stories: a file is made, a block of it is written, and it is asked about.
+pub(crate) const LINES: &[u8] = b"0 1001:0 create /a\n0 1001:0 write /a 0 78\n0 1001:0 stat /a\n";
 
 /// The version, the blocks and the inodes of the board that a seat is shown.
 pub(crate) fn board<S: StoreId>(
@@ -91,135 +84,171 @@ pub(crate) fn apply<S: StoreId, B: Boards<S>, W: Wait>(
 }
 
 /// Each seat is shown what the other has done, also a call that was refused.
-fn tell_calls<S: StoreId, B: Boards<S>, W: Wait + Abort>(
+fn tell_calls<S: StoreId, B: Boards<S>, W: Wait>(
     rt: &W,
-    alloc: Global,
     shared: &Shared<S, B>,
     first: &mut Seat<S, Viewer<S>>,
     second: &mut Seat<S, Viewer<S>>,
-) -> Result<(), Fail> {
-    let create = line(alloc, CREATE)?;
-    assert_eq!(rt; call(rt, shared, first, &create), Some((1, false)));
-    assert_eq!(rt; board(second), Ok((1, 0, 2)));
-    assert_eq!(rt; record(second, Kind::User, 1001), Ok((1, 0, 1)));
-    assert_eq!(rt; record(second, Kind::User, 1002), Err(LookFault::ESRCH));
-    assert_eq!(rt; call(rt, shared, second, &create), Some((2, true)));
-    assert_eq!(rt; board(first), Ok((2, 0, 2)));
-    Ok(())
+    create: &Line,
+) -> bool {
+    let told = call(rt, shared, first, create);
+    let shown = board(second);
+    let bob = record(second, Kind::User, 1001);
+    let nobody = record(second, Kind::User, 1002);
+    let refused = call(rt, shared, second, create);
+    (told, refused) == (Some((1, false)), Some((2, true)))
+        && (shown, bob, nobody) == (Ok((1, 0, 2)), Ok((1, 0, 1)), Err(LookFault::ESRCH))
+        && board(first) == Ok((2, 0, 2))
+}
+
+/// Makes a call under the lock. It tells what was told of it, and the board that another seat was shown before its
+/// release.
+fn hold_once<S: StoreId, B: Boards<S>, W: Wait>(
+    rt: &W,
+    shared: &Shared<S, B>,
+    first: &mut Seat<S, Viewer<S>>,
+    second: &mut Seat<S, Viewer<S>>,
+    line: &Line,
+) -> (Option<(u64, bool)>, Result<(u64, u64, u64), LookFault>) {
+    let mut held = shared.hold(rt, first);
+    let told = apply(rt, &mut held, first, line);
+    let shown = board(second);
+    held.release(rt, first);
+    (told, shown)
 }
 
 /// A look while the lock is held shows the board before, and the release publishes the call.
-fn tell_one_held<S: StoreId, B: Boards<S>, W: Wait + Abort>(
+fn tell_one_held<S: StoreId, B: Boards<S>, W: Wait>(
     rt: &W,
-    alloc: Global,
     shared: &Shared<S, B>,
     first: &mut Seat<S, Viewer<S>>,
     second: &mut Seat<S, Viewer<S>>,
-) -> Result<(), Fail> {
-    let create = line(alloc, CREATE)?;
-    let write = line(alloc, WRITE)?;
-    assert_eq!(rt; call(rt, shared, first, &create), Some((1, false)));
-    let mut held = shared.hold(rt, first);
-    assert_eq!(rt; apply(rt, &mut held, first, &write), Some((2, false)));
-    assert_eq!(rt; board(second), Ok((1, 0, 2)));
-    held.release(rt, first);
-    assert_eq!(rt; board(second), Ok((2, 1, 2)));
-    assert_eq!(rt; record(second, Kind::User, 1001), Ok((2, 1, 1)));
-    assert_eq!(rt; record(second, Kind::Group, 0), Ok((2, 1, 2)));
-    Ok(())
+    lines: (&Line, &Line),
+) -> bool {
+    let (create, write) = lines;
+    let told = call(rt, shared, first, create);
+    let held = hold_once(rt, shared, first, second, write);
+    let shown = board(second);
+    let bob = record(second, Kind::User, 1001);
+    let group = record(second, Kind::Group, 0);
+    (told, held) == (Some((1, false)), (Some((2, false)), Ok((1, 0, 2))))
+        && (shown, bob, group) == (Ok((2, 1, 2)), Ok((2, 1, 1)), Ok((2, 1, 2)))
+}
+
+/// Makes two calls under a lock that is held, and the first once more.
+fn apply_three<S: StoreId, B: Boards<S>, W: Wait>(
+    rt: &W,
+    held: &mut Held<'_, S, B>,
+    first: &mut Seat<S, Viewer<S>>,
+    lines: (&Line, &Line),
+) -> [Option<(u64, bool)>; 3]
+    requires by { first.old.worker ≡ held.old.by }
+    ensures by { (first.new.worker ≡ first.old.worker) × (held.new.by ≡ held.old.by) }
+{
+    let (create, write) = lines;
+    let one = apply(rt, held, first, create);
+    let two = apply(rt, held, first, write);
+    [one, two, apply(rt, held, first, create)]
 }
 
 /// Three calls are published at once.
-fn tell_three_held<S: StoreId, B: Boards<S>, W: Wait + Abort>(
+fn tell_three_held<S: StoreId, B: Boards<S>, W: Wait>(
     rt: &W,
-    alloc: Global,
     shared: &Shared<S, B>,
     first: &mut Seat<S, Viewer<S>>,
     second: &mut Seat<S, Viewer<S>>,
-) -> Result<(), Fail> {
-    let create = line(alloc, CREATE)?;
-    let write = line(alloc, WRITE)?;
+    lines: (&Line, &Line),
+) -> bool {
     let mut held = shared.hold(rt, first);
-    assert_eq!(rt; apply(rt, &mut held, first, &create), Some((1, false)));
-    assert_eq!(rt; apply(rt, &mut held, first, &write), Some((2, false)));
-    assert_eq!(rt; apply(rt, &mut held, first, &create), Some((3, true)));
-    assert_eq!(rt; held.room(), 61);
-    assert_eq!(rt; board(second), Ok((0, 0, 1)));
+    let told = apply_three(rt, &mut held, first, lines);
+    let room = held.room();
+    let before = board(second);
     held.release(rt, first);
-    assert_eq!(rt; board(second), Ok((3, 1, 2)));
-    assert_eq!(rt; board(first), Ok((3, 1, 2)));
-    Ok(())
+    let after = [board(second), board(first)];
+    told == [Some((1, false)), Some((2, false)), Some((3, true))]
+        && (room, before) == (61, Ok((0, 0, 1)))
+        && after == [Ok((3, 1, 2)), Ok((3, 1, 2))]
 }
 
 /// What a dropped hold has done is published by the next call.
-fn tell_dropped<S: StoreId, B: Boards<S>, W: Wait + Abort>(
+fn tell_dropped<S: StoreId, B: Boards<S>, W: Wait>(
     rt: &W,
-    alloc: Global,
     shared: &Shared<S, B>,
     first: &mut Seat<S, Viewer<S>>,
     second: &mut Seat<S, Viewer<S>>,
-) -> Result<(), Fail> {
-    let create = line(alloc, CREATE)?;
-    let stat = line(alloc, STAT)?;
+    lines: (&Line, &Line),
+) -> bool {
+    let (create, stat) = lines;
     let mut held = shared.hold(rt, first);
-    assert_eq!(rt; apply(rt, &mut held, first, &create), Some((1, false)));
+    let told = apply(rt, &mut held, first, create);
     drop(held);
-    assert_eq!(rt; board(second), Ok((0, 0, 1)));
-    assert_eq!(rt; call(rt, shared, second, &stat), Some((2, false)));
-    assert_eq!(rt; board(second), Ok((2, 0, 2)));
-    Ok(())
+    let before = board(second);
+    let next = call(rt, shared, second, stat);
+    (told, before, next) == (Some((1, false)), Ok((0, 0, 1)), Some((2, false)))
+        && board(second) == Ok((2, 0, 2))
 }
 
-/// The story of the two seats of a store.
-fn seated<S: StoreId, R: Wait + Abort>(
-    rt: &R,
-    alloc: Global,
-    opened: Opened,
+/// Whether the story of two seats comes out.
+fn comes_out<S: StoreId, B: Boards<S>, W: Wait>(
+    rt: &W,
+    shared: &Shared<S, B>,
+    seats: &mut [Seat<S, Viewer<S>>],
+    lines: &[Line],
     story: Story,
-) -> Result<(), Fail>
-    requires { opened ≡ S.id }
-{
-    let Ok((shared, mut seats)) = opened.with_viewers::<S, &R>(rt) else {
-        return Err(Fail::from("a store"));
+) -> bool {
+    let [first, second] = seats else {
+        return false;
     };
-    let Some(mut second) = seats.pop() else {
-        return Err(Fail::from("two seats"));
-    };
-    let Some(mut first) = seats.pop() else {
-        return Err(Fail::from("two seats"));
+    let [create, write, stat] = lines else {
+        return false;
     };
     match story {
-        Story::Calls => tell_calls(rt, alloc, &shared, &mut first, &mut second),
-        Story::OneHeld => tell_one_held(rt, alloc, &shared, &mut first, &mut second),
-        Story::ThreeHeld => tell_three_held(rt, alloc, &shared, &mut first, &mut second),
-        Story::Dropped => tell_dropped(rt, alloc, &shared, &mut first, &mut second),
+        Story::Calls => tell_calls(rt, shared, first, second, create),
+        Story::OneHeld => tell_one_held(rt, shared, first, second, (create, write)),
+        Story::ThreeHeld => tell_three_held(rt, shared, first, second, (create, write)),
+        Story::Dropped => tell_dropped(rt, shared, first, second, (create, stat)),
     }
 }
 
-/// Tells a story of the two seats of a new store.
-fn tell<R: Wait + Abort>(rt: &R, alloc: Global, story: Story) -> Result<(), Fail> {
-    let Ok(opened) = Opened::new(alloc, setup(alloc)?, 2, 0) else {
-        return Err(Fail::from("a store"));
-    };
-    seated::<Brand, R>(rt, alloc, opened, story)
+/// Whether the story of the two seats of a store comes out.
+fn seated<S: StoreId, R: Wait>(rt: &R, opened: Opened, lines: &[Line], story: Story) -> bool
+    requires { opened ≡ S.id }
+{
+    match opened.with_viewers::<S, &R>(rt) {
+        Ok((shared, mut seats)) => comes_out(rt, &shared, seats.as_mut_slice(), lines, story),
+        Err(_) => false,
+    }
+}
+
+/// Whether the story of the two seats of a new store comes out.
+fn tell<R: Wait>(rt: &R, alloc: Global, story: Story) -> Result<bool, Fail> {
+    let lines = lines(alloc, LINES)?;
+    match Opened::new(alloc, setup(alloc)?, 2, 0) {
+        Ok(opened) => Ok(seated::<Brand, R>(rt, opened, lines.as_slice(), story)),
+        Err(_) => Err(Fail::from("a store")),
+    }
 }
 
 #[test]
 fn calls_are_shown_to_others(rt: HostRuntime) -> Result<(), Fail> {
-    tell(&rt, rt.alloc(), Story::Calls)
+    assert!(rt; tell(&rt, rt.alloc(), Story::Calls)?);
+    Ok(())
 }
 
 #[test]
 fn a_held_call_is_shown_from_its_release_on(rt: HostRuntime) -> Result<(), Fail> {
-    tell(&rt, rt.alloc(), Story::OneHeld)
+    assert!(rt; tell(&rt, rt.alloc(), Story::OneHeld)?);
+    Ok(())
 }
 
 #[test]
 fn held_calls_are_published_together(rt: HostRuntime) -> Result<(), Fail> {
-    tell(&rt, rt.alloc(), Story::ThreeHeld)
+    assert!(rt; tell(&rt, rt.alloc(), Story::ThreeHeld)?);
+    Ok(())
 }
 
 #[test]
 fn the_next_call_publishes_what_was_dropped(rt: HostRuntime) -> Result<(), Fail> {
-    tell(&rt, rt.alloc(), Story::Dropped)
+    assert!(rt; tell(&rt, rt.alloc(), Story::Dropped)?);
+    Ok(())
 }

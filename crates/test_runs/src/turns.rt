@@ -1,4 +1,5 @@
 //! Workers who are let through in turns: they are under way side by side, and take the lock line by line or in batches.
+ghost use Rattle.std.specs.Prelude.{◌<◌, ◌≤◌};
 
 use crate::given::{FIRST_FILES, OTHER_FILES, script, setup};
 use qplain::{CallFault, Edition, Receipt, Refusal, Reply};
@@ -85,52 +86,67 @@ fn tells(outcome: &Outcome, worker: usize, expected: &[(u64, Option<u64>)]) -> b
     true
 }
 
-/// A run of two workers who make three files each, where this worker goes first: one line goes at a time, or all lines
-/// of a worker under one lock.
-fn run_in_turns<R: Threads + Wait + Sync>(
+/// A run of two workers who make three files each, with this gate: one line goes at a time, or all lines of a worker
+/// under one lock.
+fn run<R: Threads + Wait + Sync>(
+    rt: &R,
+    alloc: Global,
+    gate: &Turns,
+    batch: u64,
+) -> Result<Outcome, Fail>
+    requires batch { (0 < batch) × (batch ≤ 64) }
+{
+    let setup = setup(alloc)?.edition(Edition::Two);
+    let scripts = vec![in alloc; script(alloc, FIRST_FILES)?, script(alloc, OTHER_FILES)?]?;
+    let options = Options { boards: 0, batch };
+    match run_scripts(rt, alloc, setup, scripts, options, 0, gate) {
+        Ok(outcome) => Ok(outcome),
+        Err(_) => Err(Fail::from("an outcome")),
+    }
+}
+
+/// Whether a run in turns, where this worker goes first, tells this of the first worker's lines and of the second's, and
+/// no line waited in vain.
+fn comes_out<R: Threads + Wait + Sync>(
     rt: &R,
     alloc: Global,
     first: u64,
-    together: bool,
-) -> Result<Outcome, Fail> {
+    batch: u64,
+    told: (&[(u64, Option<u64>)], &[(u64, Option<u64>)]),
+) -> Result<bool, Fail>
+    requires batch { (0 < batch) × (batch ≤ 64) }
+{
     let gate = Turns {
         first,
         gone: AtomicU64::new(0),
         in_vain: AtomicU64::new(0),
     };
-    let scripts = vec![in alloc; script(alloc, FIRST_FILES)?, script(alloc, OTHER_FILES)?]?;
-    let options = Options {
-        boards: 0,
-        batch: if together { 64 } else { 1 },
-    };
-    let setup = setup(alloc)?.edition(Edition::Two);
-    let Ok(outcome) = run_scripts(rt, alloc, setup, scripts, options, 0, &gate) else {
-        return Err(Fail::from("an outcome"));
-    };
-    if gate.in_vain.load(SeqCst) != 0 {
-        return Err(Fail::from("a line that waited in vain"));
-    }
-    Ok(outcome)
+    let outcome = run(rt, alloc, &gate, batch)?;
+    Ok(tells(&outcome, 0, told.0) && tells(&outcome, 1, told.1) && gate.in_vain.load(SeqCst) == 0)
 }
+
+/// The places and inodes of lines that take turns.
+const ODD: &[(u64, Option<u64>)] = &[(1, Some(2)), (3, Some(4)), (5, Some(6))];
+
+const EVEN: &[(u64, Option<u64>)] = &[(2, Some(3)), (4, Some(5)), (6, None)];
 
 #[test]
 fn gates_take_turns(rt: HostRuntime) -> Result<(), Fail> {
-    let even = [(1, Some(2)), (3, Some(4)), (5, Some(6))];
-    let odd = [(2, Some(3)), (4, Some(5)), (6, None)];
-    let outcome = run_in_turns(&rt, rt.alloc(), 1, false)?;
-    assert!(rt; tells(&outcome, 0, &even) && tells(&outcome, 1, &odd));
-    let outcome = run_in_turns(&rt, rt.alloc(), 2, false)?;
-    assert!(rt; tells(&outcome, 0, &odd) && tells(&outcome, 1, &even));
+    let one = comes_out(&rt, rt.alloc(), 1, 1, (ODD, EVEN))?;
+    let two = comes_out(&rt, rt.alloc(), 2, 1, (EVEN, ODD))?;
+    assert_eq!(rt; (one, two), (true, true));
     Ok(())
 }
 
+/// The places and inodes of lines in batches.
+const BEFORE: &[(u64, Option<u64>)] = &[(1, Some(2)), (2, Some(3)), (3, Some(4))];
+
+const BEHIND: &[(u64, Option<u64>)] = &[(4, Some(5)), (5, Some(6)), (6, None)];
+
 #[test]
 fn gates_take_turns_in_batches(rt: HostRuntime) -> Result<(), Fail> {
-    let before = [(1, Some(2)), (2, Some(3)), (3, Some(4))];
-    let behind = [(4, Some(5)), (5, Some(6)), (6, None)];
-    let outcome = run_in_turns(&rt, rt.alloc(), 1, true)?;
-    assert!(rt; tells(&outcome, 0, &before) && tells(&outcome, 1, &behind));
-    let outcome = run_in_turns(&rt, rt.alloc(), 2, true)?;
-    assert!(rt; tells(&outcome, 0, &behind) && tells(&outcome, 1, &before));
+    let one = comes_out(&rt, rt.alloc(), 1, 64, (BEFORE, BEHIND))?;
+    let two = comes_out(&rt, rt.alloc(), 2, 64, (BEHIND, BEFORE))?;
+    assert_eq!(rt; (one, two), (true, true));
     Ok(())
 }

@@ -2,9 +2,9 @@
 #![tactic(auto)]
 
 #[cfg(test)]
-mod asks;
-#[cfg(test)]
 mod dropped;
+#[cfg(test)]
+mod given;
 #[cfg(test)]
 mod links;
 #[cfg(test)]

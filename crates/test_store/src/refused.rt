@@ -1,53 +1,56 @@
 //! Each allocation refused in turn: the store is as before, and the same call then gets its reply.
 
-use crate::asks::Ask::{
-    Chown, Create, Link, Mkdir, Read, Rename, SetGrace, SetUser, Stat, Truncate, Unlink, User,
-    Write,
-};
-use crate::asks::Told::{Bytes, Done, File, Freed, Record};
-use crate::asks::{Row, call, caller, new_store, reply};
-use Way::{Apply, Commit};
-use qplain::{Call, Cred, NoMemory, Reply};
+use crate::given::{new_store, rows};
+use qplain::{Entry, Journal, NoMemory, Reply};
 use qrules::{InodeRow, NameRow, RecordRow};
 use qstore::Store;
 use std::alloc::Global;
 use std::io::Print;
 use std::process::Abort;
 
+/// What each call is to be told. Those of worker 2 are made ready and then committed, which keeps what they have to
+/// write. The first is the call by which `/a` is looked at.
+const ROWS: &[u8] = b"\
+quotafs journal 2 workers 2
+1 0 0:7 stat /a => refused ENOENT
+1 0 0:7 create /a => done 2 blocks +0 -0 inodes +1 -0
+2 0 0:7 create /b => done 3 blocks +0 -0 inodes +1 -0
+2 0 0:7 write /a 4095 7879 => done 2 blocks +2 -0 inodes +0 -0
+1 0 0:7 write /b 0 7a => done 3 blocks +1 -0 inodes +0 -0
+1 0 0:7 read /a 4094 9 => bytes 007879
+2 0 0:7 read /b 0 9 => bytes 7a
+1 0 0:7 setgrace 7 8 => done 0 blocks +0 -0 inodes +0 -0
+2 0 0:7 setquota user 0 4 0 0 0 => done 0 blocks +0 -0 inodes +0 -0
+1 0 0:7 quota user 0 => quota 3 3 4 0 0 0 7 -
+2 0 0:7 stat /a => stat 2 file 0 7 4097 2 1
+1 0 0:7 truncate /a 4096 => done 2 blocks +0 -1 inodes +0 -0
+2 0 0:7 truncate /b 0 => done 3 blocks +0 -1 inodes +0 -0
+1 0 0:7 chown /a - 0 => done 2 blocks +0 -0 inodes +0 -0
+2 0 0:7 chown /a - 7 => done 2 blocks +0 -0 inodes +0 -0
+1 0 0:7 create /c => done 4 blocks +0 -0 inodes +1 -0
+2 0 0:7 create /d => done 5 blocks +0 -0 inodes +1 -0
+1 0 0:7 unlink /c => done 4 blocks +0 -0 inodes +0 -1
+2 0 0:7 unlink /a => done 2 blocks +0 -1 inodes +0 -1
+1 0 0:7 mkdir /m => done 6 blocks +0 -0 inodes +1 -0
+2 0 0:7 mkdir /n => done 7 blocks +0 -0 inodes +1 -0
+1 0 0:7 link /b /a => done 3 blocks +0 -0 inodes +0 -0
+2 0 0:7 link /b /m/b => done 3 blocks +0 -0 inodes +0 -0
+1 0 0:7 rename /b /n/b => done 3 blocks +0 -0 inodes +0 -0
+2 0 0:7 rename /d /m/b => done 5 blocks +0 -0 inodes +0 -0
+";
+
 /// Tells `checks/allocations` that this run has refused an allocation of the test.
 fn tell_refused(rt: &impl Print) {
     let _ = println!(rt; "an allocation was refused");
 }
 
-/// Makes a value. Where an allocation is refused, it is made once more.
-fn again<T, F: FnMut() -> Result<T, NoMemory>>(rt: &impl Print, mut make: F) -> Result<T, NoMemory>
-    requires { F.IsAlwaysCallable make }
-{
-    match make() {
-        Ok(made) => Ok(made),
-        Err(_) => {
-            tell_refused(rt);
-            make()
-        }
+/// The answer to the call of a row, made in the row's way.
+fn answer(store: &mut Store, row: &Entry) -> Result<Reply, NoMemory> {
+    if row.worker == 1 {
+        return store.apply(&row.cred, row.moment, &row.call);
     }
-}
-
-/// How a call is made.
-#[derive(Clone, Copy, Debug)]
-enum Way {
-    Apply,
-    /// It is made ready and then committed, which keeps what it has to write.
-    Commit,
-}
-
-fn answer(root: &Cred, store: &mut Store, way: Way, call: &Call) -> Result<Reply, NoMemory> {
-    match way {
-        Apply => store.apply(root, 0, call),
-        Commit => {
-            let ready = store.ready(root, 0, call)?;
-            Ok(store.commit(ready))
-        }
-    }
+    let ready = store.ready(&row.cred, row.moment, &row.call)?;
+    Ok(store.commit(ready))
 }
 
 /// All that can be seen of a store but the bytes of its files: its totals, its rows, and `/a`.
@@ -61,96 +64,102 @@ struct Seen {
     file: Reply,
 }
 
-fn look(rt: &impl Print, root: &Cred, store: &mut Store, stat: &Call) -> Result<Seen, NoMemory> {
+fn look_once(store: &mut Store, stat: &Entry) -> Result<Seen, NoMemory> {
+    let file = store.apply(&stat.cred, stat.moment, &stat.call)?;
+    let records = store.record_rows()?;
+    let inode_rows = store.inode_rows()?;
     Ok(Seen {
         blocks: store.blocks(),
         inodes: store.inodes(),
-        records: again(rt, || store.record_rows())?,
-        inode_rows: again(rt, || store.inode_rows())?,
-        names: again(rt, || store.name_rows())?,
-        file: store.apply(root, 0, stat)?,
+        records,
+        inode_rows,
+        names: store.name_rows()?,
+        file,
     })
 }
 
-/// The reply to a call. Where an allocation is refused, the store is to look as before, also when the call is made
-/// ready then and dropped, and is asked once more.
-fn insist(
-    rt: &(impl Abort + Print),
-    root: &Cred,
-    store: &mut Store,
-    stat: &Call,
-    way: Way,
-    call: &Call,
-) -> Result<Reply, NoMemory> {
-    let before = look(rt, root, store, stat)?;
-    match answer(root, store, way, call) {
-        Ok(given) => Ok(given),
+/// Looks at the store. Where an allocation is refused, it looks once more.
+fn look(rt: &impl Print, store: &mut Store, stat: &Entry) -> Result<Seen, NoMemory> {
+    match look_once(store, stat) {
+        Ok(seen) => Ok(seen),
         Err(_) => {
             tell_refused(rt);
-            assert!(rt; look(rt, root, store, stat)? == before);
-            drop(store.ready(root, 0, call)?);
-            assert!(rt; look(rt, root, store, stat)? == before);
-            answer(root, store, way, call)
+            look_once(store, stat)
         }
     }
 }
 
-/// Fails where the reply to the call is another.
-fn ask(
-    rt: &(impl Abort + Print),
-    alloc: Global,
+/// Whether the store looks as before, also when the call of a row is made ready and dropped.
+fn is_as_before(
     store: &mut Store,
-    way: Way,
-    row: Row<'_>,
-) -> Result<(), NoMemory> {
-    let (asked, told) = row;
-    let root = caller(rt, alloc)?;
-    let stat = again(rt, || call(rt, alloc, Stat("/a")))?;
-    let call = again(rt, || call(rt, alloc, asked))?;
-    let told = again(rt, || reply(alloc, told))?;
-    let given = insist(rt, &root, store, &stat, way, &call)?;
-    assert!(rt; given == told, "at {asked:?}");
-    Ok(())
+    stat: &Entry,
+    row: &Entry,
+    before: &Seen,
+) -> Result<bool, NoMemory> {
+    if look_once(store, stat)? != *before {
+        return Ok(false);
+    }
+    drop(store.ready(&row.cred, row.moment, &row.call)?);
+    Ok(look_once(store, stat)? == *before)
 }
 
-const ROWS: [(Way, Row<'static>); 24] = [
-    (Apply, (Create("/a"), Done(2, 0, 1))),
-    (Commit, (Create("/b"), Done(3, 0, 1))),
-    (Commit, (Write("/a", 4095, b"xy"), Done(2, 2, 0))),
-    (Apply, (Write("/b", 0, b"z"), Done(3, 1, 0))),
-    (Apply, (Read("/a", 4094, 9), Bytes(b"\0xy"))),
-    (Commit, (Read("/b", 0, 9), Bytes(b"z"))),
-    (Apply, (SetGrace(7, 8), Done(0, 0, 0))),
-    (Commit, (SetUser(4), Done(0, 0, 0))),
-    (Apply, (User, Record(3, 3, 4, 7))),
-    (Commit, (Stat("/a"), File(2, 4097, 2))),
-    (Apply, (Truncate("/a", 4096), Freed(2, 1, 0))),
-    (Commit, (Truncate("/b", 0), Freed(3, 1, 0))),
-    (Apply, (Chown("/a", 0), Done(2, 0, 0))),
-    (Commit, (Chown("/a", 7), Done(2, 0, 0))),
-    (Apply, (Create("/c"), Done(4, 0, 1))),
-    (Commit, (Create("/d"), Done(5, 0, 1))),
-    (Apply, (Unlink("/c"), Freed(4, 0, 1))),
-    (Commit, (Unlink("/a"), Freed(2, 1, 1))),
-    (Apply, (Mkdir("/m"), Done(6, 0, 1))),
-    (Commit, (Mkdir("/n"), Done(7, 0, 1))),
-    (Apply, (Link("/b", "/a"), Done(3, 0, 0))),
-    (Commit, (Link("/b", "/m/b"), Done(3, 0, 0))),
-    (Apply, (Rename("/b", "/n/b"), Done(3, 0, 0))),
-    (Commit, (Rename("/d", "/m/b"), Done(5, 0, 0))),
-];
+/// The answer to the call of a row. Where an allocation is refused, the store is to look as before, and is asked once
+/// more.
+fn insist(
+    rt: &(impl Abort + Print),
+    store: &mut Store,
+    stat: &Entry,
+    row: &Entry,
+) -> Result<Reply, NoMemory> {
+    let before = look(rt, store, stat)?;
+    match answer(store, row) {
+        Ok(given) => Ok(given),
+        Err(_) => {
+            tell_refused(rt);
+            assert!(rt; is_as_before(store, stat, row, &before)?);
+            answer(store, row)
+        }
+    }
+}
+
+/// Fails where the call of a row gets another reply. It tells how many names there are in the end, by a list in any
+/// order.
+fn ask_all(
+    rt: &(impl Abort + Print),
+    store: &mut Store,
+    rows: &[Entry],
+) -> Result<usize, NoMemory> {
+    if let Some(stat) = rows.first() {
+        for row in rows {
+            let given = insist(rt, store, stat, row)?;
+            assert!(rt; given == row.reply, "{:?}", row.call);
+        }
+    }
+    match store.name_rows_unordered() {
+        Ok(names) => Ok(names.len()),
+        Err(_) => {
+            tell_refused(rt);
+            Ok(store.name_rows_unordered()?.len())
+        }
+    }
+}
+
+/// A new store, and the rows.
+fn begin(alloc: Global) -> Result<(Store, Journal), NoMemory> {
+    let rows = rows(alloc, ROWS)?;
+    Ok((new_store(alloc)?, rows))
+}
 
 #[test]
 fn a_refused_call_changes_nothing(rt: HostRuntime) -> Result<(), NoMemory> {
-    let alloc = rt.alloc();
-    let mut store = again(&rt, || new_store(&rt, alloc))?;
-    for (way, row) in ROWS {
-        ask(&rt, alloc, &mut store, way, row)?;
-    }
-    let unordered = again(&rt, || store.name_rows_unordered())?;
-    assert_eq!(rt;
-        (unordered.len(), store.blocks(), store.inodes()),
-        (5, 0, 5)
-    );
+    let (mut store, rows) = match begin(rt.alloc()) {
+        Ok(begun) => begun,
+        Err(_) => {
+            tell_refused(&rt);
+            begin(rt.alloc())?
+        }
+    };
+    let names = ask_all(&rt, &mut store, rows.entries())?;
+    assert_eq!(rt; (names, store.blocks(), store.inodes()), (5, 0, 5));
     Ok(())
 }

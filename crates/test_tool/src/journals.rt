@@ -2,6 +2,7 @@
 
 use crate::memory_files::JOURNAL;
 use crate::short::Short;
+use qplain::Entry;
 use qtool::{FromText, Journal, write_journal};
 use std::alloc::{AllocError, Global};
 use std::process::Abort;
@@ -17,32 +18,50 @@ fn long_journal(alloc: Global) -> Result<Vec<u8>, AllocError> {
     Ok(text)
 }
 
-/// What is written of a journal to a writer that takes so many bytes, and the number of the fault if it refuses.
-fn written(alloc: Global, journal: &Journal, left: usize) -> (Vec<u8>, Option<u32>) {
+/// Whether a journal is written so to a writer that takes so many bytes: whole, or a beginning of that length, of which
+/// the writer's refusal is told.
+fn is_written(alloc: Global, journal: &Journal, text: &[u8], left: usize) -> bool {
     let mut out = Short::new(alloc, left, true);
-    let fault = match write_journal(journal, &mut out) {
-        Ok(()) => None,
-        Err(fault) => Some(fault.number()),
+    let is_told = match write_journal(journal, &mut out) {
+        Ok(()) => left == text.len(),
+        Err(fault) => left < text.len() && fault.number() == 62,
     };
-    (out.taken, fault)
+    is_told && out.taken.len() == left && text.starts_with(out.taken.as_slice())
 }
 
-/// Looks at each beginning of the journal's text.
-fn try_beginnings(rt: &impl Abort, alloc: Global, text: &[u8]) -> Result<(), Fail> {
-    let journal = Journal::read(alloc, text).ok().ok_or("a journal")?;
-    for left in 0..text.len() {
-        let (taken, fault) = written(alloc, &journal, left);
-        assert_eq!(rt; fault, Some(62), "at {left}");
-        assert_eq!(rt; taken.as_slice(), &text[..left]);
+/// Looks at each beginning of the journal's text, and at the whole of it.
+fn try_beginnings(rt: &impl Abort, alloc: Global, text: &[u8]) -> Result<(), &'static str> {
+    let Ok(journal) = Journal::read(alloc, text) else {
+        return Err("a journal");
+    };
+    for left in 0..text.len() + 1 {
+        assert!(rt; is_written(alloc, &journal, text, left), "at {left}");
     }
-    let (taken, fault) = written(alloc, &journal, text.len());
-    assert_eq!(rt; fault, None);
-    assert_eq!(rt; taken.as_slice(), text);
     Ok(())
 }
 
 #[test]
 fn a_refusing_writer_holds_a_beginning_of_the_journal(rt: HostRuntime) -> Result<(), Fail> {
+    let long = long_journal(rt.alloc())?;
     try_beginnings(&rt, rt.alloc(), JOURNAL)?;
-    try_beginnings(&rt, rt.alloc(), &long_journal(rt.alloc())?)
+    Ok(try_beginnings(&rt, rt.alloc(), &long)?)
+}
+
+/// Whether a copy of each entry is equal to it.
+fn are_copied(entries: &[Entry]) -> Result<bool, AllocError> {
+    for entry in entries {
+        if entry.copy()? != *entry {
+            return Ok(false);
+        }
+    }
+    Ok(entries.len() == 3)
+}
+
+#[test]
+fn copies_of_entries_are_equal(rt: HostRuntime) -> Result<(), Fail> {
+    match Journal::read(rt.alloc(), JOURNAL) {
+        Ok(journal) => assert!(rt; are_copied(journal.entries())?),
+        Err(_) => return Err(Fail::from("a journal")),
+    }
+    Ok(())
 }

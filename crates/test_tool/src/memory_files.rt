@@ -3,12 +3,11 @@
 use crate::short::Short;
 use qtool::{FileFault, Files, tool};
 use std::alloc::{AllocError, Global};
-use std::io::Write;
 use std::sync::Wait;
 use std::thread::Threads;
 
 /// 10 blocks and 6 inodes for user 0 alone.
-pub(crate) const CONFIG: &[u8] = br#"
+pub(crate) const CONFIG: &str = r#"
 size = "40k"
 nr_inodes = 6
 block_grace = 100
@@ -79,12 +78,15 @@ impl Files for MemoryFiles<'_> {
             return Err(FileFault::Memory);
         }
         let bytes = match name {
-            "a.toml" => CONFIG,
+            "a.toml" => CONFIG.as_bytes(),
             "s.txt" => SCRIPT,
             "s.journal" => JOURNAL,
             _ => return Err(FileFault::Fails),
         };
-        Vec::from_slice(self.alloc, bytes).map_err(|_| FileFault::Memory)
+        match Vec::from_slice(self.alloc, bytes) {
+            Ok(bytes) => Ok(bytes),
+            Err(_) => Err(FileFault::Memory),
+        }
     }
 
     fn is_same(&mut self, name: &str, other: &str) -> bool {
@@ -117,30 +119,25 @@ impl Files for MemoryFiles<'_> {
     }
 }
 
-/// The status and the error output of the program that writes its output to this writer, and wants memory for a file.
-pub(crate) fn told_into<O: Write, R: Threads + Wait + Sync>(
-    rt: &R,
-    alloc: Global,
-    line: &str,
-    short: &str,
-    out: &mut O,
-) -> Result<(u8, Vec<u8>), AllocError> {
-    told_over(rt, alloc, line, &mut MemoryFiles::new(alloc, short), out)
-}
-
-/// The same over these files.
-pub(crate) fn told_over<O: Write, R: Threads + Wait + Sync>(
-    rt: &R,
-    alloc: Global,
-    line: &str,
-    files: &mut MemoryFiles<'_>,
-    out: &mut O,
-) -> Result<(u8, Vec<u8>), AllocError> {
+/// The words of a command line.
+fn words_of(alloc: Global, line: &str) -> Result<Vec<String>, AllocError> {
     let mut words = Vec::new(alloc);
     for word in line.split(' ') {
         words.push(String::from_str(alloc, word)?)?;
     }
-    let mut err = Vec::new(alloc);
-    let status = tool(rt, alloc, 7, &words, files, out, &mut err);
-    Ok((status, err))
+    Ok(words)
+}
+
+/// The program's status, and whether its error output is this one.
+pub(crate) fn told<R: Threads + Wait + Sync>(
+    rt: &R,
+    line: &str,
+    files: &mut MemoryFiles<'_>,
+    out: &mut Short,
+    wanted: &[u8],
+) -> Result<(u8, bool), AllocError> {
+    let words = words_of(files.alloc, line)?;
+    let mut err = Vec::new(files.alloc);
+    let status = tool(rt, files.alloc, 7, &words, files, out, &mut err);
+    Ok((status, err.as_slice() == wanted))
 }

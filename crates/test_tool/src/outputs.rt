@@ -1,6 +1,6 @@
 //! Outputs and files for journals that refuse, and files for which there is no memory.
 
-use crate::memory_files::{JOURNAL, MemoryFiles, OUTCOME, told_into, told_over};
+use crate::memory_files::{JOURNAL, MemoryFiles, OUTCOME, told};
 use crate::short::Short;
 use std::alloc::{AllocError, Global};
 use std::sync::Wait;
@@ -12,76 +12,107 @@ const RUN_WITH_JOURNAL: &str = "quotafs run --config a.toml --journal new.journa
 
 const REPLAY: &str = "quotafs replay --config a.toml s.journal";
 
+/// The line of an output that refuses.
+const REFUSED: &[u8] = b"quotafs: output\n";
+
+/// Room for every output.
+const AMPLE: usize = 65_536;
+
+/// Whether the program that wants memory for a file ends with this status, this line and this output, where its output
+/// takes so many bytes.
+fn ends_so<R: Threads + Wait + Sync>(
+    rt: &R,
+    alloc: Global,
+    (line, short): (&str, &str),
+    left: usize,
+    (status, err, taken): (u8, &[u8], &[u8]),
+) -> Result<bool, AllocError> {
+    let mut files = MemoryFiles::new(alloc, short);
+    let mut out = Short::new(alloc, left, true);
+    let told = told(rt, line, &mut files, &mut out, err)?;
+    Ok(told == (status, true) && out.taken.as_slice() == taken)
+}
+
 #[test]
 fn a_refusing_output_holds_a_beginning(rt: HostRuntime) -> Result<(), AllocError> {
-    let alloc = rt.alloc();
     for left in 0..OUTCOME.len() {
-        let mut out = Short::new(alloc, left, true);
-        let (status, err) = told_into(&rt, alloc, RUN, "", &mut out)?;
-        assert_eq!(rt; status, 4);
-        assert_eq!(rt; err.as_slice(), b"quotafs: output\n".as_slice());
-        assert_eq!(rt; out.taken.as_slice(), &OUTCOME[..left]);
+        let end = (4, REFUSED, &OUTCOME[..left]);
+        assert!(rt;
+            ends_so(&rt, rt.alloc(), (RUN, ""), left, end)?,
+            "at {left}"
+        );
     }
     Ok(())
 }
 
 #[test]
 fn an_output_with_just_enough_room_takes_all(rt: HostRuntime) -> Result<(), AllocError> {
-    let mut out = Short::new(rt.alloc(), OUTCOME.len(), true);
-    let (status, err) = told_into(&rt, rt.alloc(), RUN, "", &mut out)?;
-    assert_eq!(rt; status, 0);
-    assert!(rt; err.is_empty());
-    assert_eq!(rt; out.taken.as_slice(), OUTCOME);
+    let end: (u8, &[u8], &[u8]) = (0, b"", OUTCOME);
+    assert!(rt; ends_so(&rt, rt.alloc(), (RUN, ""), OUTCOME.len(), end)?);
     Ok(())
+}
+
+/// Whether an output that takes so many bytes, and may refuse to be flushed, is told as refused, and has some.
+fn is_refused<R: Threads + Wait + Sync>(
+    rt: &R,
+    alloc: Global,
+    line: &str,
+    left: usize,
+    flushes: bool,
+) -> Result<bool, AllocError> {
+    let mut files = MemoryFiles::new(alloc, "");
+    let mut out = Short::new(alloc, left, flushes);
+    Ok(told(rt, line, &mut files, &mut out, REFUSED)? == (4, true) && out.taken.len() >= 5)
 }
 
 // The second help is taken whole, but not flushed.
 #[test]
 fn help_and_flushes_may_be_refused(rt: HostRuntime) -> Result<(), AllocError> {
-    let alloc = rt.alloc();
     for (line, left, flushes) in [
         (RUN, OUTCOME.len(), false),
         ("quotafs --help", 5, true),
-        ("quotafs --help", 65_536, false),
+        ("quotafs --help", AMPLE, false),
     ] {
-        let mut out = Short::new(alloc, left, flushes);
-        let (status, err) = told_into(&rt, alloc, line, "", &mut out)?;
-        assert_eq!(rt; status, 4, "at {line}");
-        assert_eq!(rt; err.as_slice(), b"quotafs: output\n".as_slice());
-        assert!(rt; out.taken.len() >= 5);
+        assert!(rt;
+            is_refused(&rt, rt.alloc(), line, left, flushes)?,
+            "at {line}"
+        );
     }
     Ok(())
 }
 
-/// Whether a run over these files ends as it must, where its journal is or is not to be had: the outcome is out, and
-/// the journal is kept whole or not at all. No draft is left.
+/// Whether a run whose journal takes so many bytes, and may refuse to be flushed or kept, ends as it must: the outcome
+/// is out, and the journal is kept whole or not at all. No draft is left.
 fn ends_well<R: Threads + Wait + Sync>(
     rt: &R,
     alloc: Global,
-    files: &mut MemoryFiles<'_>,
-    is_kept: bool,
+    left: usize,
+    flushes: bool,
+    keeps: bool,
 ) -> Result<bool, AllocError> {
-    let mut out = Vec::new(alloc);
-    let (status, _) = told_over(rt, alloc, RUN_WITH_JOURNAL, files, &mut out)?;
+    let mut files = MemoryFiles::new(alloc, "");
+    files.left = left;
+    files.flushes = flushes;
+    files.keeps = keeps;
+    let is_kept = left == JOURNAL.len() && flushes && keeps;
+    let mut out = Short::new(alloc, AMPLE, true);
+    let (wanted, err): (u8, &[u8]) = if is_kept { (0, b"") } else { (4, REFUSED) };
+    let told = told(rt, RUN_WITH_JOURNAL, &mut files, &mut out, err)?;
     let kept = match &files.kept {
         Some(text) => is_kept && text.as_slice() == JOURNAL,
         None => !is_kept,
     };
-    let wanted = if is_kept { 0 } else { 4 };
-    Ok(status == wanted && kept && files.drafts == 0 && out.as_slice() == OUTCOME)
+    Ok(told == (wanted, true) && kept && files.drafts == 0 && out.taken.as_slice() == OUTCOME)
 }
 
 #[test]
 fn a_journal_is_kept_whole_or_not_at_all(rt: HostRuntime) -> Result<(), AllocError> {
-    let alloc = rt.alloc();
     for left in 0..JOURNAL.len() + 1 {
         for (flushes, keeps) in [(true, true), (false, true), (true, false)] {
-            let mut files = MemoryFiles::new(alloc, "");
-            files.left = left;
-            files.flushes = flushes;
-            files.keeps = keeps;
-            let is_kept = left == JOURNAL.len() && flushes && keeps;
-            assert!(rt; ends_well(&rt, alloc, &mut files, is_kept)?, "at {left}");
+            assert!(rt;
+                ends_well(&rt, rt.alloc(), left, flushes, keeps)?,
+                "at {left}"
+            );
         }
     }
     Ok(())
@@ -99,39 +130,41 @@ fn a_journal_is_written_over_nothing_of_the_run(rt: HostRuntime) -> Result<(), A
         let line = format!(in alloc;
             "quotafs run --config a.toml --journal {name} s.txt other.txt"
         )?;
-        let mut out = Vec::new(alloc);
-        let (status, err) = told_into(&rt, alloc, line.as_str(), "", &mut out)?;
         let told = format!(in alloc; "error: the journal would be written over {what}\n")?;
-        assert_eq!(rt; status, 2);
-        assert_eq!(rt; err.as_slice(), told.as_bytes());
-        assert!(rt; out.is_empty());
+        let end: (u8, &[u8], &[u8]) = (2, told.as_bytes(), b"");
+        assert!(rt;
+            ends_so(&rt, alloc, (line.as_str(), ""), AMPLE, end)?,
+            "at {name}"
+        );
     }
     Ok(())
 }
 
 #[test]
 fn a_file_that_cannot_be_made_is_a_refused_output(rt: HostRuntime) -> Result<(), AllocError> {
-    let mut out = Vec::new(rt.alloc());
-    let (status, err) = told_into(&rt, rt.alloc(), RUN_WITH_JOURNAL, "new.journal", &mut out)?;
-    assert_eq!(rt; status, 4);
-    assert_eq!(rt; err.as_slice(), b"quotafs: output\n".as_slice());
-    assert_eq!(rt; out.as_slice(), OUTCOME);
+    let end = (4, REFUSED, OUTCOME);
+    assert!(rt;
+        ends_so(
+            &rt,
+            rt.alloc(),
+            (RUN_WITH_JOURNAL, "new.journal"),
+            AMPLE,
+            end
+        )?
+    );
     Ok(())
 }
 
 #[test]
 fn want_of_memory_for_a_file_is_memory(rt: HostRuntime) -> Result<(), AllocError> {
-    for (line, name) in [
+    for given in [
         (RUN, "a.toml"),
         (RUN, "s.txt"),
         (REPLAY, "a.toml"),
         (REPLAY, "s.journal"),
     ] {
-        let mut out = Vec::new(rt.alloc());
-        let (status, err) = told_into(&rt, rt.alloc(), line, name, &mut out)?;
-        assert_eq!(rt; status, 3);
-        assert_eq!(rt; err.as_slice(), b"quotafs: memory\n".as_slice());
-        assert!(rt; out.is_empty());
+        let end: (u8, &[u8], &[u8]) = (3, b"quotafs: memory\n", b"");
+        assert!(rt; ends_so(&rt, rt.alloc(), given, AMPLE, end)?);
     }
     Ok(())
 }

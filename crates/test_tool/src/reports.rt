@@ -28,15 +28,22 @@ fn ann(alloc: Global) -> Result<RecordRow, AllocError> {
 const TEXT: &[u8] =
     b"user    ann\xc3\xa9             +-         12          8         16         50 18446744073709551615          0          0          -\n";
 
+/// Whether the report is written so to a writer that takes so many bytes: whole, or a beginning of that length, of which
+/// the writer's refusal is told.
+fn is_written(alloc: Global, rows: &[RecordRow], left: usize) -> bool {
+    let mut out = Short::new(alloc, left, true);
+    let is_told = match report(rows, 1050, &mut out) {
+        Ok(()) => left == TEXT.len(),
+        Err(fault) => left < TEXT.len() && fault.number() == 61,
+    };
+    is_told && out.taken.len() == left && TEXT.starts_with(out.taken.as_slice())
+}
+
 #[test]
 fn a_refusing_writer_holds_a_beginning(rt: HostRuntime) -> Result<(), AllocError> {
-    let alloc = rt.alloc();
-    let rows = [ann(alloc)?];
+    let rows = [ann(rt.alloc())?];
     for left in 0..TEXT.len() {
-        let mut out = Short::new(alloc, left, true);
-        let told = report(&rows, 1050, &mut out);
-        assert_eq!(rt; told.map_err(|fault| fault.number()), Err(61));
-        assert_eq!(rt; out.taken.as_slice(), &TEXT[..left]);
+        assert!(rt; is_written(rt.alloc(), &rows, left), "at {left}");
     }
     Ok(())
 }
@@ -44,8 +51,6 @@ fn a_refusing_writer_holds_a_beginning(rt: HostRuntime) -> Result<(), AllocError
 #[test]
 fn a_writer_with_just_enough_room_takes_all(rt: HostRuntime) -> Result<(), AllocError> {
     let rows = [ann(rt.alloc())?];
-    let mut out = Short::new(rt.alloc(), TEXT.len(), true);
-    assert!(rt; report(&rows, 1050, &mut out).is_ok());
-    assert_eq!(rt; out.taken.as_slice(), TEXT);
+    assert!(rt; is_written(rt.alloc(), &rows, TEXT.len()));
     Ok(())
 }

@@ -4,34 +4,56 @@ use qblocks::{BlockFile, Input, MAX_SIZE, NoMemory};
 use std::io::Print;
 use std::process::Abort;
 
+/// Whether a file has so many blocks and bytes, and reads so from this offset on.
+fn is_so(
+    file: &BlockFile,
+    blocks: u64,
+    size: u64,
+    off: u64,
+    bytes: &[u8],
+) -> Result<bool, NoMemory> {
+    let read = file.read(off, 99)?;
+    Ok(file.allocated() == blocks && file.size() == size && read.as_slice() == bytes)
+}
+
+/// Writes the last byte that a file may have. It tells how many blocks that took, and whether it is read again.
+fn write_last(file: &mut BlockFile) -> Result<(u64, bool), NoMemory> {
+    let blocks = file.write(MAX_SIZE - 1, Input::Bytes(b"z"))?;
+    let is_kept = is_so(file, 1, 1_099_511_627_776, MAX_SIZE - 3, b"\0\0z")?;
+    Ok((blocks, is_kept))
+}
+
 #[test]
 fn the_last_byte_below_the_limit_is_kept(rt: HostRuntime) -> Result<(), NoMemory> {
     let mut file = BlockFile::new(rt.alloc());
-    assert_eq!(rt; file.write(MAX_SIZE - 1, Input::Bytes(b"z"))?, 1);
-    assert_eq!(rt; file.size(), 1_099_511_627_776);
-    assert!(rt; file.read(MAX_SIZE - 3, 9)?.as_slice() == b"\0\0z".as_slice());
-    assert_eq!(rt; file.truncate(MAX_SIZE - 1), 0);
-    assert_eq!(rt; file.truncate(MAX_SIZE - 4096), 1);
+    let written = write_last(&mut file)?;
+    let freed = [file.truncate(MAX_SIZE - 1), file.truncate(MAX_SIZE - 4096)];
+    assert_eq!(rt; (written, freed), ((1, true), [0, 1]));
     Ok(())
+}
+
+/// Makes a write ready, and puts it. It tells how many blocks the file had before, and how many that took.
+fn ready_and_put(file: &mut BlockFile) -> Result<(u64, u64), NoMemory> {
+    let spare = file.ready(65_530, 12)?;
+    let before = file.allocated();
+    Ok((
+        before,
+        file.put(65_530, Input::Bytes(b"abcdefghijkl"), spare),
+    ))
+}
+
+/// Makes another write ready and drops it, and then puts one.
+fn drop_and_put(file: &mut BlockFile) -> Result<(u64, u64), NoMemory> {
+    drop(file.ready(100, 200_000)?);
+    ready_and_put(file)
 }
 
 #[test]
 fn what_was_made_ready_is_put(rt: HostRuntime) -> Result<(), NoMemory> {
     let mut file = BlockFile::new(rt.alloc());
-    let dropped = file.ready(100, 200_000)?;
-    drop(dropped);
-    let spare = file.ready(65_530, 12)?;
-    assert_eq!(rt; file.allocated(), 0);
-    assert_eq!(rt; file.put(65_530, Input::Bytes(b"abcdefghijkl"), spare), 2);
-    assert!(rt; file.read(65534, 3)?.as_slice() == b"efg".as_slice());
-    Ok(())
-}
-
-/// Fails if the file is not as told.
-fn check(rt: &impl Abort, file: &BlockFile, blocks: u64, bytes: &[u8]) -> Result<(), NoMemory> {
-    assert_eq!(rt; file.allocated(), blocks);
-    assert_eq!(rt; file.size(), bytes.len() as u64);
-    assert!(rt; file.read(0, 99)?.as_slice() == bytes);
+    let put = drop_and_put(&mut file)?;
+    let is_put = is_so(&file, 2, 65_542, 65_534, b"efghijkl")?;
+    assert_eq!(rt; (put, is_put), ((0, 2), true));
     Ok(())
 }
 
@@ -44,26 +66,32 @@ fn tell_refused(rt: &impl Print) {
 fn write_first(rt: &(impl Abort + Print), file: &mut BlockFile) -> Result<(), NoMemory> {
     if file.write(0, Input::Bytes(b"abc")).is_err() {
         tell_refused(rt);
-        check(rt, file, 0, b"")?;
-        assert_eq!(rt; file.write(0, Input::Bytes(b"abc"))?, 1);
+        assert!(rt; is_so(file, 0, 0, 0, b"")? && file.write(0, Input::Bytes(b"abc"))? == 1);
     }
     Ok(())
 }
 
-/// Makes a write ready and puts it. After a refusal what is made ready once more is dropped first, which leaves
-/// nothing.
+/// Makes a write ready once more, behind a refusal and one that is dropped, which leaves nothing. It tells what was put,
+/// or nothing where the file was changed.
+fn put_again(file: &mut BlockFile) -> Result<Option<(u64, u64)>, NoMemory> {
+    let is_kept = is_so(file, 1, 3, 0, b"abc")?;
+    drop(file.ready(65_530, 12)?);
+    if is_kept && is_so(file, 1, 3, 0, b"abc")? {
+        return Ok(Some(ready_and_put(file)?));
+    }
+    Ok(None)
+}
+
+/// Makes a write ready and puts it.
 fn put_second(rt: &(impl Abort + Print), file: &mut BlockFile) -> Result<(), NoMemory> {
-    let spare = match file.ready(65_530, 12) {
-        Ok(spare) => spare,
+    let put = match ready_and_put(file) {
+        Ok(put) => Some(put),
         Err(_) => {
             tell_refused(rt);
-            check(rt, file, 1, b"abc")?;
-            drop(file.ready(65_530, 12)?);
-            check(rt, file, 1, b"abc")?;
-            file.ready(65_530, 12)?
+            put_again(file)?
         }
     };
-    assert_eq!(rt; file.put(65_530, Input::Bytes(b"abcdefghijkl"), spare), 2);
+    assert_eq!(rt; put, Some((1, 2)));
     Ok(())
 }
 
@@ -71,12 +99,29 @@ fn put_second(rt: &(impl Abort + Print), file: &mut BlockFile) -> Result<(), NoM
 fn write_third(rt: &(impl Abort + Print), file: &mut BlockFile) -> Result<(), NoMemory> {
     if file.write(69_630, Input::Bytes(b"wxyz")).is_err() {
         tell_refused(rt);
-        assert_eq!(rt; (file.allocated(), file.size()), (3, 65_542));
-        assert!(rt; file.read(65_530, 99)?.as_slice() == b"abcdefghijkl".as_slice());
+        assert!(rt; is_so(file, 3, 65_542, 65_530, b"abcdefghijkl")?);
         file.write(69_630, Input::Bytes(b"wxyz"))?;
     }
-    assert_eq!(rt; (file.allocated(), file.size()), (4, 69_634));
     Ok(())
+}
+
+/// Whether the file is as all writes leave it. Where an allocation is refused, it is read once more.
+fn is_written(rt: &impl Print, file: &BlockFile) -> Result<bool, NoMemory> {
+    match is_so(file, 4, 69_634, 69_629, b"\0wxyz") {
+        Err(_) => {
+            tell_refused(rt);
+            is_so(file, 4, 69_634, 69_629, b"\0wxyz")
+        }
+        is_written => is_written,
+    }
+}
+
+/// Makes each call that takes memory. It tells whether the file is then as the writes leave it.
+fn call_all(rt: &(impl Abort + Print), file: &mut BlockFile) -> Result<bool, NoMemory> {
+    write_first(rt, file)?;
+    put_second(rt, file)?;
+    write_third(rt, file)?;
+    is_written(rt, file)
 }
 
 // Run with the Nth allocation refused: the refused call leaves the file as it was, and the same
@@ -84,16 +129,6 @@ fn write_third(rt: &(impl Abort + Print), file: &mut BlockFile) -> Result<(), No
 #[test]
 fn a_refused_call_changes_nothing(rt: HostRuntime) -> Result<(), NoMemory> {
     let mut file = BlockFile::new(rt.alloc());
-    write_first(&rt, &mut file)?;
-    put_second(&rt, &mut file)?;
-    write_third(&rt, &mut file)?;
-    let bytes = match file.read(69_629, 9) {
-        Ok(bytes) => bytes,
-        Err(_) => {
-            tell_refused(&rt);
-            file.read(69_629, 9)?
-        }
-    };
-    assert!(rt; bytes.as_slice() == b"\0wxyz".as_slice());
+    assert!(rt; call_all(&rt, &mut file)?);
     Ok(())
 }

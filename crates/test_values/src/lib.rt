@@ -4,8 +4,6 @@
 #[cfg(test)]
 mod blocks;
 #[cfg(test)]
-mod copies;
-#[cfg(test)]
 mod rules;
 #[cfg(test)]
 mod setups;

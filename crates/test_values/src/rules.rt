@@ -1,19 +1,27 @@
 //! The order of kinds, and the names of principals.
 
 use qrules::{Kind, PrincipalName};
-use std::alloc::AllocError;
+use std::alloc::{AllocError, Global};
 
 #[test]
 fn users_come_before_groups(rt: HostRuntime) {
     assert!(rt; Kind::User < Kind::Group);
 }
 
+fn name(alloc: Global, text: &str) -> Result<PrincipalName, AllocError> {
+    Ok(PrincipalName::new(String::from_str(alloc, text)?))
+}
+
+/// Whether names of these texts are equal.
+fn are_equal(alloc: Global, first: &str, second: &str) -> Result<bool, AllocError> {
+    let first = name(alloc, first)?;
+    Ok(first == name(alloc, second)?)
+}
+
 #[test]
 fn names_are_equal_where_their_texts_are(rt: HostRuntime) -> Result<(), AllocError> {
-    let ann = PrincipalName::new(String::from_str(rt.alloc(), "ann")?);
-    let bob = PrincipalName::new(String::from_str(rt.alloc(), "bob")?);
-    assert!(rt; ann == PrincipalName::new(String::from_str(rt.alloc(), "ann")?));
-    assert!(rt; ann != bob);
-    assert_eq!(rt; bob.into_string().as_str(), "bob");
+    for (text, is_ann) in [("ann", true), ("bob", false)] {
+        assert_eq!(rt; are_equal(rt.alloc(), "ann", text)?, is_ann);
+    }
     Ok(())
 }

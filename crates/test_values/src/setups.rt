@@ -41,32 +41,41 @@ pub(crate) fn setup(
     Ok(Setup::new(blocks, 6, GRACES, all, groups))
 }
 
-// Each row but the first has a number or a name out of range, which is reported before what else is wrong.
+/// What is wrong with a setup of user 0, a second user and one group.
+fn fault(
+    alloc: Global,
+    blocks: u64,
+    second: (u32, &str),
+    group: &str,
+) -> Result<Option<SetupFault>, NoMemory> {
+    Ok(setup(alloc, blocks, [(0, "root"), second], group)?.err())
+}
+
+// Each row but the first two has a number or a name out of range, which is reported before what else is wrong.
 #[test]
 fn blocks_and_names_have_ranges(rt: HostRuntime) -> Result<(), NoMemory> {
-    let alloc = rt.alloc();
-    for (blocks, second, name, group, is_taken) in [
-        (1, 7, "z0-9_", "r", true),
-        (1, 7, "sixteen_letters_", "root", true),
-        (0, 7, "ann", "root", false),
-        (1, 7, "seventeen_letters", "root", false),
-        (1, 7, "", "root", false),
-        (1, 7, "1ab", "root", false),
-        (1, 7, "_ab", "root", false),
-        (1, 7, "Ann", "root", false),
-        (1, 7, "aNn", "root", false),
-        (1, 7, "an n", "root", false),
-        (1, 7, "ann.", "root", false),
-        (1, 0, "Bob", "root", false),
-        (1, 0, "root", "0", false),
+    for (blocks, second, group, is_taken) in [
+        (1, (7, "z0-9_"), "r", true),
+        (1, (7, "sixteen_letters_"), "root", true),
+        (0, (7, "ann"), "root", false),
+        (1, (7, "seventeen_letters"), "root", false),
+        (1, (7, ""), "root", false),
+        (1, (7, "1ab"), "root", false),
+        (1, (7, "_ab"), "root", false),
+        (1, (7, "Ann"), "root", false),
+        (1, (7, "aNn"), "root", false),
+        (1, (7, "an n"), "root", false),
+        (1, (7, "ann."), "root", false),
+        (1, (0, "Bob"), "root", false),
+        (1, (0, "root"), "0", false),
     ] {
-        let given = setup(alloc, blocks, [(0, "root"), (second, name)], group)?;
         let wanted = if is_taken {
             None
         } else {
             Some(SetupFault::Range)
         };
-        assert_eq!(rt; given.err(), wanted, "at {blocks} {second} {name} {group}");
+        let found = fault(rt.alloc(), blocks, second, group)?;
+        assert_eq!(rt; found, wanted, "at {second:?} {group}");
     }
     Ok(())
 }

@@ -3,51 +3,79 @@
 use qplain::{Cred, Data, NoMemory, Path, SharedItems};
 use std::alloc::Global;
 
+/// Seventeen groups, which are one more than a caller may have.
+const GROUPS: [u32; 17] = [9, 7, 7, 0, 1, 2, 3, 4, 5, 6, 7, 8, 9, 10, 11, 12, 13];
+
+/// Whether there is such a caller, who keeps its further groups as they are given.
+fn is_kept(alloc: Global, more: &[u32]) -> Result<bool, NoMemory> {
+    match Cred::new(alloc, 1001, 100, more)? {
+        Some(caller) => Ok(caller.more() == more && caller.uid() == 1001 && caller.gid() == 100),
+        None => Ok(false),
+    }
+}
+
 #[test]
 fn a_caller_keeps_its_further_groups_in_order(rt: HostRuntime) -> Result<(), NoMemory> {
-    let alloc = rt.alloc();
-    let groups = [9, 7, 7, 0, 1, 2, 3, 4, 5, 6, 7, 8, 9, 10, 11, 12, 13];
-    let sixteen = &groups[..16];
-    let caller = Cred::new(alloc, 1001, 100, sixteen)?.expect(&rt, "a caller");
-    assert_eq!(rt; caller.more(), sixteen);
-    assert_eq!(rt; (caller.uid(), caller.gid()), (1001, 100));
-    assert!(rt; Cred::new(alloc, 1001, 100, groups.as_slice())?.is_none());
-    assert!(rt; Cred::new(alloc, 1001, 100, &[7, 9])? != Cred::new(alloc, 1001, 100, &[9, 7])?);
-    assert!(rt; Cred::new(alloc, 1001, 100, &[0])? != Cred::new(alloc, 1001, 100, &[])?);
-    assert!(rt; Cred::new(alloc, 1001, 100, &[7, 9])? == Cred::new(alloc, 1001, 100, &[7, 9])?);
-    assert!(rt; caller.copy()? == caller);
+    let sixteen = is_kept(rt.alloc(), &GROUPS[..16])?;
+    let seventeen = is_kept(rt.alloc(), &GROUPS)?;
+    assert_eq!(rt; (sixteen, seventeen), (true, false));
     Ok(())
+}
+
+/// Whether callers of one user and group and these further groups are equal.
+fn are_one(alloc: Global, first: &[u32], second: &[u32]) -> Result<bool, NoMemory> {
+    let first = Cred::new(alloc, 1001, 100, first)?;
+    Ok(Cred::new(alloc, 1001, 100, second)? == first)
+}
+
+#[test]
+fn callers_are_equal_where_their_further_groups_are(rt: HostRuntime) -> Result<(), NoMemory> {
+    let pair = &[7, 9, 7];
+    for (first, second, is_one) in [(0..2, 0..2, true), (0..2, 1..3, false), (0..1, 0..0, false)] {
+        assert_eq!(rt; are_one(rt.alloc(), &pair[first], &pair[second])?, is_one);
+    }
+    Ok(())
+}
+
+/// Whether a path of these bytes is there, and has them.
+fn is_path(alloc: Global, text: &str) -> Result<bool, NoMemory> {
+    match Path::new(alloc, text.as_bytes())? {
+        Some(path) => Ok(path.bytes() == text.as_bytes()),
+        None => Ok(false),
+    }
 }
 
 #[test]
 fn a_path_is_one_byte_or_more_that_print_and_are_no_space(rt: HostRuntime) -> Result<(), NoMemory> {
-    for text in ["", "/a b", "/\n", "/\u{7f}", "/\u{e9}"] {
-        assert!(rt;
-            Path::new(rt.alloc(), text.as_bytes())?.is_none(),
-            "at {text}"
-        );
+    for text in ["!a//~/", "", "/a b", "/\n", "/\u{7f}", "/\u{e9}"] {
+        assert_eq!(rt; is_path(rt.alloc(), text)?, text == "!a//~/", "at {text}");
     }
-    let path = Path::new(rt.alloc(), b"!a//~/")?;
-    assert!(rt; path.is_some_and(|p| p.bytes() == b"!a//~/".as_slice()));
     Ok(())
 }
 
-fn written(alloc: Global, bytes: &[u8]) -> Result<Data, NoMemory> {
-    Ok(Data::new(SharedItems::new(Vec::from_slice(alloc, bytes)?)?))
+/// Whether bytes that are written are equal to others, from both sides.
+fn is_written(alloc: Global, bytes: &[u8], other: &Data) -> Result<bool, NoMemory> {
+    let written = Data::new(SharedItems::new(Vec::from_slice(alloc, bytes)?)?);
+    Ok(written == *other && *other == written)
 }
 
 #[test]
 fn bytes_are_equal_however_they_are_kept(rt: HostRuntime) -> Result<(), NoMemory> {
-    let alloc = rt.alloc();
-    assert!(rt; Data::fill(3, 97) == written(alloc, b"aaa")?);
-    assert!(rt; written(alloc, b"aaa")? == Data::fill(3, 97));
-    assert!(rt; Data::fill(0, 97) == Data::fill(0, 98));
-    assert!(rt; Data::fill(3, 97) == Data::fill(3, 97));
-    assert!(rt; Data::fill(3, 97) != Data::fill(3, 98));
-    assert!(rt; Data::fill(3, 97) != Data::fill(2, 97));
-    assert!(rt; Data::fill(3, 97) != written(alloc, b"aab")?);
-    assert!(rt; Data::fill(3, 97) != written(alloc, b"aa")?);
-    assert!(rt; written(alloc, b"")? == Data::fill(0, 0));
-    assert!(rt; written(alloc, b"ab")? == written(alloc, b"ab")?.copy()?);
+    for (bytes, count) in [("", 0), ("aaa", 3), ("aab", 3), ("aa", 3)] {
+        let is_equal = is_written(rt.alloc(), bytes.as_bytes(), &Data::fill(count, 97))?;
+        assert_eq!(rt;
+            is_equal,
+            bytes.len() as u64 == count && bytes != "aab",
+            "at {bytes}"
+        );
+    }
     Ok(())
+}
+
+#[test]
+fn filled_bytes_are_equal_where_their_numbers_are(rt: HostRuntime) {
+    for (count, byte, other) in [(3, 97, true), (3, 98, false), (2, 97, false)] {
+        assert_eq!(rt; Data::fill(3, 97) == Data::fill(count, byte), other);
+    }
+    assert!(rt; Data::fill(0, 97) == Data::fill(0, 98));
 }
