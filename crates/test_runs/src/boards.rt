@@ -41,7 +41,8 @@ fn board(alloc: Global, version: u64, bob: u64, all: u64) -> Result<Board, Fail>
     let root = row(Kind::User, 0, 0, 1);
     let bob = row(Kind::User, 1001, bob, 1);
     let group = row(Kind::Group, 0, all, 2);
-    let rows = vec![in alloc; root, bob, group]?;
+    let project = row(Kind::Project, 0, all, 2);
+    let rows = vec![in alloc; root, bob, group, project]?;
     Ok(Board {
         version,
         rows: Items::new(rows),
@@ -146,11 +147,12 @@ fn sums(board: &Board, kind: Kind) -> (u64, u64) {
     (blocks, inodes)
 }
 
-/// Whether users and groups each have all that is in use, and no more than there is.
+/// Whether users, groups and projects each have all that is in use, and no more than there is.
 pub(crate) fn balances(board: &Board) -> bool {
     let all = (board.blocks, board.inodes);
     sums(board, Kind::User) == all
         && sums(board, Kind::Group) == all
+        && sums(board, Kind::Project) == all
         && board.blocks <= 10
         && board.inodes <= 6
 }

@@ -12,6 +12,7 @@ block_grace = 100
 inode_grace = 100
 user = [{ id = 0, name = 'root' }, { id = 1001, name = 'bob' }]
 group = [{ id = 0, name = 'root' }]
+project = [{ id = 0, name = 'root' }]
 ";
 
 /// The setup of a small store.

@@ -27,6 +27,7 @@ fn inode(ino: u64, dir: bool, gid: u32, blocks: u32, links: u64) -> InodeRow {
         dir,
         uid: 0,
         gid,
+        project: None,
         blocks,
         links,
     }

@@ -5,13 +5,14 @@ use qaudit::{compare, put_audit, recount};
 use qrules::{InodeRow, Kind, Limits, NameRow, PrincipalName, RecordRow};
 use std::alloc::{AllocError, Global};
 
-/// An inode of a user and of group 0.
+/// An inode of a user and of group 0, in no project.
 pub(crate) fn inode(ino: u64, dir: bool, uid: u32, blocks: u32, links: u64) -> InodeRow {
     InodeRow {
         ino,
         dir,
         uid,
         gid: 0,
+        project: None,
         blocks,
         links,
     }
@@ -78,6 +79,34 @@ fn each_difference_is_told_in_its_place(rt: HostRuntime) -> Result<(), AllocErro
     let wanted = b"audit 4\n\
 user 1001 blocks 3 2 inodes 1 1\n\
 group 0 no record blocks 2 inodes 2\n\
+inode 1 links 3 2\n\
+inode 2 links 1 2\n";
+    assert!(rt; is_told(rt.alloc(), &inodes, &[name(2), name(2)], &records, wanted)?);
+    Ok(())
+}
+
+// What is counted of a project without a record stands after the groups; a row without a project is of none.
+#[test]
+fn projects_come_after_groups(rt: HostRuntime) -> Result<(), AllocError> {
+    let of = |project, row| InodeRow {
+        project: Some(project),
+        ..row
+    };
+    let inodes = [
+        of(0, inode(1, true, 0, 0, 3)),
+        of(7, inode(2, false, 1001, 2, 1)),
+    ];
+    let records = [
+        (Kind::User, 0, 0, 1),
+        (Kind::User, 1000, 0, 0),
+        (Kind::User, 1001, 3, 1),
+        (Kind::Group, 100, 0, 0),
+        (Kind::Project, 0, 0, 1),
+    ];
+    let wanted = b"audit 5\n\
+user 1001 blocks 3 2 inodes 1 1\n\
+group 0 no record blocks 2 inodes 2\n\
+project 7 no record blocks 2 inodes 1\n\
 inode 1 links 3 2\n\
 inode 2 links 1 2\n";
     assert!(rt; is_told(rt.alloc(), &inodes, &[name(2), name(2)], &records, wanted)?);

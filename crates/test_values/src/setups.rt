@@ -38,7 +38,7 @@ pub(crate) fn setup(
     all.push(named(alloc, second, second_name)?)?;
     let mut groups = Vec::new(alloc);
     groups.push(named(alloc, 0, group)?)?;
-    Ok(Setup::new(blocks, 6, GRACES, all, groups))
+    Ok(Setup::new(blocks, 6, GRACES, all, groups, Vec::new(alloc)))
 }
 
 /// What is wrong with a setup of user 0, a second user and one group.
