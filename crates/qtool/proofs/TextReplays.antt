@@ -1,5 +1,5 @@
 -- What is answered for a journal's text that is read and played again.
-use Rattle.std.proofs.Common.{◌≡◌, ◌⊎◌, ℕ, List, Ok, Err, inl, inr, sym}
+use Rattle.std.proofs.Common.{◌≡◌, ◌⊎◌, ℕ, List, Ok, Err, inl, inr, sym, ap, ◌∙◌}
 use Rattle.qplain.specs.Journals.{Written}
 use Rattle.qplain.specs.Setups.{Setting, in_edition}
 use Rattle.qplain.specs.State.{start}
@@ -8,6 +8,7 @@ use Rattle.qrun_replay.specs.declared.replay_fault.ReplayFault.TheVariants.{Memo
 use Rattle.qrun_replay.specs.Replays.{IsFirstMismatch}
 use Rattle.qtext.specs.TextFaults.{want_of_memory}
 use Rattle.qtext_files.specs.Journals.{journal_of}
+use Rattle.qtext_files.specs.Spelling.{CanBeRead, journal_spelling}
 use Rattle.qtool.specs.declared.text_replay.TextReplayFault.TheVariants.{Mismatch}
 use Rattle.qtool.specs.TextReplays.{IsMismatchIn, replay_fault_of}
 
@@ -26,3 +27,10 @@ pub mismatch_in : (setting : Setting) (text : List ℕ) (j : Written) (place : �
     → (Ok j ≡ journal_of text) ⊎ (Ok j ≡ Err want_of_memory) → IsFirstMismatch (start (in_edition j.edition setting)) j.entries place
     → IsMismatchIn setting text place
 mismatch_in setting text j place read first = record { journal = j; says = read_says text j read; first = first }
+
+-- what was read of a journal's own spelling is that journal
+pub same_journal : (text : List ℕ) (j k : Written) → (Ok j ≡ journal_of text) ⊎ (Ok j ≡ Err want_of_memory) → CanBeRead k
+    → text ≡ journal_spelling k → j ≡ k
+same_journal text j k read can spelled =
+    let both : Ok j ≡ Ok k = sym (read_says text j read) ∙ ap journal_of spelled ∙ can in
+    cc both
