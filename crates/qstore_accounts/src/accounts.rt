@@ -196,6 +196,7 @@ impl Accounts {
     }
 
     /// The first limit in the way of a bill: the user's, or else the group's, or else the project's.
+    #[inline(always)]
     fn fault(&self, moment: u64, bill: &Bill) -> Option<Refusal>
         requires placed { IsBillFor self.now bill.now }
         ensures { result ≡ option_or (refusal_of self.now.users User moment bill.now.users.to)
@@ -209,6 +210,7 @@ impl Accounts {
     }
 
     /// The same of the kinds that are tested after the users.
+    #[inline(always)]
     fn later_fault(&self, moment: u64, bill: &Bill) -> Option<Refusal>
         requires placed { IsBillFor self.now bill.now }
         ensures { result ≡ option_or (refusal_of self.now.groups Group moment bill.now.groups.to)

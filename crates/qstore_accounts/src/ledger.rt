@@ -146,6 +146,7 @@ impl Ledger {
 
     /// Writes the records of both owners as they will be where one inode comes to stand in the place of another; one
     /// record where both have the same, and none where names alone change.
+    #[inline(always)]
     pub(crate) fn write_postings(
         &self,
         from: Option<OwnerClaim>,
@@ -213,6 +214,7 @@ impl Ledger {
     }
 
     /// Puts a record where it stands.
+    #[inline(always)]
     fn post(&mut self, posting: &Option<Posting>)
         requires { IfSome posting.now (λ p. IsSlotOf self.old p.slot p.id) }
         ensures { self.new ≡ map (post posting.now) self.old }
@@ -224,6 +226,7 @@ impl Ledger {
     }
 
     /// Puts both records of the postings where they stand.
+    #[inline(always)]
     pub(crate) fn settle(&mut self, postings: &Postings)
         requires { ArePlaced self.old postings.now }
         ensures { self.new ≡ map (posted postings.now) self.old }

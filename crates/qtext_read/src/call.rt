@@ -106,6 +106,7 @@ fn chown_of<'a>(
 }
 
 #[tactic(auto, unfolding(crate::specs::Calls::chown_to_project_of))]
+#[inline(never)]
 fn chown_to_project_of<'a>(
     alloc: Global,
     paths: &mut Paths<'a>,

@@ -32,6 +32,7 @@ fn blocks_of(node: &Node) -> u64
 
 impl Store {
     /// Where the records of these owners stand, if all are declared.
+    #[inline(always)]
     pub(super) fn slots(&self, owners: Owners) -> Option<Slots>
         ensures declared { is_some result ≡ are_declared self.now.state owners }
         ensures slots { IfSome result (λ slots. HasSlots self.now.books slots owners) }
@@ -61,6 +62,7 @@ impl Store {
     }
 
     /// The same, where those of the caller are found already.
+    #[inline(always)]
     fn owner_slots(&self, request: &Request, owners: Owners) -> Option<Slots>
         requires { CanDecide self.now request.now }
         ensures declared { are_declared self.now.state owners ≡ true → IsSome result }
@@ -73,6 +75,7 @@ impl Store {
     }
 
     /// What an inode of these owners takes that has N blocks.
+    #[inline(always)]
     pub(super) fn claim(&self, request: &Request, owners: Owners, blocks: u64) -> Claim
         requires can { CanDecide self.now request.now }
         requires declared { are_declared self.now.state owners ≡ true }
@@ -87,6 +90,7 @@ impl Store {
     }
 
     /// What an inode that is there takes.
+    #[inline(always)]
     pub(super) fn claim_of(&self, request: &Request, number: u64, node: &Node) -> Claim
         requires can { CanDecide self.now request.now }
         requires there { inode_at self.now.state number ≡ Some (inode_of node.now) }

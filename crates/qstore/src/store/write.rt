@@ -48,6 +48,7 @@ impl Store {
     }
 
     /// The file that the path leads to, if the write comes so far, or else its reply.
+    #[inline(always)]
     fn target(&self, request: &Request, path: &str, off: u64, bytes: &Data) -> Result<Target, Reply>
         requires can { CanDecide self.now request.now }
         requires few { length bytes.now ≤ MAX_DATA }
