@@ -191,6 +191,7 @@ fn quota_of(edition: Edition, kind: &[u8], id: &[u8]) -> Result<Call, ReadFault>
 
 /// The call of a verb and its arguments, of which there are as many as it takes; chown may have a project.
 #[tactic(auto, unfolding(crate::specs::Calls::call_of))]
+#[inline(always)]
 pub(crate) fn call_of<'a>(
     alloc: Global,
     paths: &mut Paths<'a>,
