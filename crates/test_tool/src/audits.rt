@@ -85,7 +85,7 @@ inode 2 links 1 2\n";
     Ok(())
 }
 
-// What is counted of a project without a record stands after the groups; a row without a project is of none.
+// What is counted of a project without a record stands after the groups.
 #[test]
 fn projects_come_after_groups(rt: HostRuntime) -> Result<(), AllocError> {
     let of = |project, row| InodeRow {

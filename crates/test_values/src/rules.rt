@@ -4,8 +4,8 @@ use qrules::{Kind, PrincipalName};
 use std::alloc::{AllocError, Global};
 
 #[test]
-fn users_come_before_groups(rt: HostRuntime) {
-    assert!(rt; Kind::User < Kind::Group);
+fn kinds_come_in_order(rt: HostRuntime) {
+    assert!(rt; Kind::User < Kind::Group && Kind::Group < Kind::Project);
 }
 
 fn name(alloc: Global, text: &str) -> Result<PrincipalName, AllocError> {

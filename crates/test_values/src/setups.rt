@@ -17,7 +17,7 @@ const NO_LIMITS: Limits = Limits {
 };
 
 /// A principal of this id and name, without limits.
-pub(crate) fn named(alloc: Global, id: u32, name: &str) -> Result<Principal, NoMemory> {
+fn named(alloc: Global, id: u32, name: &str) -> Result<Principal, NoMemory> {
     Ok(Principal {
         id,
         name: PrincipalName::new(String::from_str(alloc, name)?),
@@ -26,7 +26,7 @@ pub(crate) fn named(alloc: Global, id: u32, name: &str) -> Result<Principal, NoM
 }
 
 /// A setup of N blocks and 6 inodes, with two users and one group.
-pub(crate) fn setup(
+fn setup(
     alloc: Global,
     blocks: u64,
     users: [(u32, &str); 2],
@@ -39,6 +39,23 @@ pub(crate) fn setup(
     let mut groups = Vec::new(alloc);
     groups.push(named(alloc, 0, group)?)?;
     Ok(Setup::new(blocks, 6, GRACES, all, groups, Vec::new(alloc)))
+}
+
+/// A list of id 0 alone.
+fn alone(alloc: Global, name: &str) -> Result<Vec<Principal>, NoMemory> {
+    let mut principals = Vec::new(alloc);
+    principals.push(named(alloc, 0, name)?)?;
+    Ok(principals)
+}
+
+// In a configuration such a name is a fault of its field, before there is a setup.
+#[test]
+fn names_of_projects_have_the_same_form(rt: HostRuntime) -> Result<(), NoMemory> {
+    let alloc = rt.alloc();
+    let (users, groups) = (alone(alloc, "root")?, alone(alloc, "root")?);
+    let setup = Setup::new(1, 6, GRACES, users, groups, alone(alloc, "Ann")?);
+    assert_eq!(rt; setup.err(), Some(SetupFault::Range));
+    Ok(())
 }
 
 /// What is wrong with a setup of user 0, a second user and one group.
