@@ -1,0 +1,2 @@
+-- What clients hand out.
+pub mod Clients
