@@ -51,16 +51,20 @@ moment_text moment = concat (codes "quota at " ∷ decimal moment ∷ codes "\n"
 abbrev pub told_text : Outcome → List ℕ
 told_text o = flat_map transcript_text o.transcripts ++ boards_text o.boards
 
--- what was told while it ran, the quota report as of a moment, and the totals
-abbrev pub run_text : Outcome → ℕ → List ℕ
-run_text o moment = told_text o ++ moment_text moment ++ report_text o.records moment ++ totals_text o
-
 -- the tallies: by how much the totals rose and fell over the whole journal, and how many calls it has
 abbrev pub tally_text : Tallies → List ℕ
 tally_text t = concat (codes "tally blocks +" ∷ decimal t.blocks_charged ∷ codes " -" ∷ decimal t.blocks_released
     ∷ codes " inodes +" ∷ decimal t.inodes_charged ∷ codes " -" ∷ decimal t.inodes_released
     ∷ codes " calls " ∷ decimal t.calls ∷ codes "\n" ∷ [])
 
--- the outcome of a run: what it left as of a moment, the tallies of its journal, and what an audit of it found
+-- the quota report as of a moment, and the totals
+abbrev pub account_text : Outcome → ℕ → List ℕ
+account_text o moment = moment_text moment ++ report_text o.records moment ++ totals_text o
+
+-- what is left at the end: that, the tallies of the journal, and what an audit of the store found
+abbrev pub left_text : Outcome → ℕ → List ℕ
+left_text o moment = account_text o moment ++ tally_text o.tallies ++ audit_text o.differences
+
+-- the outcome of a run: what was told while it ran, and what is left
 abbrev pub outcome_text : Outcome → ℕ → List ℕ
-outcome_text o moment = run_text o moment ++ tally_text o.tallies ++ audit_text o.differences
+outcome_text o moment = told_text o ++ left_text o moment

@@ -1,7 +1,7 @@
 //! Outcomes of runs as text: transcripts, boards, the quota report, the totals, the tallies and the audit.
 #![tactic(auto)]
 
-pub use outcome_text::{put_outcome, write_outcome};
+pub use outcome_text::{put_left, put_outcome, write_outcome};
 pub use qtext_write::WriteFault;
 
 mod boards_text;

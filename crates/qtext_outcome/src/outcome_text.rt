@@ -2,7 +2,8 @@
 ghost use Rattle.std.specs.Prelude.{◌≡◌, codes, decimal, ◌∷◌, []};
 ghost use Rattle.std.specs.List.{concat};
 ghost use Rattle.qtext.specs.Written.{Writes};
-ghost use Rattle.qtext_outcome.specs.Outcomes.{moment_text, outcome_text, run_text, tally_text, told_text, totals_text};
+ghost use Rattle.qtext_outcome.specs.Outcomes.{account_text, left_text, moment_text, outcome_text, tally_text};
+ghost use Rattle.qtext_outcome.specs.Outcomes.{told_text, totals_text};
 
 use crate::WriteFault;
 use crate::boards_text::put_boards;
@@ -69,15 +70,25 @@ fn put_told<W: Write>(out: &mut W, outcome: &Outcome) -> Result<(), RefusedWrite
     put_boards(out, outcome.boards.as_slice())
 }
 
-/// Writes the transcripts, the boards, the report as of the moment, and the totals.
+/// Writes the report as of the moment, and the totals.
 #[tactic(auto, using(qtext::proofs::Fronts::front_of_first, qtext::proofs::Fronts::writes_then))]
-fn put_run<W: Write>(out: &mut W, outcome: &Outcome, moment: u64) -> Result<(), RefusedWrite>
-    ensures { Writes (W.contents out.old) (W.contents out.new) result (run_text outcome.now moment) }
+fn put_account<W: Write>(out: &mut W, outcome: &Outcome, moment: u64) -> Result<(), RefusedWrite>
+    ensures { Writes (W.contents out.old) (W.contents out.new) result (account_text outcome.now moment) }
 {
-    put_told(out, outcome)?;
     put_moment(out, moment)?;
     put_report(out, outcome.records.as_slice(), moment)?;
     put_totals(out, outcome)
+}
+
+/// Writes what is left at the end of a run or of a service: the quota report as of the moment, the totals, the tallies of
+/// the journal, and what an audit of the store found. It takes no memory. After an Err some beginning of the text went
+/// out.
+pub fn put_left<W: Write>(out: &mut W, outcome: &Outcome, moment: u64) -> Result<(), RefusedWrite>
+    ensures { Writes (W.contents out.old) (W.contents out.new) result (left_text outcome.now moment) }
+{
+    put_account(out, outcome, moment)?;
+    put_tally(out, outcome.tallies)?;
+    put_audit(out, outcome.differences.as_slice())
 }
 
 /// Writes what a run came to: each worker's transcript, what the looks at the boards were given where there were any,
@@ -86,6 +97,7 @@ fn put_run<W: Write>(out: &mut W, outcome: &Outcome, moment: u64) -> Result<(), 
 ///
 /// Totals and bounds are in blocks of 4096 bytes and in inodes; the report is in KiB (profile, after repquota(8)).
 /// After an Err some beginning of the text went out.
+#[tactic(auto, using(qtext::proofs::Fronts::front_of_first, qtext::proofs::Fronts::writes_then))]
 pub fn put_outcome<W: Write>(
     out: &mut W,
     outcome: &Outcome,
@@ -93,9 +105,8 @@ pub fn put_outcome<W: Write>(
 ) -> Result<(), RefusedWrite>
     ensures { Writes (W.contents out.old) (W.contents out.new) result (outcome_text outcome.now moment) }
 {
-    put_run(out, outcome, moment)?;
-    put_tally(out, outcome.tallies)?;
-    put_audit(out, outcome.differences.as_slice())
+    put_told(out, outcome)?;
+    put_left(out, outcome, moment)
 }
 
 /// The outcome, of which a refusal has its number.

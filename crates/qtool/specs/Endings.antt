@@ -1,5 +1,8 @@
 -- With which statuses the program ends, and what each leaves of its output.
 use Rattle.std.specs.Prelude.{◌≡◌, ◌⊎◌, ℕ, List, Option}
+use Rattle.qtext_job.specs.Jobs.{IsAskedBy}
+use Rattle.qtext_job.specs.declared.job.Job.{Job}
+use Rattle.qtool.specs.Jobs.{IsService}
 
 -- done, or help was asked for; asked wrongly; the machine; the output
 abbrev pub IsStatus : ℕ → Type 0
@@ -8,3 +11,11 @@ IsStatus status = (status ≡ 0) ⊎ (status ≡ 2) ⊎ (status ≡ 3) ⊎ (stat
 -- asked wrongly, or the machine: the output is as it was
 abbrev pub IsUntouchedAt : ℕ → Option (List ℕ) → Option (List ℕ) → Type 0
 IsUntouchedAt status old new = (status ≡ 2) ⊎ (status ≡ 3) → new ≡ old
+
+-- the words ask for a service
+abbrev pub AskForService : List (List ℕ) → Type 0
+AskForService words = (job : Job) × IsAskedBy words job × IsService job
+
+-- the same, unless the words ask for a service
+abbrev pub IsUntouchedBy : List (List ℕ) → ℕ → Option (List ℕ) → Option (List ℕ) → Type 0
+IsUntouchedBy words status old new = IsUntouchedAt status old new ⊎ AskForService words

@@ -3,8 +3,11 @@ ghost use Rattle.std.specs.Prelude.{◌≡◌, ◌⊎◌, true};
 ghost use Rattle.qtool.specs.Endings.{IsStatus, IsUntouchedAt};
 ghost use Rattle.qtool.specs.declared.ending.Ending.TheVariants.{Output};
 
+use crate::clashes::{Clash, Role};
 use crate::overwriting::Overwritten;
 use crate::{ConfigFault, TextFault};
+use qplain::NoMemory;
+use qrun_client::ClientEnd;
 use qtext::{Piece, RefusedWrite, put, put_pieces};
 use std::io::Write;
 
@@ -23,6 +26,16 @@ pub(crate) enum Ending {
     TooManyScripts,
     /// There are as many scripts as workers, and boards are to be taken beside them.
     TooManyWithBoards,
+    /// Two names of a service are of one file or of one stream.
+    Clash(Clash),
+    /// There are more clients than workers.
+    TooManyClients,
+    /// There are as many clients as workers, and a board is to be written beside them.
+    TooManyWithBoard,
+    /// A client was not served to its end, as was told when that came.
+    NotServed(ClientEnd),
+    /// The file for boards refused.
+    Board,
     /// What is wrong with the script of that number.
     Script(u64, TextFault),
     /// What is wrong with the journal.
@@ -51,8 +64,9 @@ impl Ending {
             | Ending::Mismatch(_)
             | Ending::NotStarted(_)
             | Ending::NoReader
+            | Ending::NotServed(ClientEnd::Memory)
             | Ending::Memory => 3,
-            Ending::Output => 4,
+            Ending::Output | Ending::Board | Ending::NotServed(ClientEnd::Output) => 4,
             _ => 2,
         }
     }
@@ -90,6 +104,11 @@ impl Ending {
             Ending::Config(fault) => put_config(err, fault),
             Ending::TooManyScripts => put_fault(err, b"at most 16 scripts"),
             Ending::TooManyWithBoards => put_fault(err, b"at most 15 scripts with boards"),
+            Ending::Clash(clash) => put_clash(err, *clash),
+            Ending::TooManyClients => put_fault(err, b"at most 16 clients"),
+            Ending::TooManyWithBoard => put_fault(err, b"at most 15 clients with a board"),
+            Ending::NotServed(_) => Ok(()),
+            Ending::Board => put_fault(err, b"board: output"),
             Ending::Script(number, fault) => put_script(err, *number, fault),
             Ending::Journal(fault) => put_journal_fault(err, fault),
             Ending::Mismatch(place) => put_mismatch(err, *place),
@@ -97,6 +116,47 @@ impl Ending {
             Ending::NoReader => put_fault(err, b"no reader"),
             Ending::Memory => put_fault(err, b"memory"),
             Ending::Output => put_fault(err, b"output"),
+        }
+    }
+}
+
+impl From<NoMemory> for Ending {
+    fn from(_none: NoMemory) -> Ending {
+        Ending::Memory
+    }
+}
+
+/// Writes what a name of a service is of.
+fn put_role<E: Write>(err: &mut E, role: Role) -> Result<(), RefusedWrite> {
+    match role {
+        Role::Config => put(err, b"the configuration"),
+        Role::Journal => put(err, b"the journal"),
+        Role::Board => put(err, b"the board"),
+        Role::Standard => put(err, b"the output"),
+        Role::Input(client) => put_of_client(err, b"the lines of client ", client),
+        Role::Output(client) => put_of_client(err, b"the replies of client ", client),
+    }
+}
+
+fn put_of_client<E: Write>(err: &mut E, words: &[u8], client: u64) -> Result<(), RefusedWrite> {
+    put_pieces(err, &[Piece::Text(words), Piece::Number(client)])
+}
+
+/// Writes a fault of the command line: which two of its names clash.
+fn put_clash<E: Write>(err: &mut E, clash: Clash) -> Result<(), RefusedWrite> {
+    put(err, b"error: ")?;
+    match clash {
+        Clash::Over(one, other) => {
+            put_role(err, one)?;
+            put(err, b" would be written over ")?;
+            put_role(err, other)?;
+            put(err, b"\n")
+        }
+        Clash::Stream(one, other) => {
+            put_role(err, one)?;
+            put(err, b" and ")?;
+            put_role(err, other)?;
+            put(err, b" are one stream\n")
         }
     }
 }

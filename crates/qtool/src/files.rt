@@ -2,6 +2,8 @@
 ghost use Rattle.std.specs.Prelude.{◌≡◌, ℕ, List, [], Option, None, Some, IfOk, IsSome, OnErr, OnOk};
 ghost use Rattle.qtool.specs.Held.{IsKept};
 
+use qplain::NoMemory;
+use qtext_client::Streams;
 use std::io::Write;
 
 /// Why a file is not to be had.
@@ -20,6 +22,8 @@ pub trait Files {
     ghost held: { Self → Option (List ℕ → Option (List ℕ)) } = { λ _. None };
 
     type Draft: Write + Drop;
+
+    type Streams: Streams + Drop + Send;
 
     /// The bytes of a file. An Err gives none of them.
     fn read(&mut self, name: &str) -> Result<Vec<u8>, FileFault>;
@@ -41,6 +45,15 @@ pub trait Files {
         ensures kept { (text : List ℕ) → Self.Draft.contents draft ≡ Some text
             → OnOk result (IsKept (held self.old) (held self.new) name.now text) }
         ensures err { OnErr result (held self.new ≡ held self.old) };
+
+    /// The same, where the file may be lost if the machine fails.
+    fn show(&mut self, draft: Self::Draft, name: &str) -> Result<(), FileFault>
+        ensures shown { (text : List ℕ) → Self.Draft.contents draft ≡ Some text
+            → OnOk result (IsKept (held self.old) (held self.new) name.now text) }
+        ensures err { OnErr result (held self.new ≡ held self.old) };
+
+    /// The streams of the client of this number by name, none of which is opened yet: `-` is standard input or output.
+    fn streams(&self, client: u64, input: &str, output: &str) -> Result<Self::Streams, NoMemory>;
 
     /// Takes a draft away.
     fn give_up(&mut self, draft: Self::Draft)

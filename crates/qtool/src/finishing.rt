@@ -2,7 +2,7 @@
 ghost use Rattle.std.specs.Prelude.{◌≡◌, Err, IfOk, IfErr, IfSome, IsSome, OnErr, OnOk};
 ghost use Rattle.std.specs.Io.KnownBytes.{Appends};
 ghost use Rattle.qtext.specs.Written.{AppendsFront, Writes};
-ghost use Rattle.qtext_outcome.specs.Outcomes.{outcome_text};
+ghost use Rattle.qtext_outcome.specs.Outcomes.{left_text, outcome_text};
 ghost use Rattle.qtext_files.specs.Spelling.{CanBeRead, journal_spelling};
 ghost use Rattle.qtool.specs.Held.{IsKept};
 ghost use Rattle.qtool.specs.declared.finishing.Refuser.TheVariants.{Output};
@@ -10,7 +10,7 @@ ghost use Rattle.qtool.specs.declared.finishing.Refuser.TheVariants.{Output};
 use crate::{Files, Journal, Outcome};
 use qtext::RefusedWrite;
 use qtext_files::put_journal;
-use qtext_outcome::put_outcome;
+use qtext_outcome::{put_left, put_outcome};
 use std::io::Write;
 
 /// What refused what came of a run.
@@ -28,6 +28,17 @@ fn finish_outcome<W: Write>(outcome: &Outcome, at: u64, out: &mut W) -> Result<(
     ensures { Writes (W.contents out.old) (W.contents out.new) result (outcome_text outcome.now at) }
 {
     if put_outcome(out, outcome, at).is_err() || out.flush().is_err() {
+        return Err(RefusedWrite);
+    }
+    Ok(())
+}
+
+/// Writes what is left of a service with the report at the moment, and flushes it.
+#[tactic(auto, using(crate::proofs::Flushes::refused_at_the_flush, qtext::proofs::Fronts::keeps_appends))]
+fn finish_left<W: Write>(outcome: &Outcome, at: u64, out: &mut W) -> Result<(), RefusedWrite>
+    ensures { Writes (W.contents out.old) (W.contents out.new) result (left_text outcome.now at) }
+{
+    if put_left(out, outcome, at).is_err() || out.flush().is_err() {
         return Err(RefusedWrite);
     }
     Ok(())
@@ -62,6 +73,23 @@ fn keep_journal<F: Files>(journal: &Journal, files: &mut F, name: &str) -> Resul
     files.keep(draft, name).map_err(|_| RefusedWrite)
 }
 
+/// The same, where a file is named for it.
+fn keep_asked<F: Files>(
+    outcome: &Outcome,
+    journal: Option<&str>,
+    files: &mut F,
+) -> Result<(), RefusedWrite>
+    ensures again { IfOk result (λ _. IsSome journal.entry → CanBeRead outcome.now.journal) }
+    ensures kept { OnOk result (IfSome journal.entry (λ name.
+        IsKept (F.held files.old) (F.held files.new) name.now (journal_spelling outcome.now.journal))) }
+    ensures err { OnErr result (F.held files.new ≡ F.held files.old) }
+{
+    match journal {
+        Some(name) => keep_journal(&outcome.journal, files, name),
+        None => Ok(()),
+    }
+}
+
 /// Writes what came of a run to the output, with the report at the moment, and flushes it; and then, where a file is
 /// named for it, writes the journal as a draft, flushes that, and keeps it under the name.
 ///
@@ -90,8 +118,31 @@ pub fn write_run<F: Files, O: Write>(
     if finish_outcome(outcome, at, out).is_err() {
         return Err(Refuser::Output);
     }
-    match journal {
-        Some(name) if keep_journal(&outcome.journal, files, name).is_err() => Err(Refuser::Journal),
-        _ => Ok(()),
+    keep_asked(outcome, journal, files).map_err(|_| Refuser::Journal)
+}
+
+/// Writes what is left of a service to the output, with the report at the moment, and flushes it: what `write_run`
+/// writes, but for what the clients were told, who have read it. Then it writes the journal as `write_run` does, and
+/// what an Err leaves is the same.
+pub fn write_service<F: Files, O: Write>(
+    outcome: &Outcome,
+    at: u64,
+    journal: Option<&str>,
+    files: &mut F,
+    out: &mut O,
+) -> Result<(), Refuser>
+    ensures whole { (result ≡ Err Output → ⊥)
+        → Appends (O.contents out.old) (O.contents out.new) (left_text outcome.now at) }
+    ensures beginning { result ≡ Err Output
+        → AppendsFront (O.contents out.old) (O.contents out.new) (left_text outcome.now at) }
+    ensures no_file { result ≡ Err Output → files.new ≡ files.old }
+    ensures again { IfOk result (λ _. IsSome journal.entry → CanBeRead outcome.now.journal) }
+    ensures kept { IfOk result (λ _. IfSome journal.entry (λ name.
+        IsKept (F.held files.old) (F.held files.new) name.now (journal_spelling outcome.now.journal))) }
+    ensures as_before { IfErr result (λ _. F.held files.new ≡ F.held files.old) }
+{
+    if finish_left(outcome, at, out).is_err() {
+        return Err(Refuser::Output);
     }
+    keep_asked(outcome, journal, files).map_err(|_| Refuser::Journal)
 }

@@ -2,7 +2,7 @@
 #![tactic(auto)]
 
 pub use files::{FileFault, Files};
-pub use finishing::{Refuser, write_run};
+pub use finishing::{Refuser, write_run, write_service};
 pub use program::tool;
 pub use qaudit::report;
 pub use qaudit_checks::{BoardFault, Mismatch, gather};
@@ -10,7 +10,8 @@ pub use qplain::{
     Board, CallFault, Edition, Entry, Journal, Line, LookFault, MAX_LINES, Receipt, Script, Setup,
     Transcript,
 };
-pub use qrun::{Gate, NoGate, Options, RunFault, WorkerEnd, conclude};
+pub use qrun::{Gate, Monitor, NoGate, Options, RunFault, Service, WorkerEnd, conclude};
+pub use qrun_client::{Answer, Client, ClientEnd, KeepsLines};
 pub use qrun_replay::{Outcome, ReplayFault};
 pub use qstore::Store;
 pub use qtext::{TextFault, TextKind};
@@ -18,13 +19,17 @@ pub use qtext_config::{Config, ConfigFault};
 pub use qtext_files::{FromText, write_journal};
 pub use qtext_job::{Job, LineFault};
 pub use qtext_outcome::{WriteFault, write_outcome};
-pub use runs::{check_boards, replay, run, run_with};
+pub use runs::{check_boards, replay, run, run_with, serve};
 pub use text_replay::{TextReplayFault, replay_text};
 
+mod board_file;
+mod clashes;
+mod client_names;
 mod ending;
 mod files;
 mod finishing;
 mod overwriting;
 mod program;
 mod runs;
+mod serving;
 mod text_replay;

@@ -1,12 +1,15 @@
 //! The whole program over files, output and fault lines.
-ghost use Rattle.std.specs.Prelude.{◌≡◌, ◌<◌, ◌≤◌, ◌⊎◌, ◌↔◌, length, Err, IfErr, IfOk, OnOk};
+ghost use Rattle.std.specs.Prelude.{◌≡◌, ◌<◌, ◌≤◌, ◌⊎◌, ◌↔◌, length, map, string_bytes, Err, IfErr, IfOk, OnOk};
 ghost use Rattle.qplain.specs.declared.bounds.TheConstants.{MAX_WORKERS};
-ghost use Rattle.qtool.specs.Endings.{IsStatus, IsUntouchedAt};
-ghost use Rattle.qtool.specs.Jobs.{HasBatch, HasScript, HasSeats};
+ghost use Rattle.qtool.specs.Endings.{IsStatus, IsUntouchedBy};
+ghost use Rattle.qtool.specs.Jobs.{HasBatch, HasScript, HasSeats, IsUntouched};
 ghost use Rattle.qtool.specs.declared.ending.Ending.TheVariants.{Output, TooManyScripts, TooManyWithBoards};
 
+use crate::client_names::names_of;
+use crate::clashes::ServiceNames;
 use crate::ending::Ending;
 use crate::overwriting::test_journal;
+use crate::serving::{Asked, serve_job};
 use crate::{
     Config, ConfigFault, FileFault, Files, FromText, Job, LineFault, NoGate, Options, Outcome,
     Refuser, RunFault, Script, TextFault, TextKind, TextReplayFault, replay_text, run_with,
@@ -18,6 +21,7 @@ use std::io::Write;
 use std::mem;
 use std::sync::Wait;
 use std::thread::Threads;
+use std::time::Clock;
 
 /// The ending of a file that cannot be read.
 fn unreadable(alloc: Global, name: &str) -> Ending {
@@ -36,7 +40,7 @@ fn load<F: Files>(alloc: Global, files: &mut F, name: &str) -> Result<Vec<u8>, E
 }
 
 /// Reads the configuration. One that is not UTF-8 cannot be read.
-fn configuration<F: Files>(alloc: Global, files: &mut F, name: &str) -> Result<Config, Ending> {
+pub(crate) fn configuration<F: Files>(alloc: Global, files: &mut F, name: &str) -> Result<Config, Ending> {
     let bytes = load(alloc, files, name)?;
     let Ok(text) = std::str::from_utf8(&bytes) else {
         return Err(unreadable(alloc, name));
@@ -78,7 +82,7 @@ fn ending_of_replay(fault: TextReplayFault) -> Ending {
 }
 
 /// The ending of a run that has no outcome.
-fn ending_of_run(fault: RunFault) -> Ending {
+pub(crate) fn ending_of_run(fault: RunFault) -> Ending {
     match fault {
         RunFault::Memory => Ending::Memory,
         RunFault::NotStarted(worker) => Ending::NotStarted(worker),
@@ -173,17 +177,24 @@ fn finish<F: Files, O: Write>(
 }
 
 /// Does what the job asks for: comes to an outcome, and only then writes.
-fn do_job<F: Files, O: Write, R: Threads + Wait + Sync>(
+fn do_job<F, O, E, R>(
     rt: &R,
     alloc: Global,
     seed: u64,
     job: &Job,
     files: &mut F,
     out: &mut O,
+    err: &mut E,
 ) -> Result<(), Ending>
+where
+    F: Files + Send,
+    O: Write,
+    E: Write,
+    R: Threads + Wait + Clock + Sync,
     requires some { HasScript job.now }
     requires batch { HasBatch job.now }
-    ensures { IfErr result (λ ending. (ending ≡ Output) ⊎ (O.contents out.new ≡ O.contents out.old)) }
+    ensures { IfErr result (λ ending. (ending ≡ Output) ⊎ IsUntouched job.now (O.contents out.old)
+        (O.contents out.new)) }
 {
     match job {
         Job::Run {
@@ -208,6 +219,23 @@ fn do_job<F: Files, O: Write, R: Threads + Wait + Sync>(
             let outcome = replay_of(alloc, seed, config.as_str(), journal.as_str(), files)?;
             finish(outcome, 0, None, files, out)
         }
+        Job::Serve {
+            config,
+            at,
+            journal,
+            board,
+            pairs,
+        } => {
+            let clients = names_of(alloc, pairs.as_slice())?;
+            let names = ServiceNames {
+                config: config.as_str(),
+                clients: &clients,
+                journal: journal.as_ref().map(String::as_str),
+                board: board.as_ref().map(String::as_str),
+            };
+            let asked = Asked { names, at: *at };
+            serve_job(rt, alloc, seed, asked, files, out, err)
+        }
     }
 }
 
@@ -225,7 +253,7 @@ fn do_job<F: Files, O: Write, R: Threads + Wait + Sync>(
 ///
 /// `seed` is any number, best one that nobody knows beforehand: where it is known, names can be searched that collide,
 /// and then calls take long. Neither the output nor the status depends on it.
-pub fn tool<F: Files, O: Write, E: Write, R: Threads + Wait + Sync>(
+pub fn tool<F, O, E, R>(
     rt: &R,
     alloc: Global,
     seed: u64,
@@ -234,11 +262,17 @@ pub fn tool<F: Files, O: Write, E: Write, R: Threads + Wait + Sync>(
     out: &mut O,
     err: &mut E,
 ) -> u8
+where
+    F: Files + Send,
+    O: Write,
+    E: Write,
+    R: Threads + Wait + Clock + Sync,
     ensures status { IsStatus result }
-    ensures untouched { IsUntouchedAt result (O.contents out.old) (O.contents out.new) }
+    ensures untouched { IsUntouchedBy (map (λ w. string_bytes w) words.now) result (O.contents out.old)
+        (O.contents out.new) }
 {
     let done = match Job::read(alloc, words) {
-        Ok(job) => do_job(rt, alloc, seed, &job, files, out),
+        Ok(job) => do_job(rt, alloc, seed, &job, files, out, err),
         Err(LineFault::Line { help, text }) => Err(Ending::Line { help, text }),
         Err(LineFault::Memory) => Err(Ending::Memory),
     };

@@ -107,10 +107,24 @@ impl Beside {
         }
     }
 
+    /// Puts the file in its place.
+    fn put(&self, rt: &HostRuntime) -> io::Result<()> {
+        let put = fs::rename(rt, self.own.as_str(), self.place.as_str());
+        if put.is_err() {
+            self.remove(rt);
+        }
+        put
+    }
+
     /// Puts the file in its place once all of it is on its device.
-    fn put(&self, rt: &HostRuntime, file: &File) -> io::Result<()> {
-        file.sync_all()?;
-        fs::rename(rt, self.own.as_str(), self.place.as_str())
+    fn put_safely(&self, rt: &HostRuntime, file: &File) -> io::Result<()> {
+        match file.sync_all() {
+            Ok(()) => self.put(rt),
+            Err(error) => {
+                self.remove(rt);
+                Err(error)
+            }
+        }
     }
 }
 
@@ -126,16 +140,20 @@ impl Draft {
         }
     }
 
-    /// Puts a draft that was flushed in its place. Where that fails it is taken away.
+    /// Puts a draft that was flushed in its place, and on its device. Where that fails it is taken away.
     pub(crate) fn keep(self, rt: &HostRuntime) -> io::Result<()> {
-        let Some(beside) = &self.beside else {
-            return Ok(());
-        };
-        let put = beside.put(rt, self.out.get_ref());
-        if put.is_err() {
-            beside.remove(rt);
+        match &self.beside {
+            Some(beside) => beside.put_safely(rt, self.out.get_ref()),
+            None => Ok(()),
         }
-        put
+    }
+
+    /// Puts a draft that was flushed in its place at once. Where that fails it is taken away.
+    pub(crate) fn show(self, rt: &HostRuntime) -> io::Result<()> {
+        match &self.beside {
+            Some(beside) => beside.put(rt),
+            None => Ok(()),
+        }
     }
 
     /// Takes a draft away.

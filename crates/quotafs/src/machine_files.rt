@@ -1,6 +1,8 @@
 //! The machine's files.
 
+use crate::client_streams::ClientStreams;
 use crate::draft::Draft;
+use qplain::NoMemory;
 use qtool::{FileFault, Files};
 use std::fs;
 use std::io::{self, ErrorKind};
@@ -33,8 +35,9 @@ fn are_one_file(rt: &HostRuntime, name: &str, other: &str) -> bool {
     }
 }
 
-impl Files for MachineFiles<'_> {
+impl<'a> Files for MachineFiles<'a> {
     type Draft = Draft;
+    type Streams = ClientStreams<'a>;
 
     fn read(&mut self, name: &str) -> Result<Vec<u8>, FileFault> {
         fs::read(self.rt, name).map_err(|error| fault_of(&error))
@@ -54,6 +57,20 @@ impl Files for MachineFiles<'_> {
 
     fn keep(&mut self, draft: Draft, _name: &str) -> Result<(), FileFault> {
         draft.keep(self.rt).map_err(|error| fault_of(&error))
+    }
+
+    fn show(&mut self, draft: Draft, _name: &str) -> Result<(), FileFault> {
+        draft.show(self.rt).map_err(|error| fault_of(&error))
+    }
+
+    fn streams(&self, client: u64, input: &str, output: &str) -> Result<ClientStreams<'a>, NoMemory> {
+        let alloc = self.rt.alloc();
+        Ok(ClientStreams {
+            rt: self.rt,
+            client,
+            input: String::from_str(alloc, input)?,
+            output: String::from_str(alloc, output)?,
+        })
     }
 
     fn give_up(&mut self, draft: Draft) {

@@ -7,6 +7,7 @@ use std::io::{self, BufWriter, ErrorKind};
 use std::process::ExitCode;
 use std::random::RandomSource;
 
+mod client_streams;
 mod draft;
 mod machine_files;
 

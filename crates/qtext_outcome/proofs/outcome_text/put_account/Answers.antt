@@ -1,0 +1,16 @@
+use Rattle.qaudit.specs.Reports.{report_text}
+use Rattle.qtext.proofs.Fronts.{appends_then, front_of_second, refused_first, writes_then}
+use Rattle.qtext_outcome.specs.Outcomes.{moment_text, totals_text}
+use Rattle.qtext_outcome.proofs.outcome_text.put_account.Goals as goal
+
+pub returns-in_err-put_report : goal.returns-in_err-put_report
+returns-in_err-put_report g c =
+    refused_first _ _ _ _ (totals_text c.args.outcome.now) c.from_residual-in_err-put_report.ensures.0
+    (front_of_second _ _ _ (moment_text c.args.moment) (report_text c.args.outcome.now.records c.args.moment)
+    c.in_ok-put_moment.ensures (rw c.as_slice.ensures at c.in_err-put_report.ensures))
+
+pub returns : goal.returns
+returns g c =
+    writes_then _ _ _ _ _ (totals_text c.args.outcome.now)
+    (appends_then _ _ _ (moment_text c.args.moment) (report_text c.args.outcome.now.records c.args.moment)
+    c.in_ok-put_moment.ensures (rw c.as_slice.ensures at c.in_ok-put_report.ensures)) c.put_totals.ensures

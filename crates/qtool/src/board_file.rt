@@ -1,0 +1,48 @@
+//! The file in which a monitor reads the quotas of a service.
+
+use crate::{Board, Files, Setup};
+use qrun::Monitor;
+use qtext::RefusedWrite;
+use qtext_metrics::put_metrics;
+use std::io::Write;
+use std::thread;
+use std::time::{Clock, Duration};
+
+/// As long at least, in milliseconds, a board stands in its file before the next takes its place.
+const PAUSE: u64 = 100;
+
+/// A file that holds the board shown last, whole at any time. Where it refuses once, no further board is written.
+#[derive(Drop)]
+pub(crate) struct BoardFile<'a, F: Files, R: Clock> {
+    pub(crate) clock: &'a R,
+    pub(crate) files: &'a mut F,
+    pub(crate) name: &'a str,
+    pub(crate) setup: Setup,
+    pub(crate) refused: &'a mut bool,
+}
+
+impl<F: Files, R: Clock> BoardFile<'_, F, R> {
+    /// Writes a board as a draft, and puts that in the place of the board before.
+    fn replace(&mut self, board: &Board) -> Result<(), RefusedWrite> {
+        let Ok(mut draft) = self.files.draft(self.name) else {
+            return Err(RefusedWrite);
+        };
+        if put_metrics(&mut draft, &self.setup, board).is_err() || draft.flush().is_err() {
+            self.files.give_up(draft);
+            return Err(RefusedWrite);
+        }
+        self.files.show(draft, self.name).map_err(|_| RefusedWrite)
+    }
+}
+
+impl<F: Files, R: Clock> Monitor for BoardFile<'_, F, R> {
+    fn wait(&mut self) {
+        thread::sleep(self.clock, Duration::from_millis(PAUSE));
+    }
+
+    fn show(&mut self, board: &Board) {
+        if !*self.refused {
+            *self.refused = self.replace(board).is_err();
+        }
+    }
+}

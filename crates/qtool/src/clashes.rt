@@ -1,0 +1,151 @@
+//! Names of a service that must not be of one file, or of one stream.
+
+use crate::Files;
+use crate::client_names::{ClientNames, STANDARD};
+use qplain::NoMemory;
+use std::alloc::Global;
+
+/// What a service has a name for. Clients count from 1.
+#[derive(Clone, Copy, Debug, PartialEq, Eq)]
+pub(crate) enum Role {
+    Config,
+    Input(u64),
+    Output(u64),
+    Journal,
+    Board,
+    /// Standard output, where what is left of a service goes.
+    Standard,
+}
+
+/// Why two names must not stand beside each other.
+#[derive(Clone, Copy, Debug, PartialEq, Eq)]
+pub(crate) enum Clash {
+    /// The first would be written over the second.
+    Over(Role, Role),
+    /// Both would be one stream.
+    Stream(Role, Role),
+}
+
+/// A name, and what it is of.
+#[derive(Clone, Copy)]
+struct Named<'a> {
+    role: Role,
+    name: &'a str,
+}
+
+impl Named<'_> {
+    fn is_written(&self) -> bool {
+        !matches!(self.role, Role::Config | Role::Input(_))
+    }
+
+    fn is_standard(&self) -> bool {
+        self.name == STANDARD && matches!(self.role, Role::Input(_) | Role::Output(_))
+    }
+}
+
+/// Whether both are one stream of two clients.
+fn are_one_stream(one: &Named<'_>, other: &Named<'_>) -> bool {
+    if one.name != other.name {
+        return false;
+    }
+    match (one.role, other.role) {
+        (Role::Input(_), Role::Input(_)) | (Role::Output(_), Role::Output(_)) => true,
+        (Role::Input(client), Role::Output(further))
+        | (Role::Output(client), Role::Input(further)) => {
+            client != further && !one.is_standard()
+        }
+        _ => false,
+    }
+}
+
+/// Whether both are names of one file. The streams of one client may have one name, as those of a terminal.
+fn are_one_file<F: Files>(files: &mut F, one: &Named<'_>, other: &Named<'_>) -> bool {
+    if one.is_standard() || other.is_standard() {
+        return false;
+    }
+    let are_streams = matches!(
+        (one.role, other.role),
+        (Role::Input(_), Role::Output(_)) | (Role::Output(_), Role::Input(_))
+    );
+    (one.name == other.name && !are_streams) || files.is_same(one.name, other.name)
+}
+
+/// Why these two must not stand beside each other, where they must not.
+fn clash_of<F: Files>(files: &mut F, one: &Named<'_>, other: &Named<'_>) -> Option<Clash> {
+    if are_one_stream(one, other) {
+        return Some(Clash::Stream(one.role, other.role));
+    }
+    if !(one.is_written() || other.is_written()) || !are_one_file(files, one, other) {
+        return None;
+    }
+    if other.is_written() {
+        Some(Clash::Over(other.role, one.role))
+    } else {
+        Some(Clash::Over(one.role, other.role))
+    }
+}
+
+/// The first clash of a name with one before it, or with standard output.
+fn clash_with<F: Files>(files: &mut F, before: &[Named<'_>], named: &Named<'_>) -> Option<Clash> {
+    for other in before {
+        if let Some(clash) = clash_of(files, other, named) {
+            return Some(clash);
+        }
+    }
+    if named.is_written() && !named.is_standard() && files.is_output(named.name) {
+        return Some(Clash::Over(named.role, Role::Standard));
+    }
+    None
+}
+
+/// What a service reads and writes, by name.
+#[derive(Clone, Copy)]
+pub(crate) struct ServiceNames<'a> {
+    pub(crate) config: &'a str,
+    pub(crate) clients: &'a [ClientNames<'a>],
+    pub(crate) journal: Option<&'a str>,
+    pub(crate) board: Option<&'a str>,
+}
+
+/// All names of a service, each with what it is of.
+fn all_named<'a>(alloc: Global, names: ServiceNames<'a>) -> Result<Vec<Named<'a>>, NoMemory> {
+    let mut all = Vec::new(alloc);
+    all.push(Named {
+        role: Role::Config,
+        name: names.config,
+    })?;
+    let mut client = 0u64;
+    for ClientNames { input, output } in names.clients {
+        client += 1;
+        all.push(Named {
+            role: Role::Input(client),
+            name: input,
+        })?;
+        all.push(Named {
+            role: Role::Output(client),
+            name: output,
+        })?;
+    }
+    for (role, name) in [(Role::Journal, names.journal), (Role::Board, names.board)] {
+        if let Some(name) = name {
+            all.push(Named { role, name })?;
+        }
+    }
+    Ok(all)
+}
+
+/// The first name of a service that must not stand beside one before it, or beside standard output, where there is one.
+pub(crate) fn find_clash<F: Files>(
+    alloc: Global,
+    files: &mut F,
+    names: ServiceNames<'_>,
+) -> Result<Option<Clash>, NoMemory> {
+    let all = all_named(alloc, names)?;
+    for count in 0..all.len() {
+        let clash = clash_with(files, &all[..count], &all[count]);
+        if clash.is_some() {
+            return Ok(clash);
+        }
+    }
+    Ok(None)
+}

@@ -1,0 +1,37 @@
+//! The names of a service: of the streams of its clients, and of what it reads and writes besides.
+ghost use Rattle.std.specs.Prelude.{◌≡◌, ◌<◌, ◌≤◌, IfOk, length};
+
+use crate::Files;
+use qplain::NoMemory;
+use qtext_job::Pair;
+use std::alloc::Global;
+
+/// The name of standard input and of standard output.
+pub(crate) const STANDARD: &str = "-";
+
+/// The names of a client's streams.
+#[derive(Clone, Copy, Debug)]
+pub(crate) struct ClientNames<'a> {
+    pub(crate) input: &'a str,
+    pub(crate) output: &'a str,
+}
+
+/// The names of all clients; of one on standard input and output where none is named.
+pub(crate) fn names_of(alloc: Global, pairs: &[Pair]) -> Result<Vec<ClientNames<'_>>, NoMemory>
+    ensures { IfOk result (λ names. (0 < length names.items) × (length names.items ≤ length pairs.now + 1)) }
+{
+    let mut names = Vec::with_capacity(alloc, pairs.len() + 1)?;
+    for pair in pairs {
+        names.push_reserved(ClientNames {
+            input: pair.input.as_str(),
+            output: pair.output.as_str(),
+        });
+    }
+    if names.is_empty() {
+        names.push_reserved(ClientNames {
+            input: STANDARD,
+            output: STANDARD,
+        });
+    }
+    Ok(names)
+}

@@ -1,0 +1,172 @@
+//! Services: clients by the names of their streams, from the command line to what is left of them.
+ghost use Rattle.std.specs.Prelude.{◌≡◌, ◌<◌, ◌≤◌, OnOk, length};
+ghost use Rattle.qplain.specs.declared.bounds.TheConstants.{MAX_WORKERS};
+
+use crate::board_file::BoardFile;
+use crate::clashes::{ServiceNames, find_clash};
+use crate::client_names::{ClientNames, STANDARD};
+use crate::ending::Ending;
+use crate::program::{configuration, ending_of_run};
+use crate::{Files, Outcome, Setup, serve, write_service};
+use qplain::{MAX_WORKERS, NoMemory};
+use qrun::Service;
+use qrun_client::ClientEnd;
+use qtext_client::StreamClient;
+use std::alloc::Global;
+use std::io::Write;
+use std::mem;
+use std::sync::Wait;
+use std::thread::Threads;
+use std::time::Clock;
+
+/// Tests that there is a seat for each client, and one more where a board is written.
+fn test_seats(clients: u64, board: bool) -> Result<(), Ending>
+    ensures { OnOk result (clients ≤ MAX_WORKERS) }
+{
+    if clients > MAX_WORKERS {
+        return Err(Ending::TooManyClients);
+    }
+    if clients == MAX_WORKERS && board {
+        return Err(Ending::TooManyWithBoard);
+    }
+    Ok(())
+}
+
+/// A client for each pair of names, none of whose streams is opened yet.
+fn clients_of<F: Files>(
+    alloc: Global,
+    files: &F,
+    names: &[ClientNames<'_>],
+) -> Result<Vec<StreamClient<F::Streams>>, NoMemory> {
+    let mut clients = Vec::with_capacity(alloc, names.len())?;
+    let mut number = 0u64;
+    for ClientNames { input, output } in names {
+        number += 1;
+        let streams = files.streams(number, input, output)?;
+        clients.push_reserved(StreamClient::new(alloc, streams));
+    }
+    Ok(clients)
+}
+
+/// Who shows the boards of a service in a file of this name, where there is one.
+fn monitor_of<'a, F: Files, R: Clock>(
+    rt: &'a R,
+    alloc: Global,
+    files: &'a mut F,
+    board: Option<&'a str>,
+    setup: &Setup,
+    refused: &'a mut bool,
+) -> Result<Option<BoardFile<'a, F, R>>, NoMemory> {
+    let Some(name) = board else {
+        return Ok(None);
+    };
+    let setup = setup.copy(alloc)?;
+    Ok(Some(BoardFile {
+        clock: rt,
+        files,
+        name,
+        setup,
+        refused,
+    }))
+}
+
+/// What is wrong with the names of a service, or with how many clients there are, where anything is.
+fn test_names<F: Files>(
+    alloc: Global,
+    files: &mut F,
+    names: ServiceNames<'_>,
+) -> Result<(), Ending>
+    ensures { OnOk result (length names.clients.now ≤ MAX_WORKERS) }
+{
+    test_seats(names.clients.len() as u64, names.board.is_some())?;
+    match find_clash(alloc, files, names)? {
+        Some(clash) => Err(Ending::Clash(clash)),
+        None => Ok(()),
+    }
+}
+
+/// Serves the clients of these names until all have ended, and tells besides whether the file for boards has refused.
+/// Too many clients are reported first, before any file is touched, then names that clash, then the configuration.
+pub(crate) fn serve_of<F: Files + Send, R: Threads + Wait + Clock + Sync>(
+    rt: &R,
+    alloc: Global,
+    seed: u64,
+    names: ServiceNames<'_>,
+    files: &mut F,
+) -> Result<(Service, bool), Ending>
+    requires { 0 < length names.clients.now }
+{
+    test_names(alloc, files, names)?;
+    let config = configuration(alloc, files, names.config)?;
+    let clients = clients_of(alloc, files, names.clients)?;
+    let mut refused = false;
+    let monitor = monitor_of(rt, alloc, files, names.board, &config.setup, &mut refused)?;
+    match serve(rt, alloc, config, clients, monitor, seed) {
+        Ok(service) => Ok((service, refused)),
+        Err(fault) => Err(ending_of_run(fault)),
+    }
+}
+
+/// The ending of a service of which some client was not served to its end: the first such one decides.
+fn test_ends(ends: &[ClientEnd]) -> Result<(), Ending> {
+    for end in ends {
+        match end {
+            ClientEnd::Served => {}
+            end => return Err(Ending::NotServed(*end)),
+        }
+    }
+    Ok(())
+}
+
+/// What a service is asked for, beside its names.
+#[derive(Clone, Copy)]
+pub(crate) struct Asked<'a> {
+    pub(crate) names: ServiceNames<'a>,
+    pub(crate) at: u64,
+}
+
+/// Whether standard output is some client's.
+fn is_output_taken(clients: &[ClientNames<'_>]) -> bool {
+    clients.iter().any(|names| names.output == STANDARD)
+}
+
+/// Writes what a service has left. Its memory is left to the system, as that of a run.
+fn finish_service<F: Files, O: Write>(
+    outcome: Outcome,
+    asked: Asked<'_>,
+    files: &mut F,
+    out: &mut O,
+) -> Result<(), Ending> {
+    let written = write_service(&outcome, asked.at, asked.names.journal, files, out);
+    mem::forget(outcome);
+    written.map_err(|_| Ending::Output)
+}
+
+/// Serves the clients until all have ended, and only then writes: what is left goes to the output, or to the error
+/// output where the output is a client's, and then the journal to its file.
+pub(crate) fn serve_job<F, O, E, R>(
+    rt: &R,
+    alloc: Global,
+    seed: u64,
+    asked: Asked<'_>,
+    files: &mut F,
+    out: &mut O,
+    err: &mut E,
+) -> Result<(), Ending>
+where
+    F: Files + Send,
+    O: Write,
+    E: Write,
+    R: Threads + Wait + Clock + Sync,
+    requires { 0 < length asked.names.clients.now }
+{
+    let (service, refused) = serve_of(rt, alloc, seed, asked.names, files)?;
+    let Service { outcome, ends } = service;
+    if is_output_taken(asked.names.clients) {
+        finish_service(outcome, asked, files, err)?;
+    } else {
+        finish_service(outcome, asked, files, out)?;
+    }
+    test_ends(&ends)?;
+    if refused { Err(Ending::Board) } else { Ok(()) }
+}

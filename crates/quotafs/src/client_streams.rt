@@ -1,0 +1,119 @@
+//! The streams of clients: FIFOs, files, standard input and output.
+
+use qrun_client::ClientEnd;
+use qtext_client::{Pair, Streams};
+use std::fs::{self, File, OpenOptions};
+use std::io::{self, BufReader, BufWriter, ErrorKind, Read, Write};
+
+/// As much of a client's lines is read at once, in bytes.
+const INPUT_BUFFER: usize = 65_536;
+
+/// As many bytes of replies are gathered while the client's next line is already there.
+const REPLIES_BUFFER: usize = 65_536;
+
+/// The name of standard input and of standard output.
+const STANDARD: &str = "-";
+
+/// Where a client's lines come from.
+#[derive(Drop)]
+pub(crate) enum Source {
+    Input(io::Stdin),
+    File(File),
+}
+
+impl Read for Source {
+    fn read(&mut self, bytes: &mut [u8]) -> io::Result<usize> {
+        match self {
+            Source::Input(input) => input.read(bytes),
+            Source::File(file) => file.read(bytes),
+        }
+    }
+}
+
+/// Where a client's replies go.
+#[derive(Drop)]
+pub(crate) enum Sink {
+    Output(io::Stdout),
+    File(File),
+}
+
+impl Write for Sink {
+    fn write(&mut self, bytes: &[u8]) -> io::Result<usize> {
+        match self {
+            Sink::Output(output) => output.write(bytes),
+            Sink::File(file) => file.write(bytes),
+        }
+    }
+
+    fn flush(&mut self) -> io::Result<()> {
+        match self {
+            Sink::Output(output) => output.flush(),
+            Sink::File(file) => file.flush(),
+        }
+    }
+}
+
+/// The streams of a client by name. They are opened in the client's own thread, since that waits for the other side.
+#[derive(Drop)]
+pub(crate) struct ClientStreams<'a> {
+    pub(crate) rt: &'a HostRuntime,
+    pub(crate) client: u64,
+    pub(crate) input: String,
+    pub(crate) output: String,
+}
+
+fn source(rt: &HostRuntime, name: &str) -> io::Result<BufReader<Source>> {
+    let source = if name == STANDARD {
+        Source::Input(rt.stdin())
+    } else {
+        Source::File(fs::open(rt, name)?)
+    };
+    BufReader::with_capacity(rt.alloc(), INPUT_BUFFER, source)
+}
+
+fn sink(rt: &HostRuntime, name: &str) -> io::Result<BufWriter<Sink>> {
+    let sink = if name == STANDARD {
+        Sink::Output(rt.stdout())
+    } else {
+        let mut options = OpenOptions::new();
+        let options = options.write(true).create(true).truncate(true);
+        Sink::File(options.open(rt, name)?)
+    };
+    BufWriter::with_capacity(rt.alloc(), REPLIES_BUFFER, sink)
+}
+
+/// How a client ends whose stream cannot be opened.
+fn end_of(error: &io::Error, end: ClientEnd) -> ClientEnd {
+    if error.kind() == ErrorKind::OutOfMemory {
+        ClientEnd::Memory
+    } else {
+        end
+    }
+}
+
+impl Streams for ClientStreams<'_> {
+    type In = Source;
+    type Out = Sink;
+
+    fn open(&mut self) -> Result<Pair<Source, Sink>, ClientEnd> {
+        let input = match source(self.rt, self.input.as_str()) {
+            Ok(input) => input,
+            Err(error) => return Err(end_of(&error, ClientEnd::Input)),
+        };
+        match sink(self.rt, self.output.as_str()) {
+            Ok(output) => Ok(Pair { input, output }),
+            Err(error) => Err(end_of(&error, ClientEnd::Output)),
+        }
+    }
+
+    /// Tells on the error output, by one write, that a client is not served to its end.
+    fn ended(&mut self, end: ClientEnd) {
+        let (client, input, output) = (self.client, &self.input, &self.output);
+        let _ = match end {
+            ClientEnd::Served => Ok(()),
+            ClientEnd::Input => eprintln!(self.rt; "quotafs: client {client}: cannot read {input}"),
+            ClientEnd::Output => eprintln!(self.rt; "quotafs: client {client}: cannot write {output}"),
+            ClientEnd::Memory => eprintln!(self.rt; "quotafs: client {client}: memory"),
+        };
+    }
+}
