@@ -52,7 +52,9 @@ pub enum ClientEnd {
     Input,
     /// What it is told cannot be written, or not any further.
     Output,
-    /// Memory was wanted for it before it could begin.
+    /// A stream of its own cannot be opened, so it has handed out no line.
+    NotOpened,
+    /// Memory was wanted to open its streams, so it has handed out no line.
     Memory,
 }
 

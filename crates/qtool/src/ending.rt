@@ -198,6 +198,20 @@ fn put_named<'a, E: Write>(
     put(err, b"\n")
 }
 
+/// Writes what became of the stream of this name, which is a client's. Control bytes of the name are escaped.
+pub fn put_client_fault<'a, E: Write>(
+    err: &mut E,
+    client: u64,
+    words: &'a [u8],
+    name: &'a [u8],
+) -> Result<(), RefusedWrite> {
+    let pieces = [Piece::Text(b"quotafs: client "), Piece::Number(client), Piece::Text(b": ")];
+    put_pieces(err, &pieces)?;
+    put(err, words)?;
+    put_name(err, name)?;
+    put(err, b"\n")
+}
+
 fn put_script<E: Write>(err: &mut E, number: u64, fault: &TextFault) -> Result<(), RefusedWrite> {
     let pieces = [Piece::Text(b"quotafs: script "), Piece::Number(number)];
     put_pieces(err, &pieces)?;

@@ -1,7 +1,9 @@
 //! The streams of clients: FIFOs, files, standard input and output.
 
+use crate::LINE_BUFFER;
 use qrun_client::ClientEnd;
 use qtext_client::{Pair, Streams};
+use qtool::put_client_fault;
 use std::fs::{self, File, OpenOptions};
 use std::io::{self, BufReader, BufWriter, ErrorKind, Read, Write};
 
@@ -82,12 +84,24 @@ fn sink(rt: &HostRuntime, name: &str) -> io::Result<BufWriter<Sink>> {
     BufWriter::with_capacity(rt.alloc(), REPLIES_BUFFER, sink)
 }
 
-/// How a client ends whose stream cannot be opened.
-fn end_of(error: &io::Error, end: ClientEnd) -> ClientEnd {
-    if error.kind() == ErrorKind::OutOfMemory {
-        ClientEnd::Memory
-    } else {
-        end
+impl ClientStreams<'_> {
+    /// Tells on the error output, by one write, what became of a client's stream.
+    fn tell(&self, words: &[u8], name: &str) {
+        let Ok(mut err) = BufWriter::with_capacity(self.rt.alloc(), LINE_BUFFER, self.rt.stderr()) else {
+            return;
+        };
+        let _ = put_client_fault(&mut err, self.client, words, name.as_bytes());
+        let _ = err.flush();
+    }
+
+    /// How the client ends of whose streams this one cannot be opened, which is told.
+    fn unopened(&self, error: &io::Error, name: &str) -> ClientEnd {
+        if error.kind() == ErrorKind::OutOfMemory {
+            self.tell(b"memory for ", name);
+            return ClientEnd::Memory;
+        }
+        self.tell(b"cannot open ", name);
+        ClientEnd::NotOpened
     }
 }
 
@@ -98,22 +112,19 @@ impl Streams for ClientStreams<'_> {
     fn open(&mut self) -> Result<Pair<Source, Sink>, ClientEnd> {
         let input = match source(self.rt, self.input.as_str()) {
             Ok(input) => input,
-            Err(error) => return Err(end_of(&error, ClientEnd::Input)),
+            Err(error) => return Err(self.unopened(&error, self.input.as_str())),
         };
         match sink(self.rt, self.output.as_str()) {
             Ok(output) => Ok(Pair { input, output }),
-            Err(error) => Err(end_of(&error, ClientEnd::Output)),
+            Err(error) => Err(self.unopened(&error, self.output.as_str())),
         }
     }
 
-    /// Tells on the error output, by one write, that a client is not served to its end.
-    fn ended(&mut self, end: ClientEnd) {
-        let (client, input, output) = (self.client, &self.input, &self.output);
-        let _ = match end {
-            ClientEnd::Served => Ok(()),
-            ClientEnd::Input => eprintln!(self.rt; "quotafs: client {client}: cannot read {input}"),
-            ClientEnd::Output => eprintln!(self.rt; "quotafs: client {client}: cannot write {output}"),
-            ClientEnd::Memory => eprintln!(self.rt; "quotafs: client {client}: memory"),
-        };
+    fn refused(&mut self, end: ClientEnd) {
+        match end {
+            ClientEnd::Input => self.tell(b"cannot read ", self.input.as_str()),
+            ClientEnd::Output => self.tell(b"cannot write ", self.output.as_str()),
+            ClientEnd::Served | ClientEnd::NotOpened | ClientEnd::Memory => {}
+        }
     }
 }
