@@ -15,7 +15,7 @@ use Rattle.clap.specs.declared.error.kind.ErrorKind.{ErrorKind}
 use Rattle.clap.specs.declared.error.kind.ErrorKind.TheVariants.{OutOfMemory}
 use Rattle.clap.specs.Words.{IsAmong, Kinds, Row, Text, fault_of, subcommand_of, all_of, first_of, one_of, rows_of}
 use Rattle.qtext_job.specs.declared.job.Job.{Job}
-use Rattle.qtext_job.specs.declared.job.Job.TheVariants.{Run, Replay}
+use Rattle.qtext_job.specs.declared.job.Job.TheVariants.{Run, Serve, Replay}
 use Rattle.qtext_job.specs.declared.line_fault.LineFault.{LineFault}
 use Rattle.qtext_job.specs.declared.line_fault.LineFault.TheVariants.{Line, Memory}
 use Rattle.qtext_job.specs.Jobs.{AreBoardsIn, AreScriptsIn, FailsUnless, IsAskedBy, IsBatchIn, IsJobOf, IsMomentIn, IsNamedBy, IsNumberAt, IsRefusalOf, IsToldBy, Spells}
@@ -189,8 +189,21 @@ passed_on (Err e) P Q fault is h weaker = rw is (unless_weaker P Q fault weaker 
 pub its_numbers : (rows : List Row) (job : Job) → IsNamedBy (codes "run") rows job
     → ((at : ℕ) × IsMomentIn rows at) × ((boards : ℕ) × AreBoardsIn rows boards) × ((batch : ℕ) × IsBatchIn rows batch)
 its_numbers rows (Run config at journal boards batch scripts) h = ((at, h.2), (boards, h.4), (batch, h.5))
+its_numbers rows (Serve config at journal board pairs) h =
+    let same : codes "run" ≡ codes "serve" = h.0 in
+    absurd cc
 its_numbers rows (Replay config journal) h =
     let same : codes "run" ≡ codes "replay" = h.0 in
+    absurd cc
+
+-- a job that serves has its moment
+pub its_moment : (rows : List Row) (job : Job) → IsNamedBy (codes "serve") rows job → (at : ℕ) × IsMomentIn rows at
+its_moment rows (Run config at journal boards batch scripts) h =
+    let same : codes "serve" ≡ codes "run" = h.0 in
+    absurd cc
+its_moment rows (Serve config at journal board pairs) h = (at, h.2)
+its_moment rows (Replay config journal) h =
+    let same : codes "serve" ≡ codes "replay" = h.0 in
     absurd cc
 
 -- ---- the words

@@ -45,6 +45,14 @@ boards = record (new_rule (codes "boards")) {
   action = Some Set;
 }
 
+-- `--board FILE`
+abbrev pub board : Rule
+board = record (new_rule (codes "board")) {
+  long = Some (codes "board");
+  value_names = 1;
+  action = Some Set;
+}
+
 -- `--batch N`, from 1 to 64, and 1 where it is not given
 abbrev pub batch : Rule
 batch = record (new_rule (codes "batch")) {
@@ -60,6 +68,14 @@ abbrev pub scripts : Rule
 scripts = record (new_rule (codes "scripts")) {
   value_names = 1;
   required = true;
+  range = Some (record { start_inclusive = 1; end_inclusive = 2 ^ 64 - 1 });
+  action = Some Append;
+}
+
+-- any number of clients, each a word that has to be a pair
+abbrev pub clients : Rule
+clients = record (new_rule (codes "clients")) {
+  value_names = 1;
   range = Some (record { start_inclusive = 1; end_inclusive = 2 ^ 64 - 1 });
   action = Some Append;
 }
@@ -80,6 +96,14 @@ with_sharing a = with_rule (with_rule a boards) batch
 abbrev pub run : App
 run = with_rule (with_sharing (with_rule (with_rule (with_rule (new_app (codes "run")) config) at) journal)) scripts
 
+-- a command with the files that are written of what was served
+abbrev pub with_files : App → App
+with_files a = with_rule (with_rule a journal) board
+
+-- `serve`
+abbrev pub serve : App
+serve = with_rule (with_files (with_rule (with_rule (new_app (codes "serve")) config) at)) clients
+
 -- `replay`
 abbrev pub replay : App
 replay = with_rule (with_rule (new_app (codes "replay")) config) played
@@ -92,6 +116,10 @@ with_need a = record a { top = record a.top { subcommand_required = true } }
 abbrev pub with_version : App → App
 with_version a = record a { top = record a.top { has_version = true } }
 
+-- the command line, but for what it may be asked to do
+abbrev pub bare : App
+bare = with_need (with_version (new_app (codes "quotafs")))
+
 -- the command line
 abbrev pub quotafs : App
-quotafs = with_subcommand (with_subcommand (with_need (with_version (new_app (codes "quotafs")))) run.top) replay.top
+quotafs = with_subcommand (with_subcommand (with_subcommand bare run.top) serve.top) replay.top

@@ -6,10 +6,11 @@ use Rattle.clap.specs.Words.{IsAmong, Kinds, Row, Text, all_of, fault_of, first_
 use Rattle.clap.specs.declared.error.kind.ErrorKind.{ErrorKind}
 use Rattle.clap.specs.declared.error.kind.ErrorKind.TheVariants.{DisplayHelp, DisplayVersion}
 use Rattle.qtext_job.specs.declared.job.Job.{Job}
-use Rattle.qtext_job.specs.declared.job.Job.TheVariants.{Run, Replay}
+use Rattle.qtext_job.specs.declared.job.Job.TheVariants.{Run, Serve, Replay}
 use Rattle.qtext_job.specs.declared.line_fault.LineFault.{LineFault}
 use Rattle.qtext_job.specs.declared.line_fault.LineFault.TheVariants.{Line, Memory}
 use Rattle.qtext_job.specs.Commands.{quotafs}
+use Rattle.qtext_job.specs.Pairs.{AreClientsIn}
 
 -- the number that a text spells in decimal digits, after a plus or none
 abbrev pub Spells : Text → ℕ → Type 0
@@ -45,6 +46,12 @@ IsNamedBy name rows (Run config at journal boards batch scripts) = (name ≡ cod
     × AreBoardsIn rows boards
     × IsBatchIn rows batch
     × AreScriptsIn rows (map (λ s. string_bytes s) scripts.items)
+IsNamedBy name rows (Serve config at journal board pairs) = (name ≡ codes "serve")
+    × (first_of (codes "config") rows ≡ Some (string_bytes config))
+    × IsMomentIn rows at
+    × (first_of (codes "journal") rows ≡ option_map (λ s. string_bytes s) journal)
+    × (first_of (codes "board") rows ≡ option_map (λ s. string_bytes s) board)
+    × AreClientsIn rows pairs.items
 IsNamedBy name rows (Replay config journal) = (name ≡ codes "replay")
     × (first_of (codes "config") rows ≡ Some (string_bytes config))
     × (first_of (codes "journal") rows ≡ Some (string_bytes journal))

@@ -6,7 +6,8 @@ ghost use Rattle.qtext_job.specs.declared.line_fault.LineFault.TheVariants.{Memo
 ghost use Rattle.qtext_job.specs.Jobs.{AreScriptsIn, FailsUnless, IsAskedBy, IsJobOf, IsNamedBy, IsNumberAt};
 ghost use Rattle.qtext_job.specs.Jobs.{IsRefusalOf, IsToldBy};
 
-use crate::LineFault;
+use crate::pair::clients;
+use crate::{LineFault, Pair};
 use clap::error::ErrorKind;
 use clap::{ArgMatches, Error};
 use command::command;
@@ -33,6 +34,16 @@ pub enum Job {
         boards: u64,
         batch: u64,
         scripts: Vec<String>,
+    },
+    /// To answer the lines of the clients on a store of the configuration, to report at the moment, in seconds, and to
+    /// write the journal, and the board while it serves, where a file is named for it. Where no client is named there
+    /// is one, on standard input and output.
+    Serve {
+        config: String,
+        at: u64,
+        journal: Option<String>,
+        board: Option<String>,
+        pairs: Vec<Pair>,
     },
     /// To play the journal on a store of the configuration, and to report at moment 0.
     Replay {
@@ -151,6 +162,21 @@ fn run(alloc: Global, matches: &ArgMatches<'_>) -> Result<Job, LineFault>
     })
 }
 
+fn serve(alloc: Global, matches: &ArgMatches<'_>) -> Result<Job, LineFault>
+    ensures ok { IfOk result (IsNamedBy (codes "serve") (rows_of (found_of matches.now))) }
+    ensures err { IfErr result (FailsUnless
+        ((job : Job) × IsNamedBy (codes "serve") (rows_of (found_of matches.now)) job)) }
+{
+    let config = named(alloc, matches, "config")?;
+    Ok(Job::Serve {
+        config,
+        at: number(alloc, matches, "at", 0, MAX_MOMENT)?,
+        journal: optional(alloc, matches, "journal")?,
+        board: optional(alloc, matches, "board")?,
+        pairs: clients(alloc, matches)?,
+    })
+}
+
 fn replay(alloc: Global, matches: &ArgMatches<'_>) -> Result<Job, LineFault>
     ensures ok { IfOk result (IsNamedBy (codes "replay") (rows_of (found_of matches.now))) }
     ensures err { IfErr result (FailsUnless
@@ -168,6 +194,7 @@ fn job_of(alloc: Global, matches: &ArgMatches<'_>) -> Result<Job, LineFault>
 {
     match matches.subcommand() {
         Some(("run", matches)) => run(alloc, matches),
+        Some(("serve", matches)) => serve(alloc, matches),
         Some(("replay", matches)) => replay(alloc, matches),
         _ => Err(missing(alloc)),
     }

@@ -3,6 +3,8 @@
 
 pub use job::Job;
 pub use line_fault::LineFault;
+pub use pair::Pair;
 
 mod job;
 mod line_fault;
+mod pair;

@@ -10,6 +10,12 @@ use std::alloc::{AllocError, Global};
 
 mod after_help;
 
+/// What help says of clients.
+const CLIENTS: &str = "\
+The clients, each with a worker of its own: the file or pipe that its lines come from, and the one that its replies go \
+to, opened in that order; - is standard input or output. Where none is named there is one, on both. A word that begins \
+with - stands behind --";
+
 fn config<'a>(alloc: Global) -> Arg<'a>
     ensures rule { rule_of result ≡ line.config }
     ensures local { result.global ≡ false }
@@ -84,6 +90,30 @@ fn scripts<'a>(alloc: Global) -> Arg<'a>
         .action(ArgAction::Append)
 }
 
+fn board<'a>(alloc: Global) -> Arg<'a>
+    ensures rule { rule_of result ≡ line.board }
+    ensures local { result.global ≡ false }
+{
+    Arg::new(alloc, "board")
+        .long("board")
+        .value_name("FILE")
+        .help(
+            "The file that the quota records are written to while clients are served, for a monitor",
+        )
+        .action(ArgAction::Set)
+}
+
+fn clients<'a>(alloc: Global) -> Arg<'a>
+    ensures rule { rule_of result ≡ line.clients }
+    ensures local { result.global ≡ false }
+{
+    Arg::new(alloc, "clients")
+        .value_name("IN:OUT")
+        .help(CLIENTS)
+        .num_args(1..)
+        .action(ArgAction::Append)
+}
+
 fn played<'a>(alloc: Global) -> Arg<'a>
     ensures rule { rule_of result ≡ line.played }
     ensures local { result.global ≡ false }
@@ -140,7 +170,7 @@ fn run<'a>(alloc: Global) -> Result<Command<'a>, AllocError>
     let command = named(
         alloc,
         "run",
-        "Runs scripts on a new store and prints what came of it",
+        "For scripts that are at hand: plays them whole, on a new store, and prints what came of it",
     );
     let command = with_arg(command, config(alloc))?;
     let command = with_arg(command, at(alloc))?;
@@ -156,10 +186,35 @@ fn replay<'a>(alloc: Global) -> Result<Command<'a>, AllocError>
     let command = named(
         alloc,
         "replay",
-        "Plays a journal on a new store and prints what came of it",
+        "For a journal of either: plays it again, on a new store, and prints what came of it",
     );
     let command = with_arg(command, config(alloc))?;
     with_arg(command, played(alloc))
+}
+
+/// The command with the files that are written of what was served.
+fn with_files<'a>(alloc: Global, command: Command<'a>) -> Result<Command<'a>, AllocError>
+    ensures app { IfOk result (λ c. app_of c ≡ line.with_files (app_of command.entry)) }
+    ensures local { (out-Command command.entry).has_globals ≡ false
+        → IfOk result (λ c. (out-Command c).has_globals ≡ false) }
+{
+    let command = with_arg(command, journal(alloc))?;
+    with_arg(command, board(alloc))
+}
+
+fn serve<'a>(alloc: Global) -> Result<Command<'a>, AllocError>
+    ensures app { IfOk result (λ c. app_of c ≡ line.serve) }
+    ensures local { IfOk result (λ c. (out-Command c).has_globals ≡ false) }
+{
+    let command = named(
+        alloc,
+        "serve",
+        "For programs that call as they go: answers each line at once, on a new store, and prints at the end what came of it",
+    );
+    let command = with_arg(command, config(alloc))?;
+    let command = with_arg(command, at(alloc))?;
+    let command = with_files(alloc, command)?;
+    with_arg(command, clients(alloc))
 }
 
 /// The whole command line.
@@ -172,5 +227,6 @@ pub(crate) fn command<'a>(alloc: Global) -> Result<Command<'a>, AllocError>
         .version("0.1.0")
         .subcommand_required(true);
     let command = with_command(command, run(alloc)?)?;
+    let command = with_command(command, serve(alloc)?)?;
     with_command(command, replay(alloc)?)
 }

@@ -15,6 +15,18 @@ returns-in-Some-run-default-clause-err c =
     (map_first _ _ _ ∙ sym (rw c.in-Some-run-default.is at c.subcommand.ensures.name) ∙ ap some_text c.in-Some-run-default.is-run)
     (sym (rw c.in-Some-run-default.is at c.subcommand.ensures.rows)) c.run.ensures.err
 
+pub returns-in-Some-serve-default-clause-ok : goal.returns-in-Some-serve-default-clause-ok
+returns-in-Some-serve-default-clause-ok c =
+    job_at (subcommand_rows_of c.args.matches.now) (codes "serve") (rows_of (found_of c.in-Some-serve-default.matches.now)) c.serve.result
+    (map_first _ _ _ ∙ sym (rw c.in-Some-serve-default.is at c.subcommand.ensures.name) ∙ ap some_text c.in-Some-serve-default.is-serve)
+    (sym (rw c.in-Some-serve-default.is at c.subcommand.ensures.rows)) c.serve.ensures.ok
+
+pub returns-in-Some-serve-default-clause-err : goal.returns-in-Some-serve-default-clause-err
+returns-in-Some-serve-default-clause-err c =
+    no_job_at (subcommand_rows_of c.args.matches.now) (codes "serve") (rows_of (found_of c.in-Some-serve-default.matches.now)) c.serve.result
+    (map_first _ _ _ ∙ sym (rw c.in-Some-serve-default.is at c.subcommand.ensures.name) ∙ ap some_text c.in-Some-serve-default.is-serve)
+    (sym (rw c.in-Some-serve-default.is at c.subcommand.ensures.rows)) c.serve.ensures.err
+
 pub returns-in-Some-replay-default-clause-err : goal.returns-in-Some-replay-default-clause-err
 returns-in-Some-replay-default-clause-err c =
     no_job_at (subcommand_rows_of c.args.matches.now) (codes "replay") (rows_of (found_of c.in-Some-replay-default.matches.now)) c.replay.result
