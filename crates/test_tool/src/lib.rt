@@ -10,11 +10,15 @@ mod journals;
 #[cfg(test)]
 mod memory_files;
 #[cfg(test)]
+mod memory_streams;
+#[cfg(test)]
 mod outputs;
 #[cfg(test)]
 mod refused;
 #[cfg(test)]
 mod reports;
+#[cfg(test)]
+mod services;
 #[cfg(test)]
 mod short;
 #[cfg(test)]

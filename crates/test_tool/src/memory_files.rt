@@ -1,10 +1,13 @@
 //! The program over files in memory.
 
+use crate::memory_streams::MemoryStreams;
 use crate::short::Short;
+use qplain::NoMemory;
 use qtool::{FileFault, Files, tool};
 use std::alloc::{AllocError, Global};
 use std::sync::Wait;
 use std::thread::Threads;
+use std::time::Clock;
 
 /// 10 blocks and 6 inodes for user 0 alone.
 pub(crate) const CONFIG: &str = r#"
@@ -72,6 +75,7 @@ impl<'a> MemoryFiles<'a> {
 
 impl Files for MemoryFiles<'_> {
     type Draft = Short;
+    type Streams = MemoryStreams;
 
     fn read(&mut self, name: &str) -> Result<Vec<u8>, FileFault> {
         if name == self.short {
@@ -114,6 +118,23 @@ impl Files for MemoryFiles<'_> {
         Ok(())
     }
 
+    fn show(&mut self, draft: Short, name: &str) -> Result<(), FileFault> {
+        self.keep(draft, name)
+    }
+
+    fn streams(
+        &self,
+        _client: u64,
+        input: &str,
+        _output: &str,
+    ) -> Result<MemoryStreams, NoMemory> {
+        Ok(MemoryStreams {
+            alloc: self.alloc,
+            lines: if input == "s.txt" { Some(SCRIPT) } else { None },
+            left: self.left,
+        })
+    }
+
     fn give_up(&mut self, _draft: Short) {
         self.drafts = self.drafts.wrapping_sub(1);
     }
@@ -129,7 +150,7 @@ fn words_of(alloc: Global, line: &str) -> Result<Vec<String>, AllocError> {
 }
 
 /// The program's status, and whether its error output is this one.
-pub(crate) fn told<R: Threads + Wait + Sync>(
+pub(crate) fn told<R: Threads + Wait + Clock + Sync>(
     rt: &R,
     line: &str,
     files: &mut MemoryFiles<'_>,

@@ -5,6 +5,7 @@ use crate::short::Short;
 use std::alloc::{AllocError, Global};
 use std::sync::Wait;
 use std::thread::Threads;
+use std::time::Clock;
 
 const RUN: &str = "quotafs run --config a.toml s.txt";
 
@@ -20,7 +21,7 @@ const AMPLE: usize = 65_536;
 
 /// Whether the program that wants memory for a file ends with this status, this line and this output, where its output
 /// takes so many bytes.
-fn ends_so<R: Threads + Wait + Sync>(
+fn ends_so<R: Threads + Wait + Clock + Sync>(
     rt: &R,
     alloc: Global,
     (line, short): (&str, &str),
@@ -53,7 +54,7 @@ fn an_output_with_just_enough_room_takes_all(rt: HostRuntime) -> Result<(), Allo
 }
 
 /// Whether an output that takes so many bytes, and may refuse to be flushed, is told as refused, and has some.
-fn is_refused<R: Threads + Wait + Sync>(
+fn is_refused<R: Threads + Wait + Clock + Sync>(
     rt: &R,
     alloc: Global,
     line: &str,
@@ -83,7 +84,7 @@ fn help_and_flushes_may_be_refused(rt: HostRuntime) -> Result<(), AllocError> {
 
 /// Whether a run whose journal takes so many bytes, and may refuse to be flushed or kept, ends as it must: the outcome
 /// is out, and the journal is kept whole or not at all. No draft is left.
-fn ends_well<R: Threads + Wait + Sync>(
+fn ends_well<R: Threads + Wait + Clock + Sync>(
     rt: &R,
     alloc: Global,
     left: usize,
