@@ -1,0 +1,39 @@
+//! Streams of a client in memory.
+
+use crate::short::Short;
+use qtext_client::{Pair, Streams};
+use qtool::ClientEnd;
+use std::alloc::Global;
+use std::io::{BufReader, BufWriter};
+
+/// So many bytes are read or gathered at once.
+const BUFFER: usize = 16;
+
+/// Lines that are there, or cannot be opened, and replies of which N bytes are taken.
+#[derive(Drop)]
+pub(crate) struct MemoryStreams {
+    pub(crate) alloc: Global,
+    pub(crate) lines: Option<&'static [u8]>,
+    pub(crate) left: usize,
+}
+
+impl Streams for MemoryStreams {
+    type In = &'static [u8];
+    type Out = Short;
+
+    fn open(&mut self) -> Result<Pair<&'static [u8], Short>, ClientEnd> {
+        let Some(lines) = self.lines else {
+            return Err(ClientEnd::NotOpened);
+        };
+        let Ok(input) = BufReader::with_capacity(self.alloc, BUFFER, lines) else {
+            return Err(ClientEnd::Memory);
+        };
+        let replies = Short::new(self.alloc, self.left, true);
+        match BufWriter::with_capacity(self.alloc, BUFFER, replies) {
+            Ok(output) => Ok(Pair { input, output }),
+            Err(_) => Err(ClientEnd::Memory),
+        }
+    }
+
+    fn refused(&mut self, _end: ClientEnd) {}
+}
