@@ -35,9 +35,9 @@ pub enum Job {
         batch: u64,
         scripts: Vec<String>,
     },
-    /// To answer the lines of the clients on a store of the configuration, to report at the moment, in seconds, and to
-    /// write the journal, and the board while it serves, where a file is named for it. Where no client is named there
-    /// is one, on standard input and output.
+    /// To answer the clients' lines on a store of the configuration, to report at the moment, in seconds, to write the
+    /// journal where a file is named for it, and likewise the board while clients are served. Where no client is named
+    /// there is one, on standard input and output.
     Serve {
         config: String,
         at: u64,
@@ -204,7 +204,7 @@ impl Job {
     /// Reads the program's words, its own name the first of them, by one `clap` command: the job that its matches name,
     /// with the moment that the word at `--at` spells, in seconds from 0 to 2^40, and 0 where there is none, the boards
     /// at `--boards`, from 0 to 1000, and 0 where there is none, and the lines at `--batch`, from 1 to 64, and 1 where
-    /// there is none.
+    /// there is none; and each client of a service as a word cut at its first colon, with a name on both sides.
     ///
     /// A request for help or for the version is a fault, too, whose text is for the output. Out of memory may come in
     /// place of any answer.

@@ -12,9 +12,8 @@ mod after_help;
 
 /// What help says of clients.
 const CLIENTS: &str = "\
-The clients, each with a worker of its own: the file or pipe that its lines come from, and the one that its replies go \
-to, opened in that order; - is standard input or output. Where none is named there is one, on both. A word that begins \
-with - stands behind --";
+The clients: lines come from the file or pipe IN, which is opened first, and replies go to OUT; - is standard input or \
+output, and no pair stands for -:-. Behind -- a pair may begin with -";
 
 fn config<'a>(alloc: Global) -> Arg<'a>
     ensures rule { rule_of result ≡ line.config }
@@ -48,7 +47,7 @@ fn journal<'a>(alloc: Global) -> Arg<'a>
     Arg::new(alloc, "journal")
         .long("journal")
         .value_name("FILE")
-        .help("The file that the journal of the run is written to, after what is printed")
+        .help("The file that the journal is written to, after what is printed")
         .action(ArgAction::Set)
 }
 
@@ -170,7 +169,7 @@ fn run<'a>(alloc: Global) -> Result<Command<'a>, AllocError>
     let command = named(
         alloc,
         "run",
-        "For scripts that are at hand: plays them whole, on a new store, and prints what came of it",
+        "For scripts that stand written: plays them on a new store and prints what came of it",
     );
     let command = with_arg(command, config(alloc))?;
     let command = with_arg(command, at(alloc))?;
@@ -186,7 +185,7 @@ fn replay<'a>(alloc: Global) -> Result<Command<'a>, AllocError>
     let command = named(
         alloc,
         "replay",
-        "For a journal of either: plays it again, on a new store, and prints what came of it",
+        "For a journal of either: plays it again on a new store and prints what came of it",
     );
     let command = with_arg(command, config(alloc))?;
     with_arg(command, played(alloc))
@@ -209,7 +208,7 @@ fn serve<'a>(alloc: Global) -> Result<Command<'a>, AllocError>
     let command = named(
         alloc,
         "serve",
-        "For programs that call as they go: answers each line at once, on a new store, and prints at the end what came of it",
+        "For programs that call as they go: answers line by line and prints in the end what came of it",
     );
     let command = with_arg(command, config(alloc))?;
     let command = with_arg(command, at(alloc))?;

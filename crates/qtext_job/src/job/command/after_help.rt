@@ -1,7 +1,7 @@
 //! What help says below the options.
 
 pub(crate) const AFTER_HELP: &str = "\
-A line of a script is MOMENT UID:GID[,GROUP..] CALL. The calls:
+A line of a script or a client is MOMENT UID:GID[,GROUP..] CALL. The calls:
   create PATH
   mkdir PATH
   write PATH OFFSET DATA
