@@ -169,7 +169,7 @@ fn run<'a>(alloc: Global) -> Result<Command<'a>, AllocError>
     let command = named(
         alloc,
         "run",
-        "For scripts that stand written: plays them on a new store and prints what came of it",
+        "Plays scripts, read whole beforehand, on a new store and prints what came of it",
     );
     let command = with_arg(command, config(alloc))?;
     let command = with_arg(command, at(alloc))?;
@@ -185,7 +185,7 @@ fn replay<'a>(alloc: Global) -> Result<Command<'a>, AllocError>
     let command = named(
         alloc,
         "replay",
-        "For a journal of either: plays it again on a new store and prints what came of it",
+        "Plays a journal of either again on a new store and prints what came of it",
     );
     let command = with_arg(command, config(alloc))?;
     with_arg(command, played(alloc))
@@ -208,7 +208,7 @@ fn serve<'a>(alloc: Global) -> Result<Command<'a>, AllocError>
     let command = named(
         alloc,
         "serve",
-        "For programs that call as they go: answers line by line and prints in the end what came of it",
+        "Answers the lines of living clients one by one and prints at the end what came of it",
     );
     let command = with_arg(command, config(alloc))?;
     let command = with_arg(command, at(alloc))?;

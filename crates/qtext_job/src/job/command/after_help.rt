@@ -29,9 +29,11 @@ Example, a script of two lines:
 Statuses:
   0  done, also where calls were refused
   2  the command line, the configuration, a script or the journal is at fault,
-     or unreadable
+     or unreadable, or a client's stream
   3  memory or a thread is wanting, or a replay comes to another reply than its
      journal
-  4  the output refuses, or the file for the journal
+  4  the output refuses, or the file for the journal or for boards, or a client's
+     replies
 
-docs/FORMATS.md has all formats, docs/RULES.md all rules of the calls.";
+docs/FORMATS.md has all formats, docs/RULES.md all rules of the calls, and
+docs/USING.md tells how clients are served.";
