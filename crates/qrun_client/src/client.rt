@@ -48,12 +48,14 @@ pub trait Client {
 pub enum ClientEnd {
     /// It had no more lines.
     Served,
-    /// Its lines cannot be had, or not any further.
+    /// Its lines cannot be read any further.
     Input,
-    /// What it is told cannot be written, or not any further.
+    /// What it is told cannot be written any further.
     Output,
-    /// A stream of its own cannot be opened, so it has handed out no line.
-    NotOpened,
+    /// The stream of its lines cannot be opened, so it has handed out none.
+    NoInput,
+    /// The stream of what it is told cannot be opened, so it has handed out no line.
+    NoOutput,
     /// Memory was wanted to open its streams, so it has handed out no line.
     Memory,
 }

@@ -198,8 +198,8 @@ fn put_named<'a, E: Write>(
     put(err, b"\n")
 }
 
-/// Writes what became of the stream of this name, which is a client's. Control bytes of the name are escaped.
-pub fn put_client_fault<'a, E: Write>(
+/// Writes what became of the stream of this name, which is a client's.
+pub(crate) fn put_client_fault<'a, E: Write>(
     err: &mut E,
     client: u64,
     words: &'a [u8],

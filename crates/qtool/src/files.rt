@@ -25,6 +25,8 @@ pub trait Files {
 
     type Streams: Streams + Drop + Send;
 
+    type Faults: Write + Drop + Send;
+
     /// The bytes of a file. An Err gives none of them.
     fn read(&mut self, name: &str) -> Result<Vec<u8>, FileFault>;
 
@@ -52,8 +54,11 @@ pub trait Files {
             → OnOk result (IsKept (held self.old) (held self.new) name.now text) }
         ensures err { OnErr result (held self.new ≡ held self.old) };
 
-    /// The streams of the client of this number by name, none of which is opened yet: `-` is standard input or output.
-    fn streams(&self, client: u64, input: &str, output: &str) -> Result<Self::Streams, NoMemory>;
+    /// The streams of a client by name, none of which is opened yet: `-` is standard input or output.
+    fn streams(&self, input: &str, output: &str) -> Result<Self::Streams, NoMemory>;
+
+    /// A writer of fault lines, for a thread of its own.
+    fn faults(&self) -> Result<Self::Faults, NoMemory>;
 
     /// Takes a draft away.
     fn give_up(&mut self, draft: Self::Draft)

@@ -1,7 +1,6 @@
 //! From bytes to bytes: the whole program over any files and writers, and the names that it is made of.
 #![tactic(auto)]
 
-pub use ending::put_client_fault;
 pub use files::{FileFault, Files};
 pub use finishing::{Refuser, write_run, write_service};
 pub use program::tool;
@@ -33,4 +32,5 @@ mod overwriting;
 mod program;
 mod runs;
 mod serving;
+mod told_streams;
 mod text_replay;

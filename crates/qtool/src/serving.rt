@@ -7,6 +7,7 @@ use crate::clashes::{ServiceNames, find_clash};
 use crate::client_names::{ClientNames, STANDARD};
 use crate::ending::Ending;
 use crate::program::{configuration, ending_of_run};
+use crate::told_streams::ToldStreams;
 use crate::{Files, Outcome, Setup, serve, write_service};
 use qplain::{MAX_WORKERS, NoMemory};
 use qrun::Service;
@@ -32,18 +33,41 @@ fn test_seats(clients: u64, board: bool) -> Result<(), Ending>
     Ok(())
 }
 
-/// A client for each pair of names, none of whose streams is opened yet.
+/// A client over streams by name, of whose faults it is told at once.
+type NamedClient<F> = StreamClient<ToldStreams<<F as Files>::Streams, <F as Files>::Faults>>;
+
+/// The client of this number, none of whose streams is opened yet.
+fn client_of<F: Files>(
+    alloc: Global,
+    files: &F,
+    client: u64,
+    names: &ClientNames<'_>,
+) -> Result<NamedClient<F>, NoMemory>
+    ensures { IfOk result (λ c. c ≡ fresh) }
+{
+    let streams = ToldStreams {
+        streams: files.streams(names.input, names.output)?,
+        faults: files.faults()?,
+        client,
+        input: String::from_str(alloc, names.input)?,
+        output: String::from_str(alloc, names.output)?,
+    };
+    Ok(StreamClient::new(alloc, streams))
+}
+
+/// A client for each pair of names.
 fn clients_of<F: Files>(
     alloc: Global,
     files: &F,
     names: &[ClientNames<'_>],
-) -> Result<Vec<StreamClient<F::Streams>>, NoMemory> {
+) -> Result<Vec<NamedClient<F>>, NoMemory>
+    ensures many { IfOk result (λ clients. length clients.items ≡ length names.now) }
+    ensures new { IfOk result (λ clients. All (λ c. c ≡ fresh) clients.items) }
+{
     let mut clients = Vec::with_capacity(alloc, names.len())?;
-    let mut number = 0u64;
-    for ClientNames { input, output } in names {
-        number += 1;
-        let streams = files.streams(number, input, output)?;
-        clients.push_reserved(StreamClient::new(alloc, streams));
+    for names in names {
+        let client = client_of(alloc, files, clients.len() as u64 + 1, names)?;
+        clients.push_reserved(client);
     }
     Ok(clients)
 }

@@ -1,9 +1,7 @@
 //! The streams of clients: FIFOs, files, standard input and output.
 
-use crate::LINE_BUFFER;
 use qrun_client::ClientEnd;
 use qtext_client::{Pair, Streams};
-use qtool::put_client_fault;
 use std::fs::{self, File, OpenOptions};
 use std::io::{self, BufReader, BufWriter, ErrorKind, Read, Write};
 
@@ -59,7 +57,6 @@ impl Write for Sink {
 #[derive(Drop)]
 pub(crate) struct ClientStreams<'a> {
     pub(crate) rt: &'a HostRuntime,
-    pub(crate) client: u64,
     pub(crate) input: String,
     pub(crate) output: String,
 }
@@ -84,24 +81,12 @@ fn sink(rt: &HostRuntime, name: &str) -> io::Result<BufWriter<Sink>> {
     BufWriter::with_capacity(rt.alloc(), REPLIES_BUFFER, sink)
 }
 
-impl ClientStreams<'_> {
-    /// Tells on the error output, by one write, what became of a client's stream.
-    fn tell(&self, words: &[u8], name: &str) {
-        let Ok(mut err) = BufWriter::with_capacity(self.rt.alloc(), LINE_BUFFER, self.rt.stderr()) else {
-            return;
-        };
-        let _ = put_client_fault(&mut err, self.client, words, name.as_bytes());
-        let _ = err.flush();
-    }
-
-    /// How the client ends of whose streams this one cannot be opened, which is told.
-    fn unopened(&self, error: &io::Error, name: &str) -> ClientEnd {
-        if error.kind() == ErrorKind::OutOfMemory {
-            self.tell(b"memory for ", name);
-            return ClientEnd::Memory;
-        }
-        self.tell(b"cannot open ", name);
-        ClientEnd::NotOpened
+/// How a client ends of whose streams one cannot be opened.
+fn unopened(error: &io::Error, end: ClientEnd) -> ClientEnd {
+    if error.kind() == ErrorKind::OutOfMemory {
+        ClientEnd::Memory
+    } else {
+        end
     }
 }
 
@@ -112,19 +97,11 @@ impl Streams for ClientStreams<'_> {
     fn open(&mut self) -> Result<Pair<Source, Sink>, ClientEnd> {
         let input = match source(self.rt, self.input.as_str()) {
             Ok(input) => input,
-            Err(error) => return Err(self.unopened(&error, self.input.as_str())),
+            Err(error) => return Err(unopened(&error, ClientEnd::NoInput)),
         };
         match sink(self.rt, self.output.as_str()) {
             Ok(output) => Ok(Pair { input, output }),
-            Err(error) => Err(self.unopened(&error, self.output.as_str())),
-        }
-    }
-
-    fn refused(&mut self, end: ClientEnd) {
-        match end {
-            ClientEnd::Input => self.tell(b"cannot read ", self.input.as_str()),
-            ClientEnd::Output => self.tell(b"cannot write ", self.output.as_str()),
-            ClientEnd::Served | ClientEnd::NotOpened | ClientEnd::Memory => {}
+            Err(error) => Err(unopened(&error, ClientEnd::NoOutput)),
         }
     }
 }

@@ -5,11 +5,14 @@ use crate::draft::Draft;
 use qplain::NoMemory;
 use qtool::{FileFault, Files};
 use std::fs;
-use std::io::{self, ErrorKind};
+use std::io::{self, BufWriter, ErrorKind, Stderr};
 use std::os::unix::fs::MetadataExt;
 
 /// The name under which the system has what standard output goes to.
 const OUTPUT: &str = "/proc/self/fd/1";
+
+/// As long a fault line of a client goes out by one write, in bytes.
+const FAULT_BUFFER: usize = 4096;
 
 /// The machine's files.
 #[derive(Drop)]
@@ -38,6 +41,7 @@ fn are_one_file(rt: &HostRuntime, name: &str, other: &str) -> bool {
 impl<'a> Files for MachineFiles<'a> {
     type Draft = Draft;
     type Streams = ClientStreams<'a>;
+    type Faults = BufWriter<Stderr>;
 
     fn read(&mut self, name: &str) -> Result<Vec<u8>, FileFault> {
         fs::read(self.rt, name).map_err(|error| fault_of(&error))
@@ -63,11 +67,15 @@ impl<'a> Files for MachineFiles<'a> {
         draft.show(self.rt).map_err(|error| fault_of(&error))
     }
 
-    fn streams(&self, client: u64, input: &str, output: &str) -> Result<ClientStreams<'a>, NoMemory> {
+    fn faults(&self) -> Result<BufWriter<Stderr>, NoMemory> {
+        let faults = BufWriter::with_capacity(self.rt.alloc(), FAULT_BUFFER, self.rt.stderr());
+        faults.map_err(|_| NoMemory)
+    }
+
+    fn streams(&self, input: &str, output: &str) -> Result<ClientStreams<'a>, NoMemory> {
         let alloc = self.rt.alloc();
         Ok(ClientStreams {
             rt: self.rt,
-            client,
             input: String::from_str(alloc, input)?,
             output: String::from_str(alloc, output)?,
         })

@@ -76,6 +76,7 @@ impl<'a> MemoryFiles<'a> {
 impl Files for MemoryFiles<'_> {
     type Draft = Short;
     type Streams = MemoryStreams;
+    type Faults = Short;
 
     fn read(&mut self, name: &str) -> Result<Vec<u8>, FileFault> {
         if name == self.short {
@@ -122,12 +123,11 @@ impl Files for MemoryFiles<'_> {
         self.keep(draft, name)
     }
 
-    fn streams(
-        &self,
-        _client: u64,
-        input: &str,
-        _output: &str,
-    ) -> Result<MemoryStreams, NoMemory> {
+    fn faults(&self) -> Result<Short, NoMemory> {
+        Ok(Short::new(self.alloc, 0, true))
+    }
+
+    fn streams(&self, input: &str, _output: &str) -> Result<MemoryStreams, NoMemory> {
         Ok(MemoryStreams {
             alloc: self.alloc,
             lines: if input == "s.txt" { Some(SCRIPT) } else { None },

@@ -23,7 +23,7 @@ impl Streams for MemoryStreams {
 
     fn open(&mut self) -> Result<Pair<&'static [u8], Short>, ClientEnd> {
         let Some(lines) = self.lines else {
-            return Err(ClientEnd::NotOpened);
+            return Err(ClientEnd::NoInput);
         };
         let Ok(input) = BufReader::with_capacity(self.alloc, BUFFER, lines) else {
             return Err(ClientEnd::Memory);
