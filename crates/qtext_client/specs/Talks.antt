@@ -1,0 +1,18 @@
+-- What a client and a store have said to each other.
+use Rattle.std.specs.Prelude.{◌≤◌, ℕ, List, Option, IfSome, Result}
+use Rattle.qplain.specs.declared.call_fault.CallFault.{CallFault}
+use Rattle.qplain.specs.declared.line.Line.{Line}
+use Rattle.qplain.specs.declared.receipt.Receipt.{Receipt}
+use Rattle.qtext_client.specs.Tellings.{AreTold}
+
+-- the lines that a client handed out, the answers that it took, and the bytes that its output holds, where they are known
+pub record Talk : Type 0 where
+  pub given : List Line
+  pub told : List (Result Receipt CallFault)
+  pub wrote : Option (List ℕ)
+
+-- there is room for so many answers, of lines at least as many as were answered; and what is written is told
+pub record IsKept (lines answers room : ℕ) (told : List (Result Receipt CallFault)) (wrote : Option (List ℕ)) : Type 0 where
+  pub owed : answers ≤ lines
+  pub room_for_each : lines ≤ room
+  pub text : IfSome wrote (λ bytes. AreTold bytes told)
