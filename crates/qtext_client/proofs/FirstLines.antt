@@ -1,9 +1,9 @@
 -- The first line of a text that is shown in part.
-use Rattle.std.proofs.Common.{◌≡◌, ◌≢◌, ℕ, zero, suc, ◌+◌, ◌-◌, ◌<◌, ◌≤◌, min, ◌==◌, eqb, Bool, true, false, cond, List, [], ◌∷◌, ◌++◌, length, length-append, take, drop, get_or, Option, Some, None, IfSome, All, refl, sym, ap, ◌∙◌, subst, arith, eq-eqb, append_assoc}
+use Rattle.std.proofs.Common.{◌≡◌, ◌≢◌, ℕ, zero, suc, ◌+◌, ◌≤◌, min, eqb, Bool, true, false, cond, List, [], ◌∷◌, ◌++◌, length, take, drop, get_or, All, refl, ap, arith, eq-eqb}
 use Rattle.std.specs.List.{position_or_len}
-use Rattle.std.specs.Io.BufRead.{DropsThrough, drop_through, take_through}
-use Rattle.std.proofs.lemmas.List.Elements.{All-append, All-cons, All-nil}
-use Rattle.std.proofs.BufReadLemmas.{take_through-append, drop_through-append, take_through-nil}
+use Rattle.std.specs.Io.BufRead.{drop_through, take_through}
+use Rattle.std.proofs.lemmas.List.Elements.{All-cons, All-nil}
+use Rattle.std.proofs.BufReadLemmas.{take_through-nil}
 
 -- a line has as many bytes as stand before its end, and one more where it has an end
 pub through_len : (xs : List ℕ) → length (take_through 10 xs) ≡ min (position_or_len (λ b. eqb b 10) xs + 1) (length xs)
@@ -26,6 +26,16 @@ taken_through (x ∷ xs) =
       | true ↦ refl
       | false ↦ ap (λ l. x ∷ l) (taken_through xs)
     ]
+
+-- a line's first line is that line
+pub through_again : (xs : List ℕ) → take_through 10 (take_through 10 xs) ≡ take_through 10 xs
+through_again [] = refl
+through_again (x ∷ xs) = at (eqb x 10) refl (through_again xs)
+  where
+    at : (b : Bool) → eqb x 10 ≡ b → take_through 10 (take_through 10 xs) ≡ take_through 10 xs
+        → take_through 10 (take_through 10 (x ∷ xs)) ≡ take_through 10 (x ∷ xs)
+    at true e rest = simp e
+    at false e rest = simp (e, rest)
 
 -- with more behind it, the line is no shorter
 pub through_grows : (xs ys : List ℕ) → length (take_through 10 xs) ≤ length (take_through 10 (xs ++ ys))

@@ -1,4 +1,5 @@
--- First lines and their parts, and what becomes of known bytes.
+-- First lines and their parts, what they say, and what a client was told.
 pub mod FirstLines
 pub mod LineParts
-pub mod Known
+pub mod OneLine
+pub mod Told

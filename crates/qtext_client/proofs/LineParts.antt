@@ -1,5 +1,5 @@
 -- What a line gains of what a reader shows.
-use Rattle.std.proofs.Common.{◌≡◌, ◌≢◌, ◌⊎◌, inl, inr, ℕ, zero, suc, ◌+◌, ◌-◌, ◌<◌, ◌≤◌, ◌==◌, eqb, Bool, true, false, List, [], ◌∷◌, ◌++◌, length, length-append, take, drop, get_or, Option, Some, None, IfSome, All, refl, sym, ap, ◌∙◌, subst, arith, append_assoc, append-nil}
+use Rattle.std.proofs.Common.{◌≡◌, ◌≢◌, ◌⊎◌, inl, inr, ℕ, zero, suc, ◌+◌, ◌-◌, ◌<◌, eqb, false, List, [], ◌++◌, length, length-append, take, drop, get_or, Option, Some, None, IfSome, All, sym, ap, ◌∙◌, subst, arith, append-nil}
 use Rattle.std.specs.Io.{StartsWith}
 use Rattle.std.specs.Io.BufRead.{DropsThrough, drop_through, take_through}
 use Rattle.std.specs.Io.KnownBytes.{Consumes, Keeps}
@@ -7,9 +7,9 @@ use Rattle.std.proofs.lemmas.List.Elements.{All-append, All-nil}
 use Rattle.std.proofs.lemmas.List.{drop_at}
 use Rattle.std.proofs.KnownBytes.{Consumes-kept, Consumes-nil, Consumes-trans, starts_with_rest}
 use Rattle.std.proofs.BufReadLemmas.{take_through-append, drop_through-append, take_through-nil}
-use Rattle.qtext_client.specs.BoundedLines.{IsTooLong, TakesLast, TakesMore}
+use Rattle.qtext_client.specs.BoundedLines.{IsOneLine, IsTooLong, TakesLast, TakesMore}
 use Rattle.qtext_client.specs.declared.bounded_line.TheConstants.{MAX_LINE}
-use Rattle.qtext_client.proofs.FirstLines.{ended_line, open_line, taken_through, through_grows}
+use Rattle.qtext_client.proofs.FirstLines.{ended_line, open_line, taken_through, through_again, through_grows}
 
 -- nothing was taken
 pub takes_nothing : (old new : Option (List ℕ)) (line : List ℕ) → Keeps old new → TakesMore old new line line
@@ -36,21 +36,41 @@ ended_part xs ys shown rest i is ends split taken =
           ∙ drop_at (take (suc i) shown) ys (suc i) size),
     )
 
+-- the shown part is what the reader had up to its first line end
+last_of : (old new : Option (List ℕ)) (shown : List ℕ) (end : ℕ) → end ≡ length (take_through 10 shown)
+    → (end ≡ 0) ⊎ (get_or shown (end - 1) 0 ≡ 10) → IfSome old (λ xs. StartsWith xs shown)
+    → IfSome old (λ xs. length shown ≡ 0 → xs ≡ []) → Consumes old new (take end shown)
+    → IfSome old (λ xs. take end shown ≡ take_through 10 xs) × DropsThrough old new 10
+last_of None new shown end is ends front none taken = (tt, tt)
+last_of (Some xs) None shown end is ends front none taken = absurd taken
+last_of (Some xs) (Some ys) shown zero is ends front none taken =
+    let empty : xs ≡ [] = none (ap length (take_through-nil 10 shown (sym is))) in
+    (ap (take_through 10) (sym empty), ap Some (sym taken ∙ empty ∙ ap (drop_through 10) (sym empty)))
+last_of (Some xs) (Some ys) shown (suc i) is ends front none taken =
+    let back : suc i - 1 ≡ i = omega arith in
+    let last : get_or shown i 0 ≡ 10 = elim ends [ inl e ↦ absurd (omega (arith, e)) | inr e ↦ subst (λ n. get_or shown n 0 ≡ 10) back e ] in
+    let line = ended_part xs ys shown (drop (length shown) xs) i is last (starts_with_rest xs shown front) taken in
+    (line.0, ap Some line.1)
+
+-- the line gained that
+gains : (old : Option (List ℕ)) (before after part : List ℕ) → after ≡ before ++ part → IfSome old (λ xs. part ≡ take_through 10 xs)
+    → IfSome old (λ xs. after ≡ before ++ take_through 10 xs)
+gains None before after part is line = tt
+gains (Some xs) before after part is line = is ∙ ap (λ l. before ++ l) line
+
 -- the shown part is the last of the line
 pub takes_last : (old new : Option (List ℕ)) (shown before after : List ℕ) (end : ℕ) → end ≡ length (take_through 10 shown)
     → (end ≡ 0) ⊎ (get_or shown (end - 1) 0 ≡ 10) → after ≡ before ++ take end shown
     → IfSome old (λ xs. StartsWith xs shown) → IfSome old (λ xs. length shown ≡ 0 → xs ≡ []) → Consumes old new (take end shown)
     → TakesLast old new before after
-takes_last None new shown before after end is ends is_after front none taken = (tt, tt)
-takes_last (Some xs) None shown before after end is ends is_after front none taken = absurd taken
-takes_last (Some xs) (Some ys) shown before after zero is ends is_after front none taken =
-    let empty : xs ≡ [] = none (ap length (take_through-nil 10 shown (sym is))) in
-    (is_after ∙ ap (λ l. before ++ take_through 10 l) (sym empty), ap Some (sym taken ∙ empty ∙ ap (drop_through 10) (sym empty)))
-takes_last (Some xs) (Some ys) shown before after (suc i) is ends is_after front none taken =
-    let back : suc i - 1 ≡ i = omega arith in
-    let last : get_or shown i 0 ≡ 10 = elim ends [ inl e ↦ absurd (omega (arith, e)) | inr e ↦ subst (λ n. get_or shown n 0 ≡ 10) back e ] in
-    let line = ended_part xs ys shown (drop (length shown) xs) i is last (starts_with_rest xs shown front) taken in
-    (is_after ∙ ap (λ l. before ++ l) line.0, ap Some line.1)
+takes_last old new shown before after end is ends is_after front none taken =
+    let last = last_of old new shown end is ends front none taken in
+    record {
+      shown = shown;
+      ends = is_after ∙ ap (λ l. before ++ l) (ap (λ n. take n shown) is ∙ taken_through shown);
+      line = gains old before after (take end shown) is_after last.0;
+      rest = last.1;
+    }
 
 -- with the shown part, the line is longer than the bound
 pub too_long : (old : Option (List ℕ)) (shown before : List ℕ) (end : ℕ) → end ≡ length (take_through 10 shown)
@@ -72,9 +92,17 @@ pub line_read : (old mid new : Option (List ℕ)) (line after : List ℕ) → Al
 line_read None mid new line after goes_on lost last = (tt, tt)
 line_read (Some xs) None new line after goes_on lost last = absurd lost
 line_read (Some xs) (Some ys) new line after goes_on lost last = (
-  last.0 ∙ sym (ap (take_through 10) lost ∙ take_through-append 10 line ys goes_on),
-  last.1 ∙ ap Some (sym (ap (drop_through 10) lost ∙ drop_through-append 10 line ys goes_on)),
+  last.line ∙ sym (ap (take_through 10) lost ∙ take_through-append 10 line ys goes_on),
+  last.rest ∙ ap Some (sym (ap (drop_through 10) lost ∙ drop_through-append 10 line ys goes_on)),
 )
+
+-- and it is one line
+pub whole_line : (old new : Option (List ℕ)) (line after : List ℕ) → All (λ x. x ≢ 10) line → TakesLast old new line after
+    → 0 < length after → IsOneLine after
+whole_line old new line after goes_on last some =
+    let one : take_through 10 (line ++ take_through 10 last.shown) ≡ line ++ take_through 10 last.shown =
+    take_through-append 10 line (take_through 10 last.shown) goes_on ∙ ap (λ l. line ++ l) (through_again last.shown) in
+    (ap (take_through 10) last.ends ∙ one ∙ sym last.ends, some)
 
 -- what is passed over behind it is the rest of the first line
 pub line_passed : (old mid new : Option (List ℕ)) (line : List ℕ) → All (λ x. x ≢ 10) line → Consumes old mid line

@@ -1,7 +1,7 @@
 -- How a reader's bytes become lines.
 use Rattle.std.specs.Prelude.{◌≡◌, ◌≢◌, ℕ, ◌<◌, ◌+◌, List, ◌++◌, length, Option, IfSome, ⊤}
 use Rattle.std.specs.List.{All}
-use Rattle.std.specs.Io.BufRead.{DropsThrough, drop_through, take_through}
+use Rattle.std.specs.Io.BufRead.{DropsThrough, take_through}
 use Rattle.std.specs.Io.KnownBytes.{Consumes}
 use Rattle.qtext_client.specs.declared.bounded_line.Got.{Got}
 use Rattle.qtext_client.specs.declared.bounded_line.Got.TheVariants.{Text, TooLong as LongLine, NoMemory as Unread, End, Refused as Gone}
@@ -17,9 +17,16 @@ HasPassed Unread = ⊤
 HasPassed End = ⊥
 HasPassed Gone = ⊥
 
+-- a text of one line: one byte or more, and no line end but at its end
+abbrev pub IsOneLine : List ℕ → Type 0
+IsOneLine text = (take_through 10 text ≡ text) × (0 < length text)
+
 -- the line gained what the reader had up to its first line end, and the reader has lost just that
-abbrev pub TakesLast : Option (List ℕ) → Option (List ℕ) → List ℕ → List ℕ → Type 0
-TakesLast old new before after = IfSome old (λ xs. after ≡ before ++ take_through 10 xs) × DropsThrough old new 10
+pub record TakesLast (old new : Option (List ℕ)) (before after : List ℕ) : Type 0 where
+  pub shown : List ℕ
+  pub ends : after ≡ before ++ take_through 10 shown
+  pub line : IfSome old (λ xs. after ≡ before ++ take_through 10 xs)
+  pub rest : DropsThrough old new 10
 
 -- the line gained what the reader has lost, and there is no line end in it
 abbrev pub TakesMore : Option (List ℕ) → Option (List ℕ) → List ℕ → List ℕ → Type 0

@@ -1,7 +1,7 @@
 //! The lines of a reader, one after the other, each up to a bound.
 ghost use Rattle.std.specs.Prelude.{◌≡◌, [], ◌<◌, ◌≤◌, ◌+◌, ◌⊎◌, length, vec_len, IfSome};
 ghost use Rattle.std.specs.Io.BufRead.{DropsThrough, take_through};
-ghost use Rattle.qtext_client.specs.BoundedLines.{HasPassed, TakesPart};
+ghost use Rattle.qtext_client.specs.BoundedLines.{HasPassed, IsOneLine, TakesPart};
 ghost use Rattle.qtext_client.specs.declared.bounded_line.TheConstants.{MAX_LINE};
 ghost use Rattle.qtext_client.specs.declared.bounded_line.Got.TheVariants.{End, Refused, Text, TooLong};
 
@@ -87,6 +87,7 @@ fn pass<R: BufRead>(reader: &mut R, got: Got) -> Got
 
 /// Reads the next line into the room, in place of what it holds.
 pub fn next_line<R: BufRead>(reader: &mut R, line: &mut Vec<u8>) -> Got
+    ensures one { result ≡ Text → IsOneLine line.new.items }
     ensures text { result ≡ Text → IfSome (R.remaining reader.old) (λ xs. line.new.items ≡ take_through 10 xs) }
     ensures long { result ≡ TooLong → IfSome (R.remaining reader.old) (λ xs. MAX_LINE < length (take_through 10 xs)) }
     ensures end { result ≡ End → IfSome (R.remaining reader.old) (λ xs. xs ≡ []) }

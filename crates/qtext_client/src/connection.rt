@@ -1,7 +1,9 @@
 //! A client's streams: not open yet, open, or done with.
-ghost use Rattle.std.specs.Prelude.{◌≡◌, [], None, Some};
+ghost use Rattle.std.specs.Prelude.{◌≡◌, [], None, Ok, Some};
 ghost use Rattle.std.specs.Io.Buffered.{writer_contents};
 ghost use Rattle.std.specs.Io.KnownBytes.{Keeps};
+ghost use Rattle.qtext_client.specs.BoundedLines.{IsOneLine};
+ghost use Rattle.qtext_client.specs.declared.bounded_line.Got.TheVariants.{Text};
 ghost use Rattle.qtext_client.specs.Tellings.{telling_text};
 ghost use Rattle.qtext_client.specs.Wires.{Tells, TellsNothing};
 
@@ -53,7 +55,8 @@ fn line_from<I: Read + Drop, O: Write + Drop>(
     pair: &mut Pair<I, O>,
     text: &mut Vec<u8>,
 ) -> Result<Got, ClientEnd>
-    ensures { Keeps (writer_contents O.contents pair.old.output) (writer_contents O.contents pair.new.output) }
+    ensures output { Keeps (writer_contents O.contents pair.old.output) (writer_contents O.contents pair.new.output) }
+    ensures one { result ≡ Ok Text → IsOneLine text.new.items }
 {
     if !let_out(pair) {
         return Err(ClientEnd::Output);
@@ -108,7 +111,8 @@ impl<S: Streams + Drop> Connection<S> {
 
     /// Reads the next line into the text. What was told goes out before it is waited for.
     pub(crate) fn next_line(&mut self, text: &mut Vec<u8>) -> Got
-        ensures { TellsNothing self.old self.new }
+        ensures wrote { TellsNothing self.old self.new }
+        ensures one { result ≡ Text → IsOneLine text.new.items }
     {
         let heard = match &mut self.stage {
             Stage::Open(pair) => line_from(pair, text),

@@ -1,6 +1,9 @@
 //! A client that writes script lines into a stream, and reads what it is told from another.
-ghost use Rattle.std.specs.Prelude.{◌≡◌, ◌<◌, ◌∷◌, ◌++◌, [], true, false, Some, IfSome, cond, length};
+ghost use Rattle.std.specs.Prelude.{◌≡◌, ◌<◌, ◌≤◌, ◌∷◌, ◌++◌, [], true, false, Some, IfSome, cond, length, vec_capacity, vec_len};
+ghost use Rattle.qtext_client.specs.BoundedLines.{IsOneLine};
+ghost use Rattle.qtext_client.specs.Hearings.{HearsText};
 ghost use Rattle.qtext_client.specs.Tellings.{AreTold, answer_in};
+ghost use Rattle.qtext_files.specs.Scripts.{script_of};
 
 use crate::bounded_line::Got;
 use crate::connection::Connection;
@@ -19,8 +22,10 @@ use std::marker::Model;
 enum Heard {
     /// A line of a script.
     Line(Line),
-    /// No line of a script, of which the client is told this.
-    Telling(Telling),
+    /// No line of a script.
+    Fault(LineFault),
+    /// Memory was wanting for it.
+    NoMemory,
     /// There is no more.
     End,
 }
@@ -50,20 +55,31 @@ impl<S: Streams + Drop> Model for StreamClient<S> {
     ghost invariant = { λ c. IsKept (vec_len c.lines) (vec_len c.answers) (vec_capacity c.answers) c.answers.items c.connection };
 }
 
-/// What a client is told of a text that is no line of a script.
-fn fault_of(kind: TextKind) -> Telling {
-    match kind {
-        TextKind::Memory => Telling::NoMemory,
-        kind => Telling::Fault(LineFault::Text(kind)),
+/// What a text of one line comes to.
+fn heard_in(alloc: Global, text: &[u8]) -> Heard
+    requires { IsOneLine text.now }
+    ensures { HearsText result (script_of text.now) }
+{
+    match script_line(alloc, text) {
+        Ok(line) => Heard::Line(line),
+        Err(TextKind::Memory) => Heard::NoMemory,
+        Err(kind) => Heard::Fault(LineFault::Text(kind)),
     }
 }
 
-/// What a text of one line comes to.
-fn heard_in(alloc: Global, text: &[u8]) -> Heard {
-    match script_line(alloc, text) {
-        Ok(line) => Heard::Line(line),
-        Err(kind) => Heard::Telling(fault_of(kind)),
+/// Keeps a line, with room for its answer, unless memory is wanting.
+fn keep_line(lines: &mut Vec<Line>, answers: &mut Vec<Answer>, line: Line) -> bool
+    requires answered { vec_len answers.old ≡ vec_len lines.old }
+    requires room { vec_len lines.old ≤ vec_capacity answers.old }
+    ensures lines { lines.new.items ≡ cond result (lines.old.items ++ line ∷ []) lines.old.items }
+    ensures answers { answers.new.items ≡ answers.old.items }
+    ensures owed { vec_len answers.new ≤ vec_len lines.new }
+    ensures room { vec_len lines.new ≤ vec_capacity answers.new }
+{
+    if answers.reserve(1).is_err() {
+        return false;
     }
+    lines.push(line).is_ok()
 }
 
 impl<S: Streams + Drop> StreamClient<S> {
@@ -95,10 +111,12 @@ impl<S: Streams + Drop> StreamClient<S> {
     {
         match self.connection.next_line(&mut self.text) {
             Got::End | Got::Refused => Heard::End,
-            _ if self.lines.len() >= MAX_ENTRIES => Heard::Telling(fault_of(TextKind::TooMany)),
+            _ if self.lines.len() >= MAX_ENTRIES => Heard::Fault(LineFault::Text(
+                TextKind::TooMany,
+            )),
             Got::Text => heard_in(self.alloc, &self.text),
-            Got::TooLong => Heard::Telling(Telling::Fault(LineFault::Length)),
-            Got::NoMemory => Heard::Telling(Telling::NoMemory),
+            Got::TooLong => Heard::Fault(LineFault::Length),
+            Got::NoMemory => Heard::NoMemory,
         }
     }
 
@@ -108,7 +126,7 @@ impl<S: Streams + Drop> StreamClient<S> {
         ensures given { self.new.given ≡ cond result (self.old.given ++ line ∷ []) self.old.given }
         ensures told { self.new.told ≡ self.old.told }
     {
-        self.answers.reserve(1).is_ok() && self.lines.push(line).is_ok()
+        keep_line(&mut self.lines, &mut self.answers, line)
     }
 
     /// Tells that a line is none.
@@ -136,7 +154,8 @@ impl<S: Streams + Drop> Client for StreamClient<S> {
                     }
                     self.tell_fault(&Telling::NoMemory);
                 }
-                Heard::Telling(telling) => self.tell_fault(&telling),
+                Heard::Fault(fault) => self.tell_fault(&Telling::Fault(fault)),
+                Heard::NoMemory => self.tell_fault(&Telling::NoMemory),
                 Heard::End => return false,
             }
         }

@@ -15,6 +15,7 @@ pub struct Pair<I: Read + Drop, O: Write + Drop> {
 /// How a client's streams are opened, for which both sides may wait.
 pub trait Streams {
     type In: Read + Drop;
+
     type Out: Write + Drop;
 
     /// Both, the input first; an Err says which of them is not to be had. The output is empty where it tells its bytes.

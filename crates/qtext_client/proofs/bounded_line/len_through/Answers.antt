@@ -1,4 +1,4 @@
-use Rattle.std.proofs.Common.{eqb, rules, tests, arith, length}
+use Rattle.std.proofs.Common.{eqb, rules, tests, arith}
 use Rattle.std.proofs.lemmas.Iterator.{YieldsList-from_slice}
 use Rattle.std.proofs.lemmas.Iterator.Search.{position_from_yields_List}
 use Rattle.qtext.proofs.Splitting.{found_at, none_at}

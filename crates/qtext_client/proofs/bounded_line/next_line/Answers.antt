@@ -1,5 +1,6 @@
 use Rattle.std.proofs.Common.{arith, eqb-true, sym}
-use Rattle.qtext_client.proofs.LineParts.{at_end, line_passed, line_read, line_too_long, more_lost}
+use Rattle.std.proofs.lemmas.Bool.Decides.{nat_tests}
+use Rattle.qtext_client.proofs.LineParts.{at_end, line_passed, line_read, line_too_long, more_lost, whole_line}
 use Rattle.qtext_client.proofs.bounded_line.next_line.Goals as goal
 
 pub loop-preserved : goal.loop-preserved
@@ -11,6 +12,11 @@ pub returns-in-Last-clause-end : goal.returns-in-Last-clause-end
 returns-in-Last-clause-end g c =
     let read = line_read _ _ _ _ _ c.loop.invariant.open_yet c.loop.invariant.lost c.in-Last.ensures.takes in
     λ _. at_end _ _ read.0 (omega (arith, eqb-true _ _ (sym c.if-is_empty.ensures), c.take_part.new.line.ok))
+
+pub returns-in-Last-2-clause-one : goal.returns-in-Last-2-clause-one
+returns-in-Last-2-clause-one g c =
+    λ _. whole_line _ _ _ _ c.loop.invariant.open_yet c.in-Last-2.ensures.takes
+    (grind (arith, nat_tests, c.if-is_empty.ensures, c.take_part.new.line.ok))
 
 pub returns-in-Last-2-clause-text : goal.returns-in-Last-2-clause-text
 returns-in-Last-2-clause-text g c =
