@@ -7,6 +7,13 @@ use Rattle.qtext_client.specs.declared.stream_client.Heard.TheVariants.{Line, Fa
 use Rattle.qtext_client.specs.declared.telling.LineFault.{LineFault}
 use Rattle.qtext_client.specs.declared.telling.LineFault.TheVariants.{Text, Length}
 
+-- a line of a script came
+abbrev pub IsLine : Heard → Type 0
+IsLine (Line line) = ⊤
+IsLine (Fault fault) = ⊥
+IsLine NoMemory = ⊥
+IsLine End = ⊥
+
 -- the fault is the one that the script says
 abbrev pub IsFaultIn : Result (List ScriptLine) TextFault → LineFault → Type 0
 IsFaultIn said (Text kind) = said ≡ Err (record { line = 1; kind = kind })

@@ -1,5 +1,6 @@
 -- What a client and a store have said to each other.
 use Rattle.std.specs.Prelude.{◌≤◌, ℕ, List, Option, IfSome, Result}
+use Rattle.qplain.specs.declared.bounds.TheConstants.{MAX_ENTRIES}
 use Rattle.qplain.specs.declared.call_fault.CallFault.{CallFault}
 use Rattle.qplain.specs.declared.line.Line.{Line}
 use Rattle.qplain.specs.declared.receipt.Receipt.{Receipt}
@@ -11,8 +12,10 @@ pub record Talk : Type 0 where
   pub told : List (Result Receipt CallFault)
   pub wrote : Option (List ℕ)
 
--- there is room for so many answers, of lines at least as many as were answered; and what is written is told
+-- the lines are at least as many as the answers, and at most so many; there is room for an answer to each; and what is
+-- written is told
 pub record IsKept (lines answers room : ℕ) (told : List (Result Receipt CallFault)) (wrote : Option (List ℕ)) : Type 0 where
   pub owed : answers ≤ lines
+  pub few : lines ≤ MAX_ENTRIES
   pub room_for_each : lines ≤ room
   pub text : IfSome wrote (λ bytes. AreTold bytes told)

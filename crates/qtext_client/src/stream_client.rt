@@ -1,7 +1,8 @@
 //! A client that writes script lines into a stream, and reads what it is told from another.
 ghost use Rattle.std.specs.Prelude.{◌≡◌, ◌<◌, ◌≤◌, ◌∷◌, ◌++◌, [], true, false, Some, IfSome, cond, length, vec_capacity, vec_len};
 ghost use Rattle.qtext_client.specs.BoundedLines.{IsOneLine};
-ghost use Rattle.qtext_client.specs.Hearings.{HearsText};
+ghost use Rattle.qplain.specs.declared.bounds.TheConstants.{MAX_ENTRIES};
+ghost use Rattle.qtext_client.specs.Hearings.{HearsText, IsLine};
 ghost use Rattle.qtext_client.specs.Tellings.{AreTold, answer_in};
 ghost use Rattle.qtext_files.specs.Scripts.{script_of};
 
@@ -71,10 +72,12 @@ fn heard_in(alloc: Global, text: &[u8]) -> Heard
 fn keep_line(lines: &mut Vec<Line>, answers: &mut Vec<Answer>, line: Line) -> bool
     requires answered { vec_len answers.old ≡ vec_len lines.old }
     requires room { vec_len lines.old ≤ vec_capacity answers.old }
+    requires few { vec_len lines.old < MAX_ENTRIES }
     ensures lines { lines.new.items ≡ cond result (lines.old.items ++ line ∷ []) lines.old.items }
     ensures answers { answers.new.items ≡ answers.old.items }
     ensures owed { vec_len answers.new ≤ vec_len lines.new }
     ensures room { vec_len lines.new ≤ vec_capacity answers.new }
+    ensures few { vec_len lines.new ≤ MAX_ENTRIES }
 {
     if answers.reserve(1).is_err() {
         return false;
@@ -97,9 +100,10 @@ impl<S: Streams + Drop> StreamClient<S> {
     }
 
     /// What is written is told: where it is known, it is the lines of tellings, and the answers among these are the ones
-    /// that the client took, in their order.
+    /// that the client took, in their order. And it has handed out at most 1,048,576 lines.
     pub fn written_is_told(&self)
-        ensures { IfSome self.now.wrote (λ bytes. AreTold bytes self.now.told) }
+        ensures written { IfSome self.now.wrote (λ bytes. AreTold bytes self.now.told) }
+        ensures few { length self.now.given ≤ MAX_ENTRIES }
     {
         let _ = &self.lines;
     }
@@ -108,6 +112,7 @@ impl<S: Streams + Drop> StreamClient<S> {
     fn hear(&mut self) -> Heard
         ensures given { self.new.given ≡ self.old.given }
         ensures told { self.new.told ≡ self.old.told }
+        ensures few { IsLine result → length self.new.given < MAX_ENTRIES }
     {
         match self.connection.next_line(&mut self.text) {
             Got::End | Got::Refused => Heard::End,
@@ -122,7 +127,8 @@ impl<S: Streams + Drop> StreamClient<S> {
 
     /// Keeps a line, with room for its answer, unless memory is wanting.
     fn keep(&mut self, line: Line) -> bool
-        requires { length self.old.told ≡ length self.old.given }
+        requires answered { length self.old.told ≡ length self.old.given }
+        requires few { length self.old.given < MAX_ENTRIES }
         ensures given { self.new.given ≡ cond result (self.old.given ++ line ∷ []) self.old.given }
         ensures told { self.new.told ≡ self.old.told }
     {
