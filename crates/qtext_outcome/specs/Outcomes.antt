@@ -1,40 +1,23 @@
 -- Transcripts and outcomes as text (profile).
-use Rattle.std.specs.Prelude.{ℕ, List, [], ◌∷◌, ◌++◌, codes, decimal, Result, Ok, Err}
+use Rattle.std.specs.Prelude.{ℕ, List, [], ◌∷◌, ◌++◌, codes, decimal}
 use Rattle.std.specs.List.{concat, flat_map}
 use Rattle.qrules.specs.Sort.{Inodes, Blocks}
 use Rattle.qplain.specs.Use.{total_of}
 use Rattle.qaudit.specs.Audits.{audit_text}
 use Rattle.qaudit.specs.Reports.{report_text}
-use Rattle.qplain.specs.declared.call_fault.CallFault.{CallFault}
-use Rattle.qplain.specs.declared.call_fault.CallFault.TheVariants.{JournalFull, OutOfMemory}
-use Rattle.qplain.specs.declared.receipt.Receipt.{Receipt}
 use Rattle.qplain.specs.declared.tallies.Tallies.{Tallies}
 use Rattle.qplain.specs.declared.transcript.Transcript.{Transcript}
 use Rattle.qrun_replay.specs.declared.outcome.Outcome.{Outcome}
-use Rattle.qtext_read.specs.Replies.{reply_text}
+use Rattle.qtext_write.specs.Answers.{answer_text}
 use Rattle.qtext_outcome.specs.Boards.{boards_text}
-
--- the word of a call that is not journaled
-abbrev pub call_fault_text : CallFault → List ℕ
-call_fault_text JournalFull = codes "JournalFull"
-call_fault_text OutOfMemory = codes "OutOfMemory"
-
--- the place that a line of a transcript begins with
-abbrev pub place_text : ℕ → List ℕ
-place_text place = concat (decimal place ∷ codes " " ∷ [])
 
 -- the line over a transcript
 abbrev pub worker_text : ℕ → List ℕ
 worker_text worker = concat (codes "worker " ∷ decimal worker ∷ codes "\n" ∷ [])
 
--- a line of a transcript: the place and the reply, or a dash and why the call is not journaled
-abbrev pub line_text : Result Receipt CallFault → List ℕ
-line_text (Ok receipt) = place_text receipt.place ++ reply_text receipt.reply ++ codes "\n"
-line_text (Err fault) = concat (codes "- failed " ∷ call_fault_text fault ∷ codes "\n" ∷ [])
-
 -- a worker's number, and the lines of its transcript
 abbrev pub transcript_text : Transcript → List ℕ
-transcript_text t = worker_text t.worker ++ flat_map line_text t.answers
+transcript_text t = worker_text t.worker ++ flat_map answer_text t.answers
 
 -- the totals, each beside its bound
 abbrev pub totals_text : Outcome → List ℕ

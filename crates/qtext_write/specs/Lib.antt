@@ -1,2 +1,3 @@
--- Parts of a line as text.
+-- In reading order: parts of a line, and the lines of answers.
 pub mod Texts
+pub mod Answers

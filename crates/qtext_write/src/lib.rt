@@ -1,11 +1,13 @@
-//! Callers, calls and replies as text.
+//! Callers, calls, replies and answers as text.
 #![tactic(auto)]
 
+pub use answer::put_answer;
 pub use call_text::{CALL_PLACE, CALL_ROOM, put_call};
 pub use caller_text::{CALLER_PLACE, put_caller};
 pub use reply_text::{REPLY_PLACE, put_reply};
 pub use write_fault::WriteFault;
 
+mod answer;
 mod call_text;
 mod caller_text;
 mod data_text;

@@ -1,0 +1,45 @@
+-- How a reader's bytes become lines.
+use Rattle.std.specs.Prelude.{◌≡◌, ◌≢◌, ℕ, ◌<◌, ◌+◌, List, ◌++◌, length, Option, IfSome, ⊤}
+use Rattle.std.specs.List.{All}
+use Rattle.std.specs.Io.BufRead.{DropsThrough, take_through}
+use Rattle.std.specs.Io.KnownBytes.{Consumes}
+use Rattle.qtext_client.specs.declared.bounded_line.Got.{Got}
+use Rattle.qtext_client.specs.declared.bounded_line.Got.TheVariants.{Text, TooLong as LongLine, NoMemory as Unread, End, Refused as Gone}
+use Rattle.qtext_client.specs.declared.bounded_line.Part.{Part}
+use Rattle.qtext_client.specs.declared.bounded_line.Part.TheVariants.{Last, More, TooLong, NoMemory, Refused}
+use Rattle.qtext_client.specs.declared.bounded_line.TheConstants.{MAX_LINE}
+
+-- a line was read, or passed over to its end
+abbrev pub HasPassed : Got → Type 0
+HasPassed Text = ⊤
+HasPassed LongLine = ⊤
+HasPassed Unread = ⊤
+HasPassed End = ⊥
+HasPassed Gone = ⊥
+
+-- a text of one line: one byte or more, and no line end but at its end
+abbrev pub IsOneLine : List ℕ → Type 0
+IsOneLine text = (take_through 10 text ≡ text) × (0 < length text)
+
+-- the line gained what the reader had up to its first line end, and the reader has lost just that
+pub record TakesLast (old new : Option (List ℕ)) (before after : List ℕ) : Type 0 where
+  pub shown : List ℕ
+  pub ends : after ≡ before ++ take_through 10 shown
+  pub line : IfSome old (λ xs. after ≡ before ++ take_through 10 xs)
+  pub rest : DropsThrough old new 10
+
+-- the line gained what the reader has lost, and there is no line end in it
+abbrev pub TakesMore : Option (List ℕ) → Option (List ℕ) → List ℕ → List ℕ → Type 0
+TakesMore old new before after = (part : List ℕ) × (after ≡ before ++ part) × All (λ x. x ≢ 10) part × Consumes old new part
+
+-- up to the reader's first line end, the line is longer than the bound
+abbrev pub IsTooLong : Option (List ℕ) → List ℕ → Type 0
+IsTooLong old before = IfSome old (λ xs. MAX_LINE < length before + length (take_through 10 xs))
+
+-- what came of the part of a line that a reader shows
+abbrev pub TakesPart : Option (List ℕ) → Option (List ℕ) → List ℕ → List ℕ → Part → Type 0
+TakesPart old new before after Last = TakesLast old new before after
+TakesPart old new before after More = TakesMore old new before after
+TakesPart old new before after TooLong = TakesMore old new before after × IsTooLong old before
+TakesPart old new before after NoMemory = TakesMore old new before after
+TakesPart old new before after Refused = TakesMore old new before after

@@ -1,0 +1,8 @@
+-- In reading order: lines of a reader, what they say, what clients are told, how what they are told goes out, and all of a client.
+pub mod BoundedLines
+pub mod ScriptLines
+pub mod Hearings
+pub mod Tellings
+pub mod Stages
+pub mod Wires
+pub mod Talks

@@ -1,0 +1,34 @@
+-- What a client is told, as text (profile).
+use Rattle.std.specs.Prelude.{◌≡◌, List, [], ◌∷◌, ℕ, codes, Result}
+use Rattle.std.specs.List.{concat, flat_map}
+use Rattle.qplain.specs.declared.call_fault.CallFault.{CallFault}
+use Rattle.qplain.specs.declared.receipt.Receipt.{Receipt}
+use Rattle.qtext.specs.TextFaults.{text_kind_words}
+use Rattle.qtext_write.specs.Answers.{answer_text}
+use Rattle.qtext_client.specs.declared.telling.LineFault.{LineFault}
+use Rattle.qtext_client.specs.declared.telling.LineFault.TheVariants.{Text, Length}
+use Rattle.qtext_client.specs.declared.telling.Telling.{Telling}
+use Rattle.qtext_client.specs.declared.telling.Telling.TheVariants.{Answer, Fault, NoMemory}
+
+-- the words that name what is wrong with a line
+abbrev pub line_fault_words : LineFault → List ℕ
+line_fault_words (Text kind) = text_kind_words kind
+line_fault_words Length = codes "line length"
+
+-- the line that a client is told
+abbrev pub telling_text : Telling → List ℕ
+telling_text (Answer answer) = answer_text answer
+telling_text (Fault fault) = concat (codes "- fault " ∷ line_fault_words fault ∷ codes "\n" ∷ [])
+telling_text NoMemory = codes "- failed OutOfMemory\n"
+
+-- the answers that a telling holds: one or none
+abbrev pub answer_in : Telling → List (Result Receipt CallFault)
+answer_in (Answer answer) = answer ∷ []
+answer_in (Fault fault) = []
+answer_in NoMemory = []
+
+-- the bytes are the lines of tellings, and the answers among these are the ones that are given, in their order
+pub record AreTold (bytes : List ℕ) (answers : List (Result Receipt CallFault)) : Type 0 where
+  pub tellings : List Telling
+  pub text : bytes ≡ flat_map telling_text tellings
+  pub told : answers ≡ flat_map answer_in tellings

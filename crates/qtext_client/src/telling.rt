@@ -1,0 +1,68 @@
+//! What a client is told, a line for each of its own.
+ghost use Rattle.std.specs.Prelude.{◌≡◌};
+ghost use Rattle.qtext.specs.Written.{Writes};
+ghost use Rattle.qtext_client.specs.Tellings.{line_fault_words, telling_text};
+
+use qrun_client::Answer;
+use qtext::{Piece, RefusedWrite, TextKind, TextLine, put, put_pieces};
+use qtext_write::put_answer;
+use std::io::Write;
+
+/// What is wrong with a line that is none of a script.
+#[derive(Clone, Copy, Debug, PartialEq, Eq)]
+pub enum LineFault {
+    /// It does not say what a script's line says.
+    Text(TextKind),
+    /// It is longer than the bound.
+    Length,
+}
+
+/// What a client is told of one line.
+#[derive(Debug, PartialEq, Eq, Drop)]
+pub enum Telling {
+    /// What a store answered to it.
+    Answer(Answer),
+    /// It is no line of a script.
+    Fault(LineFault),
+    /// Memory was wanting for it, whatever it says.
+    NoMemory,
+}
+
+impl LineFault {
+    /// The words that name it.
+    fn words(self) -> &'static str
+        ensures { result.now ≡ line_fault_words self }
+    {
+        match self {
+            LineFault::Text(kind) => kind.words(),
+            LineFault::Length => "line length",
+        }
+    }
+}
+
+fn put_fault<W: Write>(out: &mut W, fault: LineFault) -> Result<(), RefusedWrite>
+    ensures { Writes (W.contents out.old) (W.contents out.new) result (telling_text (Telling.Fault fault)) }
+{
+    let pieces = [
+        Piece::Text(b"- fault "),
+        Piece::Text(fault.words().as_bytes()),
+        Piece::Text(b"\n"),
+    ];
+    put_pieces(out, &pieces)
+}
+
+/// Writes the line that a client is told. An answer is put together in place of what the text line holds. After an Err
+/// some beginning of it went out.
+pub fn put_telling<W: Write>(
+    out: &mut W,
+    line: &mut TextLine,
+    telling: &Telling,
+) -> Result<(), RefusedWrite>
+    ensures { Writes (W.contents out.old) (W.contents out.new) result (telling_text telling.now) }
+{
+    match telling {
+        Telling::Answer(answer) => put_answer(out, line, answer),
+        Telling::Fault(fault) => put_fault(out, *fault),
+        Telling::NoMemory => put(out, b"- failed OutOfMemory\n"),
+    }
+}
