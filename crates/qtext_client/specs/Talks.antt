@@ -1,6 +1,6 @@
 -- What a client and a store have said to each other.
 use Rattle.std.specs.Prelude.{◌≤◌, ℕ, List, Option, IfSome, Result}
-use Rattle.qplain.specs.declared.bounds.TheConstants.{MAX_ENTRIES}
+use Rattle.qtext_client.specs.declared.stream_client.TheConstants.{MAX_GIVEN}
 use Rattle.qplain.specs.declared.call_fault.CallFault.{CallFault}
 use Rattle.qplain.specs.declared.line.Line.{Line}
 use Rattle.qplain.specs.declared.receipt.Receipt.{Receipt}
@@ -16,6 +16,6 @@ pub record Talk : Type 0 where
 -- written is told
 pub record IsKept (lines answers room : ℕ) (told : List (Result Receipt CallFault)) (wrote : Option (List ℕ)) : Type 0 where
   pub owed : answers ≤ lines
-  pub few : lines ≤ MAX_ENTRIES
+  pub few : lines ≤ MAX_GIVEN
   pub room_for_each : lines ≤ room
   pub text : IfSome wrote (λ bytes. AreTold bytes told)

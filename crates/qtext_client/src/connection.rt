@@ -106,6 +106,7 @@ impl<S: Streams + Drop> Connection<S> {
     {
         if !matches!(self.stage, Stage::Ended(_)) {
             self.stage = Stage::Ended(end);
+            self.streams.ended(end);
         }
     }
 

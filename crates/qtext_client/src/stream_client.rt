@@ -1,7 +1,7 @@
 //! A client that writes script lines into a stream, and reads what it is told from another.
 ghost use Rattle.std.specs.Prelude.{◌≡◌, ◌<◌, ◌≤◌, ◌∷◌, ◌++◌, [], true, false, Some, IfSome, cond, length, vec_capacity, vec_len};
 ghost use Rattle.qtext_client.specs.BoundedLines.{IsOneLine};
-ghost use Rattle.qplain.specs.declared.bounds.TheConstants.{MAX_ENTRIES};
+ghost use Rattle.qtext_client.specs.declared.stream_client.TheConstants.{MAX_GIVEN};
 ghost use Rattle.qtext_client.specs.Hearings.{HearsText, IsLine};
 ghost use Rattle.qtext_client.specs.Tellings.{AreTold, answer_in};
 ghost use Rattle.qtext_files.specs.Scripts.{script_of};
@@ -11,12 +11,16 @@ use crate::connection::Connection;
 use crate::script_line::script_line;
 use crate::streams::Streams;
 use crate::telling::{LineFault, Telling};
-use qplain::{Line, MAX_ENTRIES, Transcript};
+use qplain::{Line, Transcript};
 use qrules::Items;
 use qrun_client::{Answer, Client, ClientEnd, KeepsLines};
 use qtext::TextKind;
 use std::alloc::Global;
 use std::marker::Model;
+
+/// As many lines a client hands out at most: they are held to its end. Twice as many as a journal has entries, so a full
+/// one is told first.
+const MAX_GIVEN: usize = 2_097_152;
 
 /// What came of the next line.
 #[derive(Drop)]
@@ -33,7 +37,7 @@ enum Heard {
 
 /// A client that writes script lines, and reads what it is told of each: an answer, or what is wrong with the line.
 ///
-/// A line that is none of a script is told as a fault: it is never handed out, and takes no place. From 1,048,576 lines
+/// A line that is none of a script is told as a fault: it is never handed out, and takes no place. From 2,097,152 lines
 /// on no line is handed out. A client ends where its lines end, where a stream is refused, or where it has gone away.
 /// Contracts see the lines, the answers, and what its output holds where that is known.
 #[derive(Drop)]
@@ -72,12 +76,12 @@ fn heard_in(alloc: Global, text: &[u8]) -> Heard
 fn keep_line(lines: &mut Vec<Line>, answers: &mut Vec<Answer>, line: Line) -> bool
     requires answered { vec_len answers.old ≡ vec_len lines.old }
     requires room { vec_len lines.old ≤ vec_capacity answers.old }
-    requires few { vec_len lines.old < MAX_ENTRIES }
+    requires few { vec_len lines.old < MAX_GIVEN }
     ensures lines { lines.new.items ≡ cond result (lines.old.items ++ line ∷ []) lines.old.items }
     ensures answers { answers.new.items ≡ answers.old.items }
     ensures owed { vec_len answers.new ≤ vec_len lines.new }
     ensures room { vec_len lines.new ≤ vec_capacity answers.new }
-    ensures few { vec_len lines.new ≤ MAX_ENTRIES }
+    ensures few { vec_len lines.new ≤ MAX_GIVEN }
 {
     if answers.reserve(1).is_err() {
         return false;
@@ -100,10 +104,10 @@ impl<S: Streams + Drop> StreamClient<S> {
     }
 
     /// What is written is told: where it is known, it is the lines of tellings, and the answers among these are the ones
-    /// that the client took, in their order. And it has handed out at most 1,048,576 lines.
+    /// that the client took, in their order. And it has handed out at most 2,097,152 lines.
     pub fn written_is_told(&self)
         ensures written { IfSome self.now.wrote (λ bytes. AreTold bytes self.now.told) }
-        ensures few { length self.now.given ≤ MAX_ENTRIES }
+        ensures few { length self.now.given ≤ MAX_GIVEN }
     {
         let _ = &self.lines;
     }
@@ -112,11 +116,11 @@ impl<S: Streams + Drop> StreamClient<S> {
     fn hear(&mut self) -> Heard
         ensures given { self.new.given ≡ self.old.given }
         ensures told { self.new.told ≡ self.old.told }
-        ensures few { IsLine result → length self.new.given < MAX_ENTRIES }
+        ensures few { IsLine result → length self.new.given < MAX_GIVEN }
     {
         match self.connection.next_line(&mut self.text) {
             Got::End | Got::Refused => Heard::End,
-            _ if self.lines.len() >= MAX_ENTRIES => Heard::Fault(LineFault::Text(
+            _ if self.lines.len() >= MAX_GIVEN => Heard::Fault(LineFault::Text(
                 TextKind::TooMany,
             )),
             Got::Text => heard_in(self.alloc, &self.text),
@@ -128,7 +132,7 @@ impl<S: Streams + Drop> StreamClient<S> {
     /// Keeps a line, with room for its answer, unless memory is wanting.
     fn keep(&mut self, line: Line) -> bool
         requires answered { length self.old.told ≡ length self.old.given }
-        requires few { length self.old.given < MAX_ENTRIES }
+        requires few { length self.old.given < MAX_GIVEN }
         ensures given { self.new.given ≡ cond result (self.old.given ++ line ∷ []) self.old.given }
         ensures told { self.new.told ≡ self.old.told }
     {

@@ -22,6 +22,9 @@ pub trait Streams {
     fn open(&mut self) -> Result<Pair<Self::In, Self::Out>, ClientEnd>
         ensures { IfOk result (λ pair. IfSome (writer_contents Self.Out.contents pair.output) (λ bytes. bytes ≡ [])) };
 
+    /// Is told how the client has ended whose streams were opened, which are let go of by then.
+    fn ended(&mut self, end: ClientEnd);
+
     /// Its outputs tell their bytes always, or never.
     ghost always_or_never: { (one other : Self.Out) → Self.Out.contents one ≡ None → Self.Out.contents other ≡ None };
 }

@@ -43,7 +43,8 @@ impl<S: Streams + Drop, E: Write + Drop> Streams for ToldStreams<S, E> {
         opened
     }
 
-    fn refused(&mut self, end: ClientEnd) {
+    fn ended(&mut self, end: ClientEnd) {
+        self.streams.ended(end);
         self.tell(end);
     }
 }

@@ -104,4 +104,6 @@ impl Streams for ClientStreams<'_> {
             Err(error) => Err(unopened(&error, ClientEnd::NoOutput)),
         }
     }
+
+    fn ended(&mut self, _end: ClientEnd) {}
 }

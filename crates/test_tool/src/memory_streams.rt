@@ -35,5 +35,5 @@ impl Streams for MemoryStreams {
         }
     }
 
-    fn refused(&mut self, _end: ClientEnd) {}
+    fn ended(&mut self, _end: ClientEnd) {}
 }
