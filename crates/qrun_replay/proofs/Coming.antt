@@ -1,4 +1,4 @@
--- What a run of one worker comes to, put together of its parts.
+-- What workers and replays leave, put together of its parts.
 use Rattle.std.proofs.Common.{◌≡◌, ℕ, ◌≤◌, List, [], length, All, Result, ap, subst, ◌∙◌}
 use Rattle.qplain.specs.declared.board.Board.{Board}
 use Rattle.qplain.specs.declared.line.Line.{Line}
@@ -10,7 +10,7 @@ use Rattle.qplain.specs.Journals.{IsJournal, IsWorkers, Written}
 use Rattle.qrun_replay.specs.Left.{AreOfEdition, IsLeftOf, IsOneOf}
 use Rattle.qrun_replay.specs.Replays.{IsReplayOf, transcripts_in}
 use Rattle.qplain.specs.Transcripts.{Belongs}
-use Rattle.qrun_replay.specs.Runs.{AreTranscriptsOf, IsOutcomeOf}
+use Rattle.qrun_replay.specs.Runs.{AreTranscriptsOf, IsLeftByWorkers}
 use Rattle.qplain.specs.State.{start}
 use Rattle.qplain.specs.Journal.{IsLegal}
 use Rattle.qplain.specs.declared.entry.Entry.{Entry}
@@ -35,13 +35,13 @@ journal_left setting journal workers lawful legal few are each own = record {
       (one.0, one.1, legal-fair (start setting) journal lawful legal k d less, own k d less);
 }
 
--- what is left of a store that was played on by the workers of scripts
-pub alone : (setting : Setting) (scripts : List (List Line)) (journal : List Entry) (workers : ℕ) (transcripts : List Transcript)
+-- what is left of a store that was played on by the workers of these lines
+pub left_by_workers : (setting : Setting) (lines : List (List Line)) (journal : List Entry) (workers : ℕ) (transcripts : List Transcript)
     (boards : List (Result Board LookFault)) (o : Outcome) → setting.edition ≡ Two
-    → IsLeftOf setting journal workers transcripts boards o → workers ≡ length scripts
-    → AreTranscriptsOf 1 scripts journal transcripts → All (Belongs transcripts) journal
-    → AreLawful (start setting) journal (boards_in boards) → IsOutcomeOf setting scripts o
-alone setting scripts journal workers transcripts boards o edition left each told belong lawful = record {
+    → IsLeftOf setting journal workers transcripts boards o → workers ≡ length lines
+    → AreTranscriptsOf 1 lines journal transcripts → All (Belongs transcripts) journal
+    → AreLawful (start setting) journal (boards_in boards) → IsLeftByWorkers setting lines o
+left_by_workers setting lines journal workers transcripts boards o edition left each told belong lawful = record {
   setup = left.setup;
   edition = (edition, ap (λ j. j.edition) left.journal_is ∙ edition);
   legal = rw left.journal_is left.legal;

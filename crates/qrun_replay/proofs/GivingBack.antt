@@ -1,4 +1,4 @@
--- What a run has left, played again: it is legal, so no entry is a mismatch, and each worker's own entries are its lines that did not fail.
+-- What workers have left, played again: it is legal, so no entry is a mismatch, and each worker's own entries are its lines that did not fail.
 use Rattle.std.proofs.Common.{◌≡◌, ℕ, ◌+◌, List, [], ◌∷◌, ◌++◌, length, map, filter, Result, Ok, Err, IfOk, refl, sym, ap, subst, ◌∙◌, arith}
 use Rattle.std.specs.Result.{is_ok}
 use Rattle.std.specs.List.{range_with_len}
@@ -17,7 +17,7 @@ use Rattle.qrun_replay.specs.declared.outcome.Outcome.{Outcome}
 use Rattle.qrun_replay.specs.declared.replay_fault.ReplayFault.{ReplayFault}
 use Rattle.qrun_replay.specs.declared.replay_fault.ReplayFault.TheVariants.{Memory, Mismatch}
 use Rattle.qplain.specs.Transcripts.{journaled_lines}
-use Rattle.qrun_replay.specs.Runs.{AreTranscriptsOf, IsOutcomeOf, IsTranscriptOf}
+use Rattle.qrun_replay.specs.Runs.{AreTranscriptsOf, IsLeftByWorkers, IsTranscriptOf}
 use Rattle.qrun_replay.specs.Replays.{GivesBack, IsAsBefore, IsFirstMismatch, IsReplayOf, answer_of, granted_lines, line_of_entry, transcript_in, without_failed}
 
 -- in a legal journal each reply is the plain machine's
@@ -60,53 +60,53 @@ transcript_again worker lines journal t is =
     rw (sym is.own, own_lines, own_answers, is.worker_is, is.lines_are) refl
 
 -- worker by worker
-transcripts_again : (worker : ℕ) (scripts : List (List Line)) (journal : List Entry) (ts : List Transcript)
-    → AreTranscriptsOf worker scripts journal ts
-    → map (transcript_in journal) (range_with_len worker (length scripts)) ≡ map without_failed ts
+transcripts_again : (worker : ℕ) (rest : List (List Line)) (journal : List Entry) (ts : List Transcript)
+    → AreTranscriptsOf worker rest journal ts
+    → map (transcript_in journal) (range_with_len worker (length rest)) ≡ map without_failed ts
 unfolding AreTranscriptsOf
 transcripts_again worker [] journal [] are = refl
-transcripts_again worker (lines ∷ scripts) journal (t ∷ ts) are =
-    ap (λ first. first ∷ map (transcript_in journal) (range_with_len (worker + 1) (length scripts)))
+transcripts_again worker (lines ∷ rest) journal (t ∷ ts) are =
+    ap (λ first. first ∷ map (transcript_in journal) (range_with_len (worker + 1) (length rest)))
     (transcript_again worker lines journal t are.0)
-    ∙ ap (λ rest. without_failed t ∷ rest) (transcripts_again (worker + 1) scripts journal ts are.1)
+    ∙ ap (λ rest. without_failed t ∷ rest) (transcripts_again (worker + 1) rest journal ts are.1)
 transcripts_again worker [] journal (t ∷ ts) are = absurd are
-transcripts_again worker (lines ∷ scripts) journal [] are = absurd are
+transcripts_again worker (lines ∷ rest) journal [] are = absurd are
 
--- what a replay of a run's journal leaves is what the run has left, but for its failed lines
-as_before : (setting : Setting) (scripts : List (List Line)) (old new : Outcome) → IsOutcomeOf setting scripts old
+-- what a replay of their journal leaves is what they have left, but for its failed lines
+as_before : (setting : Setting) (lines : List (List Line)) (old new : Outcome) → IsLeftByWorkers setting lines old
     → IsReplayOf setting old.journal new → IsAsBefore old new
-as_before setting scripts old new run replay =
+as_before setting lines old new run replay =
     let store : new.store.state ≡ old.store.state = replay.store ∙ sym run.store in
     record {
       tallies = replay.tallies ∙ ap (λ journal. tally_of journal.entries) replay.journal ∙ sym run.tallies;
       store = store;
       transcripts = replay.transcripts
           ∙ ap (λ n. map (transcript_in old.journal.entries) (range_with_len 1 n)) run.workers
-          ∙ transcripts_again 1 scripts old.journal.entries old.transcripts run.transcripts;
+          ∙ transcripts_again 1 lines old.journal.entries old.transcripts run.transcripts;
       records = replay.records ∙ ap (λ S. map (record_row_of S) S.holders) store ∙ sym run.records;
       differences = replay.differences ∙ ap differences_in store ∙ sym run.differences;
     }
 
--- a run's setup is in the edition of its journal
-own_edition : (setting : Setting) (scripts : List (List Line)) (run : Outcome) → IsOutcomeOf setting scripts run
+-- their setup is in the edition of their journal
+own_edition : (setting : Setting) (lines : List (List Line)) (run : Outcome) → IsLeftByWorkers setting lines run
     → in_edition run.journal.edition setting ≡ setting
-own_edition setting scripts run is = ap (λ (e : Edition). in_edition e setting) (is.edition.1 ∙ sym is.edition.0)
+own_edition setting lines run is = ap (λ (e : Edition). in_edition e setting) (is.edition.1 ∙ sym is.edition.0)
 
 -- and it meets no mismatch
-gives_back : (setting : Setting) (scripts : List (List Line)) (old : Outcome) (r : Result Outcome ReplayFault)
-    → IsOutcomeOf setting scripts old → IfOk r (IsReplayOf setting old.journal)
+gives_back : (setting : Setting) (lines : List (List Line)) (old : Outcome) (r : Result Outcome ReplayFault)
+    → IsLeftByWorkers setting lines old → IfOk r (IsReplayOf setting old.journal)
     → ((place : ℕ) → r ≡ Err (Mismatch place) → IsFirstMismatch (start setting) old.journal.entries place) → GivesBack old r
-gives_back setting scripts old (Ok new) run replay mismatch = as_before setting scripts old new run replay
-gives_back setting scripts old (Err Memory) run replay mismatch = tt
-gives_back setting scripts old (Err (Mismatch place)) run replay mismatch =
+gives_back setting lines old (Ok new) run replay mismatch = as_before setting lines old new run replay
+gives_back setting lines old (Err Memory) run replay mismatch = tt
+gives_back setting lines old (Err (Mismatch place)) run replay mismatch =
     no_mismatch (start setting) old.journal.entries place run.legal (mismatch place refl)
 
--- so it does in the edition of the run's journal, which is that of the run
-pub gives_back_in : (setting : Setting) (scripts : List (List Line)) (old : Outcome) (r : Result Outcome ReplayFault)
-    → IsOutcomeOf setting scripts old → IfOk r (IsReplayOf (in_edition old.journal.edition setting) old.journal)
+-- so it does in the edition of their journal, which is their setup's
+pub gives_back_in : (setting : Setting) (lines : List (List Line)) (old : Outcome) (r : Result Outcome ReplayFault)
+    → IsLeftByWorkers setting lines old → IfOk r (IsReplayOf (in_edition old.journal.edition setting) old.journal)
     → ((place : ℕ) → r ≡ Err (Mismatch place)
     → IsFirstMismatch (start (in_edition old.journal.edition setting)) old.journal.entries place) → GivesBack old r
-gives_back_in setting scripts old r run replay mismatch =
-    let own = own_edition setting scripts old run in
-    gives_back setting scripts old r run (subst (λ (s : Setting). IfOk r (IsReplayOf s old.journal)) own replay)
+gives_back_in setting lines old r run replay mismatch =
+    let own = own_edition setting lines old run in
+    gives_back setting lines old r run (subst (λ (s : Setting). IfOk r (IsReplayOf s old.journal)) own replay)
     (λ place told. subst (λ (s : Setting). IsFirstMismatch (start s) old.journal.entries place) own (mismatch place told))

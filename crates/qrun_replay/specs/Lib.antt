@@ -1,4 +1,4 @@
--- In reading order: what a run leaves, what a replay leaves, and the numbers of their faults. A module that no public
+-- In reading order: what workers leave, what a replay leaves, and the numbers of their faults. A module that no public
 -- clause cites says so.
 pub mod Runs
 pub mod Replays

@@ -66,7 +66,7 @@ pub record IsReplayOf (setting : Setting) (written : Written) (o : Outcome) : Ty
   pub differences : o.differences ≡ differences_in o.store.state
   pub agree : o.differences ≡ []
 
--- ---- of what a run has left
+-- ---- of what workers have left
 
 -- the lines that have a receipt
 unfoldable pub granted_lines : List Line → List (Result Receipt CallFault) → List Line
@@ -88,7 +88,7 @@ pub record IsAsBefore (old new : Outcome) : Type 0 where
   pub records : new.records ≡ old.records
   pub differences : new.differences ≡ old.differences
 
--- the replay gives back what the run has left, or memory was wanting
+-- the replay gives back what workers have left, or memory was wanting
 abbrev pub GivesBack : Outcome → Result Outcome ReplayFault → Type 0
 GivesBack old (Ok new) = IsAsBefore old new
 GivesBack old (Err Memory) = Unit {0}

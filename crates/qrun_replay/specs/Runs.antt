@@ -1,4 +1,4 @@
--- What a run of scripts leaves.
+-- What workers leave: those of a run, who play scripts, and those of a service, who play what clients hand out.
 use Rattle.std.specs.Prelude.{◌≡◌, ◌≢◌, ℕ, ◌+◌, ◌≤◌, List, [], ◌∷◌, length, map, All, Result, Ok, Err}
 use Rattle.qplain.specs.declared.entry.Entry.{Entry}
 use Rattle.qplain.specs.declared.line.Line.{Line}
@@ -18,39 +18,60 @@ use Rattle.qplain.specs.declared.receipt.Receipt.{Receipt}
 use Rattle.qplain.specs.declared.transcript.Transcript.{Transcript}
 use Rattle.qrun_replay.specs.declared.outcome.Outcome.{Outcome}
 
--- a worker's transcript: its script's lines, one answer to each, the receipts are its own entries, and no line failed
--- because the journal was full
+-- a worker's transcript: its lines, one answer to each, and the receipts are its own entries
 pub record IsTranscriptOf (worker : ℕ) (lines : List Line) (journal : List Entry) (t : Transcript) : Type 0 where
   pub worker_is : t.worker ≡ worker
   pub lines_are : t.lines ≡ lines
   pub each : length t.answers ≡ length lines
   pub own : journaled_lines worker lines t.answers ≡ entries_of journal worker
-  pub never_full : All (λ answer. answer ≢ Err JournalFull) t.answers
 
--- worker by worker, from this number on, the transcripts are those of the scripts
+-- worker by worker, from this number on, the transcripts are those of these lines
 unfoldable pub AreTranscriptsOf : ℕ → List (List Line) → List Entry → List Transcript → Type 0
 AreTranscriptsOf worker [] journal [] = Unit {0}
-AreTranscriptsOf worker (lines ∷ scripts) journal (t ∷ ts) = IsTranscriptOf worker lines journal t
-    × AreTranscriptsOf (worker + 1) scripts journal ts
+AreTranscriptsOf worker (lines ∷ rest) journal (t ∷ ts) = IsTranscriptOf worker lines journal t
+    × AreTranscriptsOf (worker + 1) rest journal ts
 AreTranscriptsOf worker [] journal (t ∷ ts) = ⊥
-AreTranscriptsOf worker (lines ∷ scripts) journal [] = ⊥
+AreTranscriptsOf worker (lines ∷ rest) journal [] = ⊥
 
--- what a run of these scripts leaves, from this setup on, which is of edition 2 and so is the journal; that has a
--- worker for each script and is no longer than it may be, the tallies are its own and balance with the store's totals,
--- no entry belongs to anyone else, the boards that were shown are its own and never fall, and the differences are those
--- of the store's own rows, of which there are none
-pub record IsOutcomeOf (setting : Setting) (scripts : List (List Line)) (o : Outcome) : Type 0 where
+-- what workers leave who have played these lines, from this setup on, which is of edition 2 and so is the journal; that
+-- has a worker for each list of lines and is no longer than it may be, the tallies are its own and balance with the
+-- store's totals, no entry belongs to anyone else, the boards that were shown are its own and never fall, and the
+-- differences are those of the store's own rows, of which there are none
+pub record IsLeftByWorkers (setting : Setting) (lines : List (List Line)) (o : Outcome) : Type 0 where
   pub setup : o.setup ≡ setting
   pub edition : (setting.edition ≡ Two) × (o.journal.edition ≡ Two)
   pub legal : IsLegal (start setting) o.journal.entries
-  pub workers : o.journal.workers ≡ length scripts
+  pub workers : o.journal.workers ≡ length lines
   pub few : length o.journal.entries ≤ MAX_ENTRIES
   pub tallies : o.tallies ≡ tally_of o.journal.entries
   pub balanced : IsBalanced o.store.state o.tallies
   pub store : o.store.state ≡ play (start setting) o.journal.entries
-  pub transcripts : AreTranscriptsOf 1 scripts o.journal.entries o.transcripts
+  pub transcripts : AreTranscriptsOf 1 lines o.journal.entries o.transcripts
   pub belong : All (Belongs o.transcripts) o.journal.entries
   pub boards : AreLawful (start setting) o.journal.entries (boards_in o.boards)
   pub records : o.records ≡ map (record_row_of o.store.state) o.store.state.holders
   pub differences : o.differences ≡ differences_in o.store.state
   pub agree : o.differences ≡ []
+
+-- no line failed because the journal was full
+abbrev pub IsNeverFull : Transcript → Type 0
+IsNeverFull t = All (λ answer. answer ≢ Err JournalFull) t.answers
+
+-- what a run of these scripts leaves: no line of them failed because the journal was full
+pub record IsOutcomeOf (setting : Setting) (scripts : List (List Line)) (o : Outcome) : Type 0 where
+  pub left : IsLeftByWorkers setting scripts o
+  pub never_full : All IsNeverFull o.transcripts
+
+-- the lines that transcripts tell of
+abbrev pub lines_of : List Transcript → List (List Line)
+lines_of ts = map (λ t. t.lines) ts
+
+-- a line failed because the journal was full only where it is full
+abbrev pub FailsOnlyAtFull : List Entry → Transcript → Type 0
+FailsOnlyAtFull journal t = All (λ answer. answer ≡ Err JournalFull → length journal ≡ MAX_ENTRIES) t.answers
+
+-- what a service of clients leaves, whose lines are known only when it ends: a line of it may have failed because the
+-- journal was full, but only where it is
+pub record IsServiceOf (setting : Setting) (o : Outcome) : Type 0 where
+  pub left : IsLeftByWorkers setting (lines_of o.transcripts) o
+  pub full : All (FailsOnlyAtFull o.journal.entries) o.transcripts

@@ -7,7 +7,7 @@ ghost use Rattle.qplain.specs.Setups.{in_edition};
 ghost use Rattle.qplain.specs.State.{start};
 ghost use Rattle.qrun_replay.specs.declared.outcome.Outcome.{Outcome};
 ghost use Rattle.qrun_replay.specs.declared.replay_fault.ReplayFault.TheVariants.{Mismatch};
-ghost use Rattle.qrun_replay.specs.Runs.{IsOutcomeOf};
+ghost use Rattle.qrun_replay.specs.Runs.{IsLeftByWorkers};
 ghost use Rattle.qrun_replay.specs.Replays.{GivesBack, IsFirstMismatch, IsMismatchAfter, IsReplayOf, line_of_entry};
 ghost use Rattle.qrun_replay.specs.Replays.{transcript_in, transcripts_in};
 
@@ -144,8 +144,8 @@ pub fn replay(
     ensures mismatch { (place : ℕ) → result ≡ Err (Mismatch place)
         → IsFirstMismatch (start (in_edition journal.now.edition setup)) journal.now.entries place }
 
-    // The journal of a run under this setup gives back what the run has left, but for the lines that failed.
-    ensures of_a_run { (scripts : List (List Line)) (run : Outcome) → IsOutcomeOf setup scripts run
+    // The journal that workers have left under this setup gives back what they have left, but for the lines that failed.
+    ensures of_a_run { (lines : List (List Line)) (run : Outcome) → IsLeftByWorkers setup lines run
         → journal.now ≡ run.journal → GivesBack run result }
 {
     play_again(alloc, setup.edition(journal.edition()), journal, seed)

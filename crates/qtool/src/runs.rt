@@ -8,7 +8,7 @@ ghost use Rattle.qaudit_checks.specs.LawfulBoards.{IsVerdictOn};
 ghost use Rattle.qrun_replay.specs.declared.outcome.Outcome.{Outcome};
 ghost use Rattle.qrun_replay.specs.declared.replay_fault.ReplayFault.TheVariants.{Mismatch};
 ghost use Rattle.qrun_replay.specs.Replays.{GivesBack, IsFirstMismatch, IsReplayOf};
-ghost use Rattle.qrun_replay.specs.Runs.{IsOutcomeOf};
+ghost use Rattle.qrun_replay.specs.Runs.{IsLeftByWorkers, IsOutcomeOf};
 ghost use Rattle.qrun.specs.Crews.{CanRun};
 ghost use Rattle.qrun.specs.RunFaults.{IsFaultOf};
 ghost use Rattle.qrun.specs.Watching.{seats_for};
@@ -102,8 +102,9 @@ pub fn replay(
     ensures mismatch { (place : ℕ) → result ≡ Err (Mismatch place)
         → IsFirstMismatch (start (in_edition journal.now.edition config.setup)) journal.now.entries place }
 
-    // The journal of a run under this configuration gives back what the run has left, but for the lines that failed.
-    ensures of_a_run { (scripts : List (List Line)) (run : Outcome) → IsOutcomeOf config.setup scripts run
+    // The journal that workers have left under this configuration gives back what they have left, but for the lines
+    // that failed.
+    ensures of_a_run { (lines : List (List Line)) (run : Outcome) → IsLeftByWorkers config.setup lines run
         → journal.now ≡ run.journal → GivesBack run result }
 {
     qrun_replay::replay(alloc, config.setup, journal, seed)

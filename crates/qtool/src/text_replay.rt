@@ -4,7 +4,7 @@ ghost use Rattle.qplain.specs.declared.line.Line.{Line};
 ghost use Rattle.qplain.specs.Setups.{in_edition};
 ghost use Rattle.qrun_replay.specs.declared.outcome.Outcome.{Outcome};
 ghost use Rattle.qrun_replay.specs.Replays.{IsReplayOf};
-ghost use Rattle.qrun_replay.specs.Runs.{IsOutcomeOf};
+ghost use Rattle.qrun_replay.specs.Runs.{IsLeftByWorkers};
 ghost use Rattle.qtext.specs.declared.text_fault.TextFault.{TextFault};
 ghost use Rattle.qtext_files.specs.Journals.{journal_of};
 ghost use Rattle.qtext_files.specs.Spelling.{CanBeRead, journal_spelling};
@@ -67,9 +67,9 @@ pub fn replay_text(
     ensures text { (fault : TextFault) → result ≡ Err (Text fault) → journal_of text.items ≡ Err fault }
     ensures mismatch { (place : ℕ) → result ≡ Err (Mismatch place) → IsMismatchIn config.setup text.items place }
 
-    // What `write_journal` has written of a run's journal, replayed under the run's configuration, gives back what the
-    // run has left, but for the lines that failed. `CanBeRead` is what `write_journal` ensures.
-    ensures of_a_run { (scripts : List (List Line)) (run : Outcome) → IsOutcomeOf config.setup scripts run
+    // What `write_journal` has written of a journal that workers have left, replayed under their configuration, gives
+    // back what they have left, but for the lines that failed. `CanBeRead` is what `write_journal` ensures.
+    ensures of_a_run { (lines : List (List Line)) (run : Outcome) → IsLeftByWorkers config.setup lines run
         → CanBeRead run.journal → text.items ≡ journal_spelling run.journal → GivesBackOf run result }
 {
     let journal = Journal::read(alloc, &text)?;

@@ -2,7 +2,7 @@ use Rattle.qrun_replay.proofs.GivingBack.{gives_back_in}
 use Rattle.qrun_replay.proofs.replays.replay.Goals as goal
 
 pub returns-clause-of_a_run : goal.returns-clause-of_a_run
-returns-clause-of_a_run c scripts run is same =
-    gives_back_in c.args.setup scripts run c.play_again.result is
+returns-clause-of_a_run c lines run is same =
+    gives_back_in c.args.setup lines run c.play_again.result is
     (rw (c.edition-2.ensures, c.edition.ensures, same) at c.play_again.ensures.replay)
     (rw (c.edition-2.ensures, c.edition.ensures, same) at c.play_again.ensures.mismatch)
