@@ -71,7 +71,6 @@ fn put_told<W: Write>(out: &mut W, outcome: &Outcome) -> Result<(), RefusedWrite
 }
 
 /// Writes the report as of the moment, and the totals.
-#[tactic(auto, using(qtext::proofs::Fronts::front_of_first, qtext::proofs::Fronts::writes_then))]
 fn put_account<W: Write>(out: &mut W, outcome: &Outcome, moment: u64) -> Result<(), RefusedWrite>
     ensures { Writes (W.contents out.old) (W.contents out.new) result (account_text outcome.now moment) }
 {

@@ -1,7 +1,12 @@
 use Rattle.qaudit.specs.Reports.{report_text}
-use Rattle.qtext.proofs.Fronts.{appends_then, front_of_second, refused_first, writes_then}
+use Rattle.qtext.proofs.Fronts.{appends_then, front_of_first, front_of_second, refused_first, writes_then}
 use Rattle.qtext_outcome.specs.Outcomes.{moment_text, totals_text}
 use Rattle.qtext_outcome.proofs.outcome_text.put_account.Goals as goal
+
+pub returns-in_err-put_moment : goal.returns-in_err-put_moment
+returns-in_err-put_moment g c =
+    refused_first _ _ _ _ (totals_text c.args.outcome.now) c.from_residual.ensures.0
+    (front_of_first _ _ _ (report_text c.args.outcome.now.records c.args.moment) c.in_err-put_moment.ensures)
 
 pub returns-in_err-put_report : goal.returns-in_err-put_report
 returns-in_err-put_report g c =
