@@ -1,5 +1,5 @@
 //! Runs of scripts, and replays of a journal and checks of boards against one, under a configuration.
-ghost use Rattle.std.specs.Prelude.{◌≡◌, ◌<◌, ◌≤◌, [], ℕ, List, Err, IfErr, IfOk, length};
+ghost use Rattle.std.specs.Prelude.{◌≡◌, ◌<◌, ◌≤◌, [], ℕ, All, List, Err, IfErr, IfOk, IfSome, length, map, vec_len};
 ghost use Rattle.qplain.specs.declared.line.Line.{Line};
 ghost use Rattle.qplain.specs.Setups.{in_edition};
 ghost use Rattle.qplain.specs.State.{start};
@@ -8,12 +8,16 @@ ghost use Rattle.qaudit_checks.specs.LawfulBoards.{IsVerdictOn};
 ghost use Rattle.qrun_replay.specs.declared.outcome.Outcome.{Outcome};
 ghost use Rattle.qrun_replay.specs.declared.replay_fault.ReplayFault.TheVariants.{Mismatch};
 ghost use Rattle.qrun_replay.specs.Replays.{GivesBack, IsFirstMismatch, IsReplayOf};
-ghost use Rattle.qrun_replay.specs.Runs.{IsLeftByWorkers, IsOutcomeOf};
+ghost use Rattle.qrun_replay.specs.Runs.{IsLeftByWorkers, IsOutcomeOf, IsServiceOf};
 ghost use Rattle.qrun.specs.Crews.{CanRun};
 ghost use Rattle.qrun.specs.RunFaults.{IsFaultOf};
+ghost use Rattle.qrun.specs.Serving.{CanServe, IsOfClients, monitors_in};
 ghost use Rattle.qrun.specs.Watching.{seats_for};
 
-use crate::{Board, BoardFault, Config, Journal, Options, Outcome, ReplayFault, RunFault, Script};
+use crate::{
+    Board, BoardFault, Config, Journal, KeepsLines, Monitor, Options, Outcome, ReplayFault, RunFault,
+    Script, Service,
+};
 use qrun::{Gate, NoGate, run_scripts};
 use std::alloc::Global;
 use std::sync::Wait;
@@ -80,9 +84,12 @@ where
     C: KeepsLines + Drop + Send,
     M: Monitor + Drop + Send,
     R: Threads + Wait + Sync,
-    requires can { CANSERVE }
-    requires new { NEW }
+    requires can { CanServe config.setup (length clients.items) (monitors_in monitor) }
+    requires monitor { IfSome monitor (λ m. IfSome (M.setting m) (λ s. s ≡ config.setup)) }
+    requires new { All (λ c. (C.given c ≡ []) × (C.told c ≡ [])) clients.items }
     ensures outcome { IfOk result (λ s. IsServiceOf config.setup s.outcome) }
+    ensures clients { IfOk result (λ s. IsOfClients (map C.script clients.items) (vec_len s.ends) s.outcome) }
+    ensures fault { IfErr result (IsFaultOf (seats_for (length clients.items) (monitors_in monitor))) }
 {
     qrun::serve(rt, alloc, config.setup, clients, monitor, seed)
 }

@@ -1,6 +1,8 @@
 //! Services: clients by the names of their streams, from the command line to what is left of them.
-ghost use Rattle.std.specs.Prelude.{◌≡◌, ◌<◌, ◌≤◌, OnOk, length};
-ghost use Rattle.qplain.specs.declared.bounds.TheConstants.{MAX_WORKERS};
+ghost use Rattle.std.specs.Prelude.{◌≡◌, ◌<◌, ◌≤◌, [], All, IfOk, OnOk, length};
+ghost use Rattle.qshare.specs.declared.opening.TheConstants.{MAX_SEATS};
+ghost use Rattle.qrun.specs.Serving.{monitors_in};
+ghost use Rattle.qrun.specs.Watching.{seats_for};
 
 use crate::board_file::BoardFile;
 use crate::clashes::{ServiceNames, find_clash};
@@ -21,16 +23,16 @@ use std::thread::Threads;
 use std::time::Clock;
 
 /// Tests that there is a seat for each client, and one more where a board is written.
-fn test_seats(clients: u64, board: bool) -> Result<(), Ending>
-    ensures { OnOk result (clients ≤ MAX_WORKERS) }
+fn test_seats(clients: u64, board: Option<&str>) -> Result<(), Ending>
+    ensures { OnOk result (seats_for clients (monitors_in board) ≤ MAX_SEATS) }
 {
     if clients > MAX_WORKERS {
         return Err(Ending::TooManyClients);
     }
-    if clients == MAX_WORKERS && board {
-        return Err(Ending::TooManyWithBoard);
+    match board {
+        Some(_) if clients == MAX_WORKERS => Err(Ending::TooManyWithBoard),
+        _ => Ok(()),
     }
-    Ok(())
 }
 
 /// A client over streams by name, of whose faults it is told at once.
@@ -43,7 +45,7 @@ fn client_of<F: Files>(
     client: u64,
     names: &ClientNames<'_>,
 ) -> Result<NamedClient<F>, NoMemory>
-    ensures { IfOk result (λ c. c ≡ fresh) }
+    ensures { IfOk result (λ c. (c.given ≡ []) × (c.told ≡ [])) }
 {
     let streams = ToldStreams {
         streams: files.streams(names.input, names.output)?,
@@ -62,7 +64,7 @@ fn clients_of<F: Files>(
     names: &[ClientNames<'_>],
 ) -> Result<Vec<NamedClient<F>>, NoMemory>
     ensures many { IfOk result (λ clients. length clients.items ≡ length names.now) }
-    ensures new { IfOk result (λ clients. All (λ c. c ≡ fresh) clients.items) }
+    ensures new { IfOk result (λ clients. All (λ c. (c.given ≡ []) × (c.told ≡ [])) clients.items) }
 {
     let mut clients = Vec::with_capacity(alloc, names.len())?;
     for names in names {
@@ -80,7 +82,9 @@ fn monitor_of<'a, F: Files, R: Clock>(
     board: Option<&'a str>,
     setup: &Setup,
     refused: &'a mut bool,
-) -> Result<Option<BoardFile<'a, F, R>>, NoMemory> {
+) -> Result<Option<BoardFile<'a, F, R>>, NoMemory>
+    ensures { IfOk result (λ monitor. monitors_in monitor ≡ monitors_in board) }
+{
     let Some(name) = board else {
         return Ok(None);
     };
@@ -100,9 +104,9 @@ fn test_names<F: Files>(
     files: &mut F,
     names: ServiceNames<'_>,
 ) -> Result<(), Ending>
-    ensures { OnOk result (length names.clients.now ≤ MAX_WORKERS) }
+    ensures { OnOk result (seats_for (length names.clients.now) (monitors_in names.board) ≤ MAX_SEATS) }
 {
-    test_seats(names.clients.len() as u64, names.board.is_some())?;
+    test_seats(names.clients.len() as u64, names.board)?;
     match find_clash(alloc, files, names)? {
         Some(clash) => Err(Ending::Clash(clash)),
         None => Ok(()),
