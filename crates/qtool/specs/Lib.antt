@@ -2,4 +2,3 @@ pub mod Jobs
 pub mod Endings
 pub mod Held
 pub mod Overwritten
-pub mod TextReplays

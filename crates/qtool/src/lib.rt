@@ -19,8 +19,9 @@ pub use qtext_config::{Config, ConfigFault};
 pub use qtext_files::{FromText, write_journal};
 pub use qtext_job::{Job, LineFault};
 pub use qtext_outcome::{WriteFault, write_outcome};
-pub use runs::{check_boards, replay, run, run_with, serve};
-pub use text_replay::{TextReplayFault, replay_text};
+pub use qtool_runs::{
+    TextReplayFault, check_boards, replay, replay_text, run, run_with, serve,
+};
 
 mod board_file;
 mod clashes;
@@ -30,7 +31,5 @@ mod files;
 mod finishing;
 mod overwriting;
 mod program;
-mod runs;
 mod serving;
 mod told_streams;
-mod text_replay;

@@ -14,11 +14,12 @@ ghost use Rattle.qrun.specs.RunFaults.{IsFaultOf};
 ghost use Rattle.qrun.specs.Serving.{CanServe, IsOfClients, monitors_in};
 ghost use Rattle.qrun.specs.Watching.{seats_for};
 
-use crate::{
-    Board, BoardFault, Config, Journal, KeepsLines, Monitor, Options, Outcome, ReplayFault, RunFault,
-    Script, Service,
-};
-use qrun::{Gate, NoGate, run_scripts};
+use qaudit_checks::BoardFault;
+use qplain::{Board, Journal, Script};
+use qrun::{Gate, Monitor, NoGate, Options, RunFault, Service, run_scripts};
+use qrun_client::KeepsLines;
+use qrun_replay::{Outcome, ReplayFault};
+use qtext_config::Config;
 use std::alloc::Global;
 use std::sync::Wait;
 use std::thread::Threads;

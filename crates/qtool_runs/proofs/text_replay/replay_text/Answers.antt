@@ -1,8 +1,8 @@
 use Rattle.std.proofs.Common.{◌≡◌, Err, sym, ap, ◌∙◌}
 use Rattle.std.proofs.lemmas.Result.{err_from_is_err_and}
-use Rattle.qtool.specs.declared.text_replay.TextReplayFault.TheVariants.{Mismatch}
-use Rattle.qtool.proofs.TextReplays.{mismatch_in, mismatch_told, same_journal}
-use Rattle.qtool.proofs.text_replay.replay_text.Goals as goal
+use Rattle.qtool_runs.specs.declared.text_replay.TextReplayFault.TheVariants.{Mismatch}
+use Rattle.qtool_runs.proofs.TextReplays.{mismatch_in, mismatch_told, same_journal}
+use Rattle.qtool_runs.proofs.text_replay.replay_text.Goals as goal
 
 pub returns-in_err-played-clause-mismatch : goal.returns-in_err-played-clause-mismatch
 returns-in_err-played-clause-mismatch c =

@@ -9,8 +9,8 @@ use Rattle.qrun_replay.specs.Replays.{IsFirstMismatch}
 use Rattle.qtext.specs.TextFaults.{want_of_memory}
 use Rattle.qtext_files.specs.Journals.{journal_of}
 use Rattle.qtext_files.specs.Spelling.{CanBeRead, journal_spelling}
-use Rattle.qtool.specs.declared.text_replay.TextReplayFault.TheVariants.{Mismatch}
-use Rattle.qtool.specs.TextReplays.{IsMismatchIn, replay_fault_of}
+use Rattle.qtool_runs.specs.declared.text_replay.TextReplayFault.TheVariants.{Mismatch}
+use Rattle.qtool_runs.specs.TextReplays.{IsMismatchIn, replay_fault_of}
 
 -- a mismatch that is reported is the replay's
 pub mismatch_told : (fault : ReplayFault) (place : ℕ) → replay_fault_of fault ≡ Mismatch place → fault ≡ TellsMismatch place

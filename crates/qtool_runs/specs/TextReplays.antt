@@ -12,8 +12,8 @@ use Rattle.qtext.specs.declared.text_fault.TextFault.{TextFault}
 use Rattle.qtext.specs.declared.text_fault.TextKind.{TextKind}
 use Rattle.qtext.specs.declared.text_fault.TextKind.TheVariants.{Memory as NoMemory}
 use Rattle.qtext_files.specs.Journals.{journal_of}
-use Rattle.qtool.specs.declared.text_replay.TextReplayFault.{TextReplayFault}
-use Rattle.qtool.specs.declared.text_replay.TextReplayFault.TheVariants.{Memory, Text, Mismatch}
+use Rattle.qtool_runs.specs.declared.text_replay.TextReplayFault.{TextReplayFault}
+use Rattle.qtool_runs.specs.declared.text_replay.TextReplayFault.TheVariants.{Memory, Text, Mismatch}
 
 -- of a kind: out of memory, or a fault of the text
 abbrev pub replay_fault_of_kind : TextKind → TextFault → TextReplayFault

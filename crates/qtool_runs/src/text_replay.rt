@@ -8,10 +8,15 @@ ghost use Rattle.qrun_replay.specs.Runs.{IsLeftByWorkers};
 ghost use Rattle.qtext.specs.declared.text_fault.TextFault.{TextFault};
 ghost use Rattle.qtext_files.specs.Journals.{journal_of};
 ghost use Rattle.qtext_files.specs.Spelling.{CanBeRead, journal_spelling};
-ghost use Rattle.qtool.specs.TextReplays.{GivesBackOf, IsMismatchIn};
-ghost use Rattle.qtool.specs.declared.text_replay.TextReplayFault.TheVariants.{Mismatch, Text};
+ghost use Rattle.qtool_runs.specs.TextReplays.{GivesBackOf, IsMismatchIn};
+ghost use Rattle.qtool_runs.specs.declared.text_replay.TextReplayFault.TheVariants.{Mismatch, Text};
 
-use crate::{Config, FromText, Journal, Outcome, ReplayFault, TextFault, TextKind, replay};
+use crate::replay;
+use qplain::Journal;
+use qrun_replay::{Outcome, ReplayFault};
+use qtext::{TextFault, TextKind};
+use qtext_config::Config;
+use qtext_files::FromText;
 use std::alloc::Global;
 use std::mem;
 
@@ -27,7 +32,7 @@ pub enum TextReplayFault {
 }
 
 impl From<TextFault> for TextReplayFault {
-    ghost use Rattle.qtool.specs.TextReplays.{replay_fault_of_text};
+    ghost use Rattle.qtool_runs.specs.TextReplays.{replay_fault_of_text};
 
     ghost from_gives = { λ fault given. given ≡ replay_fault_of_text fault };
 
@@ -40,7 +45,7 @@ impl From<TextFault> for TextReplayFault {
 }
 
 impl From<ReplayFault> for TextReplayFault {
-    ghost use Rattle.qtool.specs.TextReplays.{replay_fault_of};
+    ghost use Rattle.qtool_runs.specs.TextReplays.{replay_fault_of};
 
     ghost from_gives = { λ fault given. given ≡ replay_fault_of fault };
 

@@ -1,0 +1,2 @@
+-- What is answered for a text that is replayed.
+pub mod TextReplays
