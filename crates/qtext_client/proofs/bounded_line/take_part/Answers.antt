@@ -1,4 +1,5 @@
-use Rattle.std.proofs.Common.{◌≡◌, arith, rules, subst, sym, inl, inr, ◌∙◌, ◌<◌, ◌-◌, eq-eqb, eqb, eqb-true, get_or, false, true≢false}
+use Rattle.std.proofs.Common.{◌≡◌, arith, rules, subst, sym, inl, inr, ◌∙◌, ◌<◌, ◌-◌, eq-eqb, eqb, eqb-true, get_or}
+use Rattle.std.proofs.Common.{false, true≢false}
 use Rattle.std.specs.Io.BufRead.{DropsConsumable, FillKeeps}
 use Rattle.std.proofs.BufReadLemmas.{Consumes_shown}
 use Rattle.qtext_client.proofs.LineParts.{takes_last, takes_more, takes_nothing, too_long}
