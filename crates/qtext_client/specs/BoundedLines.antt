@@ -4,7 +4,8 @@ use Rattle.std.specs.List.{All}
 use Rattle.std.specs.Io.BufRead.{DropsThrough, take_through}
 use Rattle.std.specs.Io.KnownBytes.{Consumes}
 use Rattle.qtext_client.specs.declared.bounded_line.Got.{Got}
-use Rattle.qtext_client.specs.declared.bounded_line.Got.TheVariants.{Text, TooLong as LongLine, NoMemory as Unread, End, Refused as Gone}
+use Rattle.qtext_client.specs.declared.bounded_line.Got.TheVariants.{Text, TooLong as LongLine, NoMemory as Unread}
+use Rattle.qtext_client.specs.declared.bounded_line.Got.TheVariants.{End, Refused as Gone}
 use Rattle.qtext_client.specs.declared.bounded_line.Part.{Part}
 use Rattle.qtext_client.specs.declared.bounded_line.Part.TheVariants.{Last, More, TooLong, NoMemory, Refused}
 use Rattle.qtext_client.specs.declared.bounded_line.TheConstants.{MAX_LINE}
@@ -30,7 +31,8 @@ pub record TakesLast (old new : Option (List ℕ)) (before after : List ℕ) : T
 
 -- the line gained what the reader has lost, and there is no line end in it
 abbrev pub TakesMore : Option (List ℕ) → Option (List ℕ) → List ℕ → List ℕ → Type 0
-TakesMore old new before after = (part : List ℕ) × (after ≡ before ++ part) × All (λ x. x ≢ 10) part × Consumes old new part
+TakesMore old new before after =
+    (part : List ℕ) × (after ≡ before ++ part) × All (λ x. x ≢ 10) part × Consumes old new part
 
 -- up to the reader's first line end, the line is longer than the bound
 abbrev pub IsTooLong : Option (List ℕ) → List ℕ → Type 0

@@ -1,4 +1,4 @@
--- In reading order: lines of a reader, what they say, what clients are told, how what they are told goes out, and all of a client.
+-- In reading order: lines of a reader, what they say, what clients are told, how that goes out, and all of a client.
 pub mod BoundedLines
 pub mod ScriptLines
 pub mod Hearings

@@ -6,7 +6,8 @@ use Rattle.qplain.specs.declared.line.Line.{Line}
 use Rattle.qplain.specs.declared.receipt.Receipt.{Receipt}
 use Rattle.qtext_client.specs.Tellings.{AreTold}
 
--- the lines that a client handed out, the answers that it took, and the bytes that its output holds, where they are known
+-- the lines that a client handed out, the answers that it took, and the bytes that its output holds, where these are
+-- known
 pub record Talk : Type 0 where
   pub given : List Line
   pub told : List (Result Receipt CallFault)
@@ -14,7 +15,8 @@ pub record Talk : Type 0 where
 
 -- the lines are at least as many as the answers, and at most so many; there is room for an answer to each; and what is
 -- written is told
-pub record IsKept (lines answers room : ℕ) (told : List (Result Receipt CallFault)) (wrote : Option (List ℕ)) : Type 0 where
+pub record IsKept (lines answers room : ℕ) (told : List (Result Receipt CallFault))
+    (wrote : Option (List ℕ)) : Type 0 where
   pub owed : answers ≤ lines
   pub few : lines ≤ MAX_GIVEN
   pub room_for_each : lines ≤ room

@@ -1,5 +1,6 @@
 //! A client that writes script lines into a stream, and reads what it is told from another.
-ghost use Rattle.std.specs.Prelude.{◌≡◌, ◌<◌, ◌≤◌, ◌∷◌, ◌++◌, [], true, false, Some, IfSome, cond, length, vec_capacity, vec_len};
+ghost use Rattle.std.specs.Prelude.{◌≡◌, ◌<◌, ◌≤◌, ◌∷◌, ◌++◌, [], true, false, Some, IfSome, cond, length};
+ghost use Rattle.std.specs.Prelude.{vec_capacity, vec_len};
 ghost use Rattle.qtext_client.specs.BoundedLines.{IsOneLine};
 ghost use Rattle.qtext_client.specs.declared.stream_client.TheConstants.{MAX_GIVEN};
 ghost use Rattle.qtext_client.specs.Hearings.{HearsText, IsLine};
@@ -57,7 +58,8 @@ impl<S: Streams + Drop> Model for StreamClient<S> {
 
     ghost view = { λ c. record { given = c.lines.items; told = c.answers.items; wrote = c.connection } };
 
-    ghost invariant = { λ c. IsKept (vec_len c.lines) (vec_len c.answers) (vec_capacity c.answers) c.answers.items c.connection };
+    ghost invariant = { λ c.
+        IsKept (vec_len c.lines) (vec_len c.answers) (vec_capacity c.answers) c.answers.items c.connection };
 }
 
 /// What a text of one line comes to.
@@ -103,8 +105,8 @@ impl<S: Streams + Drop> StreamClient<S> {
         }
     }
 
-    /// What is written is told: where it is known, it is the lines of tellings, and the answers among these are the ones
-    /// that the client took, in their order. And it has handed out at most 2,097,152 lines.
+    /// What is written is told: where it is known, it is the lines of tellings, and the answers among these are the
+    /// ones that the client took, in their order. And it has handed out at most 2,097,152 lines.
     pub fn written_is_told(&self)
         ensures written { IfSome self.now.wrote (λ bytes. AreTold bytes self.now.told) }
         ensures few { length self.now.given ≤ MAX_GIVEN }

@@ -47,4 +47,6 @@ impl<S: Streams + Drop, E: Write + Drop> Streams for ToldStreams<S, E> {
         self.streams.ended(end);
         self.tell(end);
     }
+
+    ghost always_or_never = { S.always_or_never };
 }

@@ -1,5 +1,7 @@
 //! The streams of clients: FIFOs, files, standard input and output.
 
+ghost use Rattle.std.specs.Prelude.{refl};
+
 use qrun_client::ClientEnd;
 use qtext_client::{Pair, Streams};
 use std::fs::{self, File, OpenOptions};
@@ -106,4 +108,6 @@ impl Streams for ClientStreams<'_> {
     }
 
     fn ended(&mut self, _end: ClientEnd) {}
+
+    ghost always_or_never = { λ one other none. refl };
 }

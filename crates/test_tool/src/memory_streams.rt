@@ -1,5 +1,7 @@
 //! Streams of a client in memory.
 
+ghost use Rattle.std.specs.Prelude.{refl};
+
 use crate::short::Short;
 use qtext_client::{Pair, Streams};
 use qtool::ClientEnd;
@@ -36,4 +38,6 @@ impl Streams for MemoryStreams {
     }
 
     fn ended(&mut self, _end: ClientEnd) {}
+
+    ghost always_or_never = { λ one other none. refl };
 }
