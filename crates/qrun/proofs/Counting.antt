@@ -11,9 +11,9 @@ use Rattle.qplain.specs.Transcripts.{Belongs, journaled_lines}
 use Rattle.qshare_history.specs.Shares.{HandedIn}
 use Rattle.qaudit_checks.specs.Gathered.{IsGathered}
 use Rattle.qrun.specs.Told.{AreTold, AreToldFrom}
-use Rattle.qrun.specs.Work.{IsSubsequence}
-use Rattle.qrun.proofs.Owning.{numbered, own_grown}
-use Rattle.qrun.proofs.Subsequences.{all_among, among_length}
+use Rattle.qrun_worker.specs.Work.{IsSubsequence}
+use Rattle.qrun_worker.proofs.Owning.{numbered, own_grown}
+use Rattle.qrun_worker.proofs.Subsequences.{all_among, among_length}
 
 abbrev one_if : Bool → ℕ
 one_if b = cond b 1 0

@@ -7,7 +7,7 @@ use Rattle.qplain.specs.declared.line.Line.{Line}
 use Rattle.qshare.specs.Seats.{Seated, new_seat, seats_of}
 use Rattle.qrun.specs.Crews.{AreReady}
 use Rattle.qrun.specs.Watching.{watcher_for}
-use Rattle.qrun.specs.Work.{ArePrepared, IsPrepared, Prepared}
+use Rattle.qrun_worker.specs.Work.{ArePrepared, IsPrepared, Prepared}
 
 pub seats_many : (n : ℕ) → length (seats_of n) ≡ n
 seats_many zero = refl

@@ -1,5 +1,5 @@
 -- Transcripts put together one after the other, and what all of them say.
-use Rattle.std.proofs.Common.{◌≡◌, ℕ, suc, ◌+◌, ◌<◌, ◌≤◌, ◌==◌, ◌||◌, true, false, Bool, List, [], ◌∷◌, ◌++◌, length, map, All, Result, refl, sym, ap, subst, ◌∙◌, arith, tests}
+use Rattle.std.proofs.Common.{◌≡◌, ℕ, suc, ◌+◌, ◌<◌, ◌≤◌, ◌==◌, ◌||◌, true, false, Bool, List, [], ◌∷◌, ◌++◌, length, map, sum_by, All, Result, refl, sym, ap, subst, ◌∙◌, arith, tests}
 use Rattle.std.proofs.lemmas.List.Elements.{All-cons, All-contains, All-head, All-nil, All-tail}
 use Rattle.std.specs.List.{list_any, AllByRecursion, IsDistinct}
 use mathlib.Core.List.{IsPrefix}
@@ -14,16 +14,19 @@ use Rattle.qplain.specs.Journal.{entries_of}
 use Rattle.qplain.specs.Transcripts.{Belongs, journaled_lines}
 use Rattle.qplain.specs.declared.edition.Edition.TheVariants.{Two}
 use Rattle.qshare_history.specs.Shares.{AreThere, HandedIn}
-use Rattle.qrun_replay.specs.Runs.{AreTranscriptsOf, IsOutcomeOf}
+use Rattle.qrun_replay.specs.Runs.{AreTranscriptsOf, FailsOnlyAtFull, IsLeftByWorkers, IsServiceOf, lines_of}
 use Rattle.qplain.specs.Setups.{Setting}
 use Rattle.qplain.specs.State.{start}
 use Rattle.qaudit_checks.specs.LawfulBoards.{AreLawful, boards_in}
 use Rattle.qaudit_checks.specs.Gathered.{IsGathered}
 use Rattle.qrun_replay.specs.declared.outcome.Outcome.{Outcome}
 use Rattle.qrun_replay.specs.Left.{IsLeftOf, IsOneOf}
-use Rattle.qrun_replay.proofs.Coming.{alone}
-use Rattle.qrun.specs.Told.{AreAllTold, AreTold, AreToldFrom, IsTold, lines_of}
-use Rattle.qrun.proofs.NeverFull.{IsNeverFull, never_full}
+use Rattle.qrun_replay.proofs.Coming.{left_by_workers}
+use Rattle.qplain.specs.declared.bounds.TheConstants.{MAX_ENTRIES}
+use Rattle.qshare.specs.declared.opening.TheConstants.{MAX_SEATS}
+use Rattle.qrun.specs.Told.{AreAllTold, AreTold, AreToldFrom, IsTold}
+use Rattle.qrun.proofs.Counting.{all_gathered}
+use Rattle.qrun.proofs.NeverFull.{only_at_full}
 
 pub none_told : (worker : ℕ) → AreToldFrom worker [] [] []
 unfolding AreToldFrom
@@ -85,11 +88,11 @@ all_there scripts shares ts told k positive few = there_from 1 scripts shares ts
 -- the transcripts are those of the scripts, where their receipts stand for the workers' own entries
 pub transcripts_from : (worker : ℕ) (scripts : List (List Line)) (shares : List HandedIn) (ts : List Transcript) (journal : List Entry)
     → AreToldFrom worker scripts shares ts
-    → All IsNeverFull ts → All (λ t. journaled_lines t.worker t.lines t.answers ≡ entries_of journal t.worker) ts
+    → All (λ t. journaled_lines t.worker t.lines t.answers ≡ entries_of journal t.worker) ts
     → AreTranscriptsOf worker scripts journal ts
 unfolding AreToldFrom AreTranscriptsOf
-transcripts_from worker [] [] [] journal told never own = tt
-transcripts_from worker (lines ∷ scripts) (s ∷ shares) (t ∷ ts) journal told never own =
+transcripts_from worker [] [] [] journal told own = tt
+transcripts_from worker (lines ∷ scripts) (s ∷ shares) (t ∷ ts) journal told own =
     let one = told.0 in
     let mine : journaled_lines t.worker t.lines t.answers ≡ entries_of journal t.worker =
     All-head (λ (t : Transcript). journaled_lines t.worker t.lines t.answers ≡ entries_of journal t.worker) t ts own in (
@@ -98,15 +101,14 @@ transcripts_from worker (lines ∷ scripts) (s ∷ shares) (t ∷ ts) journal to
         lines_are = one.lines_are;
         each = one.work.each;
         own = rw (sym one.worker_is, sym one.lines_are) mine;
-        never_full = All-head IsNeverFull t ts never;
       },
-      transcripts_from (worker + 1) scripts shares ts journal told.1 (All-tail IsNeverFull t ts never)
+      transcripts_from (worker + 1) scripts shares ts journal told.1
           (All-tail (λ (t : Transcript). journaled_lines t.worker t.lines t.answers ≡ entries_of journal t.worker) t ts own),
     )
-transcripts_from worker [] (s ∷ shares) ts journal told never own = absurd told
-transcripts_from worker [] [] (t ∷ ts) journal told never own = absurd told
-transcripts_from worker (l ∷ scripts) [] ts journal told never own = absurd told
-transcripts_from worker (l ∷ scripts) (s ∷ shares) [] journal told never own = absurd told
+transcripts_from worker [] (s ∷ shares) ts journal told own = absurd told
+transcripts_from worker [] [] (t ∷ ts) journal told own = absurd told
+transcripts_from worker (l ∷ scripts) [] ts journal told own = absurd told
+transcripts_from worker (l ∷ scripts) (s ∷ shares) [] journal told own = absurd told
 
 -- the scripts are the transcripts' lines
 pub lines_told : (worker : ℕ) (scripts : List (List Line)) (shares : List HandedIn) (ts : List Transcript) → AreToldFrom worker scripts shares ts
@@ -185,12 +187,34 @@ one_of scripts shares ts journal told belong k d less =
     (within_told 1 (1 + length scripts) 1 scripts shares ts told (omega arith) (omega arith)) (belong k d less) in
     (omega (arith, within.0), omega (arith, within.1, many))
 
+-- what is told of all workers, who have counted each entry of this journal
+pub all_told : (scripts : List (List Line)) (own : List HandedIn) (ts : List Transcript) (journal : List Entry)
+    → (0 < length scripts) × (length scripts ≤ MAX_SEATS) → AreTold scripts own ts → All (λ s. IsPrefix s.seen journal) own
+    → sum_by (λ s. s.tally.calls) own ≡ length journal → length journal ≤ MAX_ENTRIES → AreAllTold journal ts
+all_told scripts own ts journal some told seen counted few = record {
+  workers = rw (as_many 1 scripts own ts told).1 some;
+  told = record {
+    shares = own;
+    told = subst (λ ls. AreTold ls own ts) (sym (lines_told 1 scripts own ts told)) told;
+    seen = seen;
+    counted = counted;
+  };
+  few = few;
+  gathered = all_gathered scripts own ts journal told seen counted;
+}
+
 -- what is left of a store whose journal was checked against what was told, and against what looks were given
 pub gathered_told : (setting : Setting) (journal : List Entry) (ts : List Transcript) (looks : List (Result Board LookFault))
     (workers : ℕ) (o : Outcome) → setting.edition ≡ Two → AreAllTold journal ts → AreLawful (start setting) journal (boards_in looks)
-    → workers ≡ length ts → IsLeftOf setting journal workers ts looks o → IsOutcomeOf setting (lines_of ts) o
+    → workers ≡ length ts → IsLeftOf setting journal workers ts looks o → IsServiceOf setting o
 gathered_told setting journal ts looks workers o edition all lawful many left =
     let shares = all.told.shares in
-    let never = never_full journal ts all in
-    alone setting (lines_of ts) journal workers ts looks o edition left (many ∙ (as_many 1 (lines_of ts) shares ts all.told.told).1)
-    (transcripts_from 1 (lines_of ts) shares ts journal all.told.told never all.gathered.own) all.gathered.belong lawful
+    let journal_is : o.journal.entries ≡ journal = ap (λ j. j.entries) left.journal_is in
+    record {
+      left = subst (λ xs. IsLeftByWorkers setting (lines_of xs) o) (sym left.transcripts_are)
+          (left_by_workers setting (lines_of ts) journal workers ts looks o edition left
+          (many ∙ (as_many 1 (lines_of ts) shares ts all.told.told).1)
+          (transcripts_from 1 (lines_of ts) shares ts journal all.told.told all.gathered.own) all.gathered.belong lawful);
+      full = subst (λ xs. All (FailsOnlyAtFull o.journal.entries) xs) (sym left.transcripts_are)
+          (subst (λ es. All (FailsOnlyAtFull es) ts) (sym journal_is) (only_at_full journal ts all));
+    }

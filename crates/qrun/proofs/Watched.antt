@@ -39,7 +39,7 @@ there_last n k shares s false is there own positive few =
     let found : (list_any (λ x. x.worker == k) shares || ((s.worker == k) || false)) ≡ true = rw (there k positive low) refl in
     list_any-append (λ (x : HandedIn). x.worker == k) shares (s ∷ []) ∙ found
 
-there_by : (S : State) (n boards : ℕ) (shares : List HandedIn) (watch : Option Watched) (b : Bool) → AreThere shares n
+pub there_by : (S : State) (n boards : ℕ) (shares : List HandedIn) (watch : Option Watched) (b : Bool) → AreThere shares n
     → IsWatchOf S boards (if b then None else Some (new_seat (n + 1))) watch
     → AreThere (shares ++ shares_in watch) (if b then n else n + 1)
 there_by S n boards shares watch true there none =
@@ -72,7 +72,7 @@ pub as_many_looks : (S : State) (n boards : ℕ) (watch : Option Watched) → Is
 as_many_looks S n boards watch looked = looks_by S n boards watch (boards == 0) refl looked
 
 -- who watches has counted no call
-idle_by : (S : State) (n boards : ℕ) (watch : Option Watched) (b : Bool) → IsWatchOf S boards (if b then None else Some (new_seat (n + 1))) watch
+pub idle_by : (S : State) (n boards : ℕ) (watch : Option Watched) (b : Bool) → IsWatchOf S boards (if b then None else Some (new_seat (n + 1))) watch
     → sum_by (λ s. s.tally.calls) (shares_in watch) ≡ 0
 idle_by S n boards None b looked = refl
 idle_by S n boards (Some w) true looked = absurd cc
@@ -140,11 +140,11 @@ look_more S old new looks after (Err fault) so_far more shown is =
     (lawful_more S old new (boards_in looks) more so_far)
 
 -- what all of these are, the last of them are
-all_behind : {A : Type 0} (P : A → Type 0) (xs ys : List A) → All P (xs ++ ys) → All P ys
+pub all_behind : {A : Type 0} (P : A → Type 0) (xs ys : List A) → All P (xs ++ ys) → All P ys
 all_behind P [] ys all = all
 all_behind P (x ∷ xs) ys all = all_behind P xs ys (All-tail P x (xs ++ ys) all)
 
-lawful_by : (S : State) (n boards : ℕ) (watch : Option Watched) (journal : List Entry) (b : Bool)
+pub lawful_by : (S : State) (n boards : ℕ) (watch : Option Watched) (journal : List Entry) (b : Bool)
     → IsWatchOf S boards (if b then None else Some (new_seat (n + 1))) watch → All (λ s. IsPrefix s.seen journal) (shares_in watch)
     → AreLawful S journal (boards_in (looks_in watch))
 lawful_by S n boards None journal b looked seen = no_boards S journal

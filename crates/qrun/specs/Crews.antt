@@ -12,7 +12,7 @@ use Rattle.qrun.specs.declared.options.Options.{Options}
 use Rattle.qrun.specs.declared.run_fault.RunFault.{RunFault}
 use Rattle.qrun.specs.RunFaults.{IsFaultOf}
 use Rattle.qrun.specs.Watching.{IsWatchOf, Watched, seats_for, watcher_for}
-use Rattle.qrun.specs.Work.{ArePrepared, AreWorks, Done, Prepared}
+use Rattle.qrun_worker.specs.Work.{ArePrepared, AreWorks, Done, Prepared}
 
 -- a new seat for each of N scripts, and the next for who looks at the boards, where somebody does; and for how
 -- many lines at a time the lock is taken

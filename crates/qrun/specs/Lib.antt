@@ -1,8 +1,7 @@
--- In reading order: the numbers of faults, what the ends of workers make of a run, what workers and the watcher have
--- done, who plays and what they have done together, and the workers' transcripts.
+-- In reading order: the numbers of faults, what the ends of workers make of a run, what the watcher has done, who
+-- plays and what they have done together, and the workers' transcripts.
 pub mod RunFaults
 pub mod WorkerEnds
-pub mod Work
 pub mod Watching
 pub mod Crews
 pub mod Told

@@ -1,5 +1,5 @@
 -- What workers have done, told as transcripts. No public clause cites this module.
-use Rattle.std.specs.Prelude.{◌≡◌, ℕ, ◌+◌, ◌<◌, ◌≤◌, List, [], ◌∷◌, length, map, sum_by, All}
+use Rattle.std.specs.Prelude.{◌≡◌, ℕ, ◌+◌, ◌<◌, ◌≤◌, List, [], ◌∷◌, length, sum_by, All}
 use mathlib.Core.List.{IsPrefix}
 use Rattle.qplain.specs.declared.bounds.TheConstants.{MAX_ENTRIES, MAX_LINES}
 use Rattle.qplain.specs.declared.entry.Entry.{Entry}
@@ -8,14 +8,13 @@ use Rattle.qplain.specs.declared.transcript.Transcript.{Transcript}
 use Rattle.qshare_history.specs.Shares.{HandedIn}
 use Rattle.qaudit_checks.specs.Gathered.{IsGathered}
 use Rattle.qshare.specs.declared.opening.TheConstants.{MAX_SEATS}
-use Rattle.qrun.specs.Work.{IsWork}
+use Rattle.qrun_replay.specs.Runs.{lines_of}
+use Rattle.qrun_worker.specs.Work.{IsWork}
 
--- a worker's transcript: its script, which is no longer than a script may be, and the answers that its share stands
--- beside
+-- a worker's transcript: its lines, and the answers that its share stands beside
 pub record IsTold (worker : ℕ) (lines : List Line) (share : HandedIn) (t : Transcript) : Type 0 where
   pub worker_is : t.worker ≡ worker
   pub lines_are : t.lines ≡ lines
-  pub few : length lines ≤ MAX_LINES
   pub work : IsWork worker lines (record { share = share; answers = t.answers })
 
 -- worker by worker, from this number on
@@ -28,13 +27,13 @@ AreToldFrom worker [] [] (t ∷ ts) = ⊥
 AreToldFrom worker (lines ∷ scripts) [] ts = ⊥
 AreToldFrom worker (lines ∷ scripts) (share ∷ shares) [] = ⊥
 
--- the workers of all scripts, from 1
+-- all workers, from 1
 abbrev pub AreTold : List (List Line) → List HandedIn → List Transcript → Type 0
 AreTold = AreToldFrom 1
 
--- the scripts that transcripts tell of
-abbrev pub lines_of : List Transcript → List (List Line)
-lines_of ts = map (λ t. t.lines) ts
+-- each is no longer than a script may be
+abbrev pub AreShort : List (List Line) → Type 0
+AreShort scripts = All (λ lines. length lines ≤ MAX_LINES) scripts
 
 -- the transcripts of workers, each of whom has seen a beginning of this journal; they have counted each of its entries
 pub record AreToldOf (journal : List Entry) (ts : List Transcript) : Type 0 where

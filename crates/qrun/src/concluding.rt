@@ -1,11 +1,11 @@
-//! The outcome of a run whose threads have done their work.
+//! The outcome of a run or a service whose threads have done their work.
 ghost use Rattle.std.specs.Prelude.{◌≡◌, IfErr, IfOk};
 ghost use Rattle.qplain.specs.declared.edition.Edition.TheVariants.{Two};
 ghost use Rattle.qplain.specs.State.{start};
 ghost use Rattle.qaudit_checks.specs.LawfulBoards.{AreLawful, boards_in};
-ghost use Rattle.qrun_replay.specs.Runs.{IsOutcomeOf};
+ghost use Rattle.qrun_replay.specs.Runs.{IsServiceOf};
 ghost use Rattle.qrun.specs.RunFaults.{IsFaultOf};
-ghost use Rattle.qrun.specs.Told.{AreAllTold, lines_of};
+ghost use Rattle.qrun.specs.Told.{AreAllTold};
 
 use crate::run_fault::RunFault;
 use crate::watcher::Look;
@@ -48,8 +48,8 @@ pub(crate) fn make_outcome(
     requires edition { store.setting.edition ≡ Two }
     requires told { AreAllTold store.journal transcripts.items }
     requires lawful { AreLawful (start store.setting) store.journal (boards_in looks.items) }
-    ensures outcome { IfOk result (IsOutcomeOf store.setting (lines_of transcripts.items)) }
-    ensures looks { IfOk result (λ o. o.boards ≡ looks.items) }
+    ensures outcome { IfOk result (IsServiceOf store.setting) }
+    ensures told { IfOk result (λ o. (o.transcripts ≡ transcripts.items) × (o.boards ≡ looks.items)) }
     ensures fault { IfErr result (IsFaultOf 0) }
 {
     check_own(alloc, &store, &looks, seed)?;

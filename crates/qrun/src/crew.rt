@@ -5,16 +5,15 @@ ghost use Rattle.qplain.specs.declared.line.Line.{Line};
 ghost use Rattle.qshare.specs.declared.held.TheConstants.{MAX_BATCH};
 ghost use Rattle.qshare.specs.Seats.{seats_of};
 ghost use Rattle.qrun.specs.Crews.{ArePlayed, AreReady, IsCrew};
-ghost use Rattle.qrun.specs.Work.{ArePrepared};
+ghost use Rattle.qrun_worker.specs.Work.{ArePrepared};
 
-use crate::gate::Gate;
 use crate::options::Options;
 use crate::run_fault::RunFault;
 use crate::watcher::{Watch, watch_all};
-use crate::worker::{Work, Worker, play, worker_of};
 use crate::worker_end::{WorkerEnd, first_refused};
 use core::thread::Stack;
 use qplain::{Line, NoMemory, Script};
+use qrun_worker::{Gate, Work, Worker, play, worker_of};
 use qshare::{Boards, Seat, Shared};
 use qshare_boards::Viewer;
 use qshare_history::StoreId;

@@ -1,20 +1,18 @@
 //! Runs: 1 to 16 scripts, each played by a worker in a thread of its own, on one shared store.
 #![tactic(auto)]
 
-pub use gate::{Gate, NoGate};
 pub use options::Options;
+pub use qrun_worker::{Gate, NoGate};
 pub use run_fault::RunFault;
 pub use runs::run_scripts;
 pub use worker_end::{WorkerEnd, conclude};
 
 mod concluding;
 mod crew;
-mod gate;
 mod options;
 mod pace;
 mod run_fault;
 mod runs;
 mod telling;
 mod watcher;
-mod worker;
 mod worker_end;

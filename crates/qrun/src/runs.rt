@@ -10,13 +10,13 @@ ghost use Rattle.qrun.specs.Watching.{seats_for};
 
 use crate::concluding::make_outcome;
 use crate::crew::{Played, play_all};
-use crate::gate::Gate;
 use crate::options::Options;
 use crate::run_fault::RunFault;
 use crate::telling::{hand_in, tell_all};
 use crate::watcher::part_watcher;
 use qplain::{Script, Setup};
 use qrun_replay::Outcome;
+use qrun_worker::Gate;
 use qshare::{Boards, Opened, Seat, ShareFault, Shared};
 use qshare_boards::Viewer;
 use qshare_history::StoreId;
@@ -25,8 +25,8 @@ use std::marker::Brand;
 use std::sync::Wait;
 use std::thread::Threads;
 
-/// Why a run has no outcome whose store was not made.
-fn fault_of(fault: ShareFault) -> RunFault
+/// Why a run or a service has no outcome whose store was not made.
+pub(crate) fn fault_of(fault: ShareFault) -> RunFault
     ensures { IsFaultOf 0 result }
 {
     match fault {

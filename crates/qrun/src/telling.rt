@@ -1,25 +1,26 @@
 //! What workers have done, told as transcripts.
 ghost use Rattle.std.specs.Prelude.{◌≡◌, ◌++◌, IfOk};
-ghost use Rattle.qrun.specs.Told.{AreTold};
+ghost use Rattle.qrun.specs.Told.{AreShort, AreTold};
 ghost use Rattle.qrun.specs.Watching.{looks_in, shares_in};
-ghost use Rattle.qrun.specs.Work.{AreWorks};
+ghost use Rattle.qrun_worker.specs.Work.{AreWorks};
 
 use crate::watcher::{Look, Watch};
-use crate::worker::Work;
 use qplain::{NoMemory, Script, Transcript};
 use qrules::Items;
+use qrun_worker::Work;
 use qshare_history::{Share, StoreId};
 use std::alloc::Global;
 
 /// The shares of the workers, and their transcripts: each has its script, which was lent to its thread.
-#[tactic(auto, using(crate::proofs::ToldSoFar::told_first, crate::proofs::ToldSoFar::told_next, crate::proofs::ToldSoFar::told_last, crate::proofs::ToldSoFar::no_more))]
+#[tactic(auto, using(crate::proofs::ToldSoFar::told_first))]
 pub(crate) fn tell_all<S: StoreId>(
     alloc: Global,
     scripts: Vec<Script>,
     works: Vec<Work<S>>,
 ) -> Result<(Vec<Share<S>>, Vec<Transcript>), NoMemory>
     requires { AreWorks scripts.items works.items }
-    ensures { IfOk result (λ told. AreTold scripts.items told.0.items told.1.items) }
+    ensures told { IfOk result (λ told. AreTold scripts.items told.0.items told.1.items) }
+    ensures short { IfOk result (λ _. AreShort scripts.items) }
 {
     let mut shares = Vec::with_capacity(alloc, works.len())?;
     let mut transcripts = Vec::with_capacity(alloc, works.len())?;

@@ -38,9 +38,22 @@ impl<S: StoreId> Model for Watch<S> {
 /// That this watcher looks N times.
 #[derive(Drop)]
 pub(crate) struct Watches<S> {
-    worker: u64,
-    boards: u64,
+    pub(crate) worker: u64,
+    pub(crate) boards: u64,
     store: PhantomData<S>,
+}
+
+impl<S: StoreId> Watches<S> {
+    /// That this watcher looks N times.
+    pub(crate) fn new(worker: u64, boards: u64) -> Watches<S>
+        ensures { (result.worker ≡ worker) × (result.boards ≡ boards) }
+    {
+        Watches {
+            worker,
+            boards,
+            store: PhantomData,
+        }
+    }
 }
 
 impl<S: StoreId> Promise<Watch<S>> for Watches<S> {
@@ -105,11 +118,7 @@ where
     ensures fault { (n : ℕ) → 0 < seat.worker → seat.worker ≤ n → IfErr result (IsFaultOf n) }
 {
     let worker = seat.worker();
-    let watches: Watches<S> = Watches {
-        worker,
-        boards,
-        store: PhantomData,
-    };
+    let watches: Watches<S> = Watches::new(worker, boards);
     let stack = Stack::new().stack_size(THREAD_STACK);
     match stack.spawn_with(rt, watches, move || look_on(seat, looks, calls, boards)) {
         Ok(handle) => Ok(handle.join(rt)),

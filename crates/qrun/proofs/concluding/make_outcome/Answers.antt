@@ -2,7 +2,7 @@ use Rattle.std.proofs.Common.{◌≡◌, ◌≤◌, length, refl, sym, subst, ap
 use Rattle.qplain.specs.declared.edition.Edition.{Edition}
 use Rattle.qplain.specs.Editions.{max_entries_of}
 use Rattle.qrun_replay.specs.Left.{AreOfEdition}
-use Rattle.qrun.specs.Told.{lines_of}
+use Rattle.qrun_replay.specs.Runs.{lines_of}
 use Rattle.qrun.proofs.Told.{gathered_told, one_of}
 use Rattle.qrun.proofs.concluding.make_outcome.Goals as goal
 

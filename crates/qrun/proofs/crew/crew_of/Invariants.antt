@@ -3,7 +3,7 @@ use Rattle.std.specs.Vec.{vec_capacity, vec_len}
 use Rattle.std.specs.Vec.Iter.{into_iter_items, into_iter_len}
 use Rattle.qplain.specs.declared.line.Line.{Line}
 use Rattle.qshare.specs.Seats.{Seated, seats_of}
-use Rattle.qrun.specs.Work.{IsPrepared, Prepared}
+use Rattle.qrun_worker.specs.Work.{IsPrepared, Prepared}
 use Rattle.qrun.proofs.crew.crew_of.Given as goal
 
 abbrev pub invariant-loop-seat : goal.invariant-loop-seat

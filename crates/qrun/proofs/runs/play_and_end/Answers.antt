@@ -3,12 +3,12 @@ use mathlib.Core.List.{IsPrefix}
 use Rattle.qshare_history.specs.Shares.{AreThere, HandedIn}
 use Rattle.qplain.specs.State.{start}
 use Rattle.qaudit_checks.specs.LawfulBoards.{AreLawful, boards_in}
-use Rattle.qrun_replay.specs.Runs.{IsOutcomeOf}
-use Rattle.qrun.specs.Told.{AreTold, lines_of}
+use Rattle.qrun_replay.specs.Runs.{IsServiceOf}
+use Rattle.qrun.specs.Told.{AreShort}
 use Rattle.qrun.specs.Watching.{IsWatchOf, seats_for, shares_in, watcher_for}
-use Rattle.qrun.proofs.Counting.{all_gathered}
+use Rattle.qrun.proofs.NeverFull.{never_full}
 use Rattle.qrun.proofs.Running.{is_run, played_of}
-use Rattle.qrun.proofs.Told.{all_there, as_many, lines_told}
+use Rattle.qrun.proofs.Told.{all_there, all_told, lines_told}
 use Rattle.qrun.proofs.Watched.{all_front, all_seats_there, as_many_looks, calls_counted, looks_lawful}
 use Rattle.qrun.proofs.runs.play_and_end.Goals as goal
 
@@ -29,17 +29,7 @@ make_outcome-requires-clause-told g c =
     let calls : sum_by (λ s. s.tally.calls) c.in_ok-shares.shares.items ≡ length journal = ap (λ t. t.calls) c.in-Ok.ensures.end.tally in
     let counted = calls_counted S (length scripts) boards own c.in_ok-shares.shares.items watch (length journal) played.1
     c.in_ok-shares.ensures.shares calls in
-    record {
-      workers = rw (as_many 1 scripts own ts c.in_ok-own.ensures).1 c.requires.few;
-      told = record {
-        shares = own;
-        told = subst (λ ls. AreTold ls own ts) (sym (lines_told 1 scripts own ts c.in_ok-own.ensures)) c.in_ok-own.ensures;
-        seen = seen;
-        counted = counted;
-      };
-      few = c.in-Ok.ensures.end.played.few;
-      gathered = all_gathered scripts own ts journal c.in_ok-own.ensures seen counted;
-    }
+    all_told scripts own ts journal c.requires.few c.in_ok-own.ensures.told seen counted c.in-Ok.ensures.end.played.few
 
 pub make_outcome-requires-clause-lawful : goal.make_outcome-requires-clause-lawful
 make_outcome-requires-clause-lawful g c =
@@ -64,7 +54,7 @@ unreachable-requires g c =
     let watch = c.works.inside.watch in
     let there : AreThere (own ++ shares_in watch) (seats_for (length scripts) boards) =
     all_seats_there (start g.S.StoreId.id.setting) (length scripts) boards own watch
-    (all_there scripts own c.in_ok-own.transcripts.items c.in_ok-own.ensures) played.1 in
+    (all_there scripts own c.in_ok-own.transcripts.items c.in_ok-own.ensures.told) played.1 in
     let all : AreThere c.in_ok-shares.shares.items g.S.StoreId.id.counters.parts =
     subst (AreThere c.in_ok-shares.shares.items) (sym c.requires.seats)
     (subst (λ xs. AreThere xs (seats_for (length scripts) boards)) (sym c.in_ok-shares.ensures.shares) there) in
@@ -76,13 +66,23 @@ returns g c =
     let played =
     played_of g.S.StoreId.id.setting c.deref.result.now c.args.scripts.items c.args.options.boards c.in_ok-works.field-0
     (record { works = c.works.inside.works.items; watch = c.works.inside.watch }) c.deref.ensures.value c.works.view_is c.in_ok-works.ensures in
+    let setting = g.S.StoreId.id.setting in
+    let S = start setting in
     let scripts = c.args.scripts.items in
     let boards = c.args.options.boards in
+    let own = c.in_ok-own.own.items in
+    let ts = c.in_ok-own.transcripts.items in
     let looks = c.in_ok-shares.looks.items in
-    let lines = lines_told 1 scripts c.in_ok-own.own.items c.in_ok-own.transcripts.items c.in_ok-own.ensures in
-    let many : length looks ≡ boards =
-    ap length c.in_ok-shares.ensures.looks ∙ as_many_looks (start g.S.StoreId.id.setting) (length scripts) boards c.works.inside.watch played.1 in
-    is_run g.S.StoreId.id.setting scripts boards looks c.make_outcome.result many
-    (subst (λ ls. IfOk c.make_outcome.result (IsOutcomeOf g.S.StoreId.id.setting ls)) lines
-    (subst (λ s. IfOk c.make_outcome.result (IsOutcomeOf s (lines_of c.in_ok-own.transcripts.items))) c.in-Ok.ensures.setting c.make_outcome.ensures.outcome))
-    c.make_outcome.ensures.looks c.make_outcome.ensures.fault
+    let journal = c.in-Ok.store.journal in
+    let watch = c.works.inside.watch in
+    let Seen : HandedIn → Type 0 = λ s. IsPrefix s.seen journal in
+    let lines = lines_told 1 scripts own ts c.in_ok-own.ensures.told in
+    let many : length looks ≡ boards = ap length c.in_ok-shares.ensures.looks ∙ as_many_looks S (length scripts) boards watch played.1 in
+    let seen = all_front Seen own (shares_in watch) (subst (All Seen) c.in_ok-shares.ensures.shares c.in-Ok.ensures.end.seen) in
+    let counted = calls_counted S (length scripts) boards own c.in_ok-shares.shares.items watch (length journal) played.1
+    c.in_ok-shares.ensures.shares (ap (λ t. t.calls) c.in-Ok.ensures.end.tally) in
+    let all = all_told scripts own ts journal c.requires.few c.in_ok-own.ensures.told seen counted c.in-Ok.ensures.end.played.few in
+    is_run setting scripts boards ts looks c.make_outcome.result lines
+    (never_full journal ts all (subst AreShort (sym lines) c.in_ok-own.ensures.short)) many
+    (subst (λ s. IfOk c.make_outcome.result (IsServiceOf s)) c.in-Ok.ensures.setting c.make_outcome.ensures.outcome)
+    c.make_outcome.ensures.told c.make_outcome.ensures.fault

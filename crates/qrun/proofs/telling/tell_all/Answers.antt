@@ -1,6 +1,6 @@
 use Rattle.std.proofs.Common.{◌≡◌, ◌∷◌, ap, sym, subst, ◌∙◌, arith}
 use Rattle.std.specs.Vec.Iter.{into_iter_items}
-use Rattle.qrun.specs.Work.{Done}
+use Rattle.qrun_worker.specs.Work.{Done}
 use Rattle.qrun.proofs.ToldSoFar.{IsToldSoFar, no_script, told_ended, told_next}
 use Rattle.qrun.proofs.telling.tell_all.Goals as goal
 use Rattle.qrun.proofs.telling.tell_all.Goals.{in-None, in-Some+in_default}
@@ -28,10 +28,20 @@ loop-work-preserved g c =
       omega (arith, c.push_reserved.ensures.len, c.push_reserved.ensures.capacity, c.in-Some.ensures.steps.1, c.loop-work.invariant.2),
     )
 
-pub returns : goal.returns
-returns g c = elim c.match-next.branch [
-  | in-None w ↦ told_ended c.args.scripts.items c.loop-work.shares.items c.loop-work.transcripts.items (into_iter_items c.loop-work.rest)
-      (into_iter_items c.loop-work.work-iterator) (sym c.loop-work.work-iterator.rest.ok.0 ∙ w.in-None.ensures.steps.0) c.loop-work.invariant.0
+pub returns-clause-told : goal.returns-clause-told
+returns-clause-told g c = elim c.match-next.branch [
+  | in-None w ↦ (told_ended c.args.scripts.items c.loop-work.shares.items c.loop-work.transcripts.items (into_iter_items c.loop-work.rest)
+      (into_iter_items c.loop-work.work-iterator) (sym c.loop-work.work-iterator.rest.ok.0 ∙ w.in-None.ensures.steps.0) c.loop-work.invariant.0).0
+  | in-Some+in_default w ↦ absurd (no_script c.args.scripts.items c.loop-work.shares.items c.loop-work.transcripts.items (into_iter_items c.loop-work.rest)
+      w.in-Some.work (into_iter_items c.next.new.self) (sym c.loop-work.rest.rest.ok.0 ∙ w.in_default.ensures.cases.0)
+      (subst (IsToldSoFar c.args.scripts.items c.loop-work.shares.items c.loop-work.transcripts.items (into_iter_items c.loop-work.rest))
+      w.in-Some.ensures.steps.0 c.loop-work.invariant.0))
+]
+
+pub returns-clause-short : goal.returns-clause-short
+returns-clause-short g c = elim c.match-next.branch [
+  | in-None w ↦ (told_ended c.args.scripts.items c.loop-work.shares.items c.loop-work.transcripts.items (into_iter_items c.loop-work.rest)
+      (into_iter_items c.loop-work.work-iterator) (sym c.loop-work.work-iterator.rest.ok.0 ∙ w.in-None.ensures.steps.0) c.loop-work.invariant.0).1
   | in-Some+in_default w ↦ absurd (no_script c.args.scripts.items c.loop-work.shares.items c.loop-work.transcripts.items (into_iter_items c.loop-work.rest)
       w.in-Some.work (into_iter_items c.next.new.self) (sym c.loop-work.rest.rest.ok.0 ∙ w.in_default.ensures.cases.0)
       (subst (IsToldSoFar c.args.scripts.items c.loop-work.shares.items c.loop-work.transcripts.items (into_iter_items c.loop-work.rest))

@@ -3,7 +3,7 @@ use Rattle.std.proofs.lemmas.List.{get_or_append_left, get_or_push}
 use Rattle.std.specs.Vec.Iter.{into_iter_items}
 use Rattle.qplain.specs.State.{start}
 use Rattle.qrun.specs.Watching.{IsWatchOf, seats_for}
-use Rattle.qrun.specs.Work.{IsWork}
+use Rattle.qrun_worker.specs.Work.{IsWork}
 use Rattle.qplain.specs.Journal.{no_tally}
 use Rattle.qrun.specs.WorkerEnds.{AreDone}
 use Rattle.qrun.proofs.Naming.{scripts_fit, watcher_fits, watcher_idle}

@@ -11,8 +11,8 @@ use Rattle.qplain.specs.Transcripts.{journaled_line, journaled_lines}
 use Rattle.qplain_laws.proofs.Playing.{own-one_more}
 use Rattle.qshare_history.proofs.Prefixes.{prefix_shorter}
 use Rattle.qshare.specs.Calls.{IsAt}
-use Rattle.qrun.specs.Work.{IsSubsequence}
-use Rattle.qrun.proofs.Subsequences.{among_more, one_more_among}
+use Rattle.qrun_worker.specs.Work.{IsSubsequence}
+use Rattle.qrun_worker.proofs.Subsequences.{among_more, one_more_among}
 
 -- the worker's entries, numbered from here
 abbrev pub numbered : ℕ → ℕ → List Entry → List (ℕ × Entry)

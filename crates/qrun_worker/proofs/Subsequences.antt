@@ -1,6 +1,6 @@
 -- What stands among other things, in their order.
 use Rattle.std.proofs.Common.{◌≡◌, ◌≤◌, List, [], ◌∷◌, ◌++◌, length, inl, inr, refl, subst, append-nil, arith, ⊎_elim}
-use Rattle.qrun.specs.Work.{IsSubsequence}
+use Rattle.qrun_worker.specs.Work.{IsSubsequence}
 
 -- nothing stands among anything
 pub none_among : {X : Type 0} (ys : List X) → IsSubsequence [] ys

@@ -1,11 +1,13 @@
 //! One worker: a seat, a script, and the thread in which it is played.
-ghost use Rattle.std.specs.Prelude.{◌≡◌, ◌+◌, ◌<◌, ◌≤◌, length, vec_len, vec_capacity, IfOk};
+ghost use Rattle.std.specs.Prelude.{◌≡◌, ◌+◌, ◌<◌, ◌≤◌, [], length, vec_len, vec_capacity, IfOk, IfSome};
 ghost use Rattle.qplain.specs.Journal.{no_tally};
 ghost use Rattle.qshare.specs.declared.held.TheConstants.{MAX_BATCH};
-ghost use Rattle.qrun.specs.Work.{HasAnswers, IsPrepared, IsWork, MayMake};
+ghost use Rattle.qrun_worker.specs.Work.{HasAnswers, IsPrepared, IsWork, MayMake};
 
 use crate::gate::Gate;
-use qplain::{CallFault, Line, NoMemory, Receipt};
+use crate::script_client::ScriptClient;
+use qplain::{Line, NoMemory};
+use qrun_client::{Answer, Client};
 use qshare::{Boards, Held, Seat, Shared};
 use qshare_history::{Share, StoreId};
 use std::alloc::Global;
@@ -13,18 +15,15 @@ use std::marker::Model;
 use std::sync::Wait;
 use std::thread::Promise;
 
-/// What a worker was answered to a line.
-pub(crate) type Answer = Result<Receipt, CallFault>;
-
 /// What a worker has done: its share, and an answer to each of its lines.
 #[derive(Drop)]
-pub(crate) struct Work<S: StoreId> {
-    pub(crate) share: Share<S>,
-    pub(crate) answers: Vec<Answer>,
+pub struct Work<S: StoreId> {
+    pub share: Share<S>,
+    pub answers: Vec<Answer>,
 }
 
 impl<S: StoreId> Model for Work<S> {
-    ghost use Rattle.qrun.specs.Work.{Done};
+    ghost use Rattle.qrun_worker.specs.Work.{Done};
 
     ghost Value = { Done };
 
@@ -33,13 +32,13 @@ impl<S: StoreId> Model for Work<S> {
 
 /// That this worker plays these lines.
 #[derive(Clone, Copy)]
-pub(crate) struct Plays<'a> {
-    pub(crate) worker: u64,
-    pub(crate) lines: &'a [Line],
+pub struct Plays<'a> {
+    pub worker: u64,
+    pub lines: &'a [Line],
 }
 
 impl<'a, S: StoreId> Promise<Work<S>> for Plays<'a> {
-    ghost use Rattle.qrun.specs.Work.{IsWork};
+    ghost use Rattle.qrun_worker.specs.Work.{IsWork};
 
     ghost kept_by = { λ p w. IsWork p.worker p.lines.now w };
 }
@@ -48,7 +47,7 @@ impl<'a, S: StoreId> Promise<Work<S>> for Plays<'a> {
 /// caller's, for how many lines at a time it takes the lock, and room for an answer to each. Contracts see its number
 /// and its script.
 #[derive(Drop)]
-pub(crate) struct Worker<'a, 'b, 'c, 'd, S: StoreId, B: Boards<S>, V: Drop, G: Gate, R: Wait> {
+pub struct Worker<'a, 'b, 'c, 'd, S: StoreId, B: Boards<S>, V: Drop, G: Gate, R: Wait> {
     rt: &'a R,
     shared: &'b Shared<S, B>,
     gate: &'c G,
@@ -63,7 +62,7 @@ impl<'a, 'b, 'c, 'd, S: StoreId, B: Boards<S>, V: Drop, G: Gate, R: Wait> Model
     ghost use Rattle.std.specs.Prelude.{◌≡◌, ◌<◌, ◌≤◌, length, vec_capacity, vec_len};
     ghost use Rattle.qplain.specs.Journal.{no_tally};
     ghost use Rattle.qshare.specs.declared.held.TheConstants.{MAX_BATCH};
-    ghost use Rattle.qrun.specs.Work.{Prepared};
+    ghost use Rattle.qrun_worker.specs.Work.{Prepared};
 
     ghost Value = { Prepared };
 
@@ -85,7 +84,7 @@ impl<'a, 'b, 'c, 'd, S: StoreId, B: Boards<S>, V: Drop, G: Gate, R: Wait> Worker
     R,
 > {
     /// What its thread promises.
-    pub(crate) fn plays(&self) -> Plays<'d>
+    pub fn plays(&self) -> Plays<'d>
         ensures { (result.worker ≡ self.now.worker) × (result.lines.now ≡ self.now.lines) }
     {
         Plays {
@@ -96,7 +95,7 @@ impl<'a, 'b, 'c, 'd, S: StoreId, B: Boards<S>, V: Drop, G: Gate, R: Wait> Worker
 }
 
 /// A worker with a new seat, and with room for an answer to each of its lines.
-pub(crate) fn worker_of<'a, 'b, 'c, 'd, S: StoreId, B: Boards<S>, V: Drop, G: Gate, R: Wait>(
+pub fn worker_of<'a, 'b, 'c, 'd, S: StoreId, B: Boards<S>, V: Drop, G: Gate, R: Wait>(
     alloc: Global,
     rt: &'a R,
     shared: &'b Shared<S, B>,
@@ -120,30 +119,54 @@ pub(crate) fn worker_of<'a, 'b, 'c, 'd, S: StoreId, B: Boards<S>, V: Drop, G: Ga
     })
 }
 
+/// Makes a client's calls one after the other, and goes on after any answer, until it has no more lines.
+pub fn play_each<S: StoreId, B: Boards<S>, V: Drop, G: Gate, R: Wait, C: Client>(
+    rt: &R,
+    shared: &Shared<S, B>,
+    gate: &G,
+    client: &mut C,
+    mut seat: Seat<S, V>,
+) -> Share<S>
+    requires seat { seat.tally ≡ no_tally }
+    requires new { (C.given client.old ≡ []) × (C.told client.old ≡ []) }
+    ensures work { IsWork seat.worker (C.given client.new)
+        (record { share = result; answers = C.told client.new }) }
+    ensures end { IfSome (C.script client.old) (λ lines. C.given client.new ≡ lines) }
+{
+    let worker = seat.worker();
+    let mut number = 0usize;
+    for _ in rt.forever() {
+        if !client.next() {
+            return seat.finish();
+        }
+        number = number.saturating_add(1);
+        gate.before(worker, number);
+        let line = client.line();
+        let answer = shared.call(rt, &mut seat, &line.cred, line.moment, &line.call);
+        gate.after(worker, number);
+        client.tell(answer);
+    }
+    unreachable!()
+}
+
 /// Makes the calls of a script one after the other, and goes on after any answer.
-fn play_each<S: StoreId, B: Boards<S>, V: Drop, G: Gate, R: Wait>(
+fn play_script<S: StoreId, B: Boards<S>, V: Drop, G: Gate, R: Wait>(
     rt: &R,
     shared: &Shared<S, B>,
     gate: &G,
     lines: &[Line],
-    mut seat: Seat<S, V>,
-    mut answers: Vec<Answer>,
+    seat: Seat<S, V>,
+    answers: Vec<Answer>,
 ) -> Work<S>
     requires seat { seat.tally ≡ no_tally }
     requires room { (vec_len answers ≡ 0) × (length lines.now ≤ vec_capacity answers) }
     ensures { IsWork seat.worker lines.now result }
 {
-    let worker = seat.worker();
-    for before in 0..lines.len() {
-        let line = &lines[before];
-        gate.before(worker, before + 1);
-        let answer = shared.call(rt, &mut seat, &line.cred, line.moment, &line.call);
-        gate.after(worker, before + 1);
-        answers.push_reserved(answer);
-    }
+    let mut client = ScriptClient::new(lines, answers);
+    let share = play_each(rt, shared, gate, &mut client, seat);
     Work {
-        share: seat.finish(),
-        answers,
+        share,
+        answers: client.into_answers(),
     }
 }
 
@@ -226,7 +249,7 @@ fn play_batches<S: StoreId, B: Boards<S>, V: Drop, G: Gate, R: Wait>(
 }
 
 /// Plays a worker's script.
-pub(crate) fn play<S: StoreId, B: Boards<S>, V: Drop, G: Gate, R: Wait>(
+pub fn play<S: StoreId, B: Boards<S>, V: Drop, G: Gate, R: Wait>(
     worker: Worker<'_, '_, '_, '_, S, B, V, G, R>,
 ) -> Work<S>
     ensures { IsWork worker.entry.worker worker.entry.lines result }
@@ -241,7 +264,7 @@ pub(crate) fn play<S: StoreId, B: Boards<S>, V: Drop, G: Gate, R: Wait>(
         answers,
     } = worker;
     if batch == 1 {
-        play_each(rt, shared, gate, lines, seat, answers)
+        play_script(rt, shared, gate, lines, seat, answers)
     } else {
         play_batches(rt, shared, gate, lines, batch, seat, answers)
     }

@@ -1,10 +1,11 @@
--- What workers have done when their scripts are played. No public clause cites this module.
-use Rattle.std.specs.Prelude.{◌≡◌, ℕ, ◌+◌, ◌<◌, ◌≤◌, ◌⊎◌, List, [], ◌∷◌, length, All, Result, Err, slice_index_or}
+-- What workers have done, of whom each plays a script or serves a client.
+use Rattle.std.specs.Prelude.{◌≡◌, ℕ, ◌+◌, ◌<◌, ◌≤◌, ◌⊎◌, List, [], ◌∷◌, length, All, Option, IfSome, Result, Err, slice_index_or}
 use Rattle.qplain.specs.declared.call_fault.CallFault.{CallFault}
 use Rattle.qplain.specs.declared.call_fault.CallFault.TheVariants.{JournalFull}
 use Rattle.qplain.specs.declared.entry.Entry.{Entry}
 use Rattle.qplain.specs.declared.line.Line.{Line}
 use Rattle.qplain.specs.declared.receipt.Receipt.{Receipt}
+use Rattle.qplain.specs.declared.transcript.Transcript.{Transcript}
 use Rattle.qplain.specs.Journal.{entries_of}
 use Rattle.qplain.specs.Transcripts.{journaled_lines}
 use Rattle.qplain.specs.declared.bounds.TheConstants.{MAX_ENTRIES}
@@ -74,3 +75,20 @@ pub record AreWorks (scripts : List (List Line)) (works : List Done) : Type 0 wh
   pub many : length works ≡ length scripts
   pub each : (k : ℕ) (d : Done) (lines : List Line) → k < length scripts
       → IsWork (k + 1) (slice_index_or scripts k lines) (slice_index_or works k d)
+
+-- a worker that is ready to serve: its number, and its client
+pub record Attending (C : Type 0) : Type 0 where
+  pub worker : ℕ
+  pub client : C
+
+-- a worker's share, and its client's transcript
+pub record Serving : Type 0 where
+  pub share : HandedIn
+  pub transcript : Transcript
+
+-- the share and the transcript of this worker, with an answer to each line, which are those of the script, where that
+-- is known
+pub record IsServed (worker : ℕ) (script : Option (List Line)) (s : Serving) : Type 0 where
+  pub worker_is : s.transcript.worker ≡ worker
+  pub work : IsWork worker s.transcript.lines (record { share = s.share; answers = s.transcript.answers })
+  pub script_is : IfSome script (λ lines. s.transcript.lines ≡ lines)

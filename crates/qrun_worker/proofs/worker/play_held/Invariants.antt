@@ -1,7 +1,7 @@
 use Rattle.std.proofs.Common.{◌≡◌, ◌+◌, ◌≤◌}
 use Rattle.std.specs.Vec.{vec_capacity, vec_len}
-use Rattle.qrun.specs.Work.{AreAnswers}
-use Rattle.qrun.proofs.worker.play_held.Given as goal
+use Rattle.qrun_worker.specs.Work.{AreAnswers}
+use Rattle.qrun_worker.proofs.worker.play_held.Given as goal
 
 abbrev pub invariant-loop : goal.invariant-loop
 invariant-loop g l = AreAnswers l.seat.worker l.lines l.held.journal l.seat.tally.calls l.answers.items

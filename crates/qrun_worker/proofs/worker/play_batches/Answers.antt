@@ -1,6 +1,6 @@
 use Rattle.std.proofs.Common.{arith, refl, sym, ◌∙◌}
-use Rattle.qrun.proofs.Working.{none_answered_yet}
-use Rattle.qrun.proofs.worker.play_batches.Goals as goal
+use Rattle.qrun_worker.proofs.Working.{none_answered_yet}
+use Rattle.qrun_worker.proofs.worker.play_batches.Goals as goal
 
 pub loop-answers-init : goal.loop-answers-init
 loop-answers-init g c = (

@@ -1,6 +1,6 @@
 use Rattle.std.proofs.Common.{length, arith, refl, sym, ◌∙◌}
-use Rattle.qrun.proofs.Working.{next_line, one_more_held, room_left, same_worker, seen_more}
-use Rattle.qrun.proofs.worker.play_held.Goals as goal
+use Rattle.qrun_worker.proofs.Working.{next_line, one_more_held, room_left, same_worker, seen_more}
+use Rattle.qrun_worker.proofs.worker.play_held.Goals as goal
 
 pub loop-init : goal.loop-init
 loop-init g c = (

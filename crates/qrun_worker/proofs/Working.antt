@@ -18,9 +18,9 @@ use Rattle.qplain.specs.Setups.{Setting}
 use Rattle.qshare.specs.Calls.{IsAt, IsCalled, IsHeldCall, StaysHeld}
 use Rattle.qshare.specs.Holds.{Holding}
 use Rattle.qshare.specs.Seats.{HasSeenOn, Seated}
-use Rattle.qrun.specs.Work.{AreAnswers, HasAnswers, HasSeenFull, IsSubsequence}
-use Rattle.qrun.proofs.Owning.{none_answered, one_more_answered, own_grown, own_told}
-use Rattle.qrun.proofs.Subsequences.{none_among}
+use Rattle.qrun_worker.specs.Work.{AreAnswers, HasAnswers, HasSeenFull, IsSubsequence}
+use Rattle.qrun_worker.proofs.Owning.{none_answered, one_more_answered, own_grown, own_told}
+use Rattle.qrun_worker.proofs.Subsequences.{none_among}
 
 no_answers : (worker : ℕ) (lines : List Line) (seen : List Entry) → AreAnswers worker lines seen 0 []
 no_answers worker lines seen = record {

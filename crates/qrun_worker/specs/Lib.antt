@@ -1,0 +1,2 @@
+-- What workers have done.
+pub mod Work

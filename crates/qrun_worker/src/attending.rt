@@ -1,0 +1,128 @@
+//! One worker of a service: a seat, a client, and the thread in which it is served.
+ghost use Rattle.std.specs.Prelude.{◌≡◌, []};
+ghost use Rattle.qplain.specs.Journal.{no_tally};
+ghost use Rattle.qrun_worker.specs.Work.{IsServed};
+
+use crate::gate::NoGate;
+use crate::worker::play_each;
+use qplain::Transcript;
+use qrun_client::{ClientEnd, KeepsLines};
+use qshare::{Boards, Seat, Shared};
+use qshare_history::{Share, StoreId};
+use std::marker::Model;
+use std::snapshot::Snapshot;
+use std::sync::Wait;
+use std::thread::Promise;
+
+/// What a worker has done for its client: its share, the transcript of the client, and how that has ended.
+#[derive(Drop)]
+pub struct Served<S: StoreId> {
+    pub share: Share<S>,
+    pub transcript: Transcript,
+    pub end: ClientEnd,
+}
+
+impl<S: StoreId> Model for Served<S> {
+    ghost use Rattle.qrun_worker.specs.Work.{Serving};
+
+    ghost Value = { Serving };
+
+    ghost view = { λ s. record { share = s.share; transcript = s.transcript } };
+}
+
+/// That this worker serves this client.
+#[derive(Drop)]
+pub struct Serves<C> {
+    pub worker: u64,
+    pub client: Snapshot<C>,
+}
+
+impl<S: StoreId, C: KeepsLines> Promise<Served<S>> for Serves<C> {
+    ghost use Rattle.qrun_worker.specs.Work.{IsServed};
+
+    ghost kept_by = { λ p s. IsServed p.worker (C.script p.client.value) s };
+}
+
+/// A worker that is ready to serve: its seat, which is new, and its client, which has handed out nothing. Contracts see
+/// its number and its client.
+#[derive(Drop)]
+pub struct Attendant<'a, 'b, S: StoreId, B: Boards<S>, V: Drop, C: KeepsLines + Drop, R: Wait> {
+    rt: &'a R,
+    shared: &'b Shared<S, B>,
+    seat: Seat<S, V>,
+    client: C,
+}
+
+impl<'a, 'b, S: StoreId, B: Boards<S>, V: Drop, C: KeepsLines + Drop, R: Wait> Model
+    for Attendant<'a, 'b, S, B, V, C, R> {
+    ghost use Rattle.std.specs.Prelude.{◌≡◌, []};
+    ghost use Rattle.qplain.specs.Journal.{no_tally};
+    ghost use Rattle.qrun_worker.specs.Work.{Attending};
+
+    ghost Value = { Attending C };
+
+    ghost view = { λ a. record { worker = a.seat.worker; client = a.client } };
+
+    ghost invariant = { λ a. (a.seat.tally ≡ no_tally) × (C.given a.client ≡ []) × (C.told a.client ≡ []) };
+}
+
+impl<'a, 'b, S: StoreId, B: Boards<S>, V: Drop, C: KeepsLines + Drop, R: Wait> Attendant<
+    'a,
+    'b,
+    S,
+    B,
+    V,
+    C,
+    R,
+> {
+    /// A worker with a new seat for a client that has handed out nothing.
+    pub fn new(
+        rt: &'a R,
+        shared: &'b Shared<S, B>,
+        seat: Seat<S, V>,
+        client: C,
+    ) -> Attendant<'a, 'b, S, B, V, C, R>
+        requires seat { seat.tally ≡ no_tally }
+        requires new { (C.given client ≡ []) × (C.told client ≡ []) }
+        ensures { result ≡ record { worker = seat.worker; client = client } }
+    {
+        Attendant {
+            rt,
+            shared,
+            seat,
+            client,
+        }
+    }
+
+    /// What its thread promises.
+    pub fn serves(&self) -> Serves<C>
+        ensures { (result.worker ≡ self.now.worker) × (result.client.value ≡ self.now.client) }
+    {
+        Serves {
+            worker: self.seat.worker(),
+            client: Snapshot::of(&self.client),
+        }
+    }
+}
+
+/// Serves a client, line by line, until it has no more lines.
+pub fn attend<S: StoreId, B: Boards<S>, V: Drop, C: KeepsLines + Drop, R: Wait>(
+    attendant: Attendant<'_, '_, S, B, V, C, R>,
+) -> Served<S>
+    ensures { IsServed attendant.entry.worker (C.script attendant.entry.client) result }
+{
+    let Attendant {
+        rt,
+        shared,
+        seat,
+        mut client,
+    } = attendant;
+    let worker = seat.worker();
+    let share = play_each(rt, shared, &NoGate, &mut client, seat);
+    let (transcript, end) = client.into_parts(worker);
+    Served {
+        share,
+        transcript,
+        end,
+    }
+}
