@@ -9,3 +9,4 @@ pub mod Watched
 pub mod Naming
 pub mod WorkerEnds
 pub mod Running
+pub mod Attended
