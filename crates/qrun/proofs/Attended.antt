@@ -17,11 +17,12 @@ use Rattle.qshare_history.specs.Shares.{AreThere, HandedIn}
 use Rattle.qshare.specs.Seats.{Seated, new_seat}
 use Rattle.qrun_replay.specs.declared.outcome.Outcome.{Outcome}
 use Rattle.qrun_replay.specs.Runs.{lines_of}
-use Rattle.qrun_worker.specs.Work.{IsServed, Serving}
-use Rattle.qrun.specs.Serving.{AreServed, CanServe, IsOfClients, IsStaff}
+use Rattle.qrun_worker.specs.Work.{Attending, IsServed, Serving}
+use Rattle.qrun.specs.Serving.{AreServed, CanServe, HasSeatIn, IsOfClients, IsStaff}
 use Rattle.qrun.specs.Told.{AreAllTold, AreTold, AreToldFrom}
 use Rattle.qrun.specs.Watching.{IsWatchOf, Watched, looks_in, seats_for, shares_in, watcher_for}
-use Rattle.qrun.proofs.Naming.{scripts_fit}
+use Rattle.qrun.proofs.Attending.{clients_in}
+use Rattle.qrun.proofs.Naming.{scripts_fit, watcher_fits}
 use Rattle.qrun.proofs.Told.{all_there, all_told}
 use Rattle.qrun.proofs.Watched.{all_behind, all_front, idle_by, lawful_by, there_by}
 
@@ -38,6 +39,28 @@ all_served script clients all many each =
           let one = each k s low in
           subst (λ x. IsServed (k + 1) x (slice_index_or all k s)) (sym (get_or-map script clients k one.0 known low)) one.1;
     }
+
+-- the scripts of workers that are ready are those of their clients
+scripts_of : {C : Type 0} (script : C → Option (List Line)) (attendants : List (Attending C))
+    → map (λ (a : Attending C). script a.client) attendants ≡ map script (clients_in attendants)
+scripts_of script [] = refl
+scripts_of script (a ∷ attendants) = ap (λ xs. script a.client ∷ xs) (scripts_of script attendants)
+
+-- who was served by them
+pub served_of : {C : Type 0} (script : C → Option (List Line)) (clients : List C) (attendants : List (Attending C)) (all : List Serving)
+    → clients_in attendants ≡ clients → AreServed (map (λ (a : Attending C). script a.client) attendants) all
+    → AreServed (map script clients) all
+served_of script clients attendants all is served =
+    subst (λ xs. AreServed xs all) (scripts_of script attendants ∙ ap (map script) is) served
+
+-- there is a seat for each client, and for who looks
+pub staff_fits : (setting : Setting) (clients parts : ℕ) (free : List Seated) (showing : Option Seated)
+    → IsStaff setting clients parts free showing → (clients ≤ parts) × HasSeatIn parts showing
+staff_fits setting clients parts free showing staff = (
+  omega (arith, staff.parts_are, scripts_fit clients staff.monitors),
+  subst (HasSeatIn parts) (sym staff.observer_is)
+      (subst (λ n. HasSeatIn n (watcher_for clients staff.monitors)) (sym staff.parts_are) (watcher_fits clients staff.monitors)),
+)
 
 -- worker by worker, from this number on, transcripts and shares are told
 told_from : (worker : ℕ) (scripts : List (Option (List Line))) (all : List Serving) → length all ≡ length scripts

@@ -1,5 +1,5 @@
 -- What a service owes its caller, what its workers have done for their clients, and what is told of them.
-use Rattle.std.specs.Prelude.{◌≡◌, ℕ, ◌+◌, ◌<◌, ◌≤◌, List, [], length, slice_index_or, Option, None, Some, IfSome}
+use Rattle.std.specs.Prelude.{◌≡◌, ℕ, ◌+◌, ◌<◌, ◌≤◌, List, [], length, map, slice_index_or, Option, None, Some, IfSome}
 use Rattle.qplain.specs.declared.edition.Edition.TheVariants.{Two}
 use Rattle.qplain.specs.declared.line.Line.{Line}
 use Rattle.qplain.specs.declared.transcript.Transcript.{Transcript}
@@ -8,7 +8,7 @@ use Rattle.qshare.specs.declared.opening.TheConstants.{MAX_SEATS}
 use Rattle.qrun_replay.specs.declared.outcome.Outcome.{Outcome}
 use Rattle.qshare.specs.Seats.{Seated, seats_of}
 use Rattle.qrun.specs.Watching.{seats_for, watcher_for}
-use Rattle.qrun_worker.specs.Work.{IsServed, Serving}
+use Rattle.qrun_worker.specs.Work.{Attending, IsServed, Serving}
 
 -- how many monitors there are
 abbrev pub monitors_in : {M : Type 0} → Option M → ℕ
@@ -45,3 +45,16 @@ pub record AreServed (scripts : List (Option (List Line))) (all : List Serving) 
   pub many : length all ≡ length scripts
   pub each : (k : ℕ) (script : Option (List Line)) (s : Serving) → k < length scripts
       → IsServed (k + 1) (slice_index_or scripts k script) (slice_index_or all k s)
+
+-- each worker has the number of its place, from 1
+abbrev pub AreNumbered : {C : Type 0} → List (Attending C) → Type 0
+AreNumbered {C} all = (k : ℕ) (a : Attending C) → k < length all → (slice_index_or all k a).worker ≡ k + 1
+
+-- each worker, from 1, is ready to serve its client
+pub record AreAttending {C : Type 0} (clients : List C) (all : List (Attending C)) : Type 0 where
+  pub numbered : AreNumbered all
+  pub clients_are : map (λ a. a.client) all ≡ clients
+
+-- who has a seat has one of the first N
+abbrev pub HasSeatIn : ℕ → Option Seated → Type 0
+HasSeatIn n seat = IfSome seat (λ s. (0 < s.worker) × (s.worker ≤ n))

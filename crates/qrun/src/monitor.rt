@@ -32,33 +32,56 @@ pub trait Monitor {
         ensures setting { setting self.new ≡ setting self.old };
 }
 
-/// Who looks at the boards for a monitor, with a new seat. Contracts see the seat.
+/// All that the thread takes along which shows the boards: a new seat, and who is shown them until an end is told.
+/// Contracts see the seat.
 #[derive(Drop)]
-pub(crate) struct Observer<S: StoreId, M: Monitor + Drop> {
+pub(crate) struct Showing<'a, 'b, S: StoreId, M: Monitor + Drop, R: Wait> {
+    rt: &'a R,
+    alloc: Global,
     seat: Seat<S, Viewer<S>>,
     monitor: M,
+    ended: &'b AtomicBool,
 }
 
-impl<S: StoreId, M: Monitor + Drop> Model for Observer<S, M> {
+impl<'a, 'b, S: StoreId, M: Monitor + Drop, R: Wait> Model for Showing<'a, 'b, S, M, R> {
     ghost use Rattle.std.specs.Prelude.{◌≡◌, IfSome};
     ghost use Rattle.qplain.specs.Journal.{no_tally};
     ghost use Rattle.qshare.specs.Seats.{Seated};
 
     ghost Value = { Seated };
 
-    ghost view = { λ o. o.seat };
+    ghost view = { λ s. s.seat };
 
-    ghost invariant = { λ o. (o.seat.tally ≡ no_tally) × IfSome (M.setting o.monitor) (λ s. s ≡ S.id.setting) };
+    ghost invariant = { λ s. (s.seat.tally ≡ no_tally) × IfSome (M.setting s.monitor) (λ x. x ≡ S.id.setting) };
 }
 
-impl<S: StoreId, M: Monitor + Drop> Observer<S, M> {
-    /// Who looks from this seat, which is new.
-    pub(crate) fn new(seat: Seat<S, Viewer<S>>, monitor: M) -> Observer<S, M>
+impl<'a, 'b, S: StoreId, M: Monitor + Drop, R: Wait> Showing<'a, 'b, S, M, R> {
+    /// Who shows the boards from this seat, which is new, until an end is told.
+    pub(crate) fn new(
+        rt: &'a R,
+        alloc: Global,
+        seat: Seat<S, Viewer<S>>,
+        monitor: M,
+        ended: &'b AtomicBool,
+    ) -> Showing<'a, 'b, S, M, R>
         requires seat { seat.tally ≡ no_tally }
         requires setting { IfSome (M.setting monitor) (λ s. s ≡ S.id.setting) }
         ensures { result ≡ seat }
     {
-        Observer { seat, monitor }
+        Showing {
+            rt,
+            alloc,
+            seat,
+            monitor,
+            ended,
+        }
+    }
+
+    /// The number of its seat.
+    pub(crate) fn worker(&self) -> u64
+        ensures { result ≡ self.now.worker }
+    {
+        self.seat.worker()
     }
 
     /// What its thread promises.
@@ -67,6 +90,16 @@ impl<S: StoreId, M: Monitor + Drop> Observer<S, M> {
     {
         Watches::new(self.seat.worker(), 0)
     }
+}
+
+/// Nobody who shows the boards.
+pub(crate) fn no_showing<'a, 'b, S: StoreId, M: Monitor + Drop, R: Wait>(
+    _rt: &'a R,
+    _ended: &'b AtomicBool,
+) -> Option<Showing<'a, 'b, S, M, R>>
+    ensures { result ≡ None }
+{
+    None
 }
 
 /// Shows the board to the monitor where its version is another than that which was shown last, and tells which was.
@@ -92,48 +125,19 @@ fn show_next<S: StoreId, M: Monitor>(
     }
 }
 
-/// All that the thread takes along which shows the boards.
-#[derive(Drop)]
-pub(crate) struct Showing<'a, 'b, S: StoreId, M: Monitor + Drop, R: Wait> {
-    pub(crate) rt: &'a R,
-    pub(crate) alloc: Global,
-    pub(crate) observer: Observer<S, M>,
-    pub(crate) ended: &'b AtomicBool,
-}
-
-/// All of this together.
-pub(crate) fn showing_of<'a, 'b, S: StoreId, M: Monitor + Drop, R: Wait>(
-    rt: &'a R,
-    alloc: Global,
-    observer: Observer<S, M>,
-    ended: &'b AtomicBool,
-) -> Showing<'a, 'b, S, M, R>
-    ensures { result.observer ≡ observer }
-{
-    Showing {
-        rt,
-        alloc,
-        observer,
-        ended,
-    }
-}
-
 /// Shows the boards as they come, until all workers have ended, and then the last. It keeps none.
 pub(crate) fn observe<S: StoreId, M: Monitor + Drop, R: Wait>(
     showing: Showing<'_, '_, S, M, R>,
 ) -> Watch<S>
-    ensures { IsWatch (start S.id.setting) showing.entry.observer.worker 0 result }
+    ensures { IsWatch (start S.id.setting) showing.entry.worker 0 result }
 {
     let Showing {
         rt,
         alloc,
-        observer,
-        ended,
-    } = showing;
-    let Observer {
         mut seat,
         mut monitor,
-    } = observer;
+        ended,
+    } = showing;
     let mut shown = None;
     for _ in rt.forever() {
         let last = ended.load(Ordering::SeqCst);

@@ -6,10 +6,10 @@ ghost use Rattle.qrun.specs.Serving.{CanServe, IsOfClients, IsStaff, monitors_in
 ghost use Rattle.qrun.specs.Watching.{seats_for};
 
 use crate::concluding::make_outcome;
-use crate::monitor::{Monitor, Observer};
+use crate::monitor::{Monitor, Showing, no_showing};
 use crate::run_fault::RunFault;
 use crate::runs::fault_of;
-use crate::serving::serve_all;
+use crate::serving::{attend_all, attendants_of};
 use crate::telling::{hand_in, part_served};
 use crate::watcher::part_watcher;
 use qplain::Setup;
@@ -20,6 +20,7 @@ use qshare_history::StoreId;
 use std::alloc::Global;
 use std::marker::Brand;
 use std::sync::Wait;
+use std::sync::atomic::AtomicBool;
 use std::thread::Threads;
 
 /// What a service leaves, and how each client has ended, in their order.
@@ -35,7 +36,8 @@ fn serve_and_end<S, B, V, C, M, R>(
     alloc: Global,
     shared: Shared<S, B>,
     seats: Vec<Seat<S, V>>,
-    observer: Option<Observer<S, M>>,
+    showing: Option<Showing<'_, '_, S, M, R>>,
+    ended: &AtomicBool,
     clients: Vec<C>,
     seed: u64,
 ) -> Result<Service, RunFault>
@@ -46,13 +48,14 @@ where
     C: KeepsLines + Drop + Send,
     M: Monitor + Drop + Send,
     R: Threads + Wait + Sync,
-    requires staff { IsStaff S.id.setting (length clients.items) S.id.counters.parts seats.items observer }
+    requires staff { IsStaff S.id.setting (length clients.items) S.id.counters.parts seats.items showing }
     requires new { All (λ c. (C.given c ≡ []) × (C.told c ≡ [])) clients.items }
     ensures outcome { IfOk result (λ s. IsServiceOf S.id.setting s.outcome) }
     ensures clients { IfOk result (λ s. IsOfClients (map C.script clients.items) (vec_len s.ends) s.outcome) }
     ensures fault { IfErr result (IsFaultOf S.id.counters.parts) }
 {
-    let (served, watch) = serve_all(rt, alloc, &shared, seats, observer, clients)?;
+    let attendants = attendants_of(alloc, rt, &shared, seats, clients)?;
+    let (served, watch) = attend_all(rt, alloc, attendants, showing, ended)?;
     let (own, transcripts, ends) = part_served(alloc, served)?;
     let (shares, looks) = hand_in(alloc, own, watch)?;
     match shared.end(rt, shares) {
@@ -93,8 +96,11 @@ where
     let Some(seat) = last else {
         unreachable!();
     };
-    let observer = Some(Observer::new(seat, monitor));
-    serve_and_end(rt, alloc, shared, seats, observer, clients, seed)
+    let ended = AtomicBool::new(false);
+    let showing = Some(Showing::new(rt, alloc, seat, monitor, &ended));
+    serve_and_end(
+        rt, alloc, shared, seats, showing, &ended, clients, seed,
+    )
 }
 
 /// Serves the clients on a shared store of this identity, at whose boards nobody can look.
@@ -121,8 +127,11 @@ where
         Ok(made) => made,
         Err(fault) => return Err(fault_of(fault)),
     };
-    let nobody: Option<Observer<S, M>> = None;
-    serve_and_end(rt, alloc, shared, seats, nobody, clients, seed)
+    let ended = AtomicBool::new(false);
+    let nobody = no_showing::<S, M, R>(rt, &ended);
+    serve_and_end(
+        rt, alloc, shared, seats, nobody, &ended, clients, seed,
+    )
 }
 
 /// Serves 1 to 16 clients on one new store of the setup, which is of edition 2: each by a worker in a thread of its own,
