@@ -9,3 +9,5 @@ pub mod Watched
 pub mod Naming
 pub mod WorkerEnds
 pub mod Running
+pub mod Attending
+pub mod Attended

@@ -1,5 +1,5 @@
 //! What workers have done, told as transcripts.
-ghost use Rattle.std.specs.Prelude.{◌≡◌, ◌++◌, IfOk};
+ghost use Rattle.std.specs.Prelude.{◌≡◌, ◌++◌, map, vec_len, IfOk};
 ghost use Rattle.qrun.specs.Told.{AreShort, AreTold};
 ghost use Rattle.qrun.specs.Watching.{looks_in, shares_in};
 ghost use Rattle.qrun_worker.specs.Work.{AreWorks};
@@ -7,7 +7,8 @@ ghost use Rattle.qrun_worker.specs.Work.{AreWorks};
 use crate::watcher::{Look, Watch};
 use qplain::{NoMemory, Script, Transcript};
 use qrules::Items;
-use qrun_worker::Work;
+use qrun_client::ClientEnd;
+use qrun_worker::{Served, Work};
 use qshare_history::{Share, StoreId};
 use std::alloc::Global;
 
@@ -38,6 +39,32 @@ pub(crate) fn tell_all<S: StoreId>(
         shares.push_reserved(share);
     }
     Ok((shares, transcripts))
+}
+
+/// What the workers of a service have done, taken apart: their shares, the transcripts of their clients, and how each
+/// client has ended.
+pub(crate) fn part_served<S: StoreId>(
+    alloc: Global,
+    served: Vec<Served<S>>,
+) -> Result<(Vec<Share<S>>, Vec<Transcript>, Vec<ClientEnd>), NoMemory>
+    ensures shares { IfOk result (λ r. r.0.items ≡ map (λ s. s.share) served.items) }
+    ensures transcripts { IfOk result (λ r. r.1.items ≡ map (λ s. s.transcript) served.items) }
+    ensures ends { IfOk result (λ r. vec_len r.2 ≡ vec_len served) }
+{
+    let mut shares = Vec::with_capacity(alloc, served.len())?;
+    let mut transcripts = Vec::with_capacity(alloc, served.len())?;
+    let mut ends = Vec::with_capacity(alloc, served.len())?;
+    for one in served {
+        let Served {
+            share,
+            transcript,
+            end,
+        } = one;
+        shares.push_reserved(share);
+        transcripts.push_reserved(transcript);
+        ends.push_reserved(end);
+    }
+    Ok((shares, transcripts, ends))
 }
 
 /// The shares of all seats, that of the watcher last, and what its looks were given.

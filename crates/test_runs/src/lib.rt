@@ -19,4 +19,6 @@ mod refused;
 #[cfg(test)]
 mod seats;
 #[cfg(test)]
+mod serves;
+#[cfg(test)]
 mod turns;

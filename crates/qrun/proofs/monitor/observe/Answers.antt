@@ -1,0 +1,26 @@
+use Rattle.std.proofs.Common.{rules, ◌≡◌, [], length, IfSome, ap, sym, subst, ◌∙◌}
+use Rattle.qplain.specs.State.{start}
+use Rattle.qaudit_checks.specs.LawfulBoards.{AreLawful, boards_in}
+use Rattle.qrun.proofs.Watched.{no_boards}
+use Rattle.qrun.proofs.monitor.observe.Goals as goal
+
+pub returns-then-last : goal.returns-then-last
+returns-then-last g c =
+    let inv = c.loop.invariant in
+    let shown = c.show_next-shown.ensures.seat in
+    record {
+      worker_is = ap (λ s. s.worker) c.finish.ensures ∙ shown.worker ∙ inv.0;
+      idle = ap (λ s. s.tally.calls) c.finish.ensures ∙ ap (λ t. t.calls) (shown.tally ∙ inv.1);
+      each = ap length c.new.ensures.items;
+      lawful = subst (λ looks. AreLawful (start g.S.StoreId.id.setting) c.finish.result.seen (boards_in looks)) (sym c.new.ensures.items)
+          (no_boards (start g.S.StoreId.id.setting) c.finish.result.seen);
+    }
+
+pub loop-preserved : goal.loop-preserved
+loop-preserved g c =
+    let inv = c.loop.invariant in
+    let shown = c.show_next-shown.ensures in (
+      shown.seat.worker ∙ inv.0,
+      shown.seat.tally ∙ inv.1,
+      subst (λ o. IfSome o (λ s. s ≡ g.S.StoreId.id.setting)) (sym (c.wait.ensures ∙ shown.setting)) inv.2,
+    )

@@ -1,0 +1,181 @@
+//! Services: living clients served by workers on a shared store of their own.
+ghost use Rattle.std.specs.Prelude.{◌≡◌, ◌+◌, [], All, length, map, vec_len, IfErr, IfOk, IfSome};
+ghost use Rattle.qrun_replay.specs.Runs.{IsServiceOf};
+ghost use Rattle.qrun.specs.RunFaults.{IsFaultOf};
+ghost use Rattle.qrun.specs.Serving.{CanServe, IsOfClients, IsStaff, monitors_in};
+ghost use Rattle.qrun.specs.Watching.{seats_for};
+
+use crate::concluding::make_outcome;
+use crate::monitor::{Monitor, Showing, no_showing};
+use crate::run_fault::RunFault;
+use crate::runs::fault_of;
+use crate::serving::{attend_all, attendants_of};
+use crate::telling::{hand_in, part_served};
+use crate::watcher::part_watcher;
+use qplain::Setup;
+use qrun_client::{ClientEnd, KeepsLines};
+use qrun_replay::Outcome;
+use qshare::{Boards, Opened, Seat, Shared};
+use qshare_history::StoreId;
+use std::alloc::Global;
+use std::marker::Brand;
+use std::sync::Wait;
+use std::sync::atomic::AtomicBool;
+use std::thread::Threads;
+
+/// What a service leaves, and how each client has ended, in their order.
+#[derive(Drop)]
+pub struct Service {
+    pub outcome: Outcome,
+    pub ends: Vec<ClientEnd>,
+}
+
+/// Serves the clients on a shared store, ends it, and makes the outcome.
+fn serve_and_end<S, B, V, C, M, R>(
+    rt: &R,
+    alloc: Global,
+    shared: Shared<S, B>,
+    seats: Vec<Seat<S, V>>,
+    showing: Option<Showing<'_, '_, S, M, R>>,
+    ended: &AtomicBool,
+    clients: Vec<C>,
+    seed: u64,
+) -> Result<Service, RunFault>
+where
+    S: StoreId + Send + Sync + 'static,
+    B: Boards<S> + Send,
+    V: Drop + Send,
+    C: KeepsLines + Drop + Send,
+    M: Monitor + Drop + Send,
+    R: Threads + Wait + Sync,
+    requires staff { IsStaff S.id.setting (length clients.items) S.id.counters.parts seats.items showing }
+    requires new { All (λ c. (C.given c ≡ []) × (C.told c ≡ [])) clients.items }
+    ensures outcome { IfOk result (λ s. IsServiceOf S.id.setting s.outcome) }
+    ensures clients { IfOk result (λ s. IsOfClients (map C.script clients.items) (vec_len s.ends) s.outcome) }
+    ensures fault { IfErr result (IsFaultOf S.id.counters.parts) }
+{
+    let attendants = attendants_of(alloc, rt, &shared, seats, clients)?;
+    let (served, watch) = attend_all(rt, alloc, attendants, showing, ended)?;
+    let (own, transcripts, ends) = part_served(alloc, served)?;
+    let (shares, looks) = hand_in(alloc, own, watch)?;
+    match shared.end(rt, shares) {
+        Ok(store) => {
+            let outcome = make_outcome(alloc, store, transcripts, looks, seed)?;
+            Ok(Service { outcome, ends })
+        }
+        Err(_) => unreachable!(),
+    }
+}
+
+/// Serves the clients on a shared store of this identity, whose boards are shown to a monitor.
+fn serve_shown<S, C, M, R>(
+    rt: &R,
+    alloc: Global,
+    opened: Opened,
+    clients: Vec<C>,
+    monitor: M,
+    seed: u64,
+) -> Result<Service, RunFault>
+where
+    S: StoreId + Send + Sync + 'static,
+    C: KeepsLines + Drop + Send,
+    M: Monitor + Drop + Send,
+    R: Threads + Wait + Sync,
+    requires id { (opened ≡ S.id) × IfSome (M.setting monitor) (λ s. s ≡ S.id.setting) }
+    requires can { CanServe S.id.setting (length clients.items) 1 × (S.id.counters.parts ≡ length clients.items + 1) }
+    requires new { All (λ c. (C.given c ≡ []) × (C.told c ≡ [])) clients.items }
+    ensures outcome { IfOk result (λ s. IsServiceOf S.id.setting s.outcome) }
+    ensures clients { IfOk result (λ s. IsOfClients (map C.script clients.items) (vec_len s.ends) s.outcome) }
+    ensures fault { IfErr result (IsFaultOf S.id.counters.parts) }
+{
+    let (shared, seats) = match opened.with_viewers::<S, &R>(rt) {
+        Ok(made) => made,
+        Err(fault) => return Err(fault_of(fault)),
+    };
+    let (seats, last) = part_watcher(seats, clients.len());
+    let Some(seat) = last else {
+        unreachable!();
+    };
+    let ended = AtomicBool::new(false);
+    let showing = Some(Showing::new(rt, alloc, seat, monitor, &ended));
+    serve_and_end(
+        rt, alloc, shared, seats, showing, &ended, clients, seed,
+    )
+}
+
+/// Serves the clients on a shared store of this identity, at whose boards nobody can look.
+fn serve_unshown<S, C, M, R>(
+    rt: &R,
+    alloc: Global,
+    opened: Opened,
+    clients: Vec<C>,
+    seed: u64,
+) -> Result<Service, RunFault>
+where
+    S: StoreId + Send + Sync + 'static,
+    C: KeepsLines + Drop + Send,
+    M: Monitor + Drop + Send,
+    R: Threads + Wait + Sync,
+    requires id { opened ≡ S.id }
+    requires can { CanServe S.id.setting (length clients.items) 0 × (S.id.counters.parts ≡ length clients.items) }
+    requires new { All (λ c. (C.given c ≡ []) × (C.told c ≡ [])) clients.items }
+    ensures outcome { IfOk result (λ s. IsServiceOf S.id.setting s.outcome) }
+    ensures clients { IfOk result (λ s. IsOfClients (map C.script clients.items) (vec_len s.ends) s.outcome) }
+    ensures fault { IfErr result (IsFaultOf S.id.counters.parts) }
+{
+    let (shared, seats) = match opened.without_viewers::<S>() {
+        Ok(made) => made,
+        Err(fault) => return Err(fault_of(fault)),
+    };
+    let ended = AtomicBool::new(false);
+    let nobody = no_showing::<S, M, R>(rt, &ended);
+    serve_and_end(
+        rt, alloc, shared, seats, nobody, &ended, clients, seed,
+    )
+}
+
+/// Serves 1 to 16 clients on one new store of the setup, which is of edition 2: each by a worker in a thread of its own,
+/// line by line, until it has no more lines. Beside a monitor the clients are at most 15, and one thread more, whose
+/// number is theirs and 1, shows it the boards as they come, and the last one when all clients have ended; else nobody
+/// can look at boards, and calls take less.
+///
+/// What is left is as of `run_scripts`, over the lines that the clients have handed out: worker k serves client k, whose
+/// transcript has its lines and what it was told. A line may fail with JournalFull, and does so only where the journal
+/// has its 1,048,576 entries. The outcome keeps no boards.
+///
+/// This is promised if the service returns: a client that does not end holds it up, and no other client. The hashes of
+/// names begin at `seed`, which may be any number; nothing of the outcome depends on it. An Err is Memory, NoReader, or
+/// NotStarted with the first thread that was refused; then the clients of all workers that were started have been served
+/// to their ends, and the store is given up.
+pub fn serve<C, M, R>(
+    rt: &R,
+    alloc: Global,
+    setup: Setup,
+    clients: Vec<C>,
+    monitor: Option<M>,
+    seed: u64,
+) -> Result<Service, RunFault>
+where
+    C: KeepsLines + Drop + Send,
+    M: Monitor + Drop + Send,
+    R: Threads + Wait + Sync,
+    requires can { CanServe setup (length clients.items) (monitors_in monitor) }
+    requires monitor { IfSome monitor (λ m. IfSome (M.setting m) (λ s. s ≡ setup)) }
+    requires new { All (λ c. (C.given c ≡ []) × (C.told c ≡ [])) clients.items }
+    ensures outcome { IfOk result (λ s. IsServiceOf setup s.outcome) }
+    ensures clients { IfOk result (λ s. IsOfClients (map C.script clients.items) (vec_len s.ends) s.outcome) }
+    ensures fault { IfErr result (IsFaultOf (seats_for (length clients.items) (monitors_in monitor))) }
+{
+    match monitor {
+        Some(monitor) => match Opened::new(alloc, setup, clients.len() as u64 + 1, seed) {
+            Ok(opened) => {
+                serve_shown::<Brand, C, M, R>(rt, alloc, opened, clients, monitor, seed)
+            }
+            Err(fault) => Err(fault_of(fault)),
+        },
+        None => match Opened::new(alloc, setup, clients.len() as u64, seed) {
+            Ok(opened) => serve_unshown::<Brand, C, M, R>(rt, alloc, opened, clients, seed),
+            Err(fault) => Err(fault_of(fault)),
+        },
+    }
+}

@@ -1,0 +1,123 @@
+//! Clients served by workers, beside a monitor.
+ghost use Rattle.std.specs.Prelude.{◌≡◌, ◌+◌, ◌≤◌, [], IfOk, vec_len, vec_capacity};
+ghost use Rattle.std.specs.Vec.Iter.{into_iter_len};
+
+use crate::given::{FIRST_FILES, OTHER_FILES, script, setup};
+use qplain::{Board, Edition, Line, NoMemory, Script, Transcript};
+use qrules::Items;
+use qrun::{Monitor, serve};
+use qrun_client::{Answer, Client, ClientEnd, KeepsLines};
+use std::alloc::Global;
+use std::hint::spin_loop;
+use std::sync::atomic::AtomicU64;
+use std::sync::atomic::Ordering::SeqCst;
+use std::test::Fail;
+use std::vec::IntoIter;
+
+/// A client that has its lines from the start, and room for them and for their answers.
+#[derive(Drop)]
+struct Prepared {
+    rest: IntoIter<Line>,
+    given: Vec<Line>,
+    answers: Vec<Answer>,
+    ghost room: { vec_len given + into_iter_len rest ≤ vec_capacity given },
+    ghost answered: { vec_len answers ≤ vec_len given },
+    ghost place: { vec_capacity given ≤ vec_capacity answers },
+}
+
+impl Prepared {
+    /// A client that has handed out none of these lines.
+    fn new(alloc: Global, script: Script) -> Result<Prepared, NoMemory>
+        ensures { IfOk result (λ c. (c.given.items ≡ []) × (c.answers.items ≡ [])) }
+    {
+        let lines = script.into_lines().into_vec();
+        let given = Vec::with_capacity(alloc, lines.len())?;
+        let answers = Vec::with_capacity(alloc, given.capacity())?;
+        Ok(Prepared {
+            rest: lines.into_iter(),
+            given,
+            answers,
+        })
+    }
+}
+
+impl Client for Prepared {
+    ghost given = { λ c. c.given.items };
+
+    ghost told = { λ c. c.answers.items };
+
+    fn next(&mut self) -> bool {
+        match self.rest.next() {
+            Some(line) => {
+                self.given.push_reserved(line);
+                true
+            }
+            None => false,
+        }
+    }
+
+    fn line(&self) -> &Line {
+        &self.given[self.answers.len()]
+    }
+
+    fn tell(&mut self, answer: Answer) {
+        self.answers.push_reserved(answer);
+    }
+}
+
+impl KeepsLines for Prepared {
+    fn into_parts(self, worker: u64) -> (Transcript, ClientEnd) {
+        let Prepared {
+            rest: _,
+            given,
+            answers,
+        } = self;
+        let transcript = Transcript {
+            worker,
+            lines: Items::new(given),
+            answers: Items::new(answers),
+        };
+        (transcript, ClientEnd::Served)
+    }
+}
+
+/// A monitor that counts the boards that it is shown, and keeps the version of the last.
+#[derive(Drop)]
+struct Counts<'a> {
+    boards: &'a AtomicU64,
+    version: &'a AtomicU64,
+}
+
+impl<'a> Monitor for Counts<'a> {
+    fn wait(&mut self) {
+        spin_loop();
+    }
+
+    fn show(&mut self, board: &Board) {
+        self.boards.fetch_add(1, SeqCst);
+        self.version.store(board.version, SeqCst);
+    }
+}
+
+#[test]
+fn the_last_board_of_a_service_is_shown(rt: HostRuntime) -> Result<(), Fail> {
+    let alloc = rt.alloc();
+    let setup = setup(alloc)?.edition(Edition::Two);
+    let one = Prepared::new(alloc, script(alloc, FIRST_FILES)?)?;
+    let other = Prepared::new(alloc, script(alloc, OTHER_FILES)?)?;
+    let clients = vec![in alloc; one, other]?;
+    let (boards, version) = (AtomicU64::new(0), AtomicU64::new(0));
+    let monitor = Counts {
+        boards: &boards,
+        version: &version,
+    };
+    let Ok(service) = serve(&rt, alloc, setup, clients, Some(monitor), 0) else {
+        return Err(Fail::from("an outcome"));
+    };
+    let entries = service.outcome.journal.entries().len();
+    let lines = service.outcome.transcripts.as_slice()[0].lines.as_slice().len();
+    assert_eq!(rt; (entries, lines, service.ends.len()), (6, 3, 2));
+    assert_eq!(rt; version.load(SeqCst), 6);
+    assert!(rt; boards.load(SeqCst) > 0);
+    Ok(())
+}
