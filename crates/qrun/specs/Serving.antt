@@ -32,8 +32,9 @@ pub record IsOfClients (scripts : List (Option (List Line))) (ends : ℕ) (o : O
 
 -- ---- what no public clause cites
 
--- a new seat for each of N clients, and the next for who looks at the boards, where there is a monitor; and no other seat
-pub record IsStaff (setting : Setting) (clients parts : ℕ) (seats : List Seated) (observer : Option Seated) : Type 0 where
+-- a new seat for each of N clients, and the next for who looks at the boards, where there is a monitor; and no other
+pub record IsStaff (setting : Setting) (clients parts : ℕ) (seats : List Seated) (observer : Option Seated)
+    : Type 0 where
   pub monitors : ℕ
   pub can : CanServe setting clients monitors
   pub parts_are : parts ≡ seats_for clients monitors

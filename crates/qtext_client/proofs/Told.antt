@@ -14,7 +14,8 @@ one_more : (bytes : List ℕ) (answers : List (Result Receipt CallFault)) (telli
 one_more bytes answers telling told = record {
   tellings = told.tellings ++ telling ∷ [];
   text = ap (λ l. l ++ telling_text telling) told.text
-      ∙ sym (flat_map-append telling_text told.tellings (telling ∷ []) ∙ ap (λ l. flat_map telling_text told.tellings ++ l) (append-nil (telling_text telling)));
+      ∙ sym (flat_map-append telling_text told.tellings (telling ∷ [])
+      ∙ ap (λ l. flat_map telling_text told.tellings ++ l) (append-nil (telling_text telling)));
   told = ap (λ l. l ++ answer_in telling) told.told
       ∙ sym (flat_map-append answer_in told.tellings (telling ∷ []) ∙ ap (λ l. flat_map answer_in told.tellings ++ l) (append-nil (answer_in telling)));
 }

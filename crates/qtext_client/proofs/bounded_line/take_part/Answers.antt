@@ -11,7 +11,8 @@ returns-then-end-len-clause-takes g c =
     let rested = c.fill_buf.follows.lender-at-none in
     let filled = subst (FillKeeps _ (g.R.Read.remaining rested) (g.R.BufRead.consumable_len rested)) c.in-Ok.is c.fill_buf.follows.holds-at-none in (
       takes_nothing _ _ _ filled.0,
-      too_long _ c.in-Ok.shown.now _ c.len_through-end.result c.len_through-end.ensures.line (omega (arith, c.if-end-len.true, c.requires)) c.in-Ok.ensures.front,
+      too_long _ c.in-Ok.shown.now _ c.len_through-end.result c.len_through-end.ensures.line
+          (omega (arith, c.if-end-len.true, c.requires)) c.in-Ok.ensures.front,
     )
 
 pub returns-then-last-clause-takes : goal.returns-then-last-clause-takes
