@@ -1,7 +1,7 @@
 //! From bytes to bytes: the whole program over any files and writers, and the names that it is made of.
 #![tactic(auto)]
 
-pub use files::{FileFault, Files};
+pub use files::{FileFault, Files, NamedStreams};
 pub use finishing::{Refuser, write_run, write_service};
 pub use program::tool;
 pub use qaudit::report;

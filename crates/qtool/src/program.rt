@@ -11,7 +11,7 @@ use crate::ending::Ending;
 use crate::overwriting::test_journal;
 use crate::serving::{Asked, serve_job};
 use crate::{
-    Config, ConfigFault, FileFault, Files, FromText, Job, LineFault, NoGate, Options, Outcome,
+    Config, ConfigFault, FileFault, Files, FromText, Job, LineFault, NamedStreams, NoGate, Options, Outcome,
     Refuser, RunFault, Script, TextFault, TextKind, TextReplayFault, replay_text, run_with,
     write_run,
 };
@@ -187,7 +187,7 @@ fn do_job<F, O, E, R>(
     err: &mut E,
 ) -> Result<(), Ending>
 where
-    F: Files + Send,
+    F: Files + NamedStreams + Send,
     O: Write,
     E: Write,
     R: Threads + Wait + Clock + Sync,
@@ -263,7 +263,7 @@ pub fn tool<F, O, E, R>(
     err: &mut E,
 ) -> u8
 where
-    F: Files + Send,
+    F: Files + NamedStreams + Send,
     O: Write,
     E: Write,
     R: Threads + Wait + Clock + Sync,
