@@ -1,7 +1,7 @@
 //! The whole program over files, output and fault lines.
 ghost use Rattle.std.specs.Prelude.{◌≡◌, ◌<◌, ◌≤◌, ◌⊎◌, ◌↔◌, length, map, string_bytes, Err, IfErr, IfOk, OnOk};
 ghost use Rattle.qplain.specs.declared.bounds.TheConstants.{MAX_WORKERS};
-ghost use Rattle.qtool.specs.Endings.{IsStatus, IsUntouchedBy};
+ghost use Rattle.qtool.specs.Endings.{IsLeftBy, IsStatus, IsUntouchedBy};
 ghost use Rattle.qtool.specs.Jobs.{HasBatch, HasScript, HasSeats, IsUntouched};
 ghost use Rattle.qtool.specs.declared.ending.Ending.TheVariants.{Output, TooManyScripts, TooManyWithBoards};
 
@@ -239,6 +239,32 @@ where
     }
 }
 
+/// Reads the words, and does what they ask for.
+
+fn do_words<F, O, E, R>(
+    rt: &R,
+    alloc: Global,
+    seed: u64,
+    words: &[String],
+    files: &mut F,
+    out: &mut O,
+    err: &mut E,
+) -> Result<(), Ending>
+where
+    F: Files + NamedStreams + Send,
+    O: Write,
+    E: Write,
+    R: Threads + Wait + Clock + Sync,
+    ensures { IfErr result (λ ending. (ending ≡ Output)
+        ⊎ IsLeftBy (map (λ w. string_bytes w) words.now) (O.contents out.old) (O.contents out.new)) }
+{
+    match Job::read(alloc, words) {
+        Ok(job) => do_job(rt, alloc, seed, &job, files, out, err),
+        Err(LineFault::Line { help, text }) => Err(Ending::Line { help, text }),
+        Err(LineFault::Memory) => Err(Ending::Memory),
+    }
+}
+
 /// The whole program: reads the words of the command line, its own name the first of them, reads the files that they
 /// name, runs the scripts or plays the journal, writes what came of it to the output and then, where it is asked for,
 /// the journal of the run to a file, and answers the exit status.
@@ -253,6 +279,7 @@ where
 ///
 /// `seed` is any number, best one that nobody knows beforehand: where it is known, names can be searched that collide,
 /// and then calls take long. Neither the output nor the status depends on it.
+#[tactic(auto, using(crate::proofs::Endings::untouched_by_words))]
 pub fn tool<F, O, E, R>(
     rt: &R,
     alloc: Global,
@@ -271,12 +298,7 @@ where
     ensures untouched { IsUntouchedBy (map (λ w. string_bytes w) words.now) result (O.contents out.old)
         (O.contents out.new) }
 {
-    let done = match Job::read(alloc, words) {
-        Ok(job) => do_job(rt, alloc, seed, &job, files, out, err),
-        Err(LineFault::Line { help, text }) => Err(Ending::Line { help, text }),
-        Err(LineFault::Memory) => Err(Ending::Memory),
-    };
-    match done {
+    match do_words(rt, alloc, seed, words, files, out, err) {
         Ok(()) => 0,
         Err(ending) => ending.tell(out, err),
     }
