@@ -205,7 +205,11 @@ pub(crate) fn put_client_fault<E: Write>(
     words: &str,
     name: &str,
 ) -> Result<(), RefusedWrite> {
-    let pieces = [Piece::Text(b"quotafs: client "), Piece::Number(client), Piece::Text(b": ")];
+    let pieces = [
+        Piece::Text(b"quotafs: client "),
+        Piece::Number(client),
+        Piece::Text(b": "),
+    ];
     put_pieces(err, &pieces)?;
     put(err, words.as_bytes())?;
     put_name(err, name.as_bytes())?;

@@ -19,9 +19,7 @@ pub use qtext_config::{Config, ConfigFault};
 pub use qtext_files::{FromText, write_journal};
 pub use qtext_job::{Job, LineFault};
 pub use qtext_outcome::{WriteFault, write_outcome};
-pub use qtool_runs::{
-    TextReplayFault, check_boards, replay, replay_text, run, run_with, serve,
-};
+pub use qtool_runs::{TextReplayFault, check_boards, replay, replay_text, run, run_with, serve};
 
 mod board_file;
 mod clashes;

@@ -5,15 +5,15 @@ ghost use Rattle.qtool.specs.Endings.{IsLeftBy, IsStatus, IsUntouchedBy};
 ghost use Rattle.qtool.specs.Jobs.{HasBatch, HasScript, HasSeats, IsUntouched};
 ghost use Rattle.qtool.specs.declared.ending.Ending.TheVariants.{Output, TooManyScripts, TooManyWithBoards};
 
-use crate::client_names::names_of;
 use crate::clashes::ServiceNames;
+use crate::client_names::names_of;
 use crate::ending::Ending;
 use crate::overwriting::test_journal;
 use crate::serving::{Asked, serve_job};
 use crate::{
-    Config, ConfigFault, FileFault, Files, FromText, Job, LineFault, NamedStreams, NoGate, Options, Outcome,
-    Refuser, RunFault, Script, TextFault, TextKind, TextReplayFault, replay_text, run_with,
-    write_run,
+    Config, ConfigFault, FileFault, Files, FromText, Job, LineFault, NamedStreams, NoGate, Options,
+    Outcome, Refuser, RunFault, Script, TextFault, TextKind, TextReplayFault, replay_text,
+    run_with, write_run,
 };
 use qplain::MAX_WORKERS;
 use std::alloc::Global;
@@ -40,7 +40,11 @@ fn load<F: Files>(alloc: Global, files: &mut F, name: &str) -> Result<Vec<u8>, E
 }
 
 /// Reads the configuration. One that is not UTF-8 cannot be read.
-pub(crate) fn configuration<F: Files>(alloc: Global, files: &mut F, name: &str) -> Result<Config, Ending> {
+pub(crate) fn configuration<F: Files>(
+    alloc: Global,
+    files: &mut F,
+    name: &str,
+) -> Result<Config, Ending> {
     let bytes = load(alloc, files, name)?;
     let Ok(text) = std::str::from_utf8(&bytes) else {
         return Err(unreadable(alloc, name));
@@ -240,7 +244,6 @@ where
 }
 
 /// Reads the words, and does what they ask for.
-
 fn do_words<F, O, E, R>(
     rt: &R,
     alloc: Global,
@@ -279,7 +282,6 @@ where
 ///
 /// `seed` is any number, best one that nobody knows beforehand: where it is known, names can be searched that collide,
 /// and then calls take long. Neither the output nor the status depends on it.
-#[tactic(auto, using(crate::proofs::Endings::untouched_by_words))]
 pub fn tool<F, O, E, R>(
     rt: &R,
     alloc: Global,

@@ -36,7 +36,9 @@ fn test_seats(clients: u64, board: Option<&str>) -> Result<(), Ending>
 }
 
 /// A client over streams by name, of whose faults it is told at once.
-type NamedClient<F> = StreamClient<ToldStreams<<F as NamedStreams>::Streams, <F as NamedStreams>::Faults>>;
+type NamedClient<F> = StreamClient<
+    ToldStreams<<F as NamedStreams>::Streams, <F as NamedStreams>::Faults>,
+>;
 
 /// The client of this number, none of whose streams is opened yet.
 fn client_of<F: NamedStreams>(
@@ -99,11 +101,7 @@ fn monitor_of<'a, F: Files, R: Clock>(
 }
 
 /// What is wrong with the names of a service, or with how many clients there are, where anything is.
-fn test_names<F: Files>(
-    alloc: Global,
-    files: &mut F,
-    names: ServiceNames<'_>,
-) -> Result<(), Ending>
+fn test_names<F: Files>(alloc: Global, files: &mut F, names: ServiceNames<'_>) -> Result<(), Ending>
     ensures { OnOk result
         (seats_for (length names.entry.clients.now) (monitors_in names.entry.board) ≤ MAX_SEATS) }
 {

@@ -48,6 +48,7 @@ impl<S: Streams + Drop, E: Write + Drop> ToldStreams<S, E> {
 
 impl<S: Streams + Drop, E: Write + Drop> Streams for ToldStreams<S, E> {
     type In = S::In;
+
     type Out = S::Out;
 
     fn open(&mut self) -> Result<Pair<S::In, S::Out>, ClientEnd> {

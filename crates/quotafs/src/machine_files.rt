@@ -72,6 +72,7 @@ impl Files for MachineFiles<'_> {
 
 impl<'a> NamedStreams for MachineFiles<'a> {
     type Streams = ClientStreams<'a>;
+
     type Faults = BufWriter<Stderr>;
 
     fn faults(&self) -> Result<BufWriter<Stderr>, NoMemory> {

@@ -128,6 +128,7 @@ impl Files for MemoryFiles<'_> {
 
 impl NamedStreams for MemoryFiles<'_> {
     type Streams = MemoryStreams;
+
     type Faults = Short;
 
     fn faults(&self) -> Result<Short, NoMemory> {
