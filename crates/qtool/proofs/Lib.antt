@@ -1,3 +1,4 @@
--- What a writer holds that refuses to be flushed, and what a draft holds.
+-- What a writer holds that refuses to be flushed, what a draft holds, and what an ending leaves.
 pub mod Drafts
+pub mod Endings
 pub mod Flushes

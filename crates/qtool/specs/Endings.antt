@@ -16,6 +16,10 @@ IsUntouchedAt status old new = (status ≡ 2) ⊎ (status ≡ 3) → new ≡ old
 abbrev pub AskForService : List (List ℕ) → Type 0
 AskForService words = (job : Job) × IsAskedBy words job × IsService job
 
--- the same, unless the words ask for a service
+-- words that have come to nothing leave the output as it was, unless they ask for a service
+abbrev pub IsLeftBy : List (List ℕ) → Option (List ℕ) → Option (List ℕ) → Type 0
+IsLeftBy words old new = (new ≡ old) ⊎ AskForService words
+
+-- the output is as it was at such a status, unless the words ask for a service
 abbrev pub IsUntouchedBy : List (List ℕ) → ℕ → Option (List ℕ) → Option (List ℕ) → Type 0
 IsUntouchedBy words status old new = IsUntouchedAt status old new ⊎ AskForService words

@@ -21,18 +21,12 @@ pub(crate) struct BoardFile<'a, F: Files, R: Clock> {
     pub(crate) refused: &'a mut bool,
 }
 
-impl<F: Files, R: Clock> BoardFile<'_, F, R> {
-    /// Writes a board as a draft, and puts that in the place of the board before.
-    fn replace(&mut self, board: &Board) -> Result<(), RefusedWrite> {
-        let Ok(mut draft) = self.files.draft(self.name) else {
-            return Err(RefusedWrite);
-        };
-        if put_metrics(&mut draft, &self.setup, board).is_err() || draft.flush().is_err() {
-            self.files.give_up(draft);
-            return Err(RefusedWrite);
-        }
-        self.files.show(draft, self.name).map_err(|_| RefusedWrite)
+/// Writes a board, and flushes it.
+fn finish_board<W: Write>(setup: &Setup, board: &Board, out: &mut W) -> Result<(), RefusedWrite> {
+    if put_metrics(out, setup, board).is_err() || out.flush().is_err() {
+        return Err(RefusedWrite);
     }
+    Ok(())
 }
 
 impl<F: Files, R: Clock> Monitor for BoardFile<'_, F, R> {
@@ -40,9 +34,20 @@ impl<F: Files, R: Clock> Monitor for BoardFile<'_, F, R> {
         thread::sleep(self.clock, Duration::from_millis(PAUSE));
     }
 
+    /// Writes the board as a draft, and puts that in the place of the board before.
     fn show(&mut self, board: &Board) {
-        if !*self.refused {
-            *self.refused = self.replace(board).is_err();
+        if *self.refused {
+            return;
+        }
+        let Ok(mut draft) = self.files.draft(self.name) else {
+            *self.refused = true;
+            return;
+        };
+        if finish_board(&self.setup, board, &mut draft).is_err() {
+            *self.refused = true;
+            self.files.give_up(draft);
+        } else {
+            *self.refused = self.files.show(draft, self.name).is_err();
         }
     }
 }

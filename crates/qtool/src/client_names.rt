@@ -1,5 +1,5 @@
 //! The names of a service: of the streams of its clients, and of what it reads and writes besides.
-ghost use Rattle.std.specs.Prelude.{◌≡◌, ◌<◌, ◌≤◌, IfOk, length};
+ghost use Rattle.std.specs.Prelude.{◌<◌, IfOk, length};
 
 use crate::Files;
 use qplain::NoMemory;
@@ -18,20 +18,20 @@ pub(crate) struct ClientNames<'a> {
 
 /// The names of all clients; of one on standard input and output where none is named.
 pub(crate) fn names_of(alloc: Global, pairs: &[Pair]) -> Result<Vec<ClientNames<'_>>, NoMemory>
-    ensures { IfOk result (λ names. (0 < length names.items) × (length names.items ≤ length pairs.now + 1)) }
+    ensures { IfOk result (λ names. 0 < length names.items) }
 {
-    let mut names = Vec::with_capacity(alloc, pairs.len() + 1)?;
+    let mut names = Vec::new(alloc);
     for pair in pairs {
-        names.push_reserved(ClientNames {
+        names.push(ClientNames {
             input: pair.input.as_str(),
             output: pair.output.as_str(),
-        });
+        })?;
     }
     if names.is_empty() {
-        names.push_reserved(ClientNames {
+        names.push(ClientNames {
             input: STANDARD,
             output: STANDARD,
-        });
+        })?;
     }
     Ok(names)
 }

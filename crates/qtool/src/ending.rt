@@ -199,16 +199,20 @@ fn put_named<'a, E: Write>(
 }
 
 /// Writes what became of the stream of this name, which is a client's.
-pub(crate) fn put_client_fault<'a, E: Write>(
+pub(crate) fn put_client_fault<E: Write>(
     err: &mut E,
     client: u64,
-    words: &'a [u8],
-    name: &'a [u8],
+    words: &str,
+    name: &str,
 ) -> Result<(), RefusedWrite> {
-    let pieces = [Piece::Text(b"quotafs: client "), Piece::Number(client), Piece::Text(b": ")];
+    let pieces = [
+        Piece::Text(b"quotafs: client "),
+        Piece::Number(client),
+        Piece::Text(b": "),
+    ];
     put_pieces(err, &pieces)?;
-    put(err, words)?;
-    put_name(err, name)?;
+    put(err, words.as_bytes())?;
+    put_name(err, name.as_bytes())?;
     put(err, b"\n")
 }
 

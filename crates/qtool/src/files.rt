@@ -1,4 +1,4 @@
-//! Files by name, as the program asks for them.
+//! Files and streams of clients by name, as the program asks for them.
 ghost use Rattle.std.specs.Prelude.{◌≡◌, ℕ, List, [], Option, None, Some, IfOk, IsSome, OnErr, OnOk};
 ghost use Rattle.qtool.specs.Held.{IsKept};
 
@@ -21,11 +21,7 @@ pub trait Files {
     /// What stands under each name, a text or nothing, where these files tell it.
     ghost held: { Self → Option (List ℕ → Option (List ℕ)) } = { λ _. None };
 
-    type Draft: Write + Drop;
-
-    type Streams: Streams + Drop + Send;
-
-    type Faults: Write + Drop + Send;
+    type Draft: Write + Drop + Send;
 
     /// The bytes of a file. An Err gives none of them.
     fn read(&mut self, name: &str) -> Result<Vec<u8>, FileFault>;
@@ -54,13 +50,20 @@ pub trait Files {
             → OnOk result (IsKept (held self.old) (held self.new) name.now text) }
         ensures err { OnErr result (held self.new ≡ held self.old) };
 
-    /// The streams of a client by name, none of which is opened yet: `-` is standard input or output.
-    fn streams(&self, input: &str, output: &str) -> Result<Self::Streams, NoMemory>;
-
-    /// A writer of fault lines, for a thread of its own.
-    fn faults(&self) -> Result<Self::Faults, NoMemory>;
-
     /// Takes a draft away.
     fn give_up(&mut self, draft: Self::Draft)
         ensures same { held self.new ≡ held self.old };
+}
+
+/// The streams of clients by name, each client's for a thread of its own.
+pub trait NamedStreams {
+    type Streams: Streams<In: Send, Out: Send> + Drop + Send;
+
+    type Faults: Write + Drop + Send;
+
+    /// The streams of a client, none of which is opened yet: `-` is standard input or output.
+    fn streams(&self, input: &str, output: &str) -> Result<Self::Streams, NoMemory>;
+
+    /// A writer of fault lines.
+    fn faults(&self) -> Result<Self::Faults, NoMemory>;
 }

@@ -1,7 +1,7 @@
 //! From bytes to bytes: the whole program over any files and writers, and the names that it is made of.
 #![tactic(auto)]
 
-pub use files::{FileFault, Files};
+pub use files::{FileFault, Files, NamedStreams};
 pub use finishing::{Refuser, write_run, write_service};
 pub use program::tool;
 pub use qaudit::report;
@@ -19,9 +19,7 @@ pub use qtext_config::{Config, ConfigFault};
 pub use qtext_files::{FromText, write_journal};
 pub use qtext_job::{Job, LineFault};
 pub use qtext_outcome::{WriteFault, write_outcome};
-pub use qtool_runs::{
-    TextReplayFault, check_boards, replay, replay_text, run, run_with, serve,
-};
+pub use qtool_runs::{TextReplayFault, check_boards, replay, replay_text, run, run_with, serve};
 
 mod board_file;
 mod clashes;

@@ -1,19 +1,19 @@
 //! The whole program over files, output and fault lines.
 ghost use Rattle.std.specs.Prelude.{◌≡◌, ◌<◌, ◌≤◌, ◌⊎◌, ◌↔◌, length, map, string_bytes, Err, IfErr, IfOk, OnOk};
 ghost use Rattle.qplain.specs.declared.bounds.TheConstants.{MAX_WORKERS};
-ghost use Rattle.qtool.specs.Endings.{IsStatus, IsUntouchedBy};
+ghost use Rattle.qtool.specs.Endings.{IsLeftBy, IsStatus, IsUntouchedBy};
 ghost use Rattle.qtool.specs.Jobs.{HasBatch, HasScript, HasSeats, IsUntouched};
 ghost use Rattle.qtool.specs.declared.ending.Ending.TheVariants.{Output, TooManyScripts, TooManyWithBoards};
 
-use crate::client_names::names_of;
 use crate::clashes::ServiceNames;
+use crate::client_names::names_of;
 use crate::ending::Ending;
 use crate::overwriting::test_journal;
 use crate::serving::{Asked, serve_job};
 use crate::{
-    Config, ConfigFault, FileFault, Files, FromText, Job, LineFault, NoGate, Options, Outcome,
-    Refuser, RunFault, Script, TextFault, TextKind, TextReplayFault, replay_text, run_with,
-    write_run,
+    Config, ConfigFault, FileFault, Files, FromText, Job, LineFault, NamedStreams, NoGate, Options,
+    Outcome, Refuser, RunFault, Script, TextFault, TextKind, TextReplayFault, replay_text,
+    run_with, write_run,
 };
 use qplain::MAX_WORKERS;
 use std::alloc::Global;
@@ -40,7 +40,11 @@ fn load<F: Files>(alloc: Global, files: &mut F, name: &str) -> Result<Vec<u8>, E
 }
 
 /// Reads the configuration. One that is not UTF-8 cannot be read.
-pub(crate) fn configuration<F: Files>(alloc: Global, files: &mut F, name: &str) -> Result<Config, Ending> {
+pub(crate) fn configuration<F: Files>(
+    alloc: Global,
+    files: &mut F,
+    name: &str,
+) -> Result<Config, Ending> {
     let bytes = load(alloc, files, name)?;
     let Ok(text) = std::str::from_utf8(&bytes) else {
         return Err(unreadable(alloc, name));
@@ -187,7 +191,7 @@ fn do_job<F, O, E, R>(
     err: &mut E,
 ) -> Result<(), Ending>
 where
-    F: Files + Send,
+    F: Files + NamedStreams + Send,
     O: Write,
     E: Write,
     R: Threads + Wait + Clock + Sync,
@@ -239,6 +243,31 @@ where
     }
 }
 
+/// Reads the words, and does what they ask for.
+fn do_words<F, O, E, R>(
+    rt: &R,
+    alloc: Global,
+    seed: u64,
+    words: &[String],
+    files: &mut F,
+    out: &mut O,
+    err: &mut E,
+) -> Result<(), Ending>
+where
+    F: Files + NamedStreams + Send,
+    O: Write,
+    E: Write,
+    R: Threads + Wait + Clock + Sync,
+    ensures { IfErr result (λ ending. (ending ≡ Output)
+        ⊎ IsLeftBy (map (λ w. string_bytes w) words.now) (O.contents out.old) (O.contents out.new)) }
+{
+    match Job::read(alloc, words) {
+        Ok(job) => do_job(rt, alloc, seed, &job, files, out, err),
+        Err(LineFault::Line { help, text }) => Err(Ending::Line { help, text }),
+        Err(LineFault::Memory) => Err(Ending::Memory),
+    }
+}
+
 /// The whole program: reads the words of the command line, its own name the first of them, reads the files that they
 /// name, runs the scripts or plays the journal, writes what came of it to the output and then, where it is asked for,
 /// the journal of the run to a file, and answers the exit status.
@@ -263,7 +292,7 @@ pub fn tool<F, O, E, R>(
     err: &mut E,
 ) -> u8
 where
-    F: Files + Send,
+    F: Files + NamedStreams + Send,
     O: Write,
     E: Write,
     R: Threads + Wait + Clock + Sync,
@@ -271,12 +300,7 @@ where
     ensures untouched { IsUntouchedBy (map (λ w. string_bytes w) words.now) result (O.contents out.old)
         (O.contents out.new) }
 {
-    let done = match Job::read(alloc, words) {
-        Ok(job) => do_job(rt, alloc, seed, &job, files, out, err),
-        Err(LineFault::Line { help, text }) => Err(Ending::Line { help, text }),
-        Err(LineFault::Memory) => Err(Ending::Memory),
-    };
-    match done {
+    match do_words(rt, alloc, seed, words, files, out, err) {
         Ok(()) => 0,
         Err(ending) => ending.tell(out, err),
     }

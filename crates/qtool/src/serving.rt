@@ -10,7 +10,7 @@ use crate::client_names::{ClientNames, STANDARD};
 use crate::ending::Ending;
 use crate::program::{configuration, ending_of_run};
 use crate::told_streams::ToldStreams;
-use crate::{Files, Outcome, Setup, serve, write_service};
+use crate::{Files, NamedStreams, Outcome, Setup, serve, write_service};
 use qplain::{MAX_WORKERS, NoMemory};
 use qrun::Service;
 use qrun_client::ClientEnd;
@@ -24,7 +24,7 @@ use std::time::Clock;
 
 /// Tests that there is a seat for each client, and one more where a board is written.
 fn test_seats(clients: u64, board: Option<&str>) -> Result<(), Ending>
-    ensures { OnOk result (seats_for clients (monitors_in board) ≤ MAX_SEATS) }
+    ensures { OnOk result (seats_for clients (monitors_in board.entry) ≤ MAX_SEATS) }
 {
     if clients > MAX_WORKERS {
         return Err(Ending::TooManyClients);
@@ -36,10 +36,12 @@ fn test_seats(clients: u64, board: Option<&str>) -> Result<(), Ending>
 }
 
 /// A client over streams by name, of whose faults it is told at once.
-type NamedClient<F> = StreamClient<ToldStreams<<F as Files>::Streams, <F as Files>::Faults>>;
+type NamedClient<F> = StreamClient<
+    ToldStreams<<F as NamedStreams>::Streams, <F as NamedStreams>::Faults>,
+>;
 
 /// The client of this number, none of whose streams is opened yet.
-fn client_of<F: Files>(
+fn client_of<F: NamedStreams>(
     alloc: Global,
     files: &F,
     client: u64,
@@ -58,7 +60,7 @@ fn client_of<F: Files>(
 }
 
 /// A client for each pair of names.
-fn clients_of<F: Files>(
+fn clients_of<F: NamedStreams>(
     alloc: Global,
     files: &F,
     names: &[ClientNames<'_>],
@@ -66,10 +68,10 @@ fn clients_of<F: Files>(
     ensures many { IfOk result (λ clients. length clients.items ≡ length names.now) }
     ensures new { IfOk result (λ clients. All (λ c. (c.given ≡ []) × (c.told ≡ [])) clients.items) }
 {
-    let mut clients = Vec::with_capacity(alloc, names.len())?;
+    let mut clients = Vec::new(alloc);
     for names in names {
         let client = client_of(alloc, files, clients.len() as u64 + 1, names)?;
-        clients.push_reserved(client);
+        clients.push(client)?;
     }
     Ok(clients)
 }
@@ -83,7 +85,7 @@ fn monitor_of<'a, F: Files, R: Clock>(
     setup: &Setup,
     refused: &'a mut bool,
 ) -> Result<Option<BoardFile<'a, F, R>>, NoMemory>
-    ensures { IfOk result (λ monitor. monitors_in monitor ≡ monitors_in board) }
+    ensures { IfOk result (λ monitor. monitors_in monitor ≡ monitors_in board.entry) }
 {
     let Some(name) = board else {
         return Ok(None);
@@ -99,12 +101,9 @@ fn monitor_of<'a, F: Files, R: Clock>(
 }
 
 /// What is wrong with the names of a service, or with how many clients there are, where anything is.
-fn test_names<F: Files>(
-    alloc: Global,
-    files: &mut F,
-    names: ServiceNames<'_>,
-) -> Result<(), Ending>
-    ensures { OnOk result (seats_for (length names.clients.now) (monitors_in names.board) ≤ MAX_SEATS) }
+fn test_names<F: Files>(alloc: Global, files: &mut F, names: ServiceNames<'_>) -> Result<(), Ending>
+    ensures { OnOk result
+        (seats_for (length names.entry.clients.now) (monitors_in names.entry.board) ≤ MAX_SEATS) }
 {
     test_seats(names.clients.len() as u64, names.board)?;
     match find_clash(alloc, files, names)? {
@@ -115,7 +114,7 @@ fn test_names<F: Files>(
 
 /// Serves the clients of these names until all have ended, and tells besides whether the file for boards has refused.
 /// Too many clients are reported first, before any file is touched, then names that clash, then the configuration.
-pub(crate) fn serve_of<F: Files + Send, R: Threads + Wait + Clock + Sync>(
+pub(crate) fn serve_of<F: Files + NamedStreams + Send, R: Threads + Wait + Clock + Sync>(
     rt: &R,
     alloc: Global,
     seed: u64,
@@ -182,7 +181,7 @@ pub(crate) fn serve_job<F, O, E, R>(
     err: &mut E,
 ) -> Result<(), Ending>
 where
-    F: Files + Send,
+    F: Files + NamedStreams + Send,
     O: Write,
     E: Write,
     R: Threads + Wait + Clock + Sync,

@@ -15,24 +15,40 @@ pub(crate) struct ToldStreams<S: Streams + Drop, E: Write + Drop> {
     pub(crate) output: String,
 }
 
+/// What is told of a client that was not served to its end, before the name of the stream that is at fault.
+fn words_of(end: ClientEnd) -> Option<&'static str> {
+    match end {
+        ClientEnd::Served => None,
+        ClientEnd::NoInput | ClientEnd::NoOutput => Some("cannot open "),
+        ClientEnd::Input => Some("cannot read "),
+        ClientEnd::Output => Some("cannot write "),
+        ClientEnd::Memory => Some("memory for "),
+    }
+}
+
+/// The name of the stream that is at fault, of these two.
+fn name_of<'a>(end: ClientEnd, input: &'a str, output: &'a str) -> &'a str {
+    match end {
+        ClientEnd::NoOutput | ClientEnd::Output => output,
+        _ => input,
+    }
+}
+
 impl<S: Streams + Drop, E: Write + Drop> ToldStreams<S, E> {
     /// Writes and flushes a line, whatever becomes of it, where a client was not served to its end.
     fn tell(&mut self, end: ClientEnd) {
-        let (words, name): (&[u8], _) = match end {
-            ClientEnd::Served => return,
-            ClientEnd::NoInput => (b"cannot open ", &self.input),
-            ClientEnd::NoOutput => (b"cannot open ", &self.output),
-            ClientEnd::Input => (b"cannot read ", &self.input),
-            ClientEnd::Output => (b"cannot write ", &self.output),
-            ClientEnd::Memory => (b"memory for ", &self.input),
+        let Some(words) = words_of(end) else {
+            return;
         };
-        let _ = put_client_fault(&mut self.faults, self.client, words, name.as_bytes());
+        let name = name_of(end, self.input.as_str(), self.output.as_str());
+        let _ = put_client_fault(&mut self.faults, self.client, words, name);
         let _ = self.faults.flush();
     }
 }
 
 impl<S: Streams + Drop, E: Write + Drop> Streams for ToldStreams<S, E> {
     type In = S::In;
+
     type Out = S::Out;
 
     fn open(&mut self) -> Result<Pair<S::In, S::Out>, ClientEnd> {

@@ -94,6 +94,7 @@ fn unopened(error: &io::Error, end: ClientEnd) -> ClientEnd {
 
 impl Streams for ClientStreams<'_> {
     type In = Source;
+
     type Out = Sink;
 
     fn open(&mut self) -> Result<Pair<Source, Sink>, ClientEnd> {

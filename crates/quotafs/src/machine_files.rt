@@ -3,7 +3,7 @@
 use crate::client_streams::ClientStreams;
 use crate::draft::Draft;
 use qplain::NoMemory;
-use qtool::{FileFault, Files};
+use qtool::{FileFault, Files, NamedStreams};
 use std::fs;
 use std::io::{self, BufWriter, ErrorKind, Stderr};
 use std::os::unix::fs::MetadataExt;
@@ -38,10 +38,8 @@ fn are_one_file(rt: &HostRuntime, name: &str, other: &str) -> bool {
     }
 }
 
-impl<'a> Files for MachineFiles<'a> {
+impl Files for MachineFiles<'_> {
     type Draft = Draft;
-    type Streams = ClientStreams<'a>;
-    type Faults = BufWriter<Stderr>;
 
     fn read(&mut self, name: &str) -> Result<Vec<u8>, FileFault> {
         fs::read(self.rt, name).map_err(|error| fault_of(&error))
@@ -67,6 +65,16 @@ impl<'a> Files for MachineFiles<'a> {
         draft.show(self.rt).map_err(|error| fault_of(&error))
     }
 
+    fn give_up(&mut self, draft: Draft) {
+        draft.give_up(self.rt);
+    }
+}
+
+impl<'a> NamedStreams for MachineFiles<'a> {
+    type Streams = ClientStreams<'a>;
+
+    type Faults = BufWriter<Stderr>;
+
     fn faults(&self) -> Result<BufWriter<Stderr>, NoMemory> {
         let faults = BufWriter::with_capacity(self.rt.alloc(), FAULT_BUFFER, self.rt.stderr());
         faults.map_err(|_| NoMemory)
@@ -79,9 +87,5 @@ impl<'a> Files for MachineFiles<'a> {
             input: String::from_str(alloc, input)?,
             output: String::from_str(alloc, output)?,
         })
-    }
-
-    fn give_up(&mut self, draft: Draft) {
-        draft.give_up(self.rt);
     }
 }

@@ -3,7 +3,7 @@
 use crate::memory_streams::MemoryStreams;
 use crate::short::Short;
 use qplain::NoMemory;
-use qtool::{FileFault, Files, tool};
+use qtool::{FileFault, Files, NamedStreams, tool};
 use std::alloc::{AllocError, Global};
 use std::sync::Wait;
 use std::thread::Threads;
@@ -75,8 +75,6 @@ impl<'a> MemoryFiles<'a> {
 
 impl Files for MemoryFiles<'_> {
     type Draft = Short;
-    type Streams = MemoryStreams;
-    type Faults = Short;
 
     fn read(&mut self, name: &str) -> Result<Vec<u8>, FileFault> {
         if name == self.short {
@@ -123,6 +121,16 @@ impl Files for MemoryFiles<'_> {
         self.keep(draft, name)
     }
 
+    fn give_up(&mut self, _draft: Short) {
+        self.drafts = self.drafts.wrapping_sub(1);
+    }
+}
+
+impl NamedStreams for MemoryFiles<'_> {
+    type Streams = MemoryStreams;
+
+    type Faults = Short;
+
     fn faults(&self) -> Result<Short, NoMemory> {
         Ok(Short::new(self.alloc, 0, true))
     }
@@ -133,10 +141,6 @@ impl Files for MemoryFiles<'_> {
             lines: if input == "s.txt" { Some(SCRIPT) } else { None },
             left: self.left,
         })
-    }
-
-    fn give_up(&mut self, _draft: Short) {
-        self.drafts = self.drafts.wrapping_sub(1);
     }
 }
 

@@ -21,6 +21,7 @@ pub(crate) struct MemoryStreams {
 
 impl Streams for MemoryStreams {
     type In = &'static [u8];
+
     type Out = Short;
 
     fn open(&mut self) -> Result<Pair<&'static [u8], Short>, ClientEnd> {

@@ -1,0 +1,5 @@
+use Rattle.qtool.proofs.Endings.{left_by_words}
+use Rattle.qtool.proofs.program.do_words.Goals as goal
+
+pub returns-in-Ok : goal.returns-in-Ok
+returns-in-Ok g c = left_by_words _ c.in-Ok.job _ _ _ c.in-Ok.ensures.job c.do_job.ensures

@@ -1,0 +1,6 @@
+use Rattle.std.proofs.Common.{◌≡◌, [], All, length}
+use Rattle.qtool.proofs.serving.clients_of.Given as goal
+
+abbrev pub invariant-loop-names : goal.invariant-loop-names
+invariant-loop-names g l =
+    (length l.clients.items ≡ l.names-index) × All (λ c. (c.given ≡ []) × (c.told ≡ [])) l.clients.items
