@@ -1,0 +1,14 @@
+use Rattle.std.proofs.Common.{◌≡◌, [], ◌∷◌, ◌++◌, All, length, ap, sym, subst, length-append, arith}
+use Rattle.qtext_client.specs.Talks.{Talk}
+use Rattle.qtool.proofs.Clients.{one_more_new}
+use Rattle.qtool.proofs.serving.clients_of.Goals as goal
+
+pub loop-names-preserved : goal.loop-names-preserved
+loop-names-preserved g c =
+    let pushed = c.in_ok-push.ensures.items in
+    let before = c.loop-names.clients.items in
+    let client = c.in_ok-client.client in (
+      omega (arith, ap length pushed, length-append before (client ∷ []), c.loop-names.invariant.0),
+      subst (All (λ (c : Talk). (c.given ≡ []) × (c.told ≡ []))) (sym pushed)
+          (one_more_new before client c.loop-names.invariant.1 c.in_ok-client.ensures),
+    )
