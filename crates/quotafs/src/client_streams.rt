@@ -63,7 +63,7 @@ pub(crate) struct ClientStreams<'a> {
     pub(crate) output: String,
 }
 
-fn source(rt: &HostRuntime, name: &str) -> io::Result<BufReader<Source>> {
+fn open_source(rt: &HostRuntime, name: &str) -> io::Result<BufReader<Source>> {
     let source = if name == STANDARD {
         Source::Input(rt.stdin())
     } else {
@@ -72,7 +72,7 @@ fn source(rt: &HostRuntime, name: &str) -> io::Result<BufReader<Source>> {
     BufReader::with_capacity(rt.alloc(), INPUT_BUFFER, source)
 }
 
-fn sink(rt: &HostRuntime, name: &str) -> io::Result<BufWriter<Sink>> {
+fn open_sink(rt: &HostRuntime, name: &str) -> io::Result<BufWriter<Sink>> {
     let sink = if name == STANDARD {
         Sink::Output(rt.stdout())
     } else {
@@ -98,11 +98,11 @@ impl Streams for ClientStreams<'_> {
     type Out = Sink;
 
     fn open(&mut self) -> Result<Pair<Source, Sink>, ClientEnd> {
-        let input = match source(self.rt, self.input.as_str()) {
+        let input = match open_source(self.rt, self.input.as_str()) {
             Ok(input) => input,
             Err(error) => return Err(unopened(&error, ClientEnd::NoInput)),
         };
-        match sink(self.rt, self.output.as_str()) {
+        match open_sink(self.rt, self.output.as_str()) {
             Ok(output) => Ok(Pair { input, output }),
             Err(error) => Err(unopened(&error, ClientEnd::NoOutput)),
         }
