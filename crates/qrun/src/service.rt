@@ -98,9 +98,7 @@ where
     };
     let ended = AtomicBool::new(false);
     let showing = Some(Showing::new(rt, alloc, seat, monitor, &ended));
-    serve_and_end(
-        rt, alloc, shared, seats, showing, &ended, clients, seed,
-    )
+    serve_and_end(rt, alloc, shared, seats, showing, &ended, clients, seed)
 }
 
 /// Serves the clients on a shared store of this identity, at whose boards nobody can look.
@@ -129,9 +127,7 @@ where
     };
     let ended = AtomicBool::new(false);
     let nobody = no_showing::<S, M, R>(rt, &ended);
-    serve_and_end(
-        rt, alloc, shared, seats, nobody, &ended, clients, seed,
-    )
+    serve_and_end(rt, alloc, shared, seats, nobody, &ended, clients, seed)
 }
 
 /// Serves 1 to 16 clients on one new store of the setup, which is of edition 2: each by a worker in a thread of its own,

@@ -74,7 +74,7 @@ where
     requires { AreNumbered attendants.items }
     ensures { MatchResult result
         (λ r. AreServed (map (λ a. C.script a.client) attendants.entry.items) r.0.items
-            × IsWatchOf (start S.id.setting) 0 showing.entry r.1)
+        × IsWatchOf (start S.id.setting) 0 showing.entry r.1)
         (λ fault. (n : ℕ) → length attendants.entry.items ≤ n → HasSeatIn n showing.entry → IsFaultOf n fault) }
 {
     thread::scope(
@@ -86,9 +86,9 @@ where
             requires numbered { AreNumbered attendants.items }
             ensures { MatchResult result
                 (λ r. AreServed (map (λ a. C.script a.client) attendants.entry.items) r.0.items
-                    × IsWatchOf (start S.id.setting) 0 showing.entry r.1)
+                × IsWatchOf (start S.id.setting) 0 showing.entry r.1)
                 (λ fault. (n : ℕ) → length attendants.entry.items ≤ n → HasSeatIn n showing.entry
-                    → IsFaultOf n fault) }
+                → IsFaultOf n fault) }
         {
             let mut running = Vec::with_capacity(alloc, attendants.len())?;
             for attendant in attendants {

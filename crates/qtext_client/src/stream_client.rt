@@ -122,9 +122,7 @@ impl<S: Streams + Drop> StreamClient<S> {
     {
         match self.connection.next_line(&mut self.text) {
             Got::End | Got::Refused => Heard::End,
-            _ if self.lines.len() >= MAX_GIVEN => Heard::Fault(LineFault::Text(
-                TextKind::TooMany,
-            )),
+            _ if self.lines.len() >= MAX_GIVEN => Heard::Fault(LineFault::Text(TextKind::TooMany)),
             Got::Text => heard_in(self.alloc, &self.text),
             Got::TooLong => Heard::Fault(LineFault::Length),
             Got::NoMemory => Heard::NoMemory,

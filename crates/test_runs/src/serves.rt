@@ -115,7 +115,10 @@ fn the_last_board_of_a_service_is_shown(rt: HostRuntime) -> Result<(), Fail> {
         return Err(Fail::from("an outcome"));
     };
     let entries = service.outcome.journal.entries().len();
-    let lines = service.outcome.transcripts.as_slice()[0].lines.as_slice().len();
+    let lines = service.outcome.transcripts.as_slice()[0]
+        .lines
+        .as_slice()
+        .len();
     assert_eq!(rt; (entries, lines, service.ends.len()), (6, 3, 2));
     assert_eq!(rt; version.load(SeqCst), 6);
     assert!(rt; boards.load(SeqCst) > 0);

@@ -73,8 +73,7 @@ returns-in-Ok-join_promised g c =
     let rest = into_iter_items c.loop-attendant.attendant-iterator in
     let left : length rest ≡ 0 = sym c.loop-attendant.attendant-iterator.rest.ok.0 ∙ c.in-None.ensures.steps.0 in
     let all : c.loop-attendant.running.len ≡ length attendants =
-    omega (arith, ap length held.1, length-append held.0 rest, left, held.2, ap length given0) in
-    (
+    omega (arith, ap length held.1, length-append held.0 rest, left, held.2, ap length given0) in (
       all_served (λ a. g.C.Client.script a.client) attendants served.items (omega (arith, served.ok.0, c.in-Ok-join_promised.ensures.len, all))
           (λ k s less.
           let low : k < c.loop-attendant.running.len = omega (arith, less, all) in
@@ -102,8 +101,7 @@ returns-in-Ok-joined g c =
     let rest = into_iter_items c.loop-attendant.attendant-iterator in
     let left : length rest ≡ 0 = sym c.loop-attendant.attendant-iterator.rest.ok.0 ∙ c.in-None.ensures.steps.0 in
     let all : c.loop-attendant.running.len ≡ length attendants =
-    omega (arith, ap length held.1, length-append held.0 rest, left, held.2, ap length given0) in
-    (
+    omega (arith, ap length held.1, length-append held.0 rest, left, held.2, ap length given0) in (
       all_served (λ a. g.C.Client.script a.client) attendants served.items (omega (arith, served.ok.0, c.in-Ok-joined.ensures.len, all))
           (λ k s less.
           let low : k < c.loop-attendant.running.len = omega (arith, less, all) in
