@@ -130,19 +130,19 @@ where
     serve_and_end(rt, alloc, shared, seats, nobody, &ended, clients, seed)
 }
 
-/// Serves 1 to 16 clients on one new store of the setup, which is of edition 2: each by a worker in a thread of its own,
-/// line by line, until it has no more lines. Beside a monitor the clients are at most 15, and one thread more, whose
-/// number is theirs and 1, shows it the boards as they come, and the last one when all clients have ended; else nobody
-/// can look at boards, and calls take less.
+/// Serves 1 to 16 clients on one new store of the setup, which is of edition 2: each by a worker in a thread of its
+/// own, line by line, until it has no more lines. Beside a monitor the clients are at most 15, and one thread more,
+/// whose number is theirs and 1, shows it the boards as they come, and the last one when all clients have ended; else
+/// nobody can look at boards, and calls take less.
 ///
-/// What is left is as of `run_scripts`, over the lines that the clients have handed out: worker k serves client k, whose
-/// transcript has its lines and what it was told. A line may fail with JournalFull, and does so only where the journal
-/// has its 1,048,576 entries. The outcome keeps no boards.
+/// What is left is as of `run_scripts`, over the lines that the clients have handed out: worker k serves client k,
+/// whose transcript has its lines and what it was told. A line may fail with JournalFull, and does so only where the
+/// journal has its 1,048,576 entries. The outcome keeps no boards.
 ///
 /// This is promised if the service returns: a client that does not end holds it up, and no other client. The hashes of
 /// names begin at `seed`, which may be any number; nothing of the outcome depends on it. An Err is Memory, NoReader, or
-/// NotStarted with the first thread that was refused; then the clients of all workers that were started have been served
-/// to their ends, and the store is given up.
+/// NotStarted with the first thread that was refused; then the clients of all workers that were started have been
+/// served to their ends, and the store is given up.
 pub fn serve<C, M, R>(
     rt: &R,
     alloc: Global,
