@@ -144,7 +144,8 @@ pub fn replay(
     ensures mismatch { (place : ℕ) → result ≡ Err (Mismatch place)
         → IsFirstMismatch (start (in_edition journal.now.edition setup)) journal.now.entries place }
 
-    // The journal that workers have left under this setup gives back what they have left, but for the lines that failed.
+    // The journal that workers have left under this setup gives back what they have left, but for the lines that
+    // failed.
     ensures of_a_run { (lines : List (List Line)) (run : Outcome) → IsLeftByWorkers setup lines run
         → journal.now ≡ run.journal → GivesBack run result }
 {

@@ -1,5 +1,6 @@
 -- What workers have done, of whom each plays a script or serves a client.
-use Rattle.std.specs.Prelude.{◌≡◌, ℕ, ◌+◌, ◌<◌, ◌≤◌, ◌⊎◌, List, [], ◌∷◌, length, All, Option, IfSome, Result, Err, slice_index_or}
+use Rattle.std.specs.Prelude.{◌≡◌, ℕ, ◌+◌, ◌<◌, ◌≤◌, ◌⊎◌, List, [], ◌∷◌, length, All, slice_index_or}
+use Rattle.std.specs.Prelude.{Option, IfSome, Result, Err}
 use Rattle.qplain.specs.declared.call_fault.CallFault.{CallFault}
 use Rattle.qplain.specs.declared.call_fault.CallFault.TheVariants.{JournalFull}
 use Rattle.qplain.specs.declared.entry.Entry.{Entry}

@@ -19,8 +19,8 @@ use qtext::TextKind;
 use std::alloc::Global;
 use std::marker::Model;
 
-/// As many lines a client hands out at most: they are held to its end. Twice as many as a journal has entries, so a full
-/// one is told first.
+/// As many lines a client hands out at most: they are held to its end. Twice as many as a journal has entries, so a
+/// full one is told first.
 const MAX_GIVEN: usize = 2_097_152;
 
 /// What came of the next line.

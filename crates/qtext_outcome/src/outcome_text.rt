@@ -79,9 +79,9 @@ fn put_account<W: Write>(out: &mut W, outcome: &Outcome, moment: u64) -> Result<
     put_totals(out, outcome)
 }
 
-/// Writes what is left at the end of a run or of a service: the quota report as of the moment, the totals, the tallies of
-/// the journal, and what an audit of the store found. It takes no memory. After an Err some beginning of the text went
-/// out.
+/// Writes what is left at the end of a run or of a service: the quota report as of the moment, the totals, the tallies
+/// of the journal, and what an audit of the store found. It takes no memory. After an Err some beginning of the text
+/// went out.
 pub fn put_left<W: Write>(out: &mut W, outcome: &Outcome, moment: u64) -> Result<(), RefusedWrite>
     ensures { Writes (W.contents out.old) (W.contents out.new) result (left_text outcome.now moment) }
 {

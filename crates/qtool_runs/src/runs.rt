@@ -66,9 +66,9 @@ pub fn run<R: Threads + Wait + Sync>(
     run_with(rt, alloc, config, scripts, Options::plain(), seed, &NoGate)
 }
 
-/// Serves 1 to 16 clients, or 1 to 15 beside a monitor, on a new store of the configuration: each by a worker in a thread
-/// of its own, which makes the calls of the lines that the client hands out, one after the other, and tells it each
-/// answer at once. It ends when all clients have ended; the end of one ends no other.
+/// Serves 1 to 16 clients, or 1 to 15 beside a monitor, on a new store of the configuration: each by a worker in a
+/// thread of its own, which makes the calls of the lines that the client hands out, one after the other, and tells it
+/// each answer at once. It ends when all clients have ended; the end of one ends no other.
 ///
 /// The monitor is shown boards meanwhile, and takes no lock. What is said of `run_with` holds: the store is what its
 /// journal leaves, and each client's lines were made in order, each with its reply. A journal has at most 1,048,576
