@@ -148,6 +148,19 @@ attended setting clients seats free observer scripts all own shares ts watch sta
   parts = parts;
 }
 
+-- so it is where these clients were attended, and the boards shown for this observer
+pub attended_by : {C : Type 0} (script : C → Option (List Line)) (setting : Setting) (clients : List C) (seats : ℕ) (free : List Seated)
+    (observer showing : Option Seated) (attendants : List (Attending C)) (all : List Serving) (own shares : List HandedIn)
+    (ts : List Transcript) (watch : Option Watched)
+    → IsStaff setting (length clients) seats free observer → showing ≡ observer → clients_in attendants ≡ clients
+    → AreServed (map (λ (a : Attending C). script a.client) attendants) all × IsWatchOf (start setting) 0 showing watch
+    → own ≡ map (λ s. s.share) all → ts ≡ map (λ s. s.transcript) all → shares ≡ own ++ shares_in watch
+    → IsAttended setting seats (map script clients) all own shares ts watch
+attended_by script setting clients seats free observer showing attendants all own shares ts watch staff same is threads own_is ts_is parts =
+    attended setting (length clients) seats free observer (map script clients) all own shares ts watch staff (length-map clients script)
+    (served_of script clients attendants all is threads.0) (subst (λ o. IsWatchOf (start setting) 0 o watch) same threads.1) own_is ts_is
+    parts
+
 module _ (setting : Setting) (seats : ℕ) (scripts : List (Option (List Line))) (all : List Serving) (own shares : List HandedIn)
     (ts : List Transcript) (watch : Option Watched) (at : IsAttended setting seats scripts all own shares ts watch) where
   abbrev S : State

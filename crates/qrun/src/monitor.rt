@@ -9,7 +9,7 @@ ghost use Rattle.qrun.specs.Watching.{HasWaited, IsWatch};
 use crate::watcher::{Watch, Watches};
 use qplain::Board;
 use qrules::Kind;
-use qshare::Seat;
+use qshare::{Boards, Seat, Shared};
 use qshare_boards::Viewer;
 use qshare_history::StoreId;
 use std::alloc::Global;
@@ -26,80 +26,136 @@ pub trait Monitor {
     fn wait(&mut self)
         ensures { setting self.new ≡ setting self.old };
 
+    /// Waits for a moment, in which a worker that makes a call publishes the board that is due.
+    fn give_way(&mut self)
+        ensures { setting self.new ≡ setting self.old };
+
     /// Takes the board that is published now.
     fn show(&mut self, board: &Board)
         requires whole { IfSome (setting self.old) (λ s. IsWhole s board.now) }
         ensures setting { setting self.new ≡ setting self.old };
 }
 
-/// All that the thread takes along which shows the boards: a new seat, and who is shown them until an end is told.
-/// Contracts see the seat.
+/// Who is to see the boards of a service: a new seat that looks at them, the flag by which it asks for one, and who is
+/// shown them. Contracts see the seat.
 #[derive(Drop)]
-pub(crate) struct Showing<'a, 'b, S: StoreId, M: Monitor + Drop, R: Wait> {
-    rt: &'a R,
-    alloc: Global,
+pub(crate) struct Observer<'a, S: StoreId, M: Monitor + Drop> {
     seat: Seat<S, Viewer<S>>,
+    wanted: &'a AtomicBool,
     monitor: M,
-    ended: &'b AtomicBool,
 }
 
-impl<'a, 'b, S: StoreId, M: Monitor + Drop, R: Wait> Model for Showing<'a, 'b, S, M, R> {
+impl<'a, S: StoreId, M: Monitor + Drop> Model for Observer<'a, S, M> {
     ghost use Rattle.std.specs.Prelude.{◌≡◌, IfSome};
     ghost use Rattle.qplain.specs.Journal.{no_tally};
     ghost use Rattle.qshare.specs.Seats.{Seated};
 
     ghost Value = { Seated };
 
-    ghost view = { λ s. s.seat };
+    ghost view = { λ o. o.seat };
 
-    ghost invariant = { λ s. (s.seat.tally ≡ no_tally) × IfSome (M.setting s.monitor) (λ x. x ≡ S.id.setting) };
+    ghost invariant = { λ o. (o.seat.tally ≡ no_tally) × IfSome (M.setting o.monitor) (λ x. x ≡ S.id.setting) };
 }
 
-impl<'a, 'b, S: StoreId, M: Monitor + Drop, R: Wait> Showing<'a, 'b, S, M, R> {
-    /// Who shows the boards from this seat, which is new, until an end is told.
+impl<'a, S: StoreId, M: Monitor + Drop> Observer<'a, S, M> {
+    /// Who is shown the boards at which this seat looks, which is new.
     pub(crate) fn new(
-        rt: &'a R,
-        alloc: Global,
         seat: Seat<S, Viewer<S>>,
+        wanted: &'a AtomicBool,
         monitor: M,
-        ended: &'b AtomicBool,
-    ) -> Showing<'a, 'b, S, M, R>
+    ) -> Observer<'a, S, M>
         requires seat { seat.tally ≡ no_tally }
         requires setting { IfSome (M.setting monitor) (λ s. s ≡ S.id.setting) }
         ensures { result ≡ seat }
     {
-        Showing {
-            rt,
-            alloc,
+        Observer {
             seat,
+            wanted,
             monitor,
-            ended,
         }
     }
+}
 
+/// Nobody who sees the boards.
+pub(crate) fn no_observer<'a, S: StoreId, M: Monitor + Drop>(
+    _wanted: &'a AtomicBool,
+) -> Option<Observer<'a, S, M>>
+    ensures { result ≡ None }
+{
+    None
+}
+
+/// All that the thread takes along which shows the boards of a store, until an end is told. Contracts see the seat.
+#[derive(Drop)]
+pub(crate) struct Showing<'a, 'b, S: StoreId, B: Boards<S>, M: Monitor + Drop, R: Wait> {
+    rt: &'a R,
+    alloc: Global,
+    shared: &'a Shared<S, B>,
+    observer: Observer<'b, S, M>,
+    ended: &'b AtomicBool,
+}
+
+impl<'a, 'b, S: StoreId, B: Boards<S>, M: Monitor + Drop, R: Wait> Model
+    for Showing<'a, 'b, S, B, M, R> {
+    ghost use Rattle.qshare.specs.Seats.{Seated};
+
+    ghost Value = { Seated };
+
+    ghost view = { λ s. s.observer };
+}
+
+impl<'a, 'b, S: StoreId, B: Boards<S>, M: Monitor + Drop, R: Wait> Showing<'a, 'b, S, B, M, R> {
     /// The number of its seat.
     pub(crate) fn worker(&self) -> u64
         ensures { result ≡ self.now.worker }
     {
-        self.seat.worker()
+        self.observer.seat.worker()
     }
 
     /// What its thread promises.
     pub(crate) fn shows(&self) -> Watches<S>
         ensures { (result.worker ≡ self.now.worker) × (result.boards ≡ 0) }
     {
-        Watches::new(self.seat.worker(), 0)
+        Watches::new(self.observer.seat.worker(), 0)
     }
 }
 
-/// Nobody who shows the boards.
-pub(crate) fn no_showing<'a, 'b, S: StoreId, M: Monitor + Drop, R: Wait>(
-    _rt: &'a R,
-    _ended: &'b AtomicBool,
-) -> Option<Showing<'a, 'b, S, M, R>>
-    ensures { result ≡ None }
+/// Who shows the boards of a store until an end is told, where anybody is to see them.
+pub(crate) fn showing_of<'a, 'b, S: StoreId, B: Boards<S>, M: Monitor + Drop, R: Wait>(
+    rt: &'a R,
+    alloc: Global,
+    shared: &'a Shared<S, B>,
+    observer: Option<Observer<'b, S, M>>,
+    ended: &'b AtomicBool,
+) -> Option<Showing<'a, 'b, S, B, M, R>>
+    ensures { result ≡ observer.entry }
 {
-    None
+    match observer {
+        Some(observer) => Some(Showing {
+            rt,
+            alloc,
+            shared,
+            observer,
+            ended,
+        }),
+        None => None,
+    }
+}
+
+/// Asks for a board, which the next call of a worker then publishes. Where none is made in a moment it is published
+/// here, unless a worker has the lock just then.
+fn ask<S: StoreId, B: Boards<S>, M: Monitor>(
+    shared: &Shared<S, B>,
+    wanted: &AtomicBool,
+    monitor: &mut M,
+)
+    ensures { M.setting monitor.new ≡ M.setting monitor.old }
+{
+    wanted.store(true, Ordering::SeqCst);
+    monitor.give_way();
+    if wanted.load(Ordering::SeqCst) {
+        shared.publish();
+    }
 }
 
 /// Shows the board to the monitor where its version is another than that which was shown last, and tells which was.
@@ -126,21 +182,27 @@ fn show_next<S: StoreId, M: Monitor>(
 }
 
 /// Shows the boards as they come, until all workers have ended, and then the last. It keeps none.
-pub(crate) fn observe<S: StoreId, M: Monitor + Drop, R: Wait>(
-    showing: Showing<'_, '_, S, M, R>,
+pub(crate) fn observe<S: StoreId, B: Boards<S>, M: Monitor + Drop, R: Wait>(
+    showing: Showing<'_, '_, S, B, M, R>,
 ) -> Watch<S>
     ensures { IsWatch (start S.id.setting) showing.entry.worker 0 result }
 {
     let Showing {
         rt,
         alloc,
-        mut seat,
-        mut monitor,
+        shared,
+        observer,
         ended,
     } = showing;
+    let Observer {
+        mut seat,
+        wanted,
+        mut monitor,
+    } = observer;
     let mut shown = None;
     for _ in rt.forever() {
         let last = ended.load(Ordering::SeqCst);
+        ask(shared, wanted, &mut monitor);
         shown = show_next(&mut seat, &mut monitor, shown);
         if last {
             return Watch {

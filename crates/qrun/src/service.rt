@@ -6,12 +6,11 @@ ghost use Rattle.qrun.specs.Serving.{CanServe, IsOfClients, IsStaff, monitors_in
 ghost use Rattle.qrun.specs.Watching.{seats_for};
 
 use crate::concluding::make_outcome;
-use crate::monitor::{Monitor, Showing, no_showing};
+use crate::monitor::{Monitor, Observer, no_observer, showing_of};
 use crate::run_fault::RunFault;
 use crate::runs::fault_of;
 use crate::serving::{attend_all, attendants_of};
 use crate::telling::{hand_in, part_served};
-use crate::watcher::part_watcher;
 use qplain::Setup;
 use qrun_client::{ClientEnd, KeepsLines};
 use qrun_replay::Outcome;
@@ -36,7 +35,7 @@ fn serve_and_end<S, B, V, C, M, R>(
     alloc: Global,
     shared: Shared<S, B>,
     seats: Vec<Seat<S, V>>,
-    showing: Option<Showing<'_, '_, S, M, R>>,
+    observer: Option<Observer<'_, S, M>>,
     ended: &AtomicBool,
     clients: Vec<C>,
     seed: u64,
@@ -48,12 +47,13 @@ where
     C: KeepsLines + Drop + Send,
     M: Monitor + Drop + Send,
     R: Threads + Wait + Sync,
-    requires staff { IsStaff S.id.setting (length clients.items) S.id.counters.parts seats.items showing }
+    requires staff { IsStaff S.id.setting (length clients.items) S.id.counters.parts seats.items observer }
     requires new { All (λ c. (C.given c ≡ []) × (C.told c ≡ [])) clients.items }
     ensures outcome { IfOk result (λ s. IsServiceOf S.id.setting s.outcome) }
     ensures clients { IfOk result (λ s. IsOfClients (map C.script clients.items) (vec_len s.ends) s.outcome) }
     ensures fault { IfErr result (IsFaultOf S.id.counters.parts) }
 {
+    let showing = showing_of(rt, alloc, &shared, observer, ended);
     let attendants = attendants_of(alloc, rt, &shared, seats, clients)?;
     let (served, watch) = attend_all(rt, alloc, attendants, showing, ended)?;
     let (own, transcripts, ends) = part_served(alloc, served)?;
@@ -88,17 +88,14 @@ where
     ensures clients { IfOk result (λ s. IsOfClients (map C.script clients.items) (vec_len s.ends) s.outcome) }
     ensures fault { IfErr result (IsFaultOf S.id.counters.parts) }
 {
-    let (shared, seats) = match opened.with_viewers::<S, &R>(rt) {
+    let wanted = AtomicBool::new(false);
+    let (shared, seats, last) = match opened.on_demand::<S, &R>(rt, &wanted) {
         Ok(made) => made,
         Err(fault) => return Err(fault_of(fault)),
     };
-    let (seats, last) = part_watcher(seats, clients.len());
-    let Some(seat) = last else {
-        unreachable!();
-    };
     let ended = AtomicBool::new(false);
-    let showing = Some(Showing::new(rt, alloc, seat, monitor, &ended));
-    serve_and_end(rt, alloc, shared, seats, showing, &ended, clients, seed)
+    let observer = Some(Observer::new(last, &wanted, monitor));
+    serve_and_end(rt, alloc, shared, seats, observer, &ended, clients, seed)
 }
 
 /// Serves the clients on a shared store of this identity, at whose boards nobody can look.
@@ -126,7 +123,7 @@ where
         Err(fault) => return Err(fault_of(fault)),
     };
     let ended = AtomicBool::new(false);
-    let nobody = no_showing::<S, M, R>(rt, &ended);
+    let nobody = no_observer::<S, M>(&ended);
     serve_and_end(rt, alloc, shared, seats, nobody, &ended, clients, seed)
 }
 

@@ -61,7 +61,7 @@ pub(crate) fn attend_all<S, B, V, C, M, R>(
     rt: &R,
     alloc: Global,
     attendants: Vec<Attendant<'_, '_, S, B, V, C, R>>,
-    showing: Option<Showing<'_, '_, S, M, R>>,
+    showing: Option<Showing<'_, '_, S, B, M, R>>,
     ended: &AtomicBool,
 ) -> Result<(Vec<Served<S>>, Option<Watch<S>>), RunFault>
 where

@@ -44,6 +44,7 @@ impl<'a> Client for ScriptClient<'a> {
 
     ghost script = { λ c. Some c.lines.now };
 
+    #[inline(always)]
     fn next(&mut self) -> bool {
         if self.handed_out < self.lines.len() {
             self.handed_out += 1;
@@ -53,10 +54,12 @@ impl<'a> Client for ScriptClient<'a> {
         }
     }
 
+    #[inline(always)]
     fn line(&self) -> &Line {
         &self.lines[self.answers.len()]
     }
 
+    #[inline(always)]
     fn tell(&mut self, answer: Answer) {
         self.answers.push_reserved(answer);
     }

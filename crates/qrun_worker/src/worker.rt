@@ -120,7 +120,7 @@ pub fn worker_of<'a, 'b, 'c, 'd, S: StoreId, B: Boards<S>, V: Drop, G: Gate, R: 
 }
 
 /// Makes a client's calls one after the other, and goes on after any answer, until it has no more lines.
-pub fn play_each<S: StoreId, B: Boards<S>, V: Drop, G: Gate, R: Wait, C: Client>(
+pub(crate) fn play_each<S: StoreId, B: Boards<S>, V: Drop, G: Gate, R: Wait, C: Client>(
     rt: &R,
     shared: &Shared<S, B>,
     gate: &G,

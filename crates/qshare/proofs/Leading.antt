@@ -1,5 +1,6 @@
 -- How the rows that wait lead from one board to the next.
-use Rattle.std.proofs.Common.{◌≡◌, List, [], ◌∷◌, ◌++◌, length, Result, Ok, Err, IfOk, refl, sym, ap, ◌∙◌, subst}
+use Rattle.std.proofs.Common.{◌≡◌, List, [], ◌∷◌, ◌++◌, length, map, Result, Ok, Err, IfOk, refl, sym, ap, ◌∙◌, subst}
+use Rattle.std.proofs.lemmas.List.{length-map}
 use mathlib.Core.List.{IsPrefix}
 use Rattle.qrules.specs.Sort.{Inodes, Blocks}
 use Rattle.qplain.specs.declared.placed_row.PlacedRow.{PlacedRow}
@@ -8,7 +9,7 @@ use Rattle.qplain.specs.Boards.{rows_of, with_rows}
 use Rattle.qplain.specs.Setups.{Setting}
 use Rattle.qplain.specs.State.{State, start}
 use Rattle.qplain.specs.Use.{total_of}
-use Rattle.qplain.specs.Journal.{IsLegal, play, played}
+use Rattle.qplain.specs.Journal.{IsLegal, play, played, row_of}
 use Rattle.qplain_laws.proofs.Playing.{play-one_more}
 use Rattle.qstore.specs.Ready.{committed}
 use Rattle.qshare_history.specs.Histories.{Recorded, recorded}
@@ -18,7 +19,8 @@ use Rattle.qshare_boards.specs.Boards.{BringsOn, changed_by, shown_of}
 use Rattle.qstore_journaled.specs.declared.next.Next.{Next}
 use Rattle.qstore_journaled.specs.Journaled.{IsStoreOf, Journaled}
 use Rattle.qstore_journaled.specs.Next.{CanFollow}
-use Rattle.qshare.specs.Waiting.{LeadsOn, Waits}
+use Rattle.qshare.specs.Waiting.{LeadsOn, Replaces, Waits}
+use Rattle.qshare.proofs.Placing.{as_many_holders}
 
 -- a store's state is what its journal leaves from the setup
 state_is : (setting : Setting) (j : Journaled) → IsStoreOf setting j → j.stored.state ≡ play (start setting) j.journal
@@ -73,3 +75,20 @@ pub none_waits : (setting : Setting) (shown : List Entry) (waiting : List Placed
     → Waits setting shown waiting journal journal
 none_waits setting shown waiting journal all none =
     record { shown_is = all; leads = ap (with_rows (shown_of (start setting) journal).rows) none }
+
+-- the rows of the boards of two states are as many as their holders
+as_many_rows : (S T : State) → length S.holders ≡ length T.holders → length (rows_of S) ≡ length (rows_of T)
+as_many_rows S T many = length-map S.holders (row_of S) ∙ many ∙ sym (length-map T.holders (row_of T))
+
+-- all rows of a store lead from whatever board is published to the journal's
+pub all_lead : (setting : Setting) (j : Journaled) (shown : List Entry) (placed : List PlacedRow) → IsStoreOf setting j
+    → Replaces placed (rows_of j.stored.state) → Waits setting shown placed shown j.journal
+all_lead setting j shown placed of replaces =
+    let S : State = start setting in
+    let state : j.stored.state ≡ play S j.journal = state_is setting j of in
+    let many : length (play S shown).holders ≡ length j.stored.state.holders =
+    as_many_holders S shown ∙ sym (as_many_holders S j.journal) ∙ ap (λ T. length T.holders) (sym state) in
+    record {
+      shown_is = refl;
+      leads = replaces (rows_of (play S shown)) (as_many_rows (play S shown) j.stored.state many) ∙ ap rows_of state;
+    }

@@ -1,4 +1,6 @@
--- How the rows that wait lead from one board to the next, what a call leaves of a journal, and what an end has counted.
+-- Rows put in their places, how rows lead from one board to the next, what a call leaves of a journal, and what an end
+-- has counted.
+pub mod Placing
 pub mod Leading
 pub mod Growing
 pub mod Ending

@@ -1,5 +1,5 @@
 -- The rows of calls that wait to be published. No public clause cites this module.
-use Rattle.std.specs.Prelude.{◌≡◌, List}
+use Rattle.std.specs.Prelude.{◌≡◌, List, length}
 use Rattle.qrules.specs.declared.board_row.BoardRow.{BoardRow}
 use Rattle.qplain.specs.declared.placed_row.PlacedRow.{PlacedRow}
 use Rattle.qplain.specs.declared.entry.Entry.{Entry}
@@ -19,3 +19,7 @@ pub record Waits (setting : Setting) (shown : List Entry) (waiting : List Placed
     : Type 0 where
   pub shown_is : shown ≡ published
   pub leads : with_rows (shown_of (start setting) published).rows waiting ≡ (shown_of (start setting) journal).rows
+
+-- these rows lead to the given ones from any others of which there are as many
+abbrev pub Replaces : List PlacedRow → List BoardRow → Type 0
+Replaces placed rows = (others : List BoardRow) → length others ≡ length rows → with_rows others placed ≡ rows

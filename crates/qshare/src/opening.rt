@@ -1,29 +1,32 @@
 //! How a shared store is made: first a store, then its identity, then its seats.
-ghost use Rattle.std.specs.Prelude.{◌≡◌, ◌<◌, ◌≤◌, ◌⊎◌, [], length, Err, IfOk, IfErr};
-ghost use Rattle.qplain.specs.Journal.{board_of, no_tally};
+ghost use Rattle.std.specs.Prelude.{◌≡◌, ◌<◌, ◌≤◌, ◌⊎◌, ◌-◌, [], length, Err, IfOk, IfErr};
+ghost use Rattle.qplain.specs.Journal.{board_of};
 ghost use Rattle.qplain.specs.Setups.{IsLawfulSetup};
 ghost use Rattle.qplain.specs.State.{start};
 ghost use Rattle.qshare_history.specs.Histories.{recorded};
 ghost use Rattle.qstore_journaled.specs.Journaled.{IsStoreOf};
-ghost use Rattle.qshare.specs.Seats.{seats_of};
+ghost use Rattle.qshare.specs.Seats.{new_seat, seats_of};
 ghost use Rattle.qshare.specs.declared.share_fault.ShareFault.TheVariants.{Seats};
 
 use crate::boards::Boards;
 use crate::locked_store::LockedStore;
 use crate::no_boards::NoBoards;
+use crate::on_demand::OnDemand;
 use crate::published::Published;
 use crate::seat::{Blind, Seat};
+use crate::seating::{blind_seats, viewing_seats};
 use crate::share_fault::ShareFault;
 use crate::shared::Shared;
 use qplain::{Board, NoMemory, Setup};
 use qrules::Items;
 use qshare_boards::{Publisher, Viewer};
-use qshare_history::{BlankCounters, History, Prefix, StoreId, TallyPart};
+use qshare_history::{BlankCounters, History, Prefix, StoreId};
 use qstore::Store;
 use qstore_journaled::JournaledStore;
 use std::alloc::Global;
 use std::marker::Model;
 use std::sync::Wait;
+use std::sync::atomic::AtomicBool;
 
 /// The most seats that a store may have.
 pub const MAX_SEATS: u64 = 16;
@@ -84,56 +87,6 @@ fn first_publisher<S: StoreId, R: Wait + Drop>(
 {
     let board = first_board(store.store())?;
     Publisher::new(alloc, rt, &board, prefix, seats as usize)
-}
-
-/// The seats of a new store whose boards can be looked at, numbered from 1, each with a viewer of its own.
-fn viewing_seats<S: StoreId, R: Wait + Drop>(
-    alloc: Global,
-    publisher: &mut Publisher<S, R>,
-    prefix: &Prefix,
-    count: u64,
-    mut all: TallyPart<S>,
-) -> Result<Vec<Seat<S, Viewer<S>>>, ShareFault>
-    requires setup { IsLawfulSetup S.id.setting }
-    requires publisher { publisher.old ≡ [] }
-    requires prefix { prefix.now ≡ recorded S.id.history [] }
-    requires all { all ≡ record { tally = no_tally; parts = count } }
-    ensures publisher { publisher.new ≡ [] }
-    ensures seats { IfOk result (λ seats. seats.items ≡ seats_of count) × (result ≡ Err Seats → ⊥) }
-{
-    let mut seats = Vec::new(alloc);
-    for before in 0..count {
-        let Ok(()) = seats.reserve(1) else {
-            return Err(ShareFault::OutOfMemory);
-        };
-        let Ok(viewer) = Viewer::new(alloc, publisher, prefix.again()) else {
-            return Err(ShareFault::NoReader);
-        };
-        seats.push_reserved(Seat::new(before + 1, prefix.again(), all.split_off(), viewer));
-    }
-    Ok(seats)
-}
-
-/// The seats of a new store whose boards nobody can look at, numbered from 1.
-fn blind_seats<S: StoreId>(
-    alloc: Global,
-    prefix: &Prefix,
-    count: u64,
-    mut all: TallyPart<S>,
-) -> Result<Vec<Seat<S, Blind>>, ShareFault>
-    requires prefix { prefix.now ≡ recorded S.id.history [] }
-    requires all { all ≡ record { tally = no_tally; parts = count } }
-    ensures seats { IfOk result (λ seats. seats.items ≡ seats_of count) }
-    ensures fault { IfErr result (λ fault. fault ≡ ShareFault.OutOfMemory) }
-{
-    let mut seats = Vec::new(alloc);
-    for before in 0..count {
-        let Ok(()) = seats.reserve(1) else {
-            return Err(ShareFault::OutOfMemory);
-        };
-        seats.push_reserved(Seat::new(before + 1, prefix.again(), all.split_off(), Blind));
-    }
-    Ok(seats)
 }
 
 /// A new store of the setup, for N seats.
@@ -231,5 +184,56 @@ impl Opened {
         let made = blind_seats(alloc, &history.prefix(), seats, all)?;
         let locked = LockedStore::new(store, history, tally, seats, rest, NoBoards);
         Ok((Shared::over(locked), made))
+    }
+
+    /// The store under its identity, behind its lock, the seats of its workers, which are numbered from 1, and the last
+    /// seat, which alone can look at the boards. A board is published where `wanted` is set when a worker has made a
+    /// call, or by `Shared::publish`, and then `wanted` is cleared; else a call takes as long as without viewers.
+    ///
+    /// `rt` is how a drop of the store waits for who looks. An Err is OutOfMemory, or NoReader where the last seat got
+    /// no reader of the boards; then nothing is left.
+    pub fn on_demand<'a, S: StoreId, R: Wait + Drop>(
+        self,
+        rt: R,
+        wanted: &'a AtomicBool,
+    ) -> Result<
+        (
+            Shared<S, OnDemand<'a, S, R>>,
+            Vec<Seat<S, Blind>>,
+            Seat<S, Viewer<S>>,
+        ),
+        ShareFault,
+    >
+        requires { self ≡ S.id }
+        ensures workers { IfOk result (λ r. r.1.items ≡ seats_of (S.id.counters.parts - 1)) }
+        ensures observer { IfOk result (λ r. r.2 ≡ new_seat S.id.counters.parts) }
+        ensures few { result ≡ Err Seats → ⊥ }
+    {
+        let Opened {
+            alloc,
+            store,
+            history,
+            counters,
+            seats,
+        } = self;
+        let (tally, mut all) = counters.open::<S>();
+        let rest = all.empty();
+        let last = all.split_off();
+        let prefix = history.prefix();
+        let Ok(mut publisher) = first_publisher::<S, R>(alloc, rt, &store, &prefix, 1) else {
+            return Err(ShareFault::OutOfMemory);
+        };
+        let Ok(viewer) = Viewer::new(alloc, &mut publisher, prefix.again()) else {
+            return Err(ShareFault::NoReader);
+        };
+        let observer = Seat::new(seats, prefix.again(), last, viewer);
+        let workers = blind_seats(alloc, &prefix, seats - 1, all)?;
+        let boards = OnDemand {
+            alloc,
+            publisher,
+            wanted,
+        };
+        let locked = LockedStore::new(store, history, tally, seats, rest, boards);
+        Ok((Shared::over(locked), workers, observer))
     }
 }

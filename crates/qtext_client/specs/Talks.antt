@@ -13,11 +13,14 @@ pub record Talk : Type 0 where
   pub told : List (Result Receipt CallFault)
   pub wrote : Option (List ℕ)
 
--- the lines are at least as many as the answers, and at most so many; there is room for an answer to each; and what is
--- written is told
-pub record IsKept (lines answers room : ℕ) (told : List (Result Receipt CallFault))
-    (wrote : Option (List ℕ)) : Type 0 where
+-- the lines are at least as many as the answers, and no more than may be kept, and there is room for an answer to each
+pub record HasRoom (lines answers room : ℕ) : Type 0 where
   pub owed : answers ≤ lines
   pub few : lines ≤ MAX_GIVEN
   pub room_for_each : lines ≤ room
+
+-- so it is with what a client keeps, and what is written is told
+pub record IsKept (lines answers room : ℕ) (told : List (Result Receipt CallFault))
+    (wrote : Option (List ℕ)) : Type 0 where
+  pub places : HasRoom lines answers room
   pub text : IfSome wrote (λ bytes. AreTold bytes told)

@@ -4,6 +4,7 @@ ghost use Rattle.std.specs.Prelude.{vec_capacity, vec_len};
 ghost use Rattle.qtext_client.specs.BoundedLines.{IsOneLine};
 ghost use Rattle.qtext_client.specs.declared.stream_client.TheConstants.{MAX_GIVEN};
 ghost use Rattle.qtext_client.specs.Hearings.{HearsText, IsLine};
+ghost use Rattle.qtext_client.specs.Talks.{HasRoom};
 ghost use Rattle.qtext_client.specs.Tellings.{AreTold, answer_in};
 ghost use Rattle.qtext_files.specs.Scripts.{script_of};
 
@@ -76,14 +77,12 @@ fn heard_in(alloc: Global, text: &[u8]) -> Heard
 
 /// Keeps a line, with room for its answer, unless memory is wanting.
 fn keep_line(lines: &mut Vec<Line>, answers: &mut Vec<Answer>, line: Line) -> bool
+    requires room { HasRoom (vec_len lines.old) (vec_len answers.old) (vec_capacity answers.old) }
     requires answered { vec_len answers.old ≡ vec_len lines.old }
-    requires room { vec_len lines.old ≤ vec_capacity answers.old }
     requires few { vec_len lines.old < MAX_GIVEN }
     ensures lines { lines.new.items ≡ cond result (lines.old.items ++ line ∷ []) lines.old.items }
     ensures answers { answers.new.items ≡ answers.old.items }
-    ensures owed { vec_len answers.new ≤ vec_len lines.new }
-    ensures room { vec_len lines.new ≤ vec_capacity answers.new }
-    ensures few { vec_len lines.new ≤ MAX_GIVEN }
+    ensures room { HasRoom (vec_len lines.new) (vec_len answers.new) (vec_capacity answers.new) }
 {
     if answers.reserve(1).is_err() {
         return false;

@@ -11,6 +11,9 @@ use std::time::{Clock, Duration};
 /// As long at least, in milliseconds, a board stands in its file before the next takes its place.
 const PAUSE: u64 = 100;
 
+/// For so long, in milliseconds, workers are given way to before a board that is due is published without them.
+const MOMENT: u64 = 1;
+
 /// A file that holds the board shown last, whole at any time. Where it refuses once, no further board is written.
 #[derive(Drop)]
 pub(crate) struct BoardFile<'a, F: Files, R: Clock> {
@@ -32,6 +35,10 @@ fn finish_board<W: Write>(setup: &Setup, board: &Board, out: &mut W) -> Result<(
 impl<F: Files, R: Clock> Monitor for BoardFile<'_, F, R> {
     fn wait(&mut self) {
         thread::sleep(self.clock, Duration::from_millis(PAUSE));
+    }
+
+    fn give_way(&mut self) {
+        thread::sleep(self.clock, Duration::from_millis(MOMENT));
     }
 
     /// Writes the board as a draft, and puts that in the place of the board before.

@@ -93,6 +93,10 @@ impl<'a> Monitor for Counts<'a> {
         spin_loop();
     }
 
+    fn give_way(&mut self) {
+        spin_loop();
+    }
+
     fn show(&mut self, board: &Board) {
         self.boards.fetch_add(1, SeqCst);
         self.version.store(board.version, SeqCst);

@@ -22,5 +22,5 @@ loop-preserved g c =
     let shown = c.show_next-shown.ensures in (
       shown.seat.worker ∙ inv.0,
       shown.seat.tally ∙ inv.1,
-      subst (λ o. IfSome o (λ s. s ≡ g.S.StoreId.id.setting)) (sym (c.wait.ensures ∙ shown.setting)) inv.2,
+      subst (λ o. IfSome o (λ s. s ≡ g.S.StoreId.id.setting)) (sym (c.wait.ensures ∙ shown.setting ∙ c.ask.ensures)) inv.2,
     )

@@ -3,8 +3,6 @@ use Rattle.qtext_client.proofs.stream_client.StreamClient.tell_fault.Goals as go
 
 pub invariant_of-self : goal.invariant_of-self
 invariant_of-self g c = record {
-  owed = c.self.invariant.owed;
-  few = c.self.invariant.few;
-  room_for_each = c.self.invariant.room_for_each;
+  places = c.self.invariant.places;
   text = told_fault _ _ _ c.args.telling.now c.requires c.self.invariant.text c.tell.ensures;
 }

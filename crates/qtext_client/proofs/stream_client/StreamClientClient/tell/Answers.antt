@@ -10,8 +10,10 @@ invariant_of-self g c =
     let same : c.args.answer ≡ c.in-Answer.answer = cc in
     let pushed = c.push_reserved.ensures in
     record {
-      owed = omega (arith, pushed.len, c.requires.owed, told, given, c.self.inside.answers.ok, c.self.inside.lines.ok);
-      few = c.self.invariant.few;
-      room_for_each = omega (arith, pushed.capacity, c.self.invariant.room_for_each);
+      places = record {
+        owed = omega (arith, pushed.len, c.requires.owed, told, given, c.self.inside.answers.ok, c.self.inside.lines.ok);
+        few = c.self.invariant.places.few;
+        room_for_each = omega (arith, pushed.capacity, c.self.invariant.places.room_for_each);
+      };
       text = rw (pushed.items, ← same) (told_more _ _ c.self.inside.answers.items (Answer c.args.answer) c.self.invariant.text c.tell.ensures);
     }

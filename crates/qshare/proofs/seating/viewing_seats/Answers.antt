@@ -1,6 +1,6 @@
 use Rattle.std.proofs.Common.{ap, arith, add-one, sym, ◌≡◌, ◌+◌, ◌++◌, ◌∷◌, [], ◌∙◌}
 use Rattle.qshare.specs.Seats.{new_seat, seats_of}
-use Rattle.qshare.proofs.opening.viewing_seats.Goals as goal
+use Rattle.qshare.proofs.seating.viewing_seats.Goals as goal
 
 pub loop-before-preserved : goal.loop-before-preserved
 loop-before-preserved g c =
