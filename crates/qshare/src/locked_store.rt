@@ -83,6 +83,7 @@ impl<S: StoreId, B: Boards<S>> LockedStore<S, B> {
     ///
     /// Err is JournalFull, reported first, where the journal has its 1,048,576 entries, or OutOfMemory; it changes
     /// nothing.
+    #[inline(always)]
     pub(crate) fn apply<W: Wait>(
         &mut self,
         rt: &W,

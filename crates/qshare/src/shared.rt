@@ -29,6 +29,7 @@ pub struct Shared<S: StoreId, B: Boards<S>> {
 }
 
 /// Makes a call on a store whose lock is held, publishes all that waits, and lets the seat see it.
+#[inline(always)]
 fn call_locked<S: StoreId, B: Boards<S>, V: Drop, W: Wait>(
     rt: &W,
     store: &mut LockedStore<S, B>,
@@ -66,6 +67,8 @@ impl<S: StoreId, B: Boards<S>> Shared<S, B> {
     /// place, after all that it had seen. Err is JournalFull, reported first, where the journal has its 1,048,576
     /// entries, or OutOfMemory; it changes nothing, and the call is in no journal. Moments, refusals and costs are
     /// those of `Store::ready`.
+    // Scripts and clients of streams each have a loop around it: in its place it moves no reply from hand to hand.
+    #[inline(always)]
     pub fn call<V: Drop, W: Wait>(
         &self,
         rt: &W,
