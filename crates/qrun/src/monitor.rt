@@ -30,6 +30,10 @@ pub trait Monitor {
     fn give_way(&mut self)
         ensures { setting self.new ≡ setting self.old };
 
+    /// Learns that there was no memory for the last board.
+    fn miss(&mut self)
+        ensures { setting self.new ≡ setting self.old };
+
     /// Takes the board that is published now.
     fn show(&mut self, board: &Board)
         requires whole { IfSome (setting self.old) (λ s. IsWhole s board.now) }
@@ -143,12 +147,12 @@ pub(crate) fn showing_of<'a, 'b, S: StoreId, B: Boards<S>, M: Monitor + Drop, R:
 }
 
 /// Asks for a board, which the next call of a worker then publishes. Where none is made in a moment it is published
-/// here, unless a worker has the lock just then.
+/// here, unless a worker has the lock just then. It tells whether one was published.
 fn ask<S: StoreId, B: Boards<S>, M: Monitor>(
     shared: &Shared<S, B>,
     wanted: &AtomicBool,
     monitor: &mut M,
-)
+) -> bool
     ensures { M.setting monitor.new ≡ M.setting monitor.old }
 {
     wanted.store(true, Ordering::SeqCst);
@@ -156,29 +160,30 @@ fn ask<S: StoreId, B: Boards<S>, M: Monitor>(
     if wanted.load(Ordering::SeqCst) {
         shared.publish();
     }
+    !wanted.load(Ordering::SeqCst)
 }
 
-/// Shows the board to the monitor where its version is another than that which was shown last, and tells which was.
+/// Shows the published board to the monitor, unless its version is that which was shown last. It tells whether the
+/// monitor has seen it then.
 fn show_next<S: StoreId, M: Monitor>(
     seat: &mut Seat<S, Viewer<S>>,
     monitor: &mut M,
-    shown: Option<u64>,
-) -> Option<u64>
+    shown: &mut Option<u64>,
+) -> bool
     requires { IfSome (M.setting monitor.old) (λ s. s ≡ S.id.setting) }
     ensures seat { HasWaited seat.old seat.new }
     ensures setting { M.setting monitor.new ≡ M.setting monitor.old }
 {
     match seat.record(Kind::User, 0) {
-        Ok((version, _)) if shown != Some(version) => {}
-        _ => return shown,
+        Ok((version, _)) if *shown == Some(version) => return true,
+        _ => {}
     }
-    match seat.board() {
-        Ok(board) => {
-            monitor.show(&board);
-            Some(board.version)
-        }
-        Err(_) => shown,
-    }
+    let Ok(board) = seat.board() else {
+        return false;
+    };
+    monitor.show(&board);
+    *shown = Some(board.version);
+    true
 }
 
 /// Shows the boards as they come, until all workers have ended, and then the last. It keeps none.
@@ -202,9 +207,12 @@ pub(crate) fn observe<S: StoreId, B: Boards<S>, M: Monitor + Drop, R: Wait>(
     let mut shown = None;
     for _ in rt.forever() {
         let last = ended.load(Ordering::SeqCst);
-        ask(shared, wanted, &mut monitor);
-        shown = show_next(&mut seat, &mut monitor, shown);
+        let published = ask(shared, wanted, &mut monitor);
+        let seen = show_next(&mut seat, &mut monitor, &mut shown);
         if last {
+            if !(published && seen) {
+                monitor.miss();
+            }
             return Watch {
                 share: seat.finish(),
                 looks: Vec::new(alloc),

@@ -41,6 +41,10 @@ impl<F: Files, R: Clock> Monitor for BoardFile<'_, F, R> {
         thread::sleep(self.clock, Duration::from_millis(MOMENT));
     }
 
+    fn miss(&mut self) {
+        *self.refused = true;
+    }
+
     /// Writes the board as a draft, and puts that in the place of the board before.
     fn show(&mut self, board: &Board) {
         if *self.refused {

@@ -97,6 +97,10 @@ impl<'a> Monitor for Counts<'a> {
         spin_loop();
     }
 
+    fn miss(&mut self) {
+        self.boards.store(0, SeqCst);
+    }
+
     fn show(&mut self, board: &Board) {
         self.boards.fetch_add(1, SeqCst);
         self.version.store(board.version, SeqCst);

@@ -7,7 +7,7 @@ use Rattle.qrun.proofs.monitor.observe.Goals as goal
 pub returns-then-last : goal.returns-then-last
 returns-then-last g c =
     let inv = c.loop.invariant in
-    let shown = c.show_next-shown.ensures.seat in
+    let shown = c.show_next-seen.ensures.seat in
     record {
       worker_is = ap (λ s. s.worker) c.finish.ensures ∙ shown.worker ∙ inv.0;
       idle = ap (λ s. s.tally.calls) c.finish.ensures ∙ ap (λ t. t.calls) (shown.tally ∙ inv.1);
@@ -19,8 +19,8 @@ returns-then-last g c =
 pub loop-preserved : goal.loop-preserved
 loop-preserved g c =
     let inv = c.loop.invariant in
-    let shown = c.show_next-shown.ensures in (
+    let shown = c.show_next-seen.ensures in (
       shown.seat.worker ∙ inv.0,
       shown.seat.tally ∙ inv.1,
-      subst (λ o. IfSome o (λ s. s ≡ g.S.StoreId.id.setting)) (sym (c.wait.ensures ∙ shown.setting ∙ c.ask.ensures)) inv.2,
+      subst (λ o. IfSome o (λ s. s ≡ g.S.StoreId.id.setting)) (sym (c.wait.ensures ∙ shown.setting ∙ c.ask-published.ensures)) inv.2,
     )
