@@ -148,17 +148,20 @@ pub(crate) fn showing_of<'a, 'b, S: StoreId, B: Boards<S>, M: Monitor + Drop, R:
 
 /// Asks for a board, which the next call of a worker then publishes. Where none is made in a moment it is published
 /// here, unless a worker has the lock just then. It tells whether one was published.
-fn ask<S: StoreId, B: Boards<S>, M: Monitor>(
+fn ask<S: StoreId, B: Boards<S>, M: Monitor, R: Wait>(
+    rt: &R,
     shared: &Shared<S, B>,
     wanted: &AtomicBool,
+    seat: &mut Seat<S, Viewer<S>>,
     monitor: &mut M,
 ) -> bool
-    ensures { M.setting monitor.new ≡ M.setting monitor.old }
+    ensures seat { HasWaited seat.old seat.new }
+    ensures setting { M.setting monitor.new ≡ M.setting monitor.old }
 {
     wanted.store(true, Ordering::SeqCst);
     monitor.give_way();
     if wanted.load(Ordering::SeqCst) {
-        shared.publish();
+        let _ = shared.try_publish(rt, seat);
     }
     !wanted.load(Ordering::SeqCst)
 }
@@ -207,7 +210,7 @@ pub(crate) fn observe<S: StoreId, B: Boards<S>, M: Monitor + Drop, R: Wait>(
     let mut shown = None;
     for _ in rt.forever() {
         let last = ended.load(Ordering::SeqCst);
-        let published = ask(shared, wanted, &mut monitor);
+        let published = ask(rt, shared, wanted, &mut seat, &mut monitor);
         let seen = show_next(&mut seat, &mut monitor, &mut shown);
         if last {
             if !(published && seen) {

@@ -87,13 +87,6 @@ impl<S: StoreId, B: Boards<S>> Shared<S, B> {
         call_locked(rt, &mut *store, seat, cred, moment, call)
     }
 
-    /// Publishes what waits for those who look at its boards, where nobody has the lock: for that it does not wait.
-    pub fn publish(&self) {
-        if let Some(mut free) = self.lock.try_lock() {
-            free.publish();
-        }
-    }
-
     /// Ends the store, where the shares of all its seats are there: what they have seen are prefixes of its journal,
     /// and what they have counted is the journal's tally.
     ///
