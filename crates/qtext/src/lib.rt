@@ -16,6 +16,7 @@ pub use writing::{put, put_pieces};
 
 mod cut;
 mod data;
+mod hex_lanes;
 mod numbers;
 mod piece;
 mod printing;

@@ -3,6 +3,7 @@ ghost use Rattle.hex.specs.Hex.{encode_lower};
 ghost use Rattle.qtext.specs.Pieces.{data_text};
 ghost use Rattle.qtext.specs.Written.{Passes, Writes};
 
+use crate::hex_lanes::encode;
 use crate::{RefusedWrite, put};
 use itoa::Buffer;
 use std::io::Write;
@@ -162,7 +163,7 @@ impl TextLine {
         ensures len { length self.new ≡ length self.old + 2 * length bytes.now }
     {
         let end = self.len + 2 * bytes.len();
-        hex::encode_to_slice(bytes, &mut self.bytes[self.len..end]).unwrap();
+        encode(bytes, &mut self.bytes[self.len..end]);
         self.len = end;
     }
 
