@@ -14,15 +14,15 @@ use Rattle.qtext.specs.Pieces.{data_text}
 use Rattle.qtext.proofs.StepsFound.{kept, passed, same_ok, same_word, step_found}
 
 -- the digit that stands for so much
-abbrev lower_digit : ℕ → ℕ
+abbrev pub lower_digit : ℕ → ℕ
 lower_digit d = cond (ltb d 10) (d + 48) (d + 87)
 
 -- the first n digits of the table do
-abbrev are_lower : ℕ → Bool
+abbrev pub are_lower : ℕ → Bool
 are_lower zero = true
 are_lower (suc n) = eqb (slice_index lower_digits n) (lower_digit n) && are_lower n
 
-lower_at : (n d : ℕ) → are_lower n ≡ true → d < n → slice_index lower_digits d ≡ lower_digit d
+pub lower_at : (n d : ℕ) → are_lower n ≡ true → d < n → slice_index lower_digits d ≡ lower_digit d
 lower_at zero d e lt = absurd (omega arith)
 lower_at (suc n) d e lt =
     let parts = and_parts (eqb (slice_index lower_digits n) (lower_digit n)) (are_lower n) e in

@@ -12,3 +12,4 @@ pub mod WordsAgain
 pub mod StepsFound
 pub mod WordsFound
 pub mod DataFound
+pub mod Lanes

@@ -1,22 +1,35 @@
 //! Hexadecimal digits, of 16 bytes at a time.
-ghost use Rattle.std.specs.Prelude.{◌≡◌, ◌<◌, ◌≤◌, ◌+◌, ◌*◌, ◌/◌, ◌%◌, ◌++◌, length, map, take, slice_index};
+ghost use Rattle.std.specs.Prelude.{◌≡◌, ◌<◌, ◌≤◌, ◌+◌, ◌*◌, ◌/◌, ◌%◌, ◌^◌, ◌++◌, ℕ, length, map, take, slice_index};
 ghost use Rattle.std.specs.Simd.Lanes.{Each1, chunk};
 ghost use Rattle.hex.specs.Hex.{encode_lower, lower_digits};
 
 use std::simd::prelude::*;
 
+/// Each two bytes as one number, of which the first is the lower half.
+fn pairs_of(bytes: u8x16) -> u16x8
+    ensures pairs { (j : ℕ) → j < 8 → slice_index result j ≡ slice_index bytes (2 * j) + 256 * slice_index bytes (2 * j + 1) }
+    ensures len { length result ≡ 8 }
+{
+    u16x8::from_le_bytes(bytes)
+}
+
+/// The two bytes of each number.
+fn bytes_of(pairs: u16x8) -> u8x16
+    ensures parts { (j i : ℕ) → j < 8 → i < 2 → slice_index result (2 * j + i) ≡ slice_index pairs j / 256 ^ i % 256 }
+    ensures len { length result ≡ 16 }
+{
+    pairs.to_le_bytes()
+}
+
 /// The upper half of each byte.
 fn upper_halves(bytes: u8x16) -> u8x16
-    requires { (length bytes ≡ 16) × Each1 (λ b. b < 256) bytes }
     ensures { result ≡ map (λ b. b / 16) bytes }
 {
-    let pairs = u16x8::from_le_bytes(bytes) >> u16x8::splat(4);
-    pairs.to_le_bytes() & u8x16::splat(15)
+    lower_halves(bytes_of(pairs_of(bytes) >> u16x8::splat(4)))
 }
 
 /// The lower half of each byte.
 fn lower_halves(bytes: u8x16) -> u8x16
-    requires { length bytes ≡ 16 }
     ensures { result ≡ map (λ b. b % 16) bytes }
 {
     bytes & u8x16::splat(15)
@@ -24,7 +37,7 @@ fn lower_halves(bytes: u8x16) -> u8x16
 
 /// The lower case digit of each number, which is below 16.
 fn digits_of(values: u8x16) -> u8x16
-    requires { (length values ≡ 16) × Each1 (λ d. d < 16) values }
+    requires { Each1 (λ d. d < 16) values }
     ensures { result ≡ map (slice_index lower_digits) values }
 {
     let is_decimal = values.simd_lt(u8x16::splat(10));

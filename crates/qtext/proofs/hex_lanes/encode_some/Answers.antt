@@ -1,16 +1,19 @@
-use Rattle.std.proofs.Common.{rules, ◌≡◌, ◌<◌, ◌≤◌, ◌+◌, ◌*◌, ◌/◌, ◌%◌, ◌++◌, length, map, take, slice_index, ℕ, ◌-◌, Bool, true, false, nat_eq, nat_lt, List, [], ◌∷◌, slice_index_or, slice_set, bit_and, bit_or, Fits, w8, w32, w64, Bor, MutBor}
-use Rattle.std.specs.Simd.Lanes.{Each1, chunk}
-use Rattle.hex.specs.Hex.{encode_lower, lower_digits}
+use Rattle.std.proofs.Common.{◌≡◌, ◌+◌, ◌*◌, ◌<◌, length, map, slice_index, ap, subst, sym, ◌∙◌, arith, w8}
+use Rattle.std.proofs.lemmas.Simd.{chunk-fits, length-chunk}
+use lib.Lanes.{Each1, chunk}
+use Rattle.hex.specs.Hex.{lower_digits}
+use Rattle.qtext.proofs.Lanes.{lowers_below, turns_stand, uppers_below}
 use Rattle.qtext.proofs.hex_lanes.encode_some.Goals as goal
 
--- src/hex_lanes.rt:41:35
-pub upper_halves-requires : goal.upper_halves-requires
-upper_halves-requires c = ?
-
--- src/hex_lanes.rt:41:25
 pub digits_of-requires : goal.digits_of-requires
-digits_of-requires c = ?
+digits_of-requires c =
+    let v = chunk c.args.at 16 c.args.bytes.now in
+    subst (Each1 (λ d. d < 16)) (sym c.upper_halves.ensures) (uppers_below v (chunk-fits w8 c.args.at 16 c.args.bytes.now c.type_inv.bytes))
 
--- src/hex_lanes.rt:35:1
 pub returns-clause-digits : goal.returns-clause-digits
-returns-clause-digits c = ?
+returns-clause-digits c =
+    let v = chunk c.args.at 16 c.args.bytes.now in
+    turns_stand v c.digits_of.result c.digits_of-2.result c.args.out.now (2 * c.args.at)
+    (length-chunk c.args.at 16 c.args.bytes.now (omega arith))
+    (c.digits_of.ensures ∙ ap (map (slice_index lower_digits)) c.upper_halves.ensures)
+    (c.digits_of-2.ensures ∙ ap (map (slice_index lower_digits)) c.lower_halves.ensures) c.requires.1

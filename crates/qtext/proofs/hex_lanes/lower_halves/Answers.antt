@@ -1,8 +1,9 @@
-use Rattle.std.proofs.Common.{rules, ◌≡◌, ◌<◌, ◌≤◌, ◌+◌, ◌*◌, ◌/◌, ◌%◌, ◌++◌, length, map, take, slice_index, ℕ, ◌-◌, Bool, true, false, nat_eq, nat_lt, List, [], ◌∷◌, slice_index_or, slice_set, bit_and, bit_or, Fits, w8, w32, w64, Bor, MutBor}
-use Rattle.std.specs.Simd.Lanes.{Each1, chunk}
-use Rattle.hex.specs.Hex.{encode_lower, lower_digits}
+use Rattle.std.proofs.Common.{◌%◌, ap, map, ◌∙◌}
+use Rattle.std.proofs.lemmas.Simd.{zip2_splat}
+use lib.Bits.{bit_and}
+use Rattle.qtext.proofs.Lanes.{lower_half, same_map}
 use Rattle.qtext.proofs.hex_lanes.lower_halves.Goals as goal
 
--- src/hex_lanes.rt:18:1
 pub returns : goal.returns
-returns c = ?
+returns c =
+    zip2_splat bit_and c.args.bytes 16 15 c.fits-bytes.0 ∙ same_map (λ b. bit_and b 15) (λ b. b % 16) lower_half c.args.bytes
