@@ -12,4 +12,6 @@ pub mod WordsAgain
 pub mod StepsFound
 pub mod WordsFound
 pub mod DataFound
-pub mod Lanes
+pub mod DigitLanes
+pub mod ByteLanes
+pub mod Decoding

@@ -6,4 +6,5 @@ pub mod Reading
 pub mod TextFaults
 pub mod Words
 pub mod Data
+pub mod Digits
 pub mod Gives

@@ -2,8 +2,8 @@
 ghost use Rattle.qtext.specs.Gives.{Gives};
 ghost use Rattle.qtext.specs.Data.{data_of, byte_of};
 
+use crate::hex_bytes::decode;
 use crate::{ReadFault, TextKind};
-use hex::FromHexError;
 use qrules::Items;
 use std::alloc::Global;
 
@@ -18,11 +18,7 @@ pub fn data_of(alloc: Global, word: &[u8]) -> Result<Items<u8>, ReadFault>
     if word.is_empty() {
         return Err(ReadFault::Fault(TextKind::BadHex));
     }
-    match hex::decode(alloc, word) {
-        Ok(bytes) => Ok(Items::new(bytes)),
-        Err(FromHexError::OutOfMemory) => Err(ReadFault::Memory),
-        Err(_) => Err(ReadFault::Fault(TextKind::BadHex)),
-    }
+    decode(alloc, word)
 }
 
 /// One byte in two hexadecimal digits.

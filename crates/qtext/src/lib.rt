@@ -16,7 +16,8 @@ pub use writing::{put, put_pieces};
 
 mod cut;
 mod data;
-mod hex_lanes;
+mod hex_bytes;
+mod hex_digits;
 mod numbers;
 mod piece;
 mod printing;

@@ -3,7 +3,7 @@ ghost use Rattle.hex.specs.Hex.{encode_lower};
 ghost use Rattle.qtext.specs.Pieces.{data_text};
 ghost use Rattle.qtext.specs.Written.{Passes, Writes};
 
-use crate::hex_lanes::encode;
+use crate::hex_digits::encode;
 use crate::{RefusedWrite, put};
 use itoa::Buffer;
 use std::io::Write;

@@ -1,6 +1,6 @@
 use Rattle.std.proofs.Common.{◌≡◌, ◌+◌, ◌*◌, ap, arith, take, ◌∙◌}
 use Rattle.qtext.proofs.HexPieces.{digits_on}
-use Rattle.qtext.proofs.hex_lanes.encode.Goals as goal
+use Rattle.qtext.proofs.hex_digits.encode.Goals as goal
 
 pub loop-at-preserved : goal.loop-at-preserved
 loop-at-preserved c =

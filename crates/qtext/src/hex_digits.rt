@@ -1,4 +1,4 @@
-//! Hexadecimal digits, of 16 bytes at a time.
+//! Bytes written as hexadecimal digits, 16 at a time.
 ghost use Rattle.std.specs.Prelude.{◌≡◌, ◌<◌, ◌≤◌, ◌+◌, ◌*◌, ◌/◌, ◌%◌, ◌^◌, ◌++◌, ℕ, length, map, take, slice_index};
 ghost use Rattle.std.specs.Simd.Lanes.{Each1, chunk};
 ghost use Rattle.hex.specs.Hex.{encode_lower, lower_digits};

@@ -1,7 +1,7 @@
 use Rattle.std.proofs.Common.{refl, ◌+◌, ◌*◌, ◌∙◌, arith, w8}
 use Rattle.std.proofs.lemmas.Simd.{below_from_Fits, get_or_wider}
-use Rattle.qtext.proofs.Lanes.{pair_in}
-use Rattle.qtext.proofs.hex_lanes.pairs_of.Goals as goal
+use Rattle.qtext.proofs.DigitLanes.{pair_in}
+use Rattle.qtext.proofs.hex_digits.pairs_of.Goals as goal
 
 pub returns-clause-pairs : goal.returns-clause-pairs
 returns-clause-pairs c j low =

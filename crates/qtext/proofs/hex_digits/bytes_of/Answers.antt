@@ -1,6 +1,6 @@
 use Rattle.std.proofs.Common.{refl, arith, w16}
 use Rattle.std.proofs.lemmas.Simd.{below_from_Fits, get_or_narrower}
-use Rattle.qtext.proofs.hex_lanes.bytes_of.Goals as goal
+use Rattle.qtext.proofs.hex_digits.bytes_of.Goals as goal
 
 pub returns-clause-parts : goal.returns-clause-parts
 returns-clause-parts c j i low within =

@@ -1,4 +1,4 @@
--- Hexadecimal digits of 16 lanes at a time.
+-- Hexadecimal digits of 16 bytes, lane by lane.
 use Rattle.std.proofs.Common.{◌≡◌, ℕ, ◌+◌, ◌-◌, ◌*◌, ◌/◌, ◌%◌, ◌^◌, ◌<◌, ◌≤◌, zero, suc, Bool, true, false, cond, eqb, ltb, List, [], ◌∷◌, ◌++◌, length, map, drop, take, get_or, replicate, slice_index, refl, sym, ap, ap₂, subst, ◌∙◌, arith, w8, w16, inl, inr}
 use Rattle.std.proofs.lemmas.List.{append_assoc, drop_more, get_or-map, length-map}
 use Rattle.std.proofs.lemmas.Grind.{same_number_lists}

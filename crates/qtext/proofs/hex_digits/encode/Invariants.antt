@@ -1,6 +1,6 @@
 use Rattle.std.proofs.Common.{◌≡◌, ◌≤◌, ◌*◌, ◌-◌, ◌++◌, drop, length, take}
 use Rattle.hex.specs.Hex.{encode_lower}
-use Rattle.qtext.proofs.hex_lanes.encode.Given as goal
+use Rattle.qtext.proofs.hex_digits.encode.Given as goal
 
 -- the digits of the first bytes stand
 abbrev pub invariant-loop-at : goal.invariant-loop-at

@@ -1,8 +1,8 @@
 use Rattle.std.proofs.Common.{◌%◌, ap, map, ◌∙◌}
 use Rattle.std.proofs.lemmas.Simd.{zip2_splat}
 use lib.Bits.{bit_and}
-use Rattle.qtext.proofs.Lanes.{lower_half, same_map}
-use Rattle.qtext.proofs.hex_lanes.lower_halves.Goals as goal
+use Rattle.qtext.proofs.DigitLanes.{lower_half, same_map}
+use Rattle.qtext.proofs.hex_digits.lower_halves.Goals as goal
 
 pub returns : goal.returns
 returns c =

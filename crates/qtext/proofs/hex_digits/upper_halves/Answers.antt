@@ -1,7 +1,7 @@
 use Rattle.std.proofs.Common.{◌≡◌, ◌/◌, ◌%◌, ◌^◌, slice_index, ap, ◌∙◌}
 use Rattle.std.proofs.lemmas.Simd.{zip2_splat}
-use Rattle.qtext.proofs.Lanes.{upper_lanes}
-use Rattle.qtext.proofs.hex_lanes.upper_halves.Goals as goal
+use Rattle.qtext.proofs.DigitLanes.{upper_lanes}
+use Rattle.qtext.proofs.hex_digits.upper_halves.Goals as goal
 
 pub returns : goal.returns
 returns c =

@@ -2,8 +2,8 @@ use Rattle.std.proofs.Common.{◌≡◌, ◌+◌, ◌*◌, ◌<◌, length, map,
 use Rattle.std.proofs.lemmas.Simd.{chunk-fits, length-chunk}
 use lib.Lanes.{Each1, chunk}
 use Rattle.hex.specs.Hex.{lower_digits}
-use Rattle.qtext.proofs.Lanes.{lowers_below, turns_stand, uppers_below}
-use Rattle.qtext.proofs.hex_lanes.encode_some.Goals as goal
+use Rattle.qtext.proofs.DigitLanes.{lowers_below, turns_stand, uppers_below}
+use Rattle.qtext.proofs.hex_digits.encode_some.Goals as goal
 
 pub digits_of-requires : goal.digits_of-requires
 digits_of-requires c =
