@@ -12,3 +12,4 @@ pub mod CallersFound
 pub mod CallsFound
 pub mod RepliesFound
 mod FewGroups
+pub mod UpperLanes

@@ -1,7 +1,5 @@
 //! The arguments that more than one call takes.
 ghost use Rattle.std.specs.Prelude.{◌≡◌};
-ghost use Rattle.std.specs.Char.{is_ascii_uppercase};
-ghost use Rattle.std.specs.List.{list_any};
 ghost use Rattle.qtext.specs.Gives.{Gives};
 ghost use Rattle.qtext.specs.Data.{data_of};
 ghost use Rattle.qtext_read.specs.Arguments.{path_of, kind_of, project_kind_of, owner_of};
@@ -67,11 +65,4 @@ pub(crate) fn owner_of(word: &[u8]) -> Result<Option<u32>, ReadFault>
     }
     let id = id_of(TextKind::BadNumber, word)?;
     Ok(Some(id))
-}
-
-/// Whether a letter of the word is in upper case.
-pub(crate) fn has_upper_case(digits: &[u8]) -> bool
-    ensures { result ≡ list_any is_ascii_uppercase digits.now }
-{
-    digits.iter().any(|digit| digit.is_ascii_uppercase())
 }

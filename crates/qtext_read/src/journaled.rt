@@ -4,9 +4,9 @@ ghost use Rattle.qtext.specs.Gives.{Gives};
 ghost use Rattle.qtext_read.specs.Journaled.{argument_count, arity, counted_call_of, has_project, in_one_case};
 ghost use Rattle.qtext_read.specs.Journaled.{is_project, journaled_call_in, journaled_call_of, journaled_verb_of};
 
-use crate::argument::has_upper_case;
 use crate::call::call_of;
 use crate::paths::Paths;
+use crate::upper_case::has_upper_case;
 use crate::verb::{Verb, verb_of};
 use qplain::{Call, Edition};
 use qtext::{ReadFault, TextKind};

@@ -15,4 +15,5 @@ mod path_call;
 mod paths;
 mod reply;
 mod reply_word;
+mod upper_case;
 mod verb;

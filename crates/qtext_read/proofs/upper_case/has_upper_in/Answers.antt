@@ -2,8 +2,8 @@ use Rattle.std.proofs.Common.{rules, tests}
 use Rattle.std.specs.Char.{is_ascii_uppercase}
 use Rattle.std.proofs.lemmas.Iterator.{YieldsList-from_slice}
 use Rattle.std.proofs.lemmas.Iterator.Search.{any_from_yields_List}
-use Rattle.qtext_read.proofs.argument.has_upper_case.Goals as goal
+use Rattle.qtext_read.proofs.upper_case.has_upper_in.Goals as goal
 
 pub returns : goal.returns
 returns c =
-    any_from_yields_List is_ascii_uppercase _ _ _ c.any.ensures.ran (YieldsList-from_slice c.args.digits.now (search rules)) (λ x b q k. search (rules, tests))
+    any_from_yields_List is_ascii_uppercase _ _ _ c.any.ensures.ran (YieldsList-from_slice c.args.few.now (search rules)) (λ x b q k. search (rules, tests))
