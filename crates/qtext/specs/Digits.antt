@@ -13,12 +13,13 @@ number_or None = 255
 abbrev pub digit_or : ℕ → ℕ
 digit_or c = number_or (hex_digit_value c)
 
--- the first of each two digits, and the second
+-- the first of each two digits
 abbrev pub uppers_in : List ℕ → List ℕ
 uppers_in [] = []
 uppers_in (a ∷ []) = []
 uppers_in (a ∷ b ∷ rest) = a ∷ uppers_in rest
 
+-- the second of each two
 abbrev pub lowers_in : List ℕ → List ℕ
 lowers_in [] = []
 lowers_in (a ∷ []) = []

@@ -7,7 +7,8 @@ use std::simd::prelude::*;
 
 /// Each two bytes as one number, of which the first is the lower half.
 fn pairs_of(bytes: u8x16) -> u16x8
-    ensures pairs { (j : ℕ) → j < 8 → slice_index result j ≡ slice_index bytes (2 * j) + 256 * slice_index bytes (2 * j + 1) }
+    ensures pairs { (j : ℕ) → j < 8
+        → slice_index result j ≡ slice_index bytes (2 * j) + 256 * slice_index bytes (2 * j + 1) }
     ensures len { length result ≡ 8 }
 {
     u16x8::from_le_bytes(bytes)
