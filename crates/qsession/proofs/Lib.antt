@@ -1,0 +1,6 @@
+pub mod LooseValues
+pub mod SlotValues
+pub mod Fitting
+pub mod Replying
+pub mod Journaling
+pub mod Calling

@@ -1,0 +1,5 @@
+use Rattle.qsession.specs.Holdings.{held_in}
+use Rattle.qsession.proofs.session.Session.call.Goals as goal
+
+pub returns-in-Err-clause-cause : goal.returns-in-Err-clause-cause
+returns-in-Err-clause-cause c = c.in-Err.ensures.fault (held_in c.args.self.now.slot.kept)

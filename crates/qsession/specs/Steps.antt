@@ -1,0 +1,90 @@
+-- What a call makes of what is held: a step of the plain machine, which is journaled where a journal is kept.
+use Rattle.std.specs.Prelude.{◌≡◌, ℕ, List, [], ◌∷◌, ◌++◌, length, Option, Some, None}
+use Rattle.qplain.specs.declared.bounds.TheConstants.{MAX_ENTRIES}
+use Rattle.qplain.specs.declared.line.Line.{Line}
+use Rattle.qplain.specs.declared.reply.Reply.{Reply}
+use Rattle.qplain.specs.State.{State}
+use Rattle.qplain.specs.Journal.{entry_of}
+use Rattle.qplain.specs.Step.{step}
+use Rattle.qstore.specs.Ready.{IsReady, committed}
+use Rattle.qstore_journaled.specs.Journaled.{IsPlayed}
+use Rattle.qstore_journaled.specs.Next.{CanFollow}
+use Rattle.qsession.specs.declared.fault.Fault.{Fault}
+use Rattle.qsession.specs.declared.fault.Fault.TheVariants.{Closed, JournalFull}
+use Rattle.qsession.specs.declared.kept.TheConstants.{WORKER}
+use Rattle.qsession.specs.declared.kept.Kept.{Kept}
+use Rattle.qsession.specs.declared.kept.Kept.TheVariants.{Plain, Journaled}
+use Rattle.qsession.specs.declared.ready_call.ReadyCall.{ReadyCall}
+use Rattle.qsession.specs.declared.ready_call.ReadyCall.TheVariants.{Ready, Next}
+use Rattle.qsession.specs.Holdings.{Holding, KeptJournal, holding_of}
+
+-- the state and the reply that the plain machine gives for a line
+abbrev pub stepped : State → Line → State × Reply
+stepped S line = step S line.cred line.moment line.call
+
+-- a journal with the entry of one line more, where one is kept
+abbrev pub journal_with : Line → Reply → Option KeptJournal → Option KeptJournal
+journal_with line reply None = None
+journal_with line reply (Some j) = Some (record j { entries = j.entries ++ entry_of WORKER line reply ∷ [] })
+
+-- what is held after the call of a line
+abbrev pub holding_after : Holding → Line → Holding
+holding_after h line = record {
+  state = (stepped h.state line).0;
+  journal = journal_with line (stepped h.state line).1 h.journal;
+}
+
+-- what the call of a line is answered
+abbrev pub reply_to : Holding → Line → Reply
+reply_to h line = (stepped h.state line).1
+
+-- the new holding and the reply are those of the line's call
+pub record IsStep (old new : Holding) (line : Line) (reply : Reply) : Type 0 where
+  pub held : new ≡ holding_after old line
+  pub reply_is : reply ≡ reply_to old line
+
+-- the journal has all the entries that it may have
+abbrev pub IsFullJournal : Option KeptJournal → Type 0
+IsFullJournal None = ⊥
+IsFullJournal (Some j) = length j.entries ≡ MAX_ENTRIES
+
+-- there is a journal, and it is full
+abbrev pub IsFull : Option Holding → Type 0
+IsFull None = ⊥
+IsFull (Some h) = IsFullJournal h.journal
+
+-- what is known of a session where a call of it was not made for this fault
+abbrev pub HasCause : Option Holding → Fault → Type 0
+HasCause held Closed = held ≡ None
+HasCause held JournalFull = IsFull held
+HasCause held fault = Unit {0}
+
+-- the fault is of what is brought to a call, whatever the session holds
+abbrev pub IsOfArguments : Fault → Type 0
+IsOfArguments fault = (held : Option Holding) → HasCause held fault
+
+-- what is kept is as the call that is ready needs it
+abbrev pub CanCommit : Kept → ReadyCall → Type 0
+CanCommit (Plain s) (Ready r) = IsReady s r
+CanCommit (Journaled j) (Next n) = IsPlayed j × CanFollow j n
+CanCommit kept ready = ⊥
+
+-- the reply of a call that is ready
+abbrev pub reply_ready : ReadyCall → Reply
+reply_ready (Ready r) = r.reply
+reply_ready (Next n) = n.entry.reply
+
+-- what is kept will hold this, with this reply, when the call that is ready is carried out
+abbrev pub Leaves : Kept → ReadyCall → Holding → Reply → Type 0
+Leaves (Plain s) (Ready r) h reply = (h ≡ record { state = (committed s r).0; journal = None }) × (reply ≡ r.reply)
+Leaves (Journaled j) (Next n) h reply =
+    (h ≡ record {
+      state = (committed j.stored n.ready).0;
+      journal = Some (record { setting = j.setting; entries = j.journal ++ n.entry ∷ [] });
+    }) × (reply ≡ n.entry.reply)
+Leaves kept ready h reply = ⊥
+
+-- the call of the line is ready, and will leave what it leaves
+pub record IsReadyFor (kept : Kept) (line : Line) (ready : ReadyCall) : Type 0 where
+  pub can : CanCommit kept ready
+  pub leaves : Leaves kept ready (holding_after (holding_of kept) line) (reply_to (holding_of kept) line)

@@ -1,0 +1,128 @@
+//! What an open session keeps.
+ghost use Rattle.std.specs.Prelude.{◌≡◌, Some, IfOk, IfErr, OnErr, MatchResult};
+ghost use Rattle.qstore_journaled.specs.Lines.{line_of};
+ghost use Rattle.qsession.specs.Faults.{fault_told};
+ghost use Rattle.qsession.specs.Holdings.{HoldsTrue, holding_of, new_journaled, new_plain};
+ghost use Rattle.qsession.specs.Steps.{CanCommit, HasCause, IsReadyFor, IsStep, Leaves};
+
+use crate::fault::Fault;
+use crate::ready_call::ReadyCall;
+use qplain::{Call, CallFault, Cred, Entry, NoMemory, Reply, Setup};
+use qstore::Store;
+use qstore_journaled::JournaledStore;
+use std::alloc::Global;
+
+/// The worker whose calls a session's journal has: the only one.
+pub(crate) const WORKER: u64 = 1;
+
+/// A store, without or with a journal of its calls.
+#[derive(Drop)]
+pub enum Kept {
+    Plain(Store),
+    Journaled(JournaledStore),
+}
+
+/// The fault of a call that a journaled store has not made.
+fn fault_of(fault: CallFault) -> Fault
+    ensures { result ≡ fault_told fault }
+{
+    match fault {
+        CallFault::JournalFull => Fault::JournalFull,
+        CallFault::OutOfMemory => Fault::Memory,
+    }
+}
+
+impl Kept {
+    /// A new store of a setup. The hashes of names begin at `seed`, any number. An Err leaves nothing made.
+    pub fn plain(alloc: Global, setup: Setup, seed: u64) -> Result<Kept, NoMemory>
+        ensures { IfOk result (λ kept. holding_of kept ≡ new_plain setup) }
+    {
+        Ok(Kept::Plain(Store::new(alloc, setup, seed)?))
+    }
+
+    /// A new store of a setup that keeps a journal of its calls, which has no entry yet. Seed and Err are as for
+    /// `plain`.
+    pub fn journaled(alloc: Global, setup: Setup, seed: u64) -> Result<Kept, NoMemory>
+        ensures { IfOk result (λ kept. holding_of kept ≡ new_journaled setup) }
+    {
+        Ok(Kept::Journaled(JournaledStore::new(alloc, setup, seed)?))
+    }
+
+    /// The store.
+    pub fn store(&self) -> &Store
+        ensures { result.now.state ≡ (holding_of self.now).state }
+    {
+        match self {
+            Kept::Plain(store) => store,
+            Kept::Journaled(store) => store.store(),
+        }
+    }
+
+    /// A law, the headline for one thread: where a journal is kept, the store is exactly what it leaves when it is
+    /// played on the plain machine, and each journaled reply is that machine's.
+    pub fn always_holds_true(&self)
+        ensures { HoldsTrue (Some (holding_of self.now)) }
+    {
+        if let Kept::Journaled(store) = self {
+            let _entries = store.entries();
+        }
+    }
+
+    /// One call: what is held and the reply are those of the plain machine's step, and where a journal is kept it has
+    /// one entry more. An Err is JournalFull, before all else, or Memory, after all refusals, and changes nothing.
+    pub fn call(&mut self, cred: &Cred, moment: u64, call: &Call) -> Result<Reply, Fault>
+        ensures ok { IfOk result (IsStep (holding_of self.old) (holding_of self.new) (line_of cred.now moment call.now)) }
+        ensures err { OnErr result (holding_of self.new ≡ holding_of self.old) }
+        ensures cause { IfErr result (HasCause (Some (holding_of self.old))) }
+    {
+        match self {
+            Kept::Plain(store) => match store.apply(cred, moment, call) {
+                Ok(reply) => Ok(reply),
+                Err(_) => Err(Fault::Memory),
+            },
+            Kept::Journaled(store) => match store.ready(WORKER, cred, moment, call) {
+                Ok(next) => Ok(store.commit(next).reply),
+                Err(fault) => Err(fault_of(fault)),
+            },
+        }
+    }
+
+    /// Decides a call and makes every growth that it needs; what is held stays as it was. Faults are those of `call`.
+    pub fn ready(&mut self, cred: &Cred, moment: u64, call: &Call) -> Result<ReadyCall, Fault>
+        ensures same { holding_of self.new ≡ holding_of self.old }
+        ensures ready { IfOk result (IsReadyFor self.new (line_of cred.now moment call.now)) }
+        ensures cause { IfErr result (HasCause (Some (holding_of self.old))) }
+    {
+        match self {
+            Kept::Plain(store) => match store.ready(cred, moment, call) {
+                Ok(ready) => Ok(ReadyCall::Ready(ready)),
+                Err(_) => Err(Fault::Memory),
+            },
+            Kept::Journaled(store) => match store.ready(WORKER, cred, moment, call) {
+                Ok(next) => Ok(ReadyCall::Next(next)),
+                Err(fault) => Err(fault_of(fault)),
+            },
+        }
+    }
+
+    /// Makes the call that is ready. It takes no memory and always succeeds.
+    pub fn commit(&mut self, ready: ReadyCall) -> Reply
+        requires { CanCommit self.old ready }
+        ensures { Leaves self.old ready (holding_of self.new) result }
+    {
+        match self {
+            Kept::Plain(store) => {
+                let ReadyCall::Ready(ready) = ready else {
+                    unreachable!()
+                };
+                store.commit(ready)
+            }
+            Kept::Journaled(store) => {
+                let ReadyCall::Next(next) = ready else {
+                    unreachable!()
+                };
+                store.commit(next).reply
+            }
+        }
+    }
+}

@@ -1,0 +1,27 @@
+//! A store behind a handle that callers of other languages may hold, with or without a journal of its calls.
+#![tactic(auto)]
+
+pub use asking::{data_of, kind_of, path_of};
+pub use caller::Caller;
+pub use fault::Fault;
+pub use kept::Kept;
+pub use ready_call::ReadyCall;
+pub use replies::{DoneReply, QuotaReply, StatReply, TallyReply};
+pub use requests::{NewLimits, NewOwners};
+pub use rows::{ListedInode, ListedName};
+pub use session::Session;
+pub use slot::Slot;
+
+mod asking;
+mod caller;
+mod fault;
+mod kept;
+mod laws;
+mod loose;
+mod ready_call;
+mod replies;
+mod requests;
+mod rows;
+mod session;
+mod slot;
+mod telling;
