@@ -1,6 +1,7 @@
 -- In reading order: what a session holds, what a call makes of it, by which numbers that is told, and what the structs
 -- that cross to other languages stand for. A module that no public clause cites says so.
 pub mod Holdings
+pub mod Recorded
 pub mod Steps
 pub mod Answers
 pub mod Codes
@@ -10,3 +11,4 @@ pub mod Requests
 pub mod Replies
 pub mod Rows
 pub mod Slots
+pub mod KeptRecorder

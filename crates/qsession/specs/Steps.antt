@@ -7,16 +7,15 @@ use Rattle.qplain.specs.State.{State}
 use Rattle.qplain.specs.Journal.{entry_of}
 use Rattle.qplain.specs.Step.{step}
 use Rattle.qstore.specs.Ready.{IsReady, committed}
-use Rattle.qstore_journaled.specs.Journaled.{IsPlayed}
-use Rattle.qstore_journaled.specs.Next.{CanFollow}
 use Rattle.qsession.specs.declared.fault.Fault.{Fault}
 use Rattle.qsession.specs.declared.fault.Fault.TheVariants.{Closed, JournalFull}
-use Rattle.qsession.specs.declared.kept.TheConstants.{WORKER}
+use Rattle.qsession.specs.declared.recorder.TheConstants.{WORKER}
 use Rattle.qsession.specs.declared.kept.Kept.{Kept}
 use Rattle.qsession.specs.declared.kept.Kept.TheVariants.{Plain, Journaled}
 use Rattle.qsession.specs.declared.ready_call.ReadyCall.{ReadyCall}
 use Rattle.qsession.specs.declared.ready_call.ReadyCall.TheVariants.{Ready, Next}
 use Rattle.qsession.specs.Holdings.{Holding, KeptJournal, holding_of}
+use Rattle.qsession.specs.Recorded.{CanRecord}
 
 -- the state and the reply that the plain machine gives for a line
 abbrev pub stepped : State → Line → State × Reply
@@ -66,7 +65,7 @@ IsOfArguments fault = (held : Option Holding) → HasCause held fault
 -- what is kept is as the call that is ready needs it
 abbrev pub CanCommit : Kept → ReadyCall → Type 0
 CanCommit (Plain s) (Ready r) = IsReady s r
-CanCommit (Journaled j) (Next n) = IsPlayed j × CanFollow j n
+CanCommit (Journaled j) (Next n) = CanRecord j n
 CanCommit kept ready = ⊥
 
 -- the reply of a call that is ready

@@ -1,25 +1,24 @@
 //! What an open session keeps.
-ghost use Rattle.std.specs.Prelude.{◌≡◌, Some, IfOk, IfErr, OnErr, MatchResult};
+ghost use Rattle.std.specs.Prelude.{◌≡◌, Some, None, IfSome, IfNone, IfOk, IfErr, OnErr};
+ghost use Rattle.qplain.specs.declared.edition.Edition.TheVariants.{Two};
 ghost use Rattle.qstore_journaled.specs.Lines.{line_of};
+ghost use Rattle.qsession.specs.declared.kept.Kept.TheVariants.{Journaled as KeptJournaled};
 ghost use Rattle.qsession.specs.Faults.{fault_told};
 ghost use Rattle.qsession.specs.Holdings.{HoldsTrue, holding_of, new_journaled, new_plain};
 ghost use Rattle.qsession.specs.Steps.{CanCommit, HasCause, IsReadyFor, IsStep, Leaves};
 
 use crate::fault::Fault;
 use crate::ready_call::ReadyCall;
-use qplain::{Call, CallFault, Cred, Entry, NoMemory, Reply, Setup};
+use crate::recorder::Recorder;
+use qplain::{Call, CallFault, Cred, NoMemory, Reply, Setup};
 use qstore::Store;
-use qstore_journaled::JournaledStore;
 use std::alloc::Global;
-
-/// The worker whose calls a session's journal has: the only one.
-pub(crate) const WORKER: u64 = 1;
 
 /// A store, without or with a journal of its calls.
 #[derive(Drop)]
 pub enum Kept {
     Plain(Store),
-    Journaled(JournaledStore),
+    Journaled(Recorder),
 }
 
 /// The fault of a call that a journaled store has not made.
@@ -40,12 +39,13 @@ impl Kept {
         Ok(Kept::Plain(Store::new(alloc, setup, seed)?))
     }
 
-    /// A new store of a setup that keeps a journal of its calls, which has no entry yet. Seed and Err are as for
-    /// `plain`.
+    /// A new store of a setup of edition 2 that keeps a journal of its calls, which has no entry yet. Seed and Err are
+    /// as for `plain`.
     pub fn journaled(alloc: Global, setup: Setup, seed: u64) -> Result<Kept, NoMemory>
+        requires { setup.edition ≡ Two }
         ensures { IfOk result (λ kept. holding_of kept ≡ new_journaled setup) }
     {
-        Ok(Kept::Journaled(JournaledStore::new(alloc, setup, seed)?))
+        Ok(Kept::Journaled(Recorder::new(alloc, setup, seed)?))
     }
 
     /// The store.
@@ -55,6 +55,17 @@ impl Kept {
         match self {
             Kept::Plain(store) => store,
             Kept::Journaled(store) => store.store(),
+        }
+    }
+
+    /// The store with its journal, where one is kept.
+    pub fn recorder(&self) -> Option<&Recorder>
+        ensures some { IfSome result (λ recorder. self.now ≡ KeptJournaled recorder.now) }
+        ensures none { IfNone result ((holding_of self.now).journal ≡ None) }
+    {
+        match self {
+            Kept::Plain(_) => None,
+            Kept::Journaled(store) => Some(store),
         }
     }
 
@@ -80,8 +91,8 @@ impl Kept {
                 Ok(reply) => Ok(reply),
                 Err(_) => Err(Fault::Memory),
             },
-            Kept::Journaled(store) => match store.ready(WORKER, cred, moment, call) {
-                Ok(next) => Ok(store.commit(next).reply),
+            Kept::Journaled(store) => match store.ready(cred, moment, call) {
+                Ok(next) => Ok(store.commit(next)),
                 Err(fault) => Err(fault_of(fault)),
             },
         }
@@ -98,7 +109,7 @@ impl Kept {
                 Ok(ready) => Ok(ReadyCall::Ready(ready)),
                 Err(_) => Err(Fault::Memory),
             },
-            Kept::Journaled(store) => match store.ready(WORKER, cred, moment, call) {
+            Kept::Journaled(store) => match store.ready(cred, moment, call) {
                 Ok(next) => Ok(ReadyCall::Next(next)),
                 Err(fault) => Err(fault_of(fault)),
             },
@@ -121,7 +132,7 @@ impl Kept {
                 let ReadyCall::Next(next) = ready else {
                     unreachable!()
                 };
-                store.commit(next).reply
+                store.commit(next)
             }
         }
     }

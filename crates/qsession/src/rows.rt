@@ -1,7 +1,8 @@
 //! Rows of inodes and of names as structs that other languages know.
-ghost use Rattle.std.specs.Prelude.{◌≡◌};
+ghost use Rattle.std.specs.Prelude.{◌≡◌, ◌≤◌, length, map, take};
 ghost use Rattle.qsession.specs.Rows.{inode_in, name_in};
 
+use crate::fault::Fault;
 use qrules::{InodeRow, NameRow};
 
 /// One inode: whose it is, what it uses, and how many names lead to it. A project counts where it is said to be there.
@@ -54,4 +55,40 @@ impl ListedName {
             ino: row.ino,
         }
     }
+}
+
+/// Puts rows of inodes at the front of a list, if it has room, and tells in any case how many there are.
+///
+/// Returns 0, or the number of Room.
+pub fn list_inodes(rows: &[InodeRow], list: &mut [ListedInode], count: &mut usize) -> u32
+    ensures rows { result ≡ 0 → map inode_in (take count.new list.new) ≡ rows.now }
+    ensures fits { length rows.now ≤ length list.old → result ≡ 0 }
+    ensures count { count.new ≡ length rows.now }
+{
+    *count = rows.len();
+    if rows.len() > list.len() {
+        return Fault::Room.code();
+    }
+    for i in 0..rows.len() {
+        list[i] = ListedInode::of(rows[i]);
+    }
+    0
+}
+
+/// Puts rows of names at the front of a list, if it has room, and tells in any case how many there are.
+///
+/// Returns 0, or the number of Room.
+pub fn list_names(rows: &[NameRow], list: &mut [ListedName], count: &mut usize) -> u32
+    ensures rows { result ≡ 0 → map name_in (take count.new list.new) ≡ rows.now }
+    ensures fits { length rows.now ≤ length list.old → result ≡ 0 }
+    ensures count { count.new ≡ length rows.now }
+{
+    *count = rows.len();
+    if rows.len() > list.len() {
+        return Fault::Room.code();
+    }
+    for i in 0..rows.len() {
+        list[i] = ListedName::of(rows[i]);
+    }
+    0
 }

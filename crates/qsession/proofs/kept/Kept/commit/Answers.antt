@@ -5,4 +5,4 @@ pub returns-in-Next : goal.returns-in-Next
 returns-in-Next c =
     let done = c.commit-in-Journaled in
     committed_next c.args.self.now c.args.ready c.in-Journaled.store done.new.self c.in-Next.next done.result c.in-Journaled.is c.in-Next.is
-    c.requires done.ensures.setting done.ensures.receipt done.ensures.played
+    c.requires done.ensures.setting done.ensures.journal done.ensures.reply done.ensures.played
