@@ -2,5 +2,5 @@ pub mod LooseValues
 pub mod SlotValues
 pub mod Fitting
 pub mod Replying
-pub mod Journaling
+pub mod Committing
 pub mod Calling

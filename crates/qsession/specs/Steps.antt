@@ -83,7 +83,8 @@ Leaves (Journaled j) (Next n) h reply =
     }) × (reply ≡ n.entry.reply)
 Leaves kept ready h reply = ⊥
 
--- the call of the line is ready, and will leave what it leaves
+-- the call of the line is ready, and will leave and answer what it does
 pub record IsReadyFor (kept : Kept) (line : Line) (ready : ReadyCall) : Type 0 where
   pub can : CanCommit kept ready
   pub leaves : Leaves kept ready (holding_after (holding_of kept) line) (reply_to (holding_of kept) line)
+  pub reply : reply_ready ready ≡ reply_to (holding_of kept) line

@@ -1,11 +1,12 @@
 //! What an open session keeps.
 ghost use Rattle.std.specs.Prelude.{◌≡◌, Some, None, IfSome, IfNone, IfOk, IfErr, OnErr};
+ghost use Rattle.qplain.specs.declared.line.Line.{Line};
 ghost use Rattle.qplain.specs.declared.edition.Edition.TheVariants.{Two};
 ghost use Rattle.qstore_journaled.specs.Lines.{line_of};
 ghost use Rattle.qsession.specs.declared.kept.Kept.TheVariants.{Journaled as KeptJournaled};
 ghost use Rattle.qsession.specs.Faults.{fault_told};
 ghost use Rattle.qsession.specs.Holdings.{HoldsTrue, holding_of, new_journaled, new_plain};
-ghost use Rattle.qsession.specs.Steps.{CanCommit, HasCause, IsReadyFor, IsStep, Leaves};
+ghost use Rattle.qsession.specs.Steps.{CanCommit, HasCause, IsReadyFor, IsStep};
 
 use crate::fault::Fault;
 use crate::ready_call::ReadyCall;
@@ -119,7 +120,8 @@ impl Kept {
     /// Makes the call that is ready. It takes no memory and always succeeds.
     pub fn commit(&mut self, ready: ReadyCall) -> Reply
         requires { CanCommit self.old ready }
-        ensures { Leaves self.old ready (holding_of self.new) result }
+        ensures { (line : Line) → IsReadyFor self.old line ready
+            → IsStep (holding_of self.old) (holding_of self.new) line result }
     {
         match self {
             Kept::Plain(store) => {

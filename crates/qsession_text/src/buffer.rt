@@ -1,0 +1,21 @@
+//! Buffers that a caller of another language lends.
+ghost use Rattle.std.specs.Prelude.{◌≡◌, ◌≤◌, length, take};
+
+use qsession::Fault;
+
+/// Puts a text at the front of the buffer, if it has room, and tells in any case how many bytes there are.
+///
+/// Returns 0, or the number of Room.
+pub fn put_text(text: &[u8], buffer: &mut [u8], len: &mut usize) -> u32
+    ensures text { result ≡ 0 → take len.new buffer.new ≡ text.now }
+    ensures fits { length text.now ≤ length buffer.old → result ≡ 0 }
+    ensures len { len.new ≡ length text.now }
+{
+    let count = text.len();
+    *len = count;
+    if count > buffer.len() {
+        return Fault::Room.code();
+    }
+    buffer[..count].copy_from_slice(text);
+    0
+}

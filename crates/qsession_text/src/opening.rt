@@ -1,0 +1,79 @@
+//! What a session opens with: a new store of a configuration.
+ghost use Rattle.std.specs.Prelude.{◌≡◌, ◌≢◌, Some, IfOk, IfErr, Result, length};
+ghost use Rattle.qplain.specs.Setups.{Setting};
+ghost use Rattle.qtext_config.specs.ConfigFaults.{Cause};
+ghost use Rattle.qtext_config.specs.Configs.{setting_in};
+ghost use Rattle.qsession.specs.Holdings.{holding_of, new_journaled, new_plain};
+ghost use Rattle.qsession_text.specs.Openings.{IsOpened, IsRead, IsRefused, IsWhyNot};
+
+use crate::buffer::put_text;
+use qsession::{Fault, Kept};
+use qtext_config::{Config, ConfigFault};
+use std::alloc::Global;
+
+/// The configuration of a text in TOML. One that is not UTF-8 is no text.
+fn config_of(alloc: Global, text: &[u8]) -> Result<Config, ConfigFault>
+    ensures ok { IfOk result (λ config. IsRead config.setup (setting_in text.now)) }
+    ensures err { IfErr result (λ fault. IsWhyNot fault (setting_in text.now)) }
+{
+    match std::str::from_utf8(text) {
+        Ok(text) => Config::read(alloc, text),
+        Err(_) => Err(ConfigFault::Text),
+    }
+}
+
+/// A new store of a configuration, a text in TOML, without a journal; or why there is none. The hashes of names begin
+/// at `seed`, any number.
+pub fn keep_plain(alloc: Global, text: &[u8], seed: u64) -> Result<Box<Kept>, ConfigFault>
+    ensures ok { IfOk result (λ kept. IsOpened new_plain (Some (holding_of kept.value)) (setting_in text.now)) }
+    ensures err { IfErr result (λ fault. IsWhyNot fault (setting_in text.now)) }
+{
+    let config = match config_of(alloc, text) {
+        Ok(config) => config,
+        Err(fault) => return Err(fault),
+    };
+    let Ok(kept) = Kept::plain(alloc, config.setup, seed) else {
+        return Err(ConfigFault::Memory);
+    };
+    match Box::new(alloc, kept) {
+        Ok(kept) => Ok(kept),
+        Err(_) => Err(ConfigFault::Memory),
+    }
+}
+
+/// A new store of a configuration, with an empty journal; or why there is none, as for `keep_plain`.
+pub fn keep_journaled(alloc: Global, text: &[u8], seed: u64) -> Result<Box<Kept>, ConfigFault>
+    ensures ok { IfOk result (λ kept. IsOpened new_journaled (Some (holding_of kept.value)) (setting_in text.now)) }
+    ensures err { IfErr result (λ fault. IsWhyNot fault (setting_in text.now)) }
+{
+    let config = match config_of(alloc, text) {
+        Ok(config) => config,
+        Err(fault) => return Err(fault),
+    };
+    let Ok(kept) = Kept::journaled(alloc, config.setup, seed) else {
+        return Err(ConfigFault::Memory);
+    };
+    match Box::new(alloc, kept) {
+        Ok(kept) => Ok(kept),
+        Err(_) => Err(ConfigFault::Memory),
+    }
+}
+
+/// Tells why a text is no configuration: the number of the fault, 51 to 55, and at 52 the key that is missing, of
+/// another kind or form, or not known, at the front of the buffer, if it has room. How many bytes the key has is told in
+/// any case, 0 where it is no field. Want of memory has the number of Memory.
+pub fn tell_config_fault(fault: &ConfigFault, key: &mut [u8], len: &mut usize) -> u32
+    ensures never_ok { result ≢ 0 }
+    ensures told { (read : Result Setting Cause) → IsWhyNot fault.now read
+        → IsRefused read (length key.old) result key.new len.new }
+{
+    *len = 0;
+    match fault {
+        ConfigFault::Memory => Fault::Memory.code(),
+        ConfigFault::Field(name) => {
+            let _ = put_text(name.as_bytes(), key, len);
+            fault.number()
+        }
+        _ => fault.number(),
+    }
+}
