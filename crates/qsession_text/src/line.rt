@@ -1,30 +1,41 @@
 //! A line of a script, as a call of a session.
-ghost use Rattle.std.specs.Prelude.{◌≡◌, ◌++◌, ◌≤◌, Ok, Some, IfOk, OnErr, length, codes};
+ghost use Rattle.std.specs.Prelude.{◌≡◌, ◌∷◌, ◌++◌, ◌≤◌, [], Ok, Some, IfOk, OnErr, length, codes};
 ghost use Rattle.qtext_files.specs.Scripts.{script_of};
 ghost use Rattle.qtext_read.specs.Replies.{reply_text};
 ghost use Rattle.qsession.specs.Holdings.{holding_of};
 ghost use Rattle.qsession_text.specs.Lines.{IsAnswered};
 
-use qplain::{Reply, Script};
+use qplain::{Line, Reply, Script};
 use qsession::{Fault, Kept};
-use qtext::{TextFault, TextKind, TextLine};
+use qtext::{TextKind, TextLine};
 use qtext_files::FromText;
 use qtext_write::put_reply;
 use std::alloc::Global;
 
-/// What the text says as a script. Err is Memory, or Line where it is none.
-fn script_in(alloc: Global, text: &[u8]) -> Result<Script, Fault>
-    ensures { IfOk result (λ script. script_of text.now ≡ Ok script) }
+/// The one line that the text says. Err is Memory, or Line where it says none, or more than one.
+fn line_in(alloc: Global, text: &[u8]) -> Result<Line, Fault>
+    ensures { IfOk result (λ line. script_of text.now ≡ Ok (line ∷ [])) }
 {
     match Script::read(alloc, text) {
-        Ok(script) => Ok(script),
-        Err(
-            TextFault {
-                kind: TextKind::Memory,
-                ..
-            },
-        ) => Err(Fault::Memory),
-        Err(_) => Err(Fault::Line),
+        Ok(script) => only_line(script),
+        Err(fault) => match fault.kind {
+            TextKind::Memory => Err(Fault::Memory),
+            _ => Err(Fault::Line),
+        },
+    }
+}
+
+/// The one line of a script. Err is Line where it has none, or more than one.
+fn only_line(script: Script) -> Result<Line, Fault>
+    ensures { IfOk result (λ line. script ≡ line ∷ []) }
+{
+    let mut lines = script.into_lines().into_vec();
+    if lines.len() > 1 {
+        return Err(Fault::Line);
+    }
+    match lines.pop() {
+        Some(line) => Ok(line),
+        None => Err(Fault::Line),
     }
 }
 
@@ -56,12 +67,9 @@ pub fn answer_line(
     ensures room { IfOk result (λ out. length out.items ≤ room) }
     ensures err { OnErr result (holding_of kept.new ≡ holding_of kept.old) }
 {
-    let script = match script_in(alloc, text) {
-        Ok(script) => script,
+    let line = match line_in(alloc, text) {
+        Ok(line) => line,
         Err(fault) => return Err(fault),
-    };
-    let [line] = script.lines() else {
-        return Err(Fault::Line);
     };
     let ready = match kept.ready(&line.cred, line.moment, &line.call) {
         Ok(ready) => ready,
