@@ -1,5 +1,5 @@
 -- From what a call came to, to what a caller of another language is told of it.
-use Rattle.std.proofs.Common.{◌≡◌, ℕ, ◌<◌, ◌≤◌, Bool, true, Option, Some, None, Result, Ok, Err, IfOk, refl, sym, ap, subst, ◌∙◌, arith, lit<}
+use Rattle.std.proofs.Common.{◌≡◌, ℕ, ◌<◌, ◌≤◌, Bool, true, false, Option, Some, None, Result, Ok, Err, IfOk, refl, sym, ap, subst, ◌∙◌, arith, lit<}
 use Rattle.qplain.specs.declared.line.Line.{Line}
 use Rattle.qplain.specs.declared.reply.Reply.{Reply}
 use Rattle.qplain.specs.State.{State}
@@ -10,7 +10,7 @@ use Rattle.qsession.specs.Called.{IsCalled, IsReplyTo, IsStepOf}
 use Rattle.qsession.specs.Codes.{FAULTS}
 use Rattle.qsession.specs.Faults.{fault_code}
 use Rattle.qsession.specs.Holdings.{Holding}
-use Rattle.qsession.specs.Steps.{HasCause, IsFull, IsOfArguments, IsStep, stepped}
+use Rattle.qsession.specs.Steps.{HasCause, IsFull, is_of_arguments, stepped}
 
 -- where each reply to the line's call passes a test, the one that was given does
 pub passes : (test : Reply → Bool) (old new : Option Holding) (line : Line) (answer : Result Reply Fault)
@@ -66,15 +66,30 @@ full_of old JournalFull cause is = cause
 full_of old Kind cause is = let no : 72 ≡ 71 = is in absurd (omega (arith, no))
 full_of old NoJournal cause is = let no : 73 ≡ 71 = is in absurd (omega (arith, no))
 
+-- a fault of what is brought to a call may come whatever the session holds
+pub of_arguments : (held : Option Holding) (fault : Fault) → is_of_arguments fault ≡ true → HasCause held fault
+of_arguments held Closed is = let none : false ≡ true = is in absurd (cc)
+of_arguments held Memory is = tt
+of_arguments held Path is = tt
+of_arguments held Caller is = tt
+of_arguments held Open is = tt
+of_arguments held Room is = tt
+of_arguments held NoLine is = tt
+of_arguments held JournalFull is = let none : false ≡ true = is in absurd (cc)
+of_arguments held Kind is = tt
+of_arguments held NoJournal is = tt
+
 -- it changes nothing
-pub faulted : (old : Option Holding) (line : Line) (fault : Fault) (number : ℕ) → IsOfArguments fault → number ≡ fault_code fault
+pub faulted : (old : Option Holding) (line : Line) (fault : Fault) (number : ℕ) → is_of_arguments fault ≡ true → number ≡ fault_code fault
     → IsCalled old old line number
-faulted old line fault number cause is = record {
-  told = λ below. absurd (low_fault fault number is below);
-  fault = λ above. refl;
-  closed = λ at. closed_of old fault (cause old) (sym is ∙ at);
-  full = λ at. full_of old fault (cause old) (sym is ∙ at);
-}
+faulted old line fault number own is =
+    let cause : HasCause old fault = of_arguments old fault own in
+    record {
+      told = λ below. absurd (low_fault fault number is below);
+      fault = λ above. refl;
+      closed = λ at. closed_of old fault cause (sym is ∙ at);
+      full = λ at. full_of old fault cause (sym is ∙ at);
+    }
 
 -- and is not told as granted
 pub not_granted : (old : Option Holding) (line : Line) (reply : Reply) (fault : Fault) (number : ℕ) → number ≡ fault_code fault → number ≡ 0

@@ -1,13 +1,15 @@
 -- What the structs that a call brings stand for.
-use Rattle.std.specs.Prelude.{ℕ, Bool, true, false, ◌==◌, if◌then◌else◌, Option, Some, None, take}
+use Rattle.std.specs.Prelude.{ℕ, Bool, true, false, ◌==◌, if◌then◌else◌, List, Option, Some, None, take}
 use Rattle.qrules.specs.declared.kind.Kind.{Kind}
 use Rattle.qrules.specs.declared.kind.Kind.TheVariants.{User, Group, Project}
 use Rattle.qrules.specs.declared.limits.Limits.{Limits}
 use Rattle.qplain.specs.declared.call.Call.{Call}
+use Rattle.qplain.specs.declared.call.Call.TheVariants.{Chown}
 use Rattle.qplain.specs.declared.line.Line.{Line}
 use Rattle.qplain.specs.Caller.{Caller}
 use Rattle.qsession.specs.declared.caller.Caller.{Caller as BroughtCaller}
 use Rattle.qsession.specs.declared.requests.NewLimits.{NewLimits}
+use Rattle.qsession.specs.declared.requests.NewOwners.{NewOwners}
 
 -- who makes the call: of the sixteen places for further groups the first few count
 abbrev pub caller_in : BroughtCaller → Caller
@@ -34,3 +36,7 @@ limits_in l = record {
   inode_soft = l.inode_soft;
   inode_hard = l.inode_hard;
 }
+
+-- the call that gives an inode these owners
+abbrev pub chown_by : List ℕ → NewOwners → Call
+chown_by path o = Chown path (named o.has_uid o.uid) (named o.has_gid o.gid) (named o.has_project o.project)

@@ -1,5 +1,5 @@
 -- What a call makes of what is held: a step of the plain machine, which is journaled where a journal is kept.
-use Rattle.std.specs.Prelude.{◌≡◌, ℕ, List, [], ◌∷◌, ◌++◌, length, Option, Some, None}
+use Rattle.std.specs.Prelude.{◌≡◌, ℕ, Bool, true, false, List, [], ◌∷◌, ◌++◌, length, Option, Some, None}
 use Rattle.qplain.specs.declared.bounds.TheConstants.{MAX_ENTRIES}
 use Rattle.qplain.specs.declared.line.Line.{Line}
 use Rattle.qplain.specs.declared.reply.Reply.{Reply}
@@ -58,9 +58,11 @@ HasCause held Closed = held ≡ None
 HasCause held JournalFull = IsFull held
 HasCause held fault = Unit {0}
 
--- the fault is of what is brought to a call, whatever the session holds
-abbrev pub IsOfArguments : Fault → Type 0
-IsOfArguments fault = (held : Option Holding) → HasCause held fault
+-- the fault may come whatever the session holds: it is of what is brought to a call
+abbrev pub is_of_arguments : Fault → Bool
+is_of_arguments Closed = false
+is_of_arguments JournalFull = false
+is_of_arguments fault = true
 
 -- what is kept is as the call that is ready needs it
 abbrev pub CanCommit : Kept → ReadyCall → Type 0

@@ -1,7 +1,7 @@
 //! What a caller of another language brings to a call: bytes, which are copied, and numbers.
-ghost use Rattle.std.specs.Prelude.{◌≡◌, IfOk, IfErr};
+ghost use Rattle.std.specs.Prelude.{◌≡◌, true, IfOk, IfErr};
 ghost use Rattle.qsession.specs.Requests.{kind_in};
-ghost use Rattle.qsession.specs.Steps.{IsOfArguments};
+ghost use Rattle.qsession.specs.Steps.{is_of_arguments};
 
 use crate::fault::Fault;
 use qplain::{Data, Path, SharedItems};
@@ -11,7 +11,7 @@ use std::alloc::Global;
 /// The path of these bytes, which are copied. Err is Path where they are none, before Memory.
 pub fn path_of(alloc: Global, bytes: &[u8]) -> Result<Path, Fault>
     ensures path { IfOk result (λ path. path ≡ bytes.now) }
-    ensures fault { IfErr result IsOfArguments }
+    ensures fault { IfErr result (λ fault. is_of_arguments fault ≡ true) }
 {
     match Path::new(alloc, bytes) {
         Ok(Some(path)) => Ok(path),
@@ -23,7 +23,7 @@ pub fn path_of(alloc: Global, bytes: &[u8]) -> Result<Path, Fault>
 /// The bytes of a write, which are copied. Err is Memory.
 pub fn data_of(alloc: Global, bytes: &[u8]) -> Result<Data, Fault>
     ensures bytes { IfOk result (λ copied. copied ≡ bytes.now) }
-    ensures fault { IfErr result IsOfArguments }
+    ensures fault { IfErr result (λ fault. is_of_arguments fault ≡ true) }
 {
     let Ok(items) = Vec::from_slice(alloc, bytes) else {
         return Err(Fault::Memory);
@@ -37,7 +37,7 @@ pub fn data_of(alloc: Global, bytes: &[u8]) -> Result<Data, Fault>
 /// Whose record it is: 0 a user's, 1 a group's, 2 a project's. Any other number is no kind.
 pub fn kind_of(number: u32) -> Result<Kind, Fault>
     ensures kind { IfOk result (λ kind. kind ≡ kind_in number) }
-    ensures fault { IfErr result IsOfArguments }
+    ensures fault { IfErr result (λ fault. is_of_arguments fault ≡ true) }
 {
     match number {
         0 => Ok(Kind::User),

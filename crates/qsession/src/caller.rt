@@ -1,7 +1,7 @@
 //! Who makes a call.
-ghost use Rattle.std.specs.Prelude.{◌≡◌, IfOk, IfErr};
+ghost use Rattle.std.specs.Prelude.{◌≡◌, true, IfOk, IfErr};
 ghost use Rattle.qsession.specs.Requests.{caller_in};
-ghost use Rattle.qsession.specs.Steps.{IsOfArguments};
+ghost use Rattle.qsession.specs.Steps.{is_of_arguments};
 
 use crate::fault::Fault;
 use qplain::{Cred, MAX_MORE_GROUPS};
@@ -22,7 +22,7 @@ impl Caller {
     /// or more meets.
     pub fn cred(&self, alloc: Global) -> Result<Cred, Fault>
         ensures caller { IfOk result (λ cred. cred ≡ caller_in self.now) }
-        ensures fault { IfErr result IsOfArguments }
+        ensures fault { IfErr result (λ fault. is_of_arguments fault ≡ true) }
     {
         let count = self.count as usize;
         if count > MAX_MORE_GROUPS {

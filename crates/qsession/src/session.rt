@@ -92,11 +92,11 @@ impl Session {
         ensures law { HoldsTrue (held_in self.old.slot.kept) }
         ensures same { self.new.slot.kept ≡ self.old.slot.kept }
     {
-        let Some(kept) = self.take(alloc) else {
+        let Some(held) = self.take(alloc) else {
             return;
         };
-        kept.always_holds_true();
-        *self = Session::of(kept);
+        held.always_holds_true();
+        *self = Session::of(held);
     }
 
     /// One call. A fault is Caller, before Closed, before those of the store.

@@ -2,6 +2,8 @@
 use Rattle.std.specs.Prelude.{◌≡◌, ℕ, List, Option, Some, None}
 use Rattle.qplain.specs.declared.edition.Edition.TheVariants.{Two}
 use Rattle.qplain.specs.declared.entry.Entry.{Entry}
+use Rattle.qplain.specs.declared.tallies.Tallies.{Tallies}
+use Rattle.qplain.specs.Journal.{tally_of}
 use Rattle.qplain.specs.Journals.{Written}
 use Rattle.qtext_files.specs.Spelling.{CanBeRead, journal_spelling}
 use Rattle.qsession.specs.Holdings.{Holding, KeptJournal}
@@ -24,3 +26,13 @@ IsKeptText (Some journal) text = IsJournalText journal.entries text
 abbrev pub IsJournalOf : Option Holding → List ℕ → Type 0
 IsJournalOf None text = ⊥
 IsJournalOf (Some h) text = IsKeptText h.journal text
+
+-- a journal is kept, and the tally is its own
+abbrev pub IsKeptTally : Option KeptJournal → Tallies → Type 0
+IsKeptTally None tally = ⊥
+IsKeptTally (Some journal) tally = tally ≡ tally_of journal.entries
+
+-- the session is open, and the tally is that of its journal
+abbrev pub IsTallyOf : Option Holding → Tallies → Type 0
+IsTallyOf None tally = ⊥
+IsTallyOf (Some h) tally = IsKeptTally h.journal tally

@@ -1,0 +1,335 @@
+//! Calls that change the store.
+ghost use Rattle.std.specs.Prelude.{◌≡◌, replicate};
+ghost use Rattle.qplain.specs.declared.call.Call.TheVariants.{Create, Mkdir, Write, Truncate, Link, Unlink, Rmdir};
+ghost use Rattle.qplain.specs.declared.call.Call.TheVariants.{Rename, SetQuota, SetGrace};
+ghost use Rattle.qsession.specs.Called.{IsCalled, IsReplyTo};
+ghost use Rattle.qsession.specs.Holdings.{held_in};
+ghost use Rattle.qsession.specs.Replies.{done_in};
+ghost use Rattle.qsession.specs.Requests.{chown_by, kind_in, limits_in, line_by};
+
+use qplain::{Call, Data};
+use qrules::Graces;
+use qsession::{Caller, DoneReply, NewLimits, NewOwners, Session, data_of, kind_of, path_of};
+use std::alloc::Global;
+
+/// Makes an empty file.
+#[tactic(auto, using(qsession::proofs::Calling::faulted, qsession::proofs::Calling::not_granted))]
+#[unsafe(no_mangle)]
+pub extern "C" fn qfs_create(
+    alloc: Global,
+    session: &mut Session,
+    caller: &Caller,
+    moment: u64,
+    path: &[u8],
+    done: &mut DoneReply,
+) -> u32
+    ensures called { IsCalled (held_in session.old.slot.kept) (held_in session.new.slot.kept)
+        (line_by caller.now moment (Create path.now)) result }
+    ensures done { result ≡ 0 → IsReplyTo (held_in session.old.slot.kept) (line_by caller.now moment (Create path.now))
+        (done_in done.new) }
+{
+    let path = match path_of(alloc, path) {
+        Ok(path) => path,
+        Err(fault) => return fault.code(),
+    };
+    let call = Call::Create { path };
+    session.change(alloc, caller, moment, &call, done)
+}
+
+/// Makes an empty directory.
+#[tactic(auto, using(qsession::proofs::Calling::faulted, qsession::proofs::Calling::not_granted))]
+#[unsafe(no_mangle)]
+pub extern "C" fn qfs_mkdir(
+    alloc: Global,
+    session: &mut Session,
+    caller: &Caller,
+    moment: u64,
+    path: &[u8],
+    done: &mut DoneReply,
+) -> u32
+    ensures called { IsCalled (held_in session.old.slot.kept) (held_in session.new.slot.kept)
+        (line_by caller.now moment (Mkdir path.now)) result }
+    ensures done { result ≡ 0 → IsReplyTo (held_in session.old.slot.kept) (line_by caller.now moment (Mkdir path.now))
+        (done_in done.new) }
+{
+    let path = match path_of(alloc, path) {
+        Ok(path) => path,
+        Err(fault) => return fault.code(),
+    };
+    let call = Call::Mkdir { path };
+    session.change(alloc, caller, moment, &call, done)
+}
+
+/// Writes all of the bytes at the offset, or none.
+#[tactic(auto, using(qsession::proofs::Calling::faulted, qsession::proofs::Calling::not_granted))]
+#[unsafe(no_mangle)]
+pub extern "C" fn qfs_write(
+    alloc: Global,
+    session: &mut Session,
+    caller: &Caller,
+    moment: u64,
+    path: &[u8],
+    off: u64,
+    bytes: &[u8],
+    done: &mut DoneReply,
+) -> u32
+    ensures called { IsCalled (held_in session.old.slot.kept) (held_in session.new.slot.kept)
+        (line_by caller.now moment (Write path.now off bytes.now)) result }
+    ensures done { result ≡ 0 → IsReplyTo (held_in session.old.slot.kept) (line_by caller.now moment (Write path.now off bytes.now))
+        (done_in done.new) }
+{
+    let path = match path_of(alloc, path) {
+        Ok(path) => path,
+        Err(fault) => return fault.code(),
+    };
+    let bytes = match data_of(alloc, bytes) {
+        Ok(bytes) => bytes,
+        Err(fault) => return fault.code(),
+    };
+    let call = Call::Write { path, off, bytes };
+    session.change(alloc, caller, moment, &call, done)
+}
+
+/// Writes so many equal bytes at the offset, or none.
+#[tactic(auto, using(qsession::proofs::Calling::faulted, qsession::proofs::Calling::not_granted))]
+#[unsafe(no_mangle)]
+pub extern "C" fn qfs_fill(
+    alloc: Global,
+    session: &mut Session,
+    caller: &Caller,
+    moment: u64,
+    path: &[u8],
+    off: u64,
+    count: u64,
+    byte: u8,
+    done: &mut DoneReply,
+) -> u32
+    ensures called { IsCalled (held_in session.old.slot.kept) (held_in session.new.slot.kept)
+        (line_by caller.now moment (Write path.now off (replicate count byte))) result }
+    ensures done { result ≡ 0 → IsReplyTo (held_in session.old.slot.kept) (line_by caller.now moment (Write path.now off (replicate count byte)))
+        (done_in done.new) }
+{
+    let path = match path_of(alloc, path) {
+        Ok(path) => path,
+        Err(fault) => return fault.code(),
+    };
+    let call = Call::Write {
+        path,
+        off,
+        bytes: Data::fill(count, byte),
+    };
+    session.change(alloc, caller, moment, &call, done)
+}
+
+/// Sets a file's size, in bytes.
+#[tactic(auto, using(qsession::proofs::Calling::faulted, qsession::proofs::Calling::not_granted))]
+#[unsafe(no_mangle)]
+pub extern "C" fn qfs_truncate(
+    alloc: Global,
+    session: &mut Session,
+    caller: &Caller,
+    moment: u64,
+    path: &[u8],
+    size: u64,
+    done: &mut DoneReply,
+) -> u32
+    ensures called { IsCalled (held_in session.old.slot.kept) (held_in session.new.slot.kept)
+        (line_by caller.now moment (Truncate path.now size)) result }
+    ensures done { result ≡ 0 → IsReplyTo (held_in session.old.slot.kept) (line_by caller.now moment (Truncate path.now size))
+        (done_in done.new) }
+{
+    let path = match path_of(alloc, path) {
+        Ok(path) => path,
+        Err(fault) => return fault.code(),
+    };
+    let call = Call::Truncate { path, size };
+    session.change(alloc, caller, moment, &call, done)
+}
+
+/// Gives a file a further name.
+#[tactic(auto, using(qsession::proofs::Calling::faulted, qsession::proofs::Calling::not_granted))]
+#[unsafe(no_mangle)]
+pub extern "C" fn qfs_link(
+    alloc: Global,
+    session: &mut Session,
+    caller: &Caller,
+    moment: u64,
+    from: &[u8],
+    to: &[u8],
+    done: &mut DoneReply,
+) -> u32
+    ensures called { IsCalled (held_in session.old.slot.kept) (held_in session.new.slot.kept)
+        (line_by caller.now moment (Link from.now to.now)) result }
+    ensures done { result ≡ 0 → IsReplyTo (held_in session.old.slot.kept) (line_by caller.now moment (Link from.now to.now))
+        (done_in done.new) }
+{
+    let from = match path_of(alloc, from) {
+        Ok(from) => from,
+        Err(fault) => return fault.code(),
+    };
+    let to = match path_of(alloc, to) {
+        Ok(to) => to,
+        Err(fault) => return fault.code(),
+    };
+    let call = Call::Link { from, to };
+    session.change(alloc, caller, moment, &call, done)
+}
+
+/// Takes a file's name away.
+#[tactic(auto, using(qsession::proofs::Calling::faulted, qsession::proofs::Calling::not_granted))]
+#[unsafe(no_mangle)]
+pub extern "C" fn qfs_unlink(
+    alloc: Global,
+    session: &mut Session,
+    caller: &Caller,
+    moment: u64,
+    path: &[u8],
+    done: &mut DoneReply,
+) -> u32
+    ensures called { IsCalled (held_in session.old.slot.kept) (held_in session.new.slot.kept)
+        (line_by caller.now moment (Unlink path.now)) result }
+    ensures done { result ≡ 0 → IsReplyTo (held_in session.old.slot.kept) (line_by caller.now moment (Unlink path.now))
+        (done_in done.new) }
+{
+    let path = match path_of(alloc, path) {
+        Ok(path) => path,
+        Err(fault) => return fault.code(),
+    };
+    let call = Call::Unlink { path };
+    session.change(alloc, caller, moment, &call, done)
+}
+
+/// Takes an empty directory away.
+#[tactic(auto, using(qsession::proofs::Calling::faulted, qsession::proofs::Calling::not_granted))]
+#[unsafe(no_mangle)]
+pub extern "C" fn qfs_rmdir(
+    alloc: Global,
+    session: &mut Session,
+    caller: &Caller,
+    moment: u64,
+    path: &[u8],
+    done: &mut DoneReply,
+) -> u32
+    ensures called { IsCalled (held_in session.old.slot.kept) (held_in session.new.slot.kept)
+        (line_by caller.now moment (Rmdir path.now)) result }
+    ensures done { result ≡ 0 → IsReplyTo (held_in session.old.slot.kept) (line_by caller.now moment (Rmdir path.now))
+        (done_in done.new) }
+{
+    let path = match path_of(alloc, path) {
+        Ok(path) => path,
+        Err(fault) => return fault.code(),
+    };
+    let call = Call::Rmdir { path };
+    session.change(alloc, caller, moment, &call, done)
+}
+
+/// Gives what has one name another.
+#[tactic(auto, using(qsession::proofs::Calling::faulted, qsession::proofs::Calling::not_granted))]
+#[unsafe(no_mangle)]
+pub extern "C" fn qfs_rename(
+    alloc: Global,
+    session: &mut Session,
+    caller: &Caller,
+    moment: u64,
+    from: &[u8],
+    to: &[u8],
+    done: &mut DoneReply,
+) -> u32
+    ensures called { IsCalled (held_in session.old.slot.kept) (held_in session.new.slot.kept)
+        (line_by caller.now moment (Rename from.now to.now)) result }
+    ensures done { result ≡ 0 → IsReplyTo (held_in session.old.slot.kept) (line_by caller.now moment (Rename from.now to.now))
+        (done_in done.new) }
+{
+    let from = match path_of(alloc, from) {
+        Ok(from) => from,
+        Err(fault) => return fault.code(),
+    };
+    let to = match path_of(alloc, to) {
+        Ok(to) => to,
+        Err(fault) => return fault.code(),
+    };
+    let call = Call::Rename { from, to };
+    session.change(alloc, caller, moment, &call, done)
+}
+
+/// Gives an inode another user, group or project.
+#[tactic(auto, using(qsession::proofs::Calling::faulted, qsession::proofs::Calling::not_granted))]
+#[unsafe(no_mangle)]
+pub extern "C" fn qfs_chown(
+    alloc: Global,
+    session: &mut Session,
+    caller: &Caller,
+    moment: u64,
+    path: &[u8],
+    owners: &NewOwners,
+    done: &mut DoneReply,
+) -> u32
+    ensures called { IsCalled (held_in session.old.slot.kept) (held_in session.new.slot.kept)
+        (line_by caller.now moment (chown_by path.now owners.now)) result }
+    ensures done { result ≡ 0 → IsReplyTo (held_in session.old.slot.kept) (line_by caller.now moment (chown_by path.now owners.now))
+        (done_in done.new) }
+{
+    let path = match path_of(alloc, path) {
+        Ok(path) => path,
+        Err(fault) => return fault.code(),
+    };
+    let call = Call::Chown {
+        path,
+        uid: owners.user(),
+        gid: owners.group(),
+        project: owners.project(),
+    };
+    session.change(alloc, caller, moment, &call, done)
+}
+
+/// Sets the limits of a user, a group or a project: of kind 0, 1 or 2.
+#[tactic(auto, using(qsession::proofs::Calling::faulted, qsession::proofs::Calling::not_granted))]
+#[unsafe(no_mangle)]
+pub extern "C" fn qfs_setquota(
+    alloc: Global,
+    session: &mut Session,
+    caller: &Caller,
+    moment: u64,
+    kind: u32,
+    id: u32,
+    limits: &NewLimits,
+    done: &mut DoneReply,
+) -> u32
+    ensures called { IsCalled (held_in session.old.slot.kept) (held_in session.new.slot.kept)
+        (line_by caller.now moment (SetQuota (kind_in kind) id (limits_in limits.now))) result }
+    ensures done { result ≡ 0 → IsReplyTo (held_in session.old.slot.kept) (line_by caller.now moment (SetQuota (kind_in kind) id (limits_in limits.now)))
+        (done_in done.new) }
+{
+    let kind = match kind_of(kind) {
+        Ok(kind) => kind,
+        Err(fault) => return fault.code(),
+    };
+    let call = Call::SetQuota {
+        kind,
+        id,
+        limits: limits.limits(),
+    };
+    session.change(alloc, caller, moment, &call, done)
+}
+
+/// Sets the graces, in seconds.
+#[unsafe(no_mangle)]
+pub extern "C" fn qfs_setgrace(
+    alloc: Global,
+    session: &mut Session,
+    caller: &Caller,
+    moment: u64,
+    block: u64,
+    inode: u64,
+    done: &mut DoneReply,
+) -> u32
+    ensures called { IsCalled (held_in session.old.slot.kept) (held_in session.new.slot.kept)
+        (line_by caller.now moment (SetGrace (record { block = block; inode = inode }))) result }
+    ensures done { result ≡ 0 → IsReplyTo (held_in session.old.slot.kept) (line_by caller.now moment (SetGrace (record { block = block; inode = inode })))
+        (done_in done.new) }
+{
+    let call = Call::SetGrace {
+        graces: Graces { block, inode },
+    };
+    session.change(alloc, caller, moment, &call, done)
+}
