@@ -1,12 +1,42 @@
-//! The journal of a session, and its tally.
-ghost use Rattle.std.specs.Prelude.{◌≡◌, Some, IfOk, take};
-ghost use Rattle.qsession.specs.Holdings.{HoldsTrue, held_in, holding_of};
+//! Sessions that keep a journal: how they are opened, and what it says.
+ghost use Rattle.std.specs.Prelude.{◌≡◌, ◌≢◌, Some, IsSome, IfOk, length, take};
+ghost use Rattle.qtext_config.specs.Configs.{setting_in};
+ghost use Rattle.qsession.specs.Holdings.{HoldsTrue, held_in, holding_of, new_journaled};
 ghost use Rattle.qsession.specs.Replies.{tallies_in};
 ghost use Rattle.qsession_text.specs.Journals.{IsJournalOf, IsTallyOf};
+ghost use Rattle.qsession_text.specs.Openings.{IsOpened, IsRefused};
 
 use qsession::{Fault, Kept, Session, TallyReply};
-use qsession_text::{journal_text, put_text};
+use qsession_text::{journal_text, keep_journaled, put_text, tell_config_fault};
 use std::alloc::Global;
+
+/// Opens a session that keeps a journal of its calls, with a new store of a configuration. Numbers, key and length are
+/// as for `qfs_open`.
+#[unsafe(no_mangle)]
+pub extern "C" fn qfs_open_journaled(
+    alloc: Global,
+    session: &mut Session,
+    config: &[u8],
+    seed: u64,
+    key: &mut [u8],
+    len: &mut usize,
+) -> u32
+    ensures opened { result ≡ 0 → IsOpened new_journaled (held_in session.new.slot.kept) (setting_in config.now) }
+    ensures open { IsSome session.old.slot.kept → result ≡ 68 }
+    ensures refused { IsRefused (setting_in config.now) (length key.old) result key.new len.new }
+    ensures fault { result ≢ 0 → session.new.slot.kept ≡ session.old.slot.kept }
+{
+    if session.is_open() {
+        return Fault::Open.code();
+    }
+    match keep_journaled(alloc, config, seed) {
+        Ok(kept) => {
+            *session = Session::of(kept);
+            0
+        }
+        Err(fault) => tell_config_fault(&fault, key, len),
+    }
+}
 
 /// What the journal of what is kept says.
 fn text_of(alloc: Global, kept: &Kept) -> Result<Vec<u8>, Fault>

@@ -1,11 +1,11 @@
 //! Sessions are opened and closed.
 ghost use Rattle.std.specs.Prelude.{◌≡◌, ◌≢◌, None, IsSome, length};
 ghost use Rattle.qtext_config.specs.Configs.{setting_in};
-ghost use Rattle.qsession.specs.Holdings.{held_in, new_journaled, new_plain};
+ghost use Rattle.qsession.specs.Holdings.{held_in, new_plain};
 ghost use Rattle.qsession_text.specs.Openings.{IsOpened, IsRefused};
 
 use qsession::{Fault, Session};
-use qsession_text::{keep_journaled, keep_plain, tell_config_fault};
+use qsession_text::{keep_plain, tell_config_fault};
 use std::alloc::Global;
 
 /// Opens a session with a new store of a configuration, a text in TOML. The hashes of names begin at the seed, any
@@ -31,34 +31,6 @@ pub extern "C" fn qfs_open(
         return Fault::Open.code();
     }
     match keep_plain(alloc, config, seed) {
-        Ok(kept) => {
-            *session = Session::of(kept);
-            0
-        }
-        Err(fault) => tell_config_fault(&fault, key, len),
-    }
-}
-
-/// Opens a session that keeps a journal of its calls, with a new store of a configuration. Numbers, key and length are
-/// as for `qfs_open`.
-#[unsafe(no_mangle)]
-pub extern "C" fn qfs_open_journaled(
-    alloc: Global,
-    session: &mut Session,
-    config: &[u8],
-    seed: u64,
-    key: &mut [u8],
-    len: &mut usize,
-) -> u32
-    ensures opened { result ≡ 0 → IsOpened new_journaled (held_in session.new.slot.kept) (setting_in config.now) }
-    ensures open { IsSome session.old.slot.kept → result ≡ 68 }
-    ensures refused { IsRefused (setting_in config.now) (length key.old) result key.new len.new }
-    ensures fault { result ≢ 0 → session.new.slot.kept ≡ session.old.slot.kept }
-{
-    if session.is_open() {
-        return Fault::Open.code();
-    }
-    match keep_journaled(alloc, config, seed) {
         Ok(kept) => {
             *session = Session::of(kept);
             0
