@@ -25,8 +25,8 @@ pub extern "C" fn qfs_create(
 ) -> u32
     ensures called { IsCalled (held_in session.old.slot.kept) (held_in session.new.slot.kept)
         (line_by caller.now moment (Create path.now)) result }
-    ensures done { result ≡ 0 → IsReplyTo (held_in session.old.slot.kept) (line_by caller.now moment (Create path.now))
-        (done_in done.new) }
+    ensures done { result ≡ 0 → IsReplyTo (held_in session.old.slot.kept)
+        (line_by caller.now moment (Create path.now)) (done_in done.new) }
 {
     let path = match path_of(alloc, path) {
         Ok(path) => path,
@@ -49,8 +49,8 @@ pub extern "C" fn qfs_mkdir(
 ) -> u32
     ensures called { IsCalled (held_in session.old.slot.kept) (held_in session.new.slot.kept)
         (line_by caller.now moment (Mkdir path.now)) result }
-    ensures done { result ≡ 0 → IsReplyTo (held_in session.old.slot.kept) (line_by caller.now moment (Mkdir path.now))
-        (done_in done.new) }
+    ensures done { result ≡ 0 → IsReplyTo (held_in session.old.slot.kept)
+        (line_by caller.now moment (Mkdir path.now)) (done_in done.new) }
 {
     let path = match path_of(alloc, path) {
         Ok(path) => path,
@@ -75,8 +75,8 @@ pub extern "C" fn qfs_write(
 ) -> u32
     ensures called { IsCalled (held_in session.old.slot.kept) (held_in session.new.slot.kept)
         (line_by caller.now moment (Write path.now off bytes.now)) result }
-    ensures done { result ≡ 0 → IsReplyTo (held_in session.old.slot.kept) (line_by caller.now moment (Write path.now off bytes.now))
-        (done_in done.new) }
+    ensures done { result ≡ 0 → IsReplyTo (held_in session.old.slot.kept)
+        (line_by caller.now moment (Write path.now off bytes.now)) (done_in done.new) }
 {
     let path = match path_of(alloc, path) {
         Ok(path) => path,
@@ -106,8 +106,8 @@ pub extern "C" fn qfs_fill(
 ) -> u32
     ensures called { IsCalled (held_in session.old.slot.kept) (held_in session.new.slot.kept)
         (line_by caller.now moment (Write path.now off (replicate count byte))) result }
-    ensures done { result ≡ 0 → IsReplyTo (held_in session.old.slot.kept) (line_by caller.now moment (Write path.now off (replicate count byte)))
-        (done_in done.new) }
+    ensures done { result ≡ 0 → IsReplyTo (held_in session.old.slot.kept)
+        (line_by caller.now moment (Write path.now off (replicate count byte))) (done_in done.new) }
 {
     let path = match path_of(alloc, path) {
         Ok(path) => path,
@@ -135,8 +135,8 @@ pub extern "C" fn qfs_truncate(
 ) -> u32
     ensures called { IsCalled (held_in session.old.slot.kept) (held_in session.new.slot.kept)
         (line_by caller.now moment (Truncate path.now size)) result }
-    ensures done { result ≡ 0 → IsReplyTo (held_in session.old.slot.kept) (line_by caller.now moment (Truncate path.now size))
-        (done_in done.new) }
+    ensures done { result ≡ 0 → IsReplyTo (held_in session.old.slot.kept)
+        (line_by caller.now moment (Truncate path.now size)) (done_in done.new) }
 {
     let path = match path_of(alloc, path) {
         Ok(path) => path,
@@ -160,8 +160,8 @@ pub extern "C" fn qfs_link(
 ) -> u32
     ensures called { IsCalled (held_in session.old.slot.kept) (held_in session.new.slot.kept)
         (line_by caller.now moment (Link from.now to.now)) result }
-    ensures done { result ≡ 0 → IsReplyTo (held_in session.old.slot.kept) (line_by caller.now moment (Link from.now to.now))
-        (done_in done.new) }
+    ensures done { result ≡ 0 → IsReplyTo (held_in session.old.slot.kept)
+        (line_by caller.now moment (Link from.now to.now)) (done_in done.new) }
 {
     let from = match path_of(alloc, from) {
         Ok(from) => from,
@@ -188,8 +188,8 @@ pub extern "C" fn qfs_unlink(
 ) -> u32
     ensures called { IsCalled (held_in session.old.slot.kept) (held_in session.new.slot.kept)
         (line_by caller.now moment (Unlink path.now)) result }
-    ensures done { result ≡ 0 → IsReplyTo (held_in session.old.slot.kept) (line_by caller.now moment (Unlink path.now))
-        (done_in done.new) }
+    ensures done { result ≡ 0 → IsReplyTo (held_in session.old.slot.kept)
+        (line_by caller.now moment (Unlink path.now)) (done_in done.new) }
 {
     let path = match path_of(alloc, path) {
         Ok(path) => path,
@@ -212,8 +212,8 @@ pub extern "C" fn qfs_rmdir(
 ) -> u32
     ensures called { IsCalled (held_in session.old.slot.kept) (held_in session.new.slot.kept)
         (line_by caller.now moment (Rmdir path.now)) result }
-    ensures done { result ≡ 0 → IsReplyTo (held_in session.old.slot.kept) (line_by caller.now moment (Rmdir path.now))
-        (done_in done.new) }
+    ensures done { result ≡ 0 → IsReplyTo (held_in session.old.slot.kept)
+        (line_by caller.now moment (Rmdir path.now)) (done_in done.new) }
 {
     let path = match path_of(alloc, path) {
         Ok(path) => path,
@@ -237,8 +237,8 @@ pub extern "C" fn qfs_rename(
 ) -> u32
     ensures called { IsCalled (held_in session.old.slot.kept) (held_in session.new.slot.kept)
         (line_by caller.now moment (Rename from.now to.now)) result }
-    ensures done { result ≡ 0 → IsReplyTo (held_in session.old.slot.kept) (line_by caller.now moment (Rename from.now to.now))
-        (done_in done.new) }
+    ensures done { result ≡ 0 → IsReplyTo (held_in session.old.slot.kept)
+        (line_by caller.now moment (Rename from.now to.now)) (done_in done.new) }
 {
     let from = match path_of(alloc, from) {
         Ok(from) => from,
@@ -266,8 +266,8 @@ pub extern "C" fn qfs_chown(
 ) -> u32
     ensures called { IsCalled (held_in session.old.slot.kept) (held_in session.new.slot.kept)
         (line_by caller.now moment (chown_by path.now owners.now)) result }
-    ensures done { result ≡ 0 → IsReplyTo (held_in session.old.slot.kept) (line_by caller.now moment (chown_by path.now owners.now))
-        (done_in done.new) }
+    ensures done { result ≡ 0 → IsReplyTo (held_in session.old.slot.kept)
+        (line_by caller.now moment (chown_by path.now owners.now)) (done_in done.new) }
 {
     let path = match path_of(alloc, path) {
         Ok(path) => path,
@@ -297,8 +297,8 @@ pub extern "C" fn qfs_setquota(
 ) -> u32
     ensures called { IsCalled (held_in session.old.slot.kept) (held_in session.new.slot.kept)
         (line_by caller.now moment (SetQuota (kind_in kind) id (limits_in limits.now))) result }
-    ensures done { result ≡ 0 → IsReplyTo (held_in session.old.slot.kept) (line_by caller.now moment (SetQuota (kind_in kind) id (limits_in limits.now)))
-        (done_in done.new) }
+    ensures done { result ≡ 0 → IsReplyTo (held_in session.old.slot.kept)
+        (line_by caller.now moment (SetQuota (kind_in kind) id (limits_in limits.now))) (done_in done.new) }
 {
     let kind = match kind_of(kind) {
         Ok(kind) => kind,
@@ -325,8 +325,8 @@ pub extern "C" fn qfs_setgrace(
 ) -> u32
     ensures called { IsCalled (held_in session.old.slot.kept) (held_in session.new.slot.kept)
         (line_by caller.now moment (SetGrace (record { block = block; inode = inode }))) result }
-    ensures done { result ≡ 0 → IsReplyTo (held_in session.old.slot.kept) (line_by caller.now moment (SetGrace (record { block = block; inode = inode })))
-        (done_in done.new) }
+    ensures done { result ≡ 0 → IsReplyTo (held_in session.old.slot.kept)
+        (line_by caller.now moment (SetGrace (record { block = block; inode = inode }))) (done_in done.new) }
 {
     let call = Call::SetGrace {
         graces: Graces { block, inode },

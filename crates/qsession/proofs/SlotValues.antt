@@ -39,17 +39,22 @@ word p h = vstruct (of_list (ptr_val p ∷ h ∷ []))
 module _ {M : Type 1} {𝓤 : Ura M} {𝓛 : Logic 𝓤} {K : Type 0} {Γ : List (Item 𝓤)} {G : Goal 𝓤 𝓛.H} where
   -- a slot of what is owned at its pointer, and of its allocator
   pub slot_in : K → (p : Ptr) (h : Val) (a : Z.Denot) (x : Option R.Denot)
-      → Step K 𝓛 (‵ (Slot.the_row.own_val (record { at = p; alloc = a; kept = x }) (word p h ∷ [])) ∷ Γ) G (‵ (slot_owns a p x) ∷ ‵ (Z.own_val a (h ∷ [])) ∷ Γ) G
+      → Step K 𝓛 (‵ (Slot.the_row.own_val (record { at = p; alloc = a; kept = x }) (word p h ∷ [])) ∷ Γ) G (‵ (slot_owns a p x) ∷ ‵ (Z.own_val a
+      (h ∷ [])) ∷ Γ) G
   slot_in t p h a x = step (λ s. let v : Val = word p h in
-      nothing t $ move t (2 ∷ 0 ∷ []) $ fjoin t $ feq_i t (List Val) (ptr_val p ∷ []) (ptr_val p ∷ []) refl $ fjoin t $ feq_i t (List Val) (v ∷ []) (v ∷ []) refl $ fjoin t $
-      fpack t (Valss (RawPtr ∷ Z ∷ [])) (within (shape Slot.the_type) (to Slot.the_type (record { at = p; alloc = a; kept = x })) (v ∷ [])) (ptr_val p ∷ [], (h ∷ [], tt)) $ fjoin t $ s)
+      nothing t $ move t (2 ∷ 0 ∷ []) $ fjoin t $ feq_i t (List Val) (ptr_val p ∷ []) (ptr_val p ∷ []) refl $ fjoin t $
+      feq_i t (List Val) (v ∷ []) (v ∷ []) refl $ fjoin t $
+      fpack t (Valss (RawPtr ∷ Z ∷ [])) (within (shape Slot.the_type) (to Slot.the_type (record { at = p; alloc = a; kept = x })) (v ∷ []))
+      (ptr_val p ∷ [], (h ∷ [], tt)) $ fjoin t $ s)
 
   pub slot_out : K → (d : Slot.the_row.Denot) (vs : List Val)
       → ((h : Val) → vs ≡ word d.at h ∷ [] → Good (layout Z) h → Seq K 𝓛 (‵ (slot_owns d.alloc d.at d.kept) ∷ ‵ (Z.own_val d.alloc (h ∷ [])) ∷ Γ) G)
       → Seq K 𝓛 (‵ (Slot.the_row.own_val d vs) ∷ Γ) G
   slot_out t d vs k =
-      fsplit t $ fpick t (λ vss. fsplit t $ feq_l t (λ ev. fsplit t $ feq_l t (λ ep. fsplit t $ handle_tells al t d.alloc vss.1.0 (λ h ea fits. move t (1 ∷ []) $ drop t $ move t (1 ∷ []) $
-      k h (subst (λ (ws : List Val). vs ≡ vstruct (of_list (ptr_val d.at ∷ (ws ++ []))) ∷ []) ea (subst (λ (ps : List Val). vs ≡ vstruct (of_list (ps ++ (vss.1.0 ++ []))) ∷ []) ep ev)) fits))))
+      fsplit t $ fpick t (λ vss. fsplit t $ feq_l t (λ ev. fsplit t $ feq_l t (λ ep. fsplit t $
+      handle_tells al t d.alloc vss.1.0 (λ h ea fits. move t (1 ∷ []) $ drop t $ move t (1 ∷ []) $
+      k h (subst (λ (ws : List Val). vs ≡ vstruct (of_list (ptr_val d.at ∷ (ws ++ []))) ∷ []) ea (subst (λ (ps : List Val). vs ≡ vstruct (of_list
+      (ps ++ (vss.1.0 ++ []))) ∷ []) ep ev)) fits))))
 
 module _ {A : Type 0} where
   -- what an option that is some holds

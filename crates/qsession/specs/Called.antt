@@ -18,7 +18,8 @@ IsStepOf None new line reply = ⊥
 -- the session is open; it holds what the line's call leaves, and the number is that of its reply
 abbrev pub IsToldStep : Option Holding → Option Holding → Line → ℕ → Type 0
 IsToldStep None new line number = ⊥
-IsToldStep (Some old) new line number = (new ≡ Some (holding_after old line)) × (number ≡ reply_code (reply_to old line))
+IsToldStep (Some old) new line number =
+    (new ≡ Some (holding_after old line)) × (number ≡ reply_code (reply_to old line))
 
 -- a number below 64 is that of the reply, and the call was made; at another it was not, and the session is as it was:
 -- closed, at the number that says so, or with a full journal, at that one

@@ -1,5 +1,5 @@
--- The numbers that a caller of another language is given: 0 for what was granted, below 64 for a refusal, from 64 on for
--- a fault.
+-- The numbers that a caller of another language is given: 0 for what was granted, below 64 for a refusal, from 64 on
+-- for a fault.
 use Rattle.std.specs.Prelude.{ℕ}
 use Rattle.qrules.specs.declared.kind.Kind.{Kind}
 use Rattle.qrules.specs.declared.kind.Kind.TheVariants.{User, Group, Project}

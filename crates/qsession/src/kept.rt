@@ -83,7 +83,8 @@ impl Kept {
     /// One call: what is held and the reply are those of the plain machine's step, and where a journal is kept it has
     /// one entry more. An Err is JournalFull, before all else, or Memory, after all refusals, and changes nothing.
     pub fn call(&mut self, cred: &Cred, moment: u64, call: &Call) -> Result<Reply, Fault>
-        ensures ok { IfOk result (IsStep (holding_of self.old) (holding_of self.new) (line_of cred.now moment call.now)) }
+        ensures ok { IfOk result
+            (IsStep (holding_of self.old) (holding_of self.new) (line_of cred.now moment call.now)) }
         ensures err { OnErr result (holding_of self.new ≡ holding_of self.old) }
         ensures cause { IfErr result (HasCause (Some (holding_of self.old))) }
     {

@@ -1,5 +1,6 @@
 //! Sessions.
-ghost use Rattle.std.specs.Prelude.{◌≡◌, ◌≤◌, Some, None, true, IfSome, IfNone, IfOk, IfErr, OnErr, is_some, length, take};
+ghost use Rattle.std.specs.Prelude.{◌≡◌, Some, None, true, IfSome, IfNone, IfOk, IfErr, OnErr, is_some};
+ghost use Rattle.std.specs.Prelude.{length, take};
 ghost use Rattle.qplain.specs.declared.call.Call.TheVariants.{Read, Stat as AskStat, Quota as AskQuota};
 ghost use Rattle.qplain.specs.declared.reply.Reply.TheVariants.{Bytes};
 ghost use Rattle.qsession.specs.Answers.{is_change};
@@ -86,8 +87,8 @@ impl Session {
         Some(held.slot.into_loose().into_box())
     }
 
-    /// A law, the headline for one thread: where the session keeps a journal, its store is exactly what that leaves when
-    /// it is played on the plain machine, and each journaled reply is that machine's.
+    /// A law, the headline for one thread: where the session keeps a journal, its store is exactly what that leaves
+    /// when it is played on the plain machine, and each journaled reply is that machine's.
     pub fn always_holds_true(&mut self, alloc: Global)
         ensures law { HoldsTrue (held_in self.old.slot.kept) }
         ensures same { self.new.slot.kept ≡ self.old.slot.kept }

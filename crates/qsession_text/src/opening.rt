@@ -60,8 +60,8 @@ pub fn keep_journaled(alloc: Global, text: &[u8], seed: u64) -> Result<Box<Kept>
 }
 
 /// Tells why a text is no configuration: the number of the fault, 51 to 55, and at 52 the key that is missing, of
-/// another kind or form, or not known, at the front of the buffer, if it has room. How many bytes the key has is told in
-/// any case, 0 where it is no field. Want of memory has the number of Memory.
+/// another kind or form, or not known, at the front of the buffer, if it has room. How many bytes the key has is told
+/// in any case, 0 where it is no field. Want of memory has the number of Memory.
 pub fn tell_config_fault(fault: &ConfigFault, key: &mut [u8], len: &mut usize) -> u32
     ensures never_ok { result ≢ 0 }
     ensures told { (read : Result Setting Cause) → IsWhyNot fault.now read
