@@ -1,5 +1,6 @@
 /* A builder fills its quota, and a project's: first in a session without a journal, then in one that keeps its own.
- * Prints what each call returns and tells. */
+ * Prints what each call returns and tells. With two names of files it writes there the configuration and the journal of
+ * the second session, for `quotafs replay`. */
 #include "quotafs.h"
 
 #include <stdio.h>
@@ -103,11 +104,21 @@ static void tell_all(qfs_session *session) {
     tell("stat in a closed session", qfs_stat(session, &builder, 120, TEXT("/d"), &stat));
 }
 
-static void fill_a_project(qfs_session *session) {
-    char config[sizeof CONFIG + sizeof PROJECTS];
+static void save(const char *name, const void *text, size_t text_len) {
+    FILE *file = fopen(name, "wb");
+    if (!file || fwrite(text, 1, text_len, file) != text_len || fclose(file)) {
+        puts("a file was refused");
+    }
+}
+
+static void fill_a_project(qfs_session *session, const char *config_name) {
+    static char config[sizeof CONFIG + sizeof PROJECTS];
     const qfs_new_owners to_kit = {.project = 7, .has_project = true};
     strcpy(config, CONFIG);
     strcat(config, PROJECTS);
+    if (config_name) {
+        save(config_name, config, strlen(config));
+    }
     tell("open journaled", qfs_open_journaled(session, (const uint8_t *)config, strlen(config), 7, KEY));
     tell("mkdir", qfs_mkdir(session, &builder, 0, TEXT("/p"), &done));
     tell("chown to the project", qfs_chown(session, &root, 1, TEXT("/p"), &to_kit, &done));
@@ -120,13 +131,16 @@ static void fill_a_project(qfs_session *session) {
     tell("wants", len);
 }
 
-static void tell_of_journal(qfs_session *session) {
+static void tell_of_journal(qfs_session *session, const char *journal_name) {
     qfs_tally_reply tally;
     qfs_listed_inode inodes[4];
     qfs_listed_name names[4];
     size_t count = 0;
     tell("journal", qfs_journal(session, BUFFER));
     tell_text();
+    if (journal_name) {
+        save(journal_name, buffer, len);
+    }
     tell("tally", qfs_tally(session, &tally));
     tell("calls", tally.calls);
     tell("blocks charged", tally.blocks_charged);
@@ -146,14 +160,14 @@ static void tell_of_journal(qfs_session *session) {
     tell("names in a closed session", qfs_names(session, names, 4, &count));
 }
 
-int main(void) {
+int main(int argc, char **argv) {
     qfs_session session = QFS_CLOSED;
     open_one(&session);
     fill_the_quota(&session);
     raise_the_limit(&session);
     move_about(&session);
     tell_all(&session);
-    fill_a_project(&session);
-    tell_of_journal(&session);
+    fill_a_project(&session, argc == 3 ? argv[1] : NULL);
+    tell_of_journal(&session, argc == 3 ? argv[2] : NULL);
     return 0;
 }
