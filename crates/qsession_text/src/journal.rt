@@ -31,7 +31,7 @@ fn journal_of(alloc: Global, recorder: &Recorder) -> Result<Journal, NoMemory>
 }
 
 /// The text of a session's journal, of edition 2 and one worker, which is read again as that journal, and which
-/// `quotafs replay` plays again. Err is Memory, some 300 bytes an entry beside the text.
+/// `quotafs replay` plays again. Err is Memory: beside the text each entry is copied, but not its path and its bytes.
 pub fn journal_text(alloc: Global, recorder: &Recorder) -> Result<Vec<u8>, Fault>
     ensures { IfOk result (λ text. IsJournalText recorder.now.journal text.items) }
 {
