@@ -1,5 +1,6 @@
 //! What a caller of another language brings to a call: bytes, which are copied, and numbers.
-ghost use Rattle.std.specs.Prelude.{◌≡◌, true, IfOk, IfErr};
+ghost use Rattle.std.specs.Prelude.{◌≡◌, ◌<◌, ◌↔◌, true, Err, IfOk, IfErr};
+ghost use Rattle.qplain.specs.Paths.{ArePathBytes};
 ghost use Rattle.qsession.specs.Requests.{kind_in};
 ghost use Rattle.qsession.specs.Steps.{is_of_arguments};
 
@@ -11,6 +12,7 @@ use std::alloc::Global;
 /// The path of these bytes, which are copied. Err is Path where they are none, before Memory.
 pub fn path_of(alloc: Global, bytes: &[u8]) -> Result<Path, Fault>
     ensures path { IfOk result (λ path. path ≡ bytes.now) }
+    ensures form { (result ≡ Err Fault.Path) ↔ (ArePathBytes bytes.now → ⊥) }
     ensures fault { IfErr result (λ fault. is_of_arguments fault ≡ true) }
 {
     match Path::new(alloc, bytes) {
@@ -23,7 +25,7 @@ pub fn path_of(alloc: Global, bytes: &[u8]) -> Result<Path, Fault>
 /// The bytes of a write, which are copied. Err is Memory.
 pub fn data_of(alloc: Global, bytes: &[u8]) -> Result<Data, Fault>
     ensures bytes { IfOk result (λ copied. copied ≡ bytes.now) }
-    ensures fault { IfErr result (λ fault. is_of_arguments fault ≡ true) }
+    ensures fault { IfErr result (λ fault. fault ≡ Fault.Memory) }
 {
     let Ok(items) = Vec::from_slice(alloc, bytes) else {
         return Err(Fault::Memory);
@@ -37,6 +39,7 @@ pub fn data_of(alloc: Global, bytes: &[u8]) -> Result<Data, Fault>
 /// Whose record it is: 0 a user's, 1 a group's, 2 a project's. Any other number is no kind.
 pub fn kind_of(number: u32) -> Result<Kind, Fault>
     ensures kind { IfOk result (λ kind. kind ≡ kind_in number) }
+    ensures known { (result ≡ Err Fault.Kind) ↔ (2 < number) }
     ensures fault { IfErr result (λ fault. is_of_arguments fault ≡ true) }
 {
     match number {

@@ -1,5 +1,6 @@
 //! Who makes a call.
-ghost use Rattle.std.specs.Prelude.{◌≡◌, true, IfOk, IfErr};
+ghost use Rattle.std.specs.Prelude.{◌≡◌, ◌<◌, ◌↔◌, true, Err, IfOk, IfErr};
+ghost use Rattle.qplain.specs.declared.cred.TheConstants.{MAX_MORE_GROUPS};
 ghost use Rattle.qsession.specs.Requests.{caller_in};
 ghost use Rattle.qsession.specs.Steps.{is_of_arguments};
 
@@ -22,6 +23,7 @@ impl Caller {
     /// or more meets.
     pub fn cred(&self, alloc: Global) -> Result<Cred, Fault>
         ensures caller { IfOk result (λ cred. cred ≡ caller_in self.now) }
+        ensures few { (result ≡ Err Fault.Caller) ↔ (MAX_MORE_GROUPS < self.now.count) }
         ensures fault { IfErr result (λ fault. is_of_arguments fault ≡ true) }
     {
         let count = self.count as usize;

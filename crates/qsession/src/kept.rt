@@ -1,12 +1,12 @@
 //! What an open session keeps.
-ghost use Rattle.std.specs.Prelude.{◌≡◌, Some, None, IfSome, IfNone, IfOk, IfErr, OnErr};
+ghost use Rattle.std.specs.Prelude.{◌≡◌, ◌↔◌, Some, None, Err, IfSome, IfNone, IfOk, IfErr, OnErr};
 ghost use Rattle.qplain.specs.declared.line.Line.{Line};
 ghost use Rattle.qplain.specs.declared.edition.Edition.TheVariants.{Two};
 ghost use Rattle.qstore_journaled.specs.Lines.{line_of};
 ghost use Rattle.qsession.specs.declared.kept.Kept.TheVariants.{Journaled as KeptJournaled};
 ghost use Rattle.qsession.specs.Faults.{fault_told};
 ghost use Rattle.qsession.specs.Holdings.{HoldsTrue, holding_of, new_journaled, new_plain};
-ghost use Rattle.qsession.specs.Steps.{CanCommit, HasCause, IsReadyFor, IsStep};
+ghost use Rattle.qsession.specs.Steps.{CanCommit, HasCause, IsFull, IsReadyFor, IsStep};
 
 use crate::fault::Fault;
 use crate::ready_call::ReadyCall;
@@ -87,6 +87,7 @@ impl Kept {
             (IsStep (holding_of self.old) (holding_of self.new) (line_of cred.now moment call.now)) }
         ensures err { OnErr result (holding_of self.new ≡ holding_of self.old) }
         ensures cause { IfErr result (HasCause (Some (holding_of self.old))) }
+        ensures full { (result ≡ Err Fault.JournalFull) ↔ IsFull (Some (holding_of self.old)) }
     {
         match self {
             Kept::Plain(store) => match store.apply(cred, moment, call) {
@@ -105,6 +106,7 @@ impl Kept {
         ensures same { holding_of self.new ≡ holding_of self.old }
         ensures ready { IfOk result (IsReadyFor self.new (line_of cred.now moment call.now)) }
         ensures cause { IfErr result (HasCause (Some (holding_of self.old))) }
+        ensures full { (result ≡ Err Fault.JournalFull) ↔ IsFull (Some (holding_of self.old)) }
     {
         match self {
             Kept::Plain(store) => match store.ready(cred, moment, call) {
