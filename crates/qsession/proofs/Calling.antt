@@ -89,6 +89,7 @@ faulted old line fault number own is =
       fault = λ above. refl;
       closed = λ at. closed_of old fault cause (sym is ∙ at);
       full = λ at. full_of old fault cause (sym is ∙ at);
+      refuses = λ at. subst (λ (n : ℕ). FAULTS ≤ n) (sym is) (fault_high fault);
     }
 
 -- and is not told as granted

@@ -22,12 +22,13 @@ IsToldStep (Some old) new line number =
     (new ≡ Some (holding_after old line)) × (number ≡ reply_code (reply_to old line))
 
 -- a number below 64 is that of the reply, and the call was made; at another it was not, and the session is as it was:
--- closed, at the number that says so, or with a full journal, at that one
+-- closed, at the number that says so, or with a full journal, at that one; a full journal takes no call
 pub record IsCalled (old new : Option Holding) (line : Line) (number : ℕ) : Type 0 where
   pub told : number < FAULTS → IsToldStep old new line number
   pub fault : FAULTS ≤ number → new ≡ old
   pub closed : number ≡ fault_code Closed → old ≡ None
   pub full : number ≡ fault_code JournalFull → IsFull old
+  pub refuses : IsFull old → FAULTS ≤ number
 
 -- the session is open, and this is the reply to the line's call
 abbrev pub IsReplyTo : Option Holding → Line → Reply → Type 0

@@ -1,5 +1,5 @@
 //! Sessions.
-ghost use Rattle.std.specs.Prelude.{◌≡◌, Some, None, true, IfSome, IfNone, IfOk, IfErr, OnErr, is_some};
+ghost use Rattle.std.specs.Prelude.{◌≡◌, Some, None, true, IsErr, IfSome, IfNone, IfOk, IfErr, OnErr, is_some};
 ghost use Rattle.std.specs.Prelude.{length, take};
 ghost use Rattle.qplain.specs.declared.call.Call.TheVariants.{Read, Stat as AskStat, Quota as AskQuota};
 ghost use Rattle.qplain.specs.declared.reply.Reply.TheVariants.{Bytes};
@@ -8,7 +8,7 @@ ghost use Rattle.qsession.specs.Called.{IsCalled, IsReplyTo, IsStepOf};
 ghost use Rattle.qsession.specs.Holdings.{HoldsTrue, held_in};
 ghost use Rattle.qsession.specs.Replies.{done_in, quota_in, stat_in};
 ghost use Rattle.qsession.specs.Requests.{line_by};
-ghost use Rattle.qsession.specs.Steps.{HasCause};
+ghost use Rattle.qsession.specs.Steps.{HasCause, IsFull};
 
 use crate::caller::Caller;
 use crate::fault::Fault;
@@ -112,6 +112,7 @@ impl Session {
             (line_by caller.now moment call.now)) }
         ensures err { OnErr result (held_in self.new.slot.kept ≡ held_in self.old.slot.kept) }
         ensures cause { IfErr result (HasCause (held_in self.old.slot.kept)) }
+        ensures full { IsFull (held_in self.old.slot.kept) → IsErr result }
     {
         let cred = match caller.cred(alloc) {
             Ok(cred) => cred,
