@@ -55,8 +55,8 @@ impl Model for Opened {
 
     ghost use Rattle.qstore_journaled.specs.Journaled.{IsPlayed};
 
-    ghost invariant = { λ o. IsPlayed o.store × (o.store.journal ≡ []) × (o.history.entries ≡ []) × (0 < o.seats) × (o.seats ≤ 16)
-        × (o.counters.parts ≡ o.seats) };
+    ghost invariant = { λ o. IsPlayed o.store × (o.store.journal ≡ []) × (o.history.entries ≡ [])
+        × (0 < o.seats) × (o.seats ≤ 16) × (o.counters.parts ≡ o.seats) };
 }
 
 /// The board of a new store.

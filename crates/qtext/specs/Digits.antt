@@ -1,5 +1,6 @@
 -- Hexadecimal digits of many bytes. No public clause cites this module.
-use Rattle.std.specs.Prelude.{◌≡◌, ◌<◌, ℕ, ◌+◌, ◌*◌, List, [], ◌∷◌, ◌++◌, drop, map, Option, Some, None, Result, Ok, Err}
+use Rattle.std.specs.Prelude.{◌≡◌, ◌<◌, ℕ, ◌+◌, ◌*◌, List, [], ◌∷◌, ◌++◌, drop, map}
+use Rattle.std.specs.Prelude.{Option, Some, None, Result, Ok, Err}
 use lib.Lanes.{Each1, zip2}
 use Rattle.hex.specs.Hex.{decode_pairs, hex_digit_value}
 use Rattle.hex.specs.declared.error.FromHexError.{FromHexError}
