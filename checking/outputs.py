@@ -17,11 +17,11 @@ def long_lines(work):
 
 
 def writes(work):
-    """One write for each fault and each help, and one for each 256 KiB of an outcome."""
+    """One write for each fault and each help, and one for each 256 KiB of an outcome, none of nothing."""
     library = work / "writes.so"
     subprocess.run(["cc", "-O2", "-shared", "-fPIC", "-o", library, CHECKING / "writes.c"], check=True)
     for case in command_lines():
-        wanted = b"1 0" if case.status == 0 else b"0 1"
+        wanted = b"%d %d" % (case.out != b"", case.status != 0)
         yield f"{case.name}: writes", preloaded(library, case.words, case.folder, "WRITES_TELL")[1], wanted
     for name, words, folder in long_lines(work):
         yield f"{name}: writes", preloaded(library, words, folder, "WRITES_TELL")[1], b"0 1"

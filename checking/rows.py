@@ -14,6 +14,8 @@
   likewise in project_journals.
 - renames/THEME.rows: a line is a caller, the two paths of a rename after renames/before.txt, the step of its call that
   decides, its answer, and what a stat of some paths answers then.
+- options/ROW.words: the status, and the words of a run in the folder `checking`; ROW.in is what stands on its standard
+  input, ROW.out and ROW.err what it prints, each nothing where it is not there.
 - command_lines.rows: a line is the words, the status, the output and the error output, in the folder `a`. Two dots at
   the end stand for any further text: what faults of the command line say is the library's.
 """
@@ -68,13 +70,13 @@ def is_as(text, wanted):
 class Case:
     """A run of the program, and its answer. Where it `refuses`, each of its allocations is refused in turn, too."""
 
-    def __init__(self, name, words, status, out=b"", err=b"", folder=ROOT, refuses=False):
-        self.name, self.words, self.folder, self.refuses = name, words, folder, refuses
+    def __init__(self, name, words, status, out=b"", err=b"", folder=ROOT, refuses=False, given=b""):
+        self.name, self.words, self.folder, self.refuses, self.given = name, words, folder, refuses, given
         self.status, self.out, self.err = status, out, err
 
     @cached_property
     def answer(self):
-        return call(self.words, folder=self.folder)
+        return call(self.words, folder=self.folder, input=self.given)
 
     def is_right(self):
         status, out, err = self.answer
@@ -165,6 +167,33 @@ def journal_of(lines, out):
     return HEAD + b"".join(entry_of(line, reply) for line, reply in zip(lines, replies, strict=True))
 
 
+def shown_call(verb, words):
+    """A call as `--calls` shows it: data in lower case, and more than 32 equal bytes as a fill."""
+    if verb not in (b"write", b"fill"):
+        return [verb, *words]
+    if verb == b"fill":
+        path, offset, count, byte = words
+        data = byte.lower() * int(count)
+    else:
+        path, offset, data = words[0], words[1], words[2].lower().removeprefix(b"-")
+    count, byte = len(data) // 2, data[:2]
+    if count > 32 and data == byte * count:
+        return [b"fill", path, offset, b"%d" % count, byte]
+    return [b"write", path, offset, data or b"-"]
+
+
+class Calls(Case):
+    """A run that shows its calls: each reply stands behind the place and the call of its line, and all else is as ever."""
+
+    def __init__(self, row):
+        told = row.out.splitlines(keepends=True)
+        for place, line in enumerate(row.lines, 1):
+            moment, caller, verb, *words = line.removesuffix(b"\n").split(b" ")
+            shown = b" ".join([b"%d" % place, moment, caller, *shown_call(verb, words)])
+            told[place] = shown + b" => " + told[place]
+        super().__init__(f"{row.name}, calls", [*row.words[:-1], "--calls", row.words[-1]], 0, b"".join(told))
+
+
 class Replay(Case):
     """The replay of a run's journal, which prints what the run does at moment 0."""
 
@@ -181,7 +210,7 @@ class Replay(Case):
 def played():
     """The scripts that are run to their end: the outcome, the configuration, the script, and whether the run's
     allocations are refused, as those of the worked examples are."""
-    for out in sorted(CHECKING.glob("*/*.out")):
+    for out in sorted(CHECKING.glob("*/*.*.out")):
         folder, script = out.parent, out.name.split(".")[0] + ".txt"
         refuses = folder.name in WORKED or script == "one_call_of_each_kind.txt"
         if folder.name == "examples":
@@ -196,6 +225,12 @@ def outcomes(work):
     """The scripts that are run to their end."""
     for row in played():
         yield Row(*row, work)
+
+
+def calls(work):
+    """The same scripts with their calls."""
+    for row in outcomes(work):
+        yield Calls(row)
 
 
 def journals(work):
@@ -263,6 +298,15 @@ def renames(work):
         (work / file).write_text(before + "".join(f"0 {callers[caller]} {call}\n" for call in calls))
         answers = [answer.encode(), *(found.encode() for found in after.values())]
         yield Rename(f"{name}: {step}", ["run", "--config", folder / "config.toml", work / file], 0, answers)
+
+
+def options():
+    """Runs and replays with options of how they are told."""
+    for file in sorted((CHECKING / "options").glob("*.words")):
+        status, *words = file.read_text().split()
+        parts = [file.with_suffix(end) for end in (".out", ".err", ".in")]
+        out, err, given = [part.read_bytes() if part.exists() else b"" for part in parts]
+        yield Case(f"options/{file.stem}", words, int(status), out, err, CHECKING, given=given)
 
 
 def command_lines():

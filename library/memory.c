@@ -92,8 +92,8 @@ static void look(qfs_session *session) {
     want(tally.calls == 10 && tally.blocks_charged == 1 && tally.inodes_charged == 3 && tally.inodes_released == 1);
     TWICE(qfs_inodes(session, inodes, 16, &count));
     want(count == 3);
-    TWICE(qfs_names(session, names, 16, &count));
-    want(count == 2);
+    TWICE(qfs_names(session, names, 16, &count, BUFFER));
+    want(count == 2 && len == 2 && memcmp(buffer, "ce", 2) == 0);
 }
 
 static void play(void) {

@@ -111,10 +111,13 @@ typedef struct qfs_listed_inode {
     bool dir;
 } qfs_listed_inode;
 
-/* One name of a list: the directory that holds it, and the inode that it leads to. */
+/* One name of a list: the directory that holds it, the inode that it leads to, and where its bytes stand in the text that
+ * is told beside the list. */
 typedef struct qfs_listed_name {
     uint64_t dir;
     uint64_t ino;
+    size_t at;
+    size_t len;
 } qfs_listed_name;
 
 /* What a call returns: QFS_OK; below QFS_FAULTS why the store refused, which changed nothing; from there on why no call
@@ -236,10 +239,13 @@ uint32_t qfs_report(qfs_session *session, uint64_t moment, uint8_t *buffer, size
 /* Recounts all files, and tells how many records differ: 0. */
 uint32_t qfs_audit(qfs_session *session, uint64_t *differences);
 
-/* All inodes, by number, and all names, by directory and name: *count says how many there are, also at
- * QFS_FAULT_ROOM. */
+/* All inodes, by number: *count says how many there are, also at QFS_FAULT_ROOM. */
 uint32_t qfs_inodes(qfs_session *session, qfs_listed_inode *list, size_t list_len, size_t *count);
-uint32_t qfs_names(qfs_session *session, qfs_listed_name *list, size_t list_len, size_t *count);
+
+/* All names, by directory and name, and their bytes in a text, one after another and with nothing between them: *count
+ * says how many names there are and *len how many bytes, also at QFS_FAULT_ROOM. */
+uint32_t qfs_names(qfs_session *session, qfs_listed_name *list, size_t list_len, size_t *count, uint8_t *text,
+                   size_t text_len, size_t *len);
 
 /* The journal of a session that keeps one, as `quotafs replay` plays it again: *len says how long it is, also at
  * QFS_FAULT_ROOM. */

@@ -133,9 +133,6 @@ static void fill_a_project(qfs_session *session, const char *config_name) {
 
 static void tell_of_journal(qfs_session *session, const char *journal_name) {
     qfs_tally_reply tally;
-    qfs_listed_inode inodes[4];
-    qfs_listed_name names[4];
-    size_t count = 0;
     tell("journal", qfs_journal(session, BUFFER));
     tell_text();
     if (journal_name) {
@@ -144,20 +141,29 @@ static void tell_of_journal(qfs_session *session, const char *journal_name) {
     tell("tally", qfs_tally(session, &tally));
     tell("calls", tally.calls);
     tell("blocks charged", tally.blocks_charged);
+}
+
+static void list_all(qfs_session *session) {
+    qfs_listed_inode inodes[4];
+    qfs_listed_name names[4];
+    size_t count = 0;
     tell("inodes", qfs_inodes(session, inodes, 4, &count));
     for (size_t i = 0; i < count; i++) {
         printf("%llu %s of %u and project %u, blocks %u, links %llu\n", (unsigned long long)inodes[i].ino,
                inodes[i].dir ? "dir" : "file", inodes[i].uid, inodes[i].project, inodes[i].blocks,
                (unsigned long long)inodes[i].links);
     }
-    tell("names", qfs_names(session, names, 4, &count));
+    tell("names", qfs_names(session, names, 4, &count, BUFFER));
     for (size_t i = 0; i < count; i++) {
-        printf("%llu in %llu\n", (unsigned long long)names[i].ino, (unsigned long long)names[i].dir);
+        printf("%.*s is %llu in %llu\n", (int)names[i].len, (const char *)buffer + names[i].at,
+               (unsigned long long)names[i].ino, (unsigned long long)names[i].dir);
     }
-    tell("names without room", qfs_names(session, names, 1, &count));
+    tell("names without room", qfs_names(session, names, 1, &count, BUFFER));
     tell("there are", count);
+    tell("names without text", qfs_names(session, names, 4, &count, buffer, 1, &len));
+    tell("of bytes", len);
     qfs_close(session);
-    tell("names in a closed session", qfs_names(session, names, 4, &count));
+    tell("names in a closed session", qfs_names(session, names, 4, &count, BUFFER));
 }
 
 int main(int argc, char **argv) {
@@ -169,5 +175,6 @@ int main(int argc, char **argv) {
     tell_all(&session);
     fill_a_project(&session, argc == 3 ? argv[1] : NULL);
     tell_of_journal(&session, argc == 3 ? argv[2] : NULL);
+    list_all(&session);
     return 0;
 }

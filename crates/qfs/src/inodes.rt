@@ -1,7 +1,7 @@
 //! The inodes of a session.
 ghost use Rattle.std.specs.Prelude.{◌≡◌, take};
 ghost use Rattle.qsession.specs.Holdings.{held_in};
-ghost use Rattle.qsession.specs.Rows.{AreInodesOf};
+ghost use Rattle.qsession.specs.Inodes.{AreInodesOf};
 
 use qsession::{Fault, ListedInode, Session, list_inodes};
 use std::alloc::Global;

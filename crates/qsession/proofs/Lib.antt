@@ -4,3 +4,4 @@ pub mod Fitting
 pub mod Replying
 pub mod Committing
 pub mod Calling
+pub mod Listed

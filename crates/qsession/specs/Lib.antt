@@ -9,6 +9,7 @@ pub mod Faults
 pub mod Called
 pub mod Requests
 pub mod Replies
-pub mod Rows
+pub mod Inodes
+pub mod Names
 pub mod Slots
 pub mod KeptRecorder

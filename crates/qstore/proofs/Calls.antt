@@ -37,7 +37,8 @@ use Rattle.qstore.specs.declared.store.write.Target.{Target}
 use Rattle.qstore.specs.Kept.{state_of, stored_of}
 use Rattle.qstore_change.specs.FileTypes.{inode_new}
 use Rattle.qstore.specs.Targets.{IsTarget}
-use Rattle.qstore.specs.Decided.{IsAsked}
+use Rattle.qstore.specs.declared.request.Exchange.{Exchange}
+use Rattle.qstore.specs.Decided.{IsAsked, IsGivenUp, no_exchange}
 use Rattle.qstore_walk.specs.Owners.{caller_owners}
 use Rattle.qstore.specs.Requests.{IsConsistent, are_declared, is_declared_if_any}
 use Rattle.qstore_change.specs.Changes.{altered, altered_at}
@@ -45,6 +46,7 @@ use Rattle.qstore.specs.Stored.{IsSameStore, Stored}
 use Rattle.qstore_accounts.specs.Replacements.{IsClaimed}
 use Rattle.qstore_accounts.proofs.Claimed.{claimed-again, unclaimed}
 use Rattle.qstore.proofs.Deciding.{asked-for}
+use Rattle.qstore.proofs.Even.{even-asked, rewritten-asked}
 
 -- ---- the tests
 
@@ -178,22 +180,23 @@ changed-asked s whole number inode after there from to lost gained few =
     asked-for s whole (Some from) (Some to) 0 (with_inode s.state number after) (Some inode) (Some after)
     (Replaces-changed s.state number inode after there) (omega arith) lost gained few
 
--- a file that loses a name stands there still, or not
+-- a file that loses a name is given up with its last one
 pub unlinked-asked : (s : Stored) → IsConsistent s → (dir : ℕ) (name : List ℕ) (number : ℕ) (inode : Inode) → named s.state dir name ≡ Some number
     → inode_at s.state number ≡ Some inode → inode.dir ≡ false
-    → (claim : Claim) (to : Option Claim) (links : ℕ) → IsClaimed s.books (Some claim) (Some inode) → weight Blocks inode ≤ 2 ^ 32
-    → links ≡ links_of s.state number inode.dir → (1 < links → to ≡ Some claim) → (links ≤ 1 → to ≡ None)
-    → IsAsked s (record { from = Some claim; to = to }) 0 (swept (without_name s.state dir name))
-unlinked-asked s whole dir name number inode led there file claim to links claimed few kept more last =
+    → (exchange : Exchange) (links : ℕ) → links ≡ links_of s.state number inode.dir → (1 < links → exchange ≡ no_exchange)
+    → (links ≤ 1 → IsGivenUp s inode exchange) → IsAsked s exchange 0 (swept (without_name s.state dir name))
+unlinked-asked s whole dir name number inode led there file exchange links kept more last =
     ⊎_elim
     (λ (many : 1 < links).
-    asked-for s whole (Some claim) to 0 S1 (Some inode) (Some inode)
-    (Replaces-more s.state dir name number inode fits led there (omega (arith, many, same))) (omega arith)
-    claimed (subst (λ (o : Option Claim). IsClaimed s.books o (Some inode)) (sym (more many)) claimed) few)
+    subst (λ (e : Exchange). IsAsked s e 0 S1) (sym (more many))
+    (even-asked s whole S1 inode inode (λ sort. refl) refl
+    (Replaces-more s.state dir name number inode fits led there (omega (arith, many, same))) refl))
     (λ (one : links ≤ 1).
-    asked-for s whole (Some claim) to 0 S1 (Some inode) None
+    let g = last one in
+    subst (λ (e : Exchange). IsAsked s e 0 S1) (sym g.is)
+    (asked-for s whole (Some g.claim) None 0 S1 (Some inode) None
     (Replaces-last s.state dir name number inode fits led there (omega (arith, one, same, some))) (omega arith)
-    claimed (subst (λ (o : Option Claim). IsClaimed s.books o None) (sym (last one)) (unclaimed s.books)) (omega arith))
+    g.claimed (unclaimed s.books) (omega arith)))
     (cases_lt 1 links)
   where
     S1 : State
@@ -222,16 +225,32 @@ resized-asked s whole number inode file there from to blocks claimed is same few
 
 -- the write of a target
 pub target-asked : (s : Stored) → IsConsistent s → (cred : Caller) (path : List ℕ) (off : ℕ) (bytes : List ℕ) (target : Target)
-    (t : IsTarget s cred path off bytes target) (to : Claim)
-    → to ≡ record { slots = target.claim.slots; weight = record { blocks = target.claim.weight.blocks + target.missing; inodes = 1 } }
-    → IsAsked s (record { from = Some target.claim; to = Some to }) 0 (with_file s.state target.number t.inode (after_write t.inode.file off bytes))
-target-asked s whole cred path off bytes target t to is =
-    let more = more-of-adds t.inode.file off bytes target.missing t.missing in
-    let old = t.blocks in
-    let few = t.few in
+    (t : IsTarget s cred path off bytes target)
+    → IsAsked s target.exchange 0 (with_file s.state target.number t.inode (after_write t.inode.file off bytes))
+target-asked s whole cred path off bytes target t =
+    ⊎_elim
+    (λ (some : 0 < target.missing).
+    let g = t.some some in
+    let old = g.blocks in
+    let few = g.few in
     let few_missing = t.few_missing in
-    resized-asked s whole target.number t.inode (after_write t.inode.file off bytes) t.there target.claim to
-    (target.claim.weight.blocks + target.missing) t.claimed is (omega (arith, more, old)) (omega (arith, few, few_missing))
+    subst (λ (e : Exchange). IsAsked s e 0 S1) (sym g.is)
+    (resized-asked s whole target.number t.inode file t.there g.claim
+    (record { slots = g.claim.slots; weight = record { blocks = g.claim.weight.blocks + target.missing; inodes = 1 } })
+    (g.claim.weight.blocks + target.missing) g.claimed refl (omega (arith, more, old)) (omega (arith, few, few_missing))))
+    (λ (none : target.missing ≤ 0).
+    subst (λ (e : Exchange). IsAsked s e 0 S1) (sym (t.none (omega (arith, none))))
+    (rewritten-asked s whole target.number t.inode file t.there (omega (arith, more, none))))
+    (cases_lt 0 target.missing)
+  where
+    file : File
+    file = after_write t.inode.file off bytes
+
+    S1 : State
+    S1 = with_file s.state target.number t.inode file
+
+    more : MoreBlocks t.inode.file file target.missing
+    more = more-of-adds t.inode.file off bytes target.missing t.missing
 
 -- a new inode of the caller's
 pub created-asked : (s : Stored) → IsConsistent s → (cred : Caller) (dir : ℕ) (name : List ℕ) (sort : FileType) (owners : Owners)

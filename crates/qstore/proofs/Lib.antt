@@ -5,6 +5,7 @@ pub mod Settling
 pub mod Steps
 pub mod Listed
 pub mod Deciding
+pub mod Even
 pub mod Calls
 pub mod Directories
 pub mod FurtherNames

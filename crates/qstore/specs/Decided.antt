@@ -1,19 +1,22 @@
 -- What the decision of a call comes to, and, handed on, what it rests on. No public clause cites this module.
-use Rattle.std.specs.Prelude.{◌≡◌, ℕ, ◌+◌, Option, Some, None, Result, IfOk}
+use Rattle.std.specs.Prelude.{◌≡◌, ℕ, ◌+◌, ◌≤◌, Option, Some, None, Result, IfOk}
 use Rattle.std.specs.Result.{IsOk}
 use Rattle.std.specs.declared.alloc.AllocError.{AllocError}
+use Rattle.qrules.specs.Sort.{Blocks}
 use Rattle.qplain.specs.declared.call.Call.{Call}
+use Rattle.qplain.specs.declared.setup.TheConstants.{MAX_BLOCKS}
 use Rattle.qplain.specs.Attempt.{Attempt}
 use Rattle.qplain.specs.Calls.{attempt_of}
 use Rattle.qplain.specs.Decision.{ends_after, refusal_between}
 use Rattle.qplain.specs.declared.refusal.Refusal.{Refusal}
 use Rattle.qplain.specs.State.{Inode, State}
 use Rattle.qplain.specs.Step.{settle}
+use Rattle.qplain.specs.Use.{weight}
 use Rattle.qstore_accounts.specs.declared.bill.Bill.{Bill}
 use Rattle.qstore_accounts.specs.declared.claim.Claim.{Claim}
 use Rattle.qstore_accounts.specs.Bills.{IsBillFor, settled}
 use Rattle.qstore_accounts.specs.Books.{AreBooksOf, Books}
-use Rattle.qstore_accounts.specs.Replacements.{IsReplacement}
+use Rattle.qstore_accounts.specs.Replacements.{IsClaimed, IsReplacement}
 use Rattle.qstore.specs.declared.request.Exchange.{Exchange}
 use Rattle.qstore.specs.declared.ready.Ready.{Ready}
 use Rattle.qstore.specs.declared.request.Request.{Request}
@@ -39,6 +42,27 @@ pub record IsDecision (old new : Stored) (request : Request) (attempt : Attempt)
 abbrev pub IsDecisionOf : Stored → Stored → Request → Call → Result Ready AllocError → Type 0
 IsDecisionOf old new request call result =
     IsDecision old new request (attempt_of old.state request.cred.now call) result
+
+-- no record and no total changes
+abbrev pub no_exchange : Exchange
+no_exchange = record { from = None; to = None }
+
+-- all that the inode takes is given up
+pub record IsGivenUp (s : Stored) (inode : Inode) (exchange : Exchange) : Type 0 where
+  pub claim : Claim
+  pub claimed : IsClaimed s.books (Some claim) (Some inode)
+  pub is : exchange ≡ record { from = Some claim; to = None }
+
+-- the inode takes N blocks more of the same records
+pub record IsStretched (s : Stored) (inode : Inode) (more : ℕ) (exchange : Exchange) : Type 0 where
+  pub claim : Claim
+  pub claimed : IsClaimed s.books (Some claim) (Some inode)
+  pub blocks : claim.weight.blocks ≡ weight Blocks inode
+  pub few : claim.weight.blocks ≤ MAX_BLOCKS
+  pub is : exchange ≡ record {
+    from = Some claim;
+    to = Some (record { slots = claim.slots; weight = record { blocks = claim.weight.blocks + more; inodes = 1 } });
+  }
 
 -- in the new state the inode of one claim stands in the place of the other's, and N numbers were given
 pub record IsAsked (s : Stored) (exchange : Exchange) (given : ℕ) (S1 : State) : Type 0 where

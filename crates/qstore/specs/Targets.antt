@@ -1,26 +1,22 @@
 -- A write that passed all tests but those of space and quota. No public clause cites this module.
-use Rattle.std.specs.Prelude.{◌≡◌, ℕ, ◌+◌, ◌^◌, ◌≤◌, false, List, length, Some}
-use Rattle.qrules.specs.Sort.{Blocks}
+use Rattle.std.specs.Prelude.{◌≡◌, ℕ, ◌+◌, ◌^◌, ◌<◌, ◌≤◌, false, List, Some, length}
 use Rattle.qblocks.specs.File.{Adds, after_write}
-use Rattle.qplain.specs.declared.setup.TheConstants.{MAX_BLOCKS}
 use Rattle.qplain.specs.Attempt.{Becomes, at_path}
 use Rattle.qplain.specs.Caller.{Caller}
 use Rattle.qplain.specs.Files.{with_file, write_into}
 use Rattle.qplain.specs.State.{Inode, inode_at}
-use Rattle.qplain.specs.Use.{weight}
 use Rattle.qstore.specs.declared.store.write.Target.{Target}
-use Rattle.qstore_accounts.specs.Replacements.{IsClaimed}
+use Rattle.qstore.specs.Decided.{IsStretched, no_exchange}
 use Rattle.qstore.specs.Stored.{Stored}
 
--- the write goes into an inode that is there and a file, and its claim and the new blocks are the target's
+-- the write goes into an inode that is there and a file, the new blocks are the target's, and so is what they take
 pub record IsTarget (s : Stored) (cred : Caller) (path : List ℕ) (off : ℕ) (bytes : List ℕ)
     (target : Target) : Type 0 where
   pub inode : Inode
   pub there : inode_at s.state target.number ≡ Some inode
   pub is_file : inode.dir ≡ false
-  pub claimed : IsClaimed s.books (Some target.claim) (Some inode)
-  pub blocks : target.claim.weight.blocks ≡ weight Blocks inode
-  pub few : target.claim.weight.blocks ≤ MAX_BLOCKS
+  pub none : target.missing ≡ 0 → target.exchange ≡ no_exchange
+  pub some : 0 < target.missing → IsStretched s inode target.missing target.exchange
   pub missing : Adds inode.file off (length bytes) target.missing
   pub few_missing : target.missing ≤ 2 ^ 28
   pub bound : off + length bytes ≤ s.state.file_limit

@@ -4,6 +4,7 @@
 pub use qplain::{
     Call, Change, Cred, Edition, Line, NoMemory, Path, Refusal, Reply, Setup, SetupFault,
 };
+pub use qstore_tree::Name;
 pub use ready::Ready;
 pub(crate) use ready::{Decision, Plan};
 pub(crate) use request::{Exchange, Request};

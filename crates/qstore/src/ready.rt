@@ -52,6 +52,7 @@ impl Ready {
     }
 
     /// The call is granted.
+    #[inline(always)]
     pub(crate) fn granted(number: u64, exchange: &Exchange, change: TreeChange) -> Ready
         ensures { result ≡ record { reply = Reply.Done number (told exchange.now); plan = Plan.Change change } }
     {

@@ -130,7 +130,7 @@ posted-both p [] = refl
 posted-both p (o ∷ os) = λ i. posted p o ∷ posted-both p os i
 
 -- a posting keeps ids
-post-id : (posting : Option Posting) (o : KeptHolder) → (post posting o).id ≡ o.id
+pub post-id : (posting : Option Posting) (o : KeptHolder) → (post posting o).id ≡ o.id
 post-id None o = refl
 post-id (Some p) o = by (p.id == o.id)
   where

@@ -13,6 +13,7 @@ pub mod Claimed
 pub mod Posted
 pub mod Relimits
 pub mod Booked
+pub mod Known
 pub mod Refusals
 pub mod Relimited
 pub mod Placing

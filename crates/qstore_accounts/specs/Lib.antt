@@ -2,6 +2,7 @@
 pub mod KeptHolders
 pub mod Claims
 pub mod Books
+pub mod Callers
 pub mod Bills
 pub mod Replacements
 pub mod Rows

@@ -22,6 +22,7 @@ ghost use Rattle.qstore_accounts.specs.Rows.{StandsBefore, record_row_of};
 use crate::bill::{Bill, Posting, Postings};
 use crate::claim::{Claim, share_of, weight_of};
 use crate::kept_holder::KeptHolder;
+use crate::known_callers::KnownCallers;
 use crate::ledger::Ledger;
 use qplain::{Cred, MAX_NUMBER, NoMemory, Refusal, Setup};
 use qrules::{Graces, Kind, Limits, MAX_MOMENT, RecordRow};
@@ -29,6 +30,7 @@ use std::alloc::Global;
 use std::marker::Model;
 
 mod boards;
+mod callers;
 
 /// The quota records of users, groups and projects, the totals, the bounds and the graces. Contracts see them as books.
 ///
@@ -44,6 +46,7 @@ pub struct Accounts {
     projects: Ledger,
     blocks: u64,
     inodes: u64,
+    known: KnownCallers,
 }
 
 impl Model for Accounts {
@@ -56,8 +59,9 @@ impl Model for Accounts {
     ghost view = { books_of };
 
     ghost use Rattle.qstore_accounts.specs.Books.{AreInRange};
+    ghost use Rattle.qstore_accounts.specs.Callers.{AreKnown};
 
-    ghost invariant = { λ a. AreInRange (books_of a) };
+    ghost invariant = { λ a. AreInRange (books_of a) × AreKnown (books_of a) a.known };
 }
 
 impl Accounts {
@@ -71,6 +75,7 @@ impl Accounts {
         let users = Ledger::new(alloc, setup.users(), graces)?;
         let groups = Ledger::new(alloc, setup.groups(), graces)?;
         let projects = Ledger::new(alloc, setup.projects(), graces)?;
+        let known = KnownCallers::new(alloc)?;
         Ok(Accounts {
             size: setup.blocks(),
             most_inodes: setup.inodes(),
@@ -80,6 +85,7 @@ impl Accounts {
             projects,
             blocks: 0,
             inodes: 1,
+            known,
         })
     }
 
@@ -135,6 +141,7 @@ impl Accounts {
     /// Writes the bill of a call by which the inode of one claim comes to stand in the place of the other's, or tells
     /// why the call is refused: space comes before quota, and the superuser passes every quota. `next` is the number
     /// that would be given next after it.
+    #[inline(always)]
     pub fn bill(
         &self,
         cred: &Cred,
@@ -164,6 +171,7 @@ impl Accounts {
     }
 
     /// Writes the records and totals as they will be. It tests nothing.
+    #[inline(always)]
     fn write_bill(&self, moment: u64, from: Option<Claim>, to: Option<Claim>, bill: &mut Bill)
         requires moment { moment ≤ MAX_MOMENT }
         requires replacement { (S : State) × (S1 : State) × (f : Option Inode) × (t : Option Inode)
@@ -188,6 +196,7 @@ impl Accounts {
     }
 
     /// Whether the bill is past the bounds, or past the last number.
+    #[inline(always)]
     fn is_full(&self, next: u64, bill: &Bill) -> bool
         ensures { result ≡ (nat_lt self.now.size bill.now.blocks || nat_lt self.now.most_inodes bill.now.inodes
             || nat_lt (MAX_NUMBER + 1) next) }
@@ -224,6 +233,7 @@ impl Accounts {
     }
 
     /// Why a bill is refused, if it is.
+    #[inline(always)]
     fn refusal(&self, cred: &Cred, moment: u64, next: u64, bill: &Bill) -> Option<Refusal>
         requires placed { IsBillFor self.now bill.now }
         ensures { result ≡ bill_refusal self.now cred.now moment next bill.now }

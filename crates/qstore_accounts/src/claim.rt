@@ -56,6 +56,7 @@ impl Claim {
 }
 
 /// What is counted, where an inode stands or none.
+#[inline(always)]
 pub(crate) fn weight_of(claim: Option<Claim>) -> Weight
     ensures { result ≡ weight_in claim }
 {
@@ -66,6 +67,7 @@ pub(crate) fn weight_of(claim: Option<Claim>) -> Weight
 }
 
 /// Where the record of the owner of a kind stands, if there is one.
+#[inline(always)]
 fn slot_of(kind: Kind, slots: Slots) -> Option<usize>
     ensures { result ≡ slot_in kind slots }
 {
@@ -77,6 +79,7 @@ fn slot_of(kind: Kind, slots: Slots) -> Option<usize>
 }
 
 /// What a claim takes of the record of a kind, if its inode has an owner of that kind.
+#[inline(always)]
 fn share_in(kind: Kind, claim: Claim) -> Option<OwnerClaim>
     ensures { result ≡ share_in kind claim }
 {
@@ -90,6 +93,7 @@ fn share_in(kind: Kind, claim: Claim) -> Option<OwnerClaim>
 }
 
 /// What a claim takes of the record of a kind, where an inode stands or none.
+#[inline(always)]
 pub(crate) fn share_of(kind: Kind, claim: Option<Claim>) -> Option<OwnerClaim>
     ensures { result ≡ option_and_then (share_in kind) claim }
 {
@@ -100,6 +104,7 @@ pub(crate) fn share_of(kind: Kind, claim: Option<Claim>) -> Option<OwnerClaim>
 }
 
 /// What is taken of the record at this slot.
+#[inline(always)]
 pub(crate) fn weight_at(share: Option<OwnerClaim>, slot: usize) -> Weight
     ensures { result ≡ weight_at share slot }
 {
@@ -110,6 +115,7 @@ pub(crate) fn weight_at(share: Option<OwnerClaim>, slot: usize) -> Weight
 }
 
 /// The share that is given up, unless the other is taken of the same record.
+#[inline(always)]
 pub(crate) fn apart(from: Option<OwnerClaim>, to: Option<OwnerClaim>) -> Option<OwnerClaim>
     ensures { result ≡ apart from to }
 {
@@ -120,6 +126,7 @@ pub(crate) fn apart(from: Option<OwnerClaim>, to: Option<OwnerClaim>) -> Option<
 }
 
 /// How the totals change where the inode of one claim comes to stand in the place of the other's.
+#[inline(always)]
 pub fn change_of(from: Option<Claim>, to: Option<Claim>) -> Change
     ensures { result ≡ record {
       blocks_charged = (weight_in to).blocks - (weight_in from).blocks;

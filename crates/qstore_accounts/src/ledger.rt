@@ -1,6 +1,6 @@
 //! The quota records of one kind of principal, in the order of their ids.
 ghost use Rattle.std.specs.Prelude.{◌≡◌, ℕ, ◌+◌, ◌≤◌, ◌<◌, ◌++◌, ◌==◌, List, length, map, IfOk, OnOk, IfSome};
-ghost use Rattle.std.specs.Prelude.{is_some, Option, Some};
+ghost use Rattle.std.specs.Prelude.{is_some, Option, None, Some};
 ghost use Rattle.std.specs.Option.{option_map};
 ghost use Rattle.std.specs.List.{list_any, slice_get};
 ghost use Rattle.std.specs.List.Sorted.{IsStrictlyIncreasing};
@@ -20,6 +20,16 @@ use qplain::{NoMemory, Principal, Refusal};
 use qrules::{BoardRow, Graces, Kind, Limits, MAX_GRACE, RecordRow};
 use std::alloc::Global;
 use std::marker::Model;
+
+/// Leaves no posting. It writes nothing where there is none.
+#[inline(always)]
+fn clear(posting: &mut Option<Posting>)
+    ensures { posting.new ≡ None }
+{
+    if posting.is_some() {
+        *posting = None;
+    }
+}
 
 /// The kept holders of one kind, of whom no two have the same id. Contracts see them as a list by id.
 #[derive(Drop)]
@@ -90,6 +100,7 @@ impl Ledger {
     }
 
     /// The record at this slot as it will be where one inode comes to stand in the place of another.
+    #[inline(always)]
     fn posting(
         &self,
         slot: usize,
@@ -120,6 +131,7 @@ impl Ledger {
     }
 
     /// Writes the same for the slot of a share, if there is one.
+    #[inline(always)]
     fn write_posting(
         &self,
         share: Option<OwnerClaim>,
@@ -138,10 +150,10 @@ impl Ledger {
             → IfSome posting.new (IsFinal self.now kind S1 moment) }
         ensures slot { option_map (λ p. p.slot) posting.new ≡ option_map (λ s. s.slot) share }
     {
-        *posting = match share {
-            Some(share) => Some(self.posting(share.slot, from, to, graces, moment)),
-            None => None,
-        };
+        match share {
+            Some(share) => *posting = Some(self.posting(share.slot, from, to, graces, moment)),
+            None => clear(posting),
+        }
     }
 
     /// Writes the records of both owners as they will be where one inode comes to stand in the place of another; one
@@ -163,8 +175,8 @@ impl Ledger {
             → ArePosted self.now kind S1 moment from to postings.new }
     {
         if from.is_none() && to.is_none() {
-            postings.from = None;
-            postings.to = None;
+            clear(&mut postings.from);
+            clear(&mut postings.to);
             return;
         }
         let lost = apart(from, to);
@@ -196,6 +208,7 @@ impl Ledger {
     }
 
     /// Why the record may not become that of this posting, if it may not.
+    #[inline(always)]
     pub(crate) fn refusal(
         &self,
         kind: Kind,

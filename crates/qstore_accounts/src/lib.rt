@@ -11,4 +11,5 @@ mod accounts;
 mod bill;
 mod claim;
 mod kept_holder;
+mod known_callers;
 mod ledger;

@@ -13,4 +13,5 @@ pub mod Shuffled
 pub mod Sorted
 pub mod Gathered
 pub mod Rows
+pub mod Listed
 pub mod Directories

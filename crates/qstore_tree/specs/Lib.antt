@@ -5,3 +5,4 @@ pub mod Names
 pub mod Nodes
 pub mod Tree
 pub mod TreeOf
+pub mod Listed

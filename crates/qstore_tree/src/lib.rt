@@ -2,10 +2,12 @@
 //! `qplain`.
 #![tactic(auto)]
 
+pub use name::Name;
 pub use names::Names;
 pub use node::{Content, Node};
 pub use tree::Tree;
 
+mod name;
 mod name_hasher;
 mod names;
 mod node;

@@ -7,8 +7,11 @@ ghost use Rattle.std.specs.BTreeMap.{insert_entry, is_at};
 ghost use Rattle.std.specs.List.Sorted.{IsStrictlySortedBy};
 ghost use Rattle.std.specs.Map.{keys_of, lookup};
 ghost use Rattle.qstore_tree.specs.InOrder.{in_order};
+ghost use Rattle.qstore_tree.specs.Listed.{name_entry};
 ghost use Rattle.qstore_tree.specs.Names.{LosesName, borrowed_entry, name_row};
+ghost use Rattle.qstore_tree.specs.Tree.{keyed};
 
+use crate::name::Name;
 use crate::name_hasher::NameHasher;
 use qplain::NoMemory;
 use qrules::NameRow;
@@ -101,6 +104,27 @@ impl Names {
         let names = self.by_bytes(alloc)?;
         for name in names.iter() {
             rows.push(NameRow { dir, ino: name.1 })?;
+        }
+        Ok(())
+    }
+
+    /// Appends each of these names, which are in this directory, borrowed, in the order of their bytes. O(n log n).
+    pub(crate) fn push_names<'a>(
+        &'a self,
+        alloc: Global,
+        dir: u64,
+        all: &mut Vec<Name<'a>>,
+    ) -> Result<(), NoMemory>
+        ensures { OnOk result (map name_entry all.new.items
+            ≡ map name_entry all.old.items ++ keyed dir (in_order (slice_cmp nat_cmp) self.now.entries)) }
+    {
+        let names = self.by_bytes(alloc)?;
+        for name in names.iter() {
+            all.push(Name {
+                dir,
+                text: name.0.as_str(),
+                ino: name.1,
+            })?;
         }
         Ok(())
     }

@@ -1,7 +1,7 @@
 //! One path: what is wrong with it, and its components one after another.
 ghost use Rattle.std.specs.Prelude.{◌≡◌, ◌∷◌, ◌<◌, length, option_map, Some, IfSome};
 ghost use Rattle.std.specs.List.{position, slice_split};
-ghost use Rattle.qplain.specs.Walk.{components, is_name, is_slash};
+ghost use Rattle.qplain.specs.Walk.{components, is_name, is_slash, is_too_long, is_well_formed};
 ghost use Rattle.qstore_walk.specs.Paths.{name_in, parts_in, path_fault};
 
 use qplain::{MAX_NAME, MAX_PATH, Refusal};
@@ -55,27 +55,50 @@ fn is_name(name: &str) -> bool
     !matches!(name.as_bytes(), [] | [b'.'] | [b'.', b'.'])
 }
 
+/// Whether a path begins with a slash, and all of its components are names. O(bytes).
+fn is_well_formed(path: &str) -> bool
+    ensures { result ≡ is_well_formed path.now }
+{
+    if path.as_bytes().first() != Some(&b'/') {
+        return false;
+    }
+    let mut behind = names_of(path);
+    while let Some(names) = behind {
+        let (name, rest) = cut(names);
+        if !is_name(name) {
+            return false;
+        }
+        behind = rest;
+    }
+    true
+}
+
+/// Whether the whole path has more than 4095 bytes, or a component more than 255. O(bytes).
+#[inline(never)]
+fn is_too_long(path: &str) -> bool
+    ensures { result ≡ is_too_long path.now }
+{
+    let mut is_too_long = path.len() > MAX_PATH;
+    let mut behind = names_of(path);
+    while let Some(names) = behind {
+        let (name, rest) = cut(names);
+        is_too_long = is_too_long || name.len() > MAX_NAME;
+        behind = rest;
+    }
+    is_too_long
+}
+
 /// What is wrong with a path: EINVAL for its form, else ENAMETOOLONG of a component above 255 bytes, or of the whole
 /// above 4095. O(bytes).
 pub(crate) fn fault_of(path: &str) -> Option<Refusal>
     ensures { result ≡ path_fault path.now }
 {
-    if path.as_bytes().first() != Some(&b'/') {
+    if !is_well_formed(path) {
         return Some(Refusal::EINVAL);
     }
-    let mut is_too_long = path.len() > MAX_PATH;
-    let mut behind = names_of(path);
-    while let Some(names) = behind {
-        let (name, rest) = cut(names);
-        if !is_name(name) {
-            return Some(Refusal::EINVAL);
-        }
-        is_too_long = is_too_long || name.len() > MAX_NAME;
-        behind = rest;
+    // No component is longer than the whole.
+    if path.len() > MAX_NAME && is_too_long(path) {
+        return Some(Refusal::ENAMETOOLONG);
     }
-    if is_too_long {
-        Some(Refusal::ENAMETOOLONG)
-    } else {
-        None
-    }
+    None
 }

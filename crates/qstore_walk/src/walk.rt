@@ -124,6 +124,7 @@ pub fn inode(tree: &Tree, number: u64) -> Option<&Node>
 }
 
 /// The inode that a path leads to, with its link count: one look-up of an inode and of a name for each component.
+#[inline(always)]
 pub fn find<'a>(tree: &'a Tree, path: &str) -> Result<Found<'a>, Refusal>
     ensures there { IfOk result (λ found. (S : State) → IsTreeOf S tree.now
         → inode_at S found.number ≡ Some (inode_of found.node.now)) }

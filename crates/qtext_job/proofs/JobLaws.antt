@@ -1,5 +1,5 @@
 -- What `clap`'s matches say of a job, read off their rows.
-use Rattle.std.proofs.Common.{◌≡◌, ◌⊎◌, ◌<◌, ◌≤◌, ◌==◌, ◌^◌, ℕ, Bool, true, false, List, [], ◌∷◌, Option, Some, None, Result, Ok, Err, map, codes, length, refl, sym, ◌∙◌, inl, inr, arith, tests}
+use Rattle.std.proofs.Common.{◌≡◌, ◌⊎◌, ◌<◌, ◌≤◌, ◌==◌, ◌^◌, ℕ, Bool, true, false, List, [], ◌∷◌, Option, Some, None, Result, Ok, Err, map, codes, length, refl, sym, ap, get_or, ◌∙◌, inl, inr, arith, tests}
 use Rattle.std.specs.Prelude.{IfOk, IfErr, IsErrAnd, find, option_map, option_and_then, slice_get}
 use Rattle.std.specs.Borrow.{Bor}
 use Rattle.std.specs.Str.{bytes_eq}
@@ -15,10 +15,13 @@ use Rattle.clap.specs.declared.error.kind.ErrorKind.{ErrorKind}
 use Rattle.clap.specs.declared.error.kind.ErrorKind.TheVariants.{OutOfMemory}
 use Rattle.clap.specs.Words.{IsAmong, Kinds, Row, Text, fault_of, subcommand_of, all_of, first_of, one_of, rows_of}
 use Rattle.qtext_job.specs.declared.job.Job.{Job}
-use Rattle.qtext_job.specs.declared.job.Job.TheVariants.{Run, Serve, Replay}
+use Rattle.qtext_job.specs.declared.job.Job.TheVariants.{Run, Serve, Replay, Expand}
 use Rattle.qtext_job.specs.declared.line_fault.LineFault.{LineFault}
 use Rattle.qtext_job.specs.declared.line_fault.LineFault.TheVariants.{Line, Memory}
-use Rattle.qtext_job.specs.Jobs.{AreBoardsIn, AreScriptsIn, FailsUnless, IsAskedBy, IsBatchIn, IsJobOf, IsMomentIn, IsNamedBy, IsNumberAt, IsRefusalOf, IsToldBy, Spells}
+use Rattle.qtext_view.specs.declared.telling.Telling.{Telling}
+use Rattle.qtext_job.specs.Jobs.{AreBoardsIn, AreScriptsIn, FailsUnless, IsAskedBy, IsBatchIn, IsJobOf, IsNamedBy, IsRefusalOf, IsToldBy}
+use Rattle.qtext_job.specs.Numbers.{IsNumberAt, Spells}
+use Rattle.qtext_job.specs.Tellings.{IsMomentIn, IsTellingIn}
 use Rattle.qtext_job.specs.Commands.{quotafs}
 
 -- ---- the row of an id is that of its entry
@@ -149,19 +152,18 @@ number_read f id least most r n none value got enough small = go (one_text f id)
         (t, sym (one_in_rows f id) ∙ is, (read.0.0.0, read.0.1), enough, small)
 
 -- no number was read, or one that is out of its bounds
-pub no_number : (f : Found) (id : Text) (least most : ℕ) (r : Option ℕ) (fault : LineFault)
+pub no_number : (f : Found) (id : Text) (least most : ℕ) (r : Option ℕ)
     → ((t : Text) → one_text f id ≡ Some t → ReadsOne ReadsNumber t r) → most < 2 ^ 64
-    → ((n : ℕ) → r ≡ Some n → least ≤ n → n ≤ most → ⊥) → FailsUnless ⊥ fault
-    → FailsUnless ((n : ℕ) × IsNumberAt id least most (rows_of f) n) fault
-no_number f id least most r fault value range out h =
-    unless_weaker ⊥ ((n : ℕ) × IsNumberAt id least most (rows_of f) n) fault
-    (λ m. go m.0 m.1.0 r refl (value m.1.0 (one_in_rows f id ∙ m.1.1)) m.1.2 m.1.3 m.1.4) h
+    → ((n : ℕ) → r ≡ Some n → least ≤ n → n ≤ most → ⊥)
+    → (n : ℕ) → IsNumberAt id least most (rows_of f) n → ⊥
+no_number f id least most r value range out n m =
+    go m.0 r refl (value m.0 (one_in_rows f id ∙ m.1)) m.2 m.3 m.4
   where
-    go : (n : ℕ) (t : Text) (o : Option ℕ) → r ≡ o → ReadsOne ReadsNumber t o → Spells t n → least ≤ n → n ≤ most → ⊥
-    go n t (Some k) is read spelled enough small =
+    go : (t : Text) (o : Option ℕ) → r ≡ o → ReadsOne ReadsNumber t o → Spells t n → least ≤ n → n ≤ most → ⊥
+    go t (Some k) is read spelled enough small =
         let same : k ≡ n = read.0.1 ∙ sym spelled.1 in
         out k is (rw same enough) (rw same small)
-    go n t None is read spelled enough small =
+    go t None is read spelled enough small =
         let value_small : digits_value 10 (without_leading_plus t) < 2 ^ 64 = rw (← spelled.1) (omega arith) in
         read.1.0 (spelled.0, value_small)
 
@@ -185,25 +187,44 @@ pub passed_on : {T : Type 0} (r : Result T LineFault) (P Q : Type 0) (fault : Li
 passed_on (Ok x) P Q fault is h weaker = tt
 passed_on (Err e) P Q fault is h weaker = rw is (unless_weaker P Q fault weaker h)
 
--- a run has its numbers
+-- a run has how it is told, and its numbers
 pub its_numbers : (rows : List Row) (job : Job) → IsNamedBy (codes "run") rows job
-    → ((at : ℕ) × IsMomentIn rows at) × ((boards : ℕ) × AreBoardsIn rows boards) × ((batch : ℕ) × IsBatchIn rows batch)
-its_numbers rows (Run config at journal boards batch scripts) h = ((at, h.2), (boards, h.4), (batch, h.5))
+    → ((telling : Telling) × IsTellingIn rows telling) × ((boards : ℕ) × AreBoardsIn rows boards) × ((batch : ℕ) × IsBatchIn rows batch)
+its_numbers rows (Run config telling journal boards batch scripts) h = ((telling, h.2), (boards, h.4), (batch, h.5))
 its_numbers rows (Serve config at journal board pairs) h =
     let same : codes "run" ≡ codes "serve" = h.0 in
     absurd cc
-its_numbers rows (Replay config journal) h =
+its_numbers rows (Replay config telling journal) h =
     let same : codes "run" ≡ codes "replay" = h.0 in
     absurd cc
+its_numbers rows (Expand config script) h =
+    let same : codes "run" ≡ codes "expand" = h.0 in
+    absurd cc
+
+-- a replay has how it is told
+pub its_telling : (rows : List Row) (job : Job) → IsNamedBy (codes "replay") rows job → (telling : Telling) × IsTellingIn rows telling
+its_telling rows (Run config telling journal boards batch scripts) h =
+    let same : codes "replay" ≡ codes "run" = h.0 in
+    absurd cc
+its_telling rows (Serve config at journal board pairs) h =
+    let same : codes "replay" ≡ codes "serve" = h.0 in
+    absurd cc
+its_telling rows (Replay config telling journal) h = (telling, h.2)
+its_telling rows (Expand config script) h =
+    let first : 114 ≡ 101 = ap (λ name. get_or name 0 0) h.0 in
+    absurd (omega (arith, first))
 
 -- a job that serves has its moment
 pub its_moment : (rows : List Row) (job : Job) → IsNamedBy (codes "serve") rows job → (at : ℕ) × IsMomentIn rows at
-its_moment rows (Run config at journal boards batch scripts) h =
+its_moment rows (Run config telling journal boards batch scripts) h =
     let same : codes "serve" ≡ codes "run" = h.0 in
     absurd cc
 its_moment rows (Serve config at journal board pairs) h = (at, h.2)
-its_moment rows (Replay config journal) h =
+its_moment rows (Replay config telling journal) h =
     let same : codes "serve" ≡ codes "replay" = h.0 in
+    absurd cc
+its_moment rows (Expand config script) h =
+    let same : codes "serve" ≡ codes "expand" = h.0 in
     absurd cc
 
 -- ---- the words

@@ -1,36 +1,97 @@
 -- The command line, as `clap` sees it.
 use Rattle.std.specs.Prelude.{ℕ, ◌-◌, ◌^◌, List, [], ◌∷◌, Some, true, codes}
 use Rattle.clap.specs.Words.{App, Rule, new_app as app_of_name, new_rule, with_rule, with_subcommand}
-use Rattle.clap.specs.declared.builder.ArgAction.TheVariants.{Set, Append}
+use Rattle.clap.specs.declared.builder.ArgAction.TheVariants.{Set, SetTrue, Append}
 use Rattle.clap.specs.declared.builder.value_parser.ValueParser.TheVariants.{Unsigned}
 
 -- a command of this name, with nothing to it
 abbrev pub new_app : List ℕ → App
 new_app name = app_of_name name
 
--- `--config FILE`
+-- `--config FILE`, or `-c`
 abbrev pub config : Rule
 config = record (new_rule (codes "config")) {
   long = Some (codes "config");
+  short = Some 99;
   value_names = 1;
   required = true;
   action = Some Set;
 }
 
--- `--at MOMENT`, from 0 to 2^40, and 0 where it is not given
+-- `--at MOMENT`, or `-a`, from 0 to 2^40, and 0 where it is not given
 abbrev pub at : Rule
 at = record (new_rule (codes "at")) {
   long = Some (codes "at");
+  short = Some 97;
   value_names = 1;
   parser = Some (Unsigned 0 1099511627776);
   defaults = codes "0" ∷ [];
   action = Some Set;
 }
 
--- `--journal FILE`
+-- `--at MOMENT`, or `-a`, a word that has to be a moment, and 0 where it is not given
+abbrev pub report_at : Rule
+report_at = record (new_rule (codes "at")) {
+  long = Some (codes "at");
+  short = Some 97;
+  value_names = 1;
+  defaults = codes "0" ∷ [];
+  action = Some Set;
+}
+
+-- `--quiet`, or `-q`
+abbrev pub quiet : Rule
+quiet = record (new_rule (codes "quiet")) {
+  long = Some (codes "quiet");
+  short = Some 113;
+  action = Some SetTrue;
+}
+
+-- `--heads`
+abbrev pub heads : Rule
+heads = record (new_rule (codes "heads")) {
+  long = Some (codes "heads");
+  action = Some SetTrue;
+}
+
+-- `--calls`
+abbrev pub calls : Rule
+calls = record (new_rule (codes "calls")) {
+  long = Some (codes "calls");
+  action = Some SetTrue;
+}
+
+-- `--human-readable`, or `-s`
+abbrev pub human_readable : Rule
+human_readable = record (new_rule (codes "human-readable")) {
+  long = Some (codes "human-readable");
+  short = Some 115;
+  action = Some SetTrue;
+}
+
+-- `--over`
+abbrev pub over : Rule
+over = record (new_rule (codes "over")) {
+  long = Some (codes "over");
+  action = Some SetTrue;
+}
+
+-- a command with the options of what a report shows
+abbrev pub with_rows : App → App
+with_rows a = with_rule (with_rule (with_rule a heads) human_readable) over
+
+-- `--strict`
+abbrev pub strict : Rule
+strict = record (new_rule (codes "strict")) {
+  long = Some (codes "strict");
+  action = Some SetTrue;
+}
+
+-- `--journal FILE`, or `-j`
 abbrev pub journal : Rule
 journal = record (new_rule (codes "journal")) {
   long = Some (codes "journal");
+  short = Some 106;
   value_names = 1;
   action = Some Set;
 }
@@ -92,9 +153,25 @@ played = record (new_rule (codes "journal")) {
 abbrev pub with_sharing : App → App
 with_sharing a = with_rule (with_rule a boards) batch
 
+-- `--verbose`, or `-v`
+abbrev pub verbose : Rule
+verbose = record (new_rule (codes "verbose")) {
+  long = Some (codes "verbose");
+  short = Some 118;
+  action = Some SetTrue;
+}
+
+-- a command with the options of what is shown
+abbrev pub with_view : App → App
+with_view a = with_rule (with_rule (with_rule (with_rows (with_rule a quiet)) calls) strict) verbose
+
+-- a command that makes a report, of this configuration and as of this moment
+abbrev pub with_report : App → App
+with_report a = with_view (with_rule (with_rule a config) report_at)
+
 -- `run`
 abbrev pub run : App
-run = with_rule (with_sharing (with_rule (with_rule (with_rule (new_app (codes "run")) config) at) journal)) scripts
+run = with_rule (with_sharing (with_rule (with_report (new_app (codes "run"))) journal)) scripts
 
 -- a command with the files that are written of what was served
 abbrev pub with_files : App → App
@@ -106,7 +183,18 @@ serve = with_rule (with_files (with_rule (with_rule (new_app (codes "serve")) co
 
 -- `replay`
 abbrev pub replay : App
-replay = with_rule (with_rule (new_app (codes "replay")) config) played
+replay = with_rule (with_report (new_app (codes "replay"))) played
+
+-- the friendly script that is written out; standard input where none is named
+abbrev pub friendly : Rule
+friendly = record (new_rule (codes "script")) {
+  value_names = 1;
+  action = Some Set;
+}
+
+-- `expand`
+abbrev pub expand : App
+expand = with_rule (with_rule (new_app (codes "expand")) config) friendly
 
 -- a command that does nothing of its own
 abbrev pub with_need : App → App
@@ -120,6 +208,10 @@ with_version a = record a { top = record a.top { has_version = true } }
 abbrev pub bare : App
 bare = with_need (with_version (new_app (codes "quotafs")))
 
+-- the commands that play calls on a store
+abbrev pub with_stores : App → App
+with_stores a = with_subcommand (with_subcommand (with_subcommand a run.top) serve.top) replay.top
+
 -- the command line
 abbrev pub quotafs : App
-quotafs = with_subcommand (with_subcommand (with_subcommand bare run.top) serve.top) replay.top
+quotafs = with_subcommand (with_stores bare) expand.top

@@ -1,29 +1,17 @@
 -- What a job names, as `clap`'s matches give it, and why words are none.
-use Rattle.std.specs.Prelude.{◌≡◌, ◌⊎◌, ◌<◌, ◌≤◌, ◌^◌, ℕ, Bool, true, false, List, [], map, Option, Some, None, ⊤}
+use Rattle.std.specs.Prelude.{◌≡◌, ◌⊎◌, ◌<◌, ℕ, Bool, true, false, List, [], map, Option, Some, None, ⊤}
 use Rattle.std.specs.Prelude.{codes, length, string_bytes, option_map}
-use Rattle.std.specs.Str.Parse.{IsNumeral, digits_value, without_leading_plus}
-use Rattle.clap.specs.Words.{IsAmong, Kinds, Row, Text, all_of, fault_of, first_of, one_of, subcommand_of}
+use Rattle.clap.specs.Words.{IsAmong, Kinds, Row, Text, all_of, fault_of, first_of, subcommand_of}
 use Rattle.clap.specs.declared.error.kind.ErrorKind.{ErrorKind}
 use Rattle.clap.specs.declared.error.kind.ErrorKind.TheVariants.{DisplayHelp, DisplayVersion}
 use Rattle.qtext_job.specs.declared.job.Job.{Job}
-use Rattle.qtext_job.specs.declared.job.Job.TheVariants.{Run, Serve, Replay}
+use Rattle.qtext_job.specs.declared.job.Job.TheVariants.{Run, Serve, Replay, Expand}
 use Rattle.qtext_job.specs.declared.line_fault.LineFault.{LineFault}
 use Rattle.qtext_job.specs.declared.line_fault.LineFault.TheVariants.{Line, Memory}
 use Rattle.qtext_job.specs.Commands.{quotafs}
 use Rattle.qtext_job.specs.Pairs.{AreClientsIn}
-
--- the number that a text spells in decimal digits, after a plus or none
-abbrev pub Spells : Text → ℕ → Type 0
-Spells text n = IsNumeral 10 (without_leading_plus text) × (n ≡ digits_value 10 (without_leading_plus text))
-
--- the number that the word at this option spells, from the least to the most
-abbrev pub IsNumberAt : Text → ℕ → ℕ → List Row → ℕ → Type 0
-IsNumberAt option least most rows n =
-    (text : Text) × (one_of option rows ≡ Some text) × Spells text n × (least ≤ n) × (n ≤ most)
-
--- the moment is the number at `--at`, at most 2^40
-abbrev pub IsMomentIn : List Row → ℕ → Type 0
-IsMomentIn rows at = IsNumberAt (codes "at") 0 (2 ^ 40) rows at
+use Rattle.qtext_job.specs.Numbers.{IsNumberAt}
+use Rattle.qtext_job.specs.Tellings.{IsMomentIn, IsTellingIn}
 
 -- how many boards are taken is the number at `--boards`, at most 1000
 abbrev pub AreBoardsIn : List Row → ℕ → Type 0
@@ -39,9 +27,9 @@ AreScriptsIn rows scripts = (all_of (codes "scripts") rows ≡ Some scripts) × 
 
 -- the job of a subcommand of this name with these matches
 abbrev pub IsNamedBy : Text → List Row → Job → Type 0
-IsNamedBy name rows (Run config at journal boards batch scripts) = (name ≡ codes "run")
+IsNamedBy name rows (Run config telling journal boards batch scripts) = (name ≡ codes "run")
     × (first_of (codes "config") rows ≡ Some (string_bytes config))
-    × IsMomentIn rows at
+    × IsTellingIn rows telling
     × (first_of (codes "journal") rows ≡ option_map (λ s. string_bytes s) journal)
     × AreBoardsIn rows boards
     × IsBatchIn rows batch
@@ -52,9 +40,13 @@ IsNamedBy name rows (Serve config at journal board pairs) = (name ≡ codes "ser
     × (first_of (codes "journal") rows ≡ option_map (λ s. string_bytes s) journal)
     × (first_of (codes "board") rows ≡ option_map (λ s. string_bytes s) board)
     × AreClientsIn rows pairs.items
-IsNamedBy name rows (Replay config journal) = (name ≡ codes "replay")
+IsNamedBy name rows (Replay config telling journal) = (name ≡ codes "replay")
     × (first_of (codes "config") rows ≡ Some (string_bytes config))
+    × IsTellingIn rows telling
     × (first_of (codes "journal") rows ≡ Some (string_bytes journal))
+IsNamedBy name rows (Expand config script) = (name ≡ codes "expand")
+    × (first_of (codes "config") rows ≡ Some (string_bytes config))
+    × (first_of (codes "script") rows ≡ option_map (λ s. string_bytes s) script)
 
 -- the job of a subcommand's name and its matches
 abbrev pub IsJobOf : Option (Text × List Row) → Job → Type 0

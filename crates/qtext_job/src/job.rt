@@ -3,15 +3,19 @@ ghost use Rattle.std.specs.Prelude.{◌≡◌, ◌∷◌, [], ℕ, IfOk, IfErr, 
 ghost use Rattle.clap.specs.Words.{first_of, found_of, kind_of, rows_of, subcommand_rows_of};
 ghost use Rattle.clap.specs.declared.error.kind.ErrorKind.TheVariants.{OutOfMemory};
 ghost use Rattle.qtext_job.specs.declared.line_fault.LineFault.TheVariants.{Memory};
-ghost use Rattle.qtext_job.specs.Jobs.{AreScriptsIn, FailsUnless, IsAskedBy, IsJobOf, IsNamedBy, IsNumberAt};
+ghost use Rattle.qtext_job.specs.Jobs.{AreScriptsIn, FailsUnless, IsAskedBy, IsJobOf, IsNamedBy};
 ghost use Rattle.qtext_job.specs.Jobs.{IsRefusalOf, IsToldBy};
+ghost use Rattle.qtext_job.specs.Numbers.{IsNumberAt};
 
+use crate::number::number_at;
 use crate::pair::clients;
+use crate::telling::telling;
 use crate::{LineFault, Pair};
 use clap::error::ErrorKind;
 use clap::{ArgMatches, Error};
 use command::command;
 use qrules::MAX_MOMENT;
+use qtext_view::Telling;
 use std::alloc::{AllocError, Global};
 
 mod command;
@@ -26,10 +30,10 @@ const MAX_BATCH: u64 = 64;
 #[derive(Debug, Drop)]
 pub enum Job {
     /// To run the scripts on a store of the configuration, each up to N lines at a time, while N boards are
-    /// taken, to report at the moment, in seconds, and to write the journal of the run where a file is named for it.
+    /// taken, to tell what came of it, and to write the journal of the run where a file is named for it.
     Run {
         config: String,
-        at: u64,
+        telling: Telling,
         journal: Option<String>,
         boards: u64,
         batch: u64,
@@ -45,10 +49,17 @@ pub enum Job {
         board: Option<String>,
         pairs: Vec<Pair>,
     },
-    /// To play the journal on a store of the configuration, and to report at moment 0.
+    /// To play the journal on a store of the configuration, and to tell what came of it.
     Replay {
         config: String,
+        telling: Telling,
         journal: String,
+    },
+    /// To write a friendly script out as a plain one, for a store of the configuration: that in the file, or standard
+    /// input where none is named.
+    Expand {
+        config: String,
+        script: Option<String>,
     },
 }
 
@@ -135,9 +146,9 @@ fn number(
     ensures err { IfErr result (FailsUnless
         ((n : ℕ) × IsNumberAt id.now least most (rows_of (found_of matches.now)) n)) }
 {
-    match matches.get_one::<u64>(id) {
-        Some(number) if least <= number && number <= most => Ok(number),
-        _ => Err(missing(alloc)),
+    match number_at(matches, id, least, most) {
+        Some(number) => Ok(number),
+        None => Err(missing(alloc)),
     }
 }
 
@@ -147,14 +158,14 @@ fn run(alloc: Global, matches: &ArgMatches<'_>) -> Result<Job, LineFault>
         ((job : Job) × IsNamedBy (codes "run") (rows_of (found_of matches.now)) job)) }
 {
     let config = named(alloc, matches, "config")?;
-    let at = number(alloc, matches, "at", 0, MAX_MOMENT)?;
+    let telling = telling(alloc, matches)?;
     let journal = optional(alloc, matches, "journal")?;
     let boards = number(alloc, matches, "boards", 0, MAX_BOARDS)?;
     let batch = number(alloc, matches, "batch", 1, MAX_BATCH)?;
     let scripts = scripts(alloc, matches)?;
     Ok(Job::Run {
         config,
-        at,
+        telling,
         journal,
         boards,
         batch,
@@ -184,8 +195,19 @@ fn replay(alloc: Global, matches: &ArgMatches<'_>) -> Result<Job, LineFault>
 {
     Ok(Job::Replay {
         config: named(alloc, matches, "config")?,
+        telling: telling(alloc, matches)?,
         journal: named(alloc, matches, "journal")?,
     })
+}
+
+fn expand(alloc: Global, matches: &ArgMatches<'_>) -> Result<Job, LineFault>
+    ensures ok { IfOk result (IsNamedBy (codes "expand") (rows_of (found_of matches.now))) }
+    ensures err { IfErr result (FailsUnless
+        ((job : Job) × IsNamedBy (codes "expand") (rows_of (found_of matches.now)) job)) }
+{
+    let config = named(alloc, matches, "config")?;
+    let script = optional(alloc, matches, "script")?;
+    Ok(Job::Expand { config, script })
 }
 
 fn job_of(alloc: Global, matches: &ArgMatches<'_>) -> Result<Job, LineFault>
@@ -196,15 +218,17 @@ fn job_of(alloc: Global, matches: &ArgMatches<'_>) -> Result<Job, LineFault>
         Some(("run", matches)) => run(alloc, matches),
         Some(("serve", matches)) => serve(alloc, matches),
         Some(("replay", matches)) => replay(alloc, matches),
+        Some(("expand", matches)) => expand(alloc, matches),
         _ => Err(missing(alloc)),
     }
 }
 
 impl Job {
     /// Reads the program's words, its own name the first of them, by one `clap` command: the job that its matches name,
-    /// with the moment that the word at `--at` spells, in seconds from 0 to 2^40, and 0 where there is none, the boards
-    /// at `--boards`, from 0 to 1000, and 0 where there is none, and the lines at `--batch`, from 1 to 64, and 1 where
-    /// there is none; and each client of a service as a word cut at its first colon, with a name on both sides.
+    /// with the moment that the word at `--at` spells, in seconds from 0 to 2^40, and 0 where there is none, or of a
+    /// run and of a replay the last one where the word is `last`, the flags that are given, the boards at `--boards`,
+    /// from 0 to 1000, and 0 where there is none, and the lines at `--batch`, from 1 to 64, and 1 where there is none;
+    /// and each client of a service as a word cut at its first colon, with a name on both sides.
     ///
     /// A request for help or for the version is a fault, too, whose text is for the output. Out of memory may come in
     /// place of any answer.

@@ -7,4 +7,6 @@ pub use pair::Pair;
 
 mod job;
 mod line_fault;
+mod number;
 mod pair;
+mod telling;

@@ -40,13 +40,13 @@ tally_text t = concat (codes "tally blocks +" ∷ decimal t.blocks_charged ∷ c
     ∷ codes " inodes +" ∷ decimal t.inodes_charged ∷ codes " -" ∷ decimal t.inodes_released
     ∷ codes " calls " ∷ decimal t.calls ∷ codes "\n" ∷ [])
 
--- the quota report as of a moment, and the totals
-abbrev pub account_text : Outcome → ℕ → List ℕ
-account_text o moment = moment_text moment ++ report_text o.records moment ++ totals_text o
+-- what stands below a report: the totals, the tallies of the journal, and what an audit of the store found
+abbrev pub rest_text : Outcome → List ℕ
+rest_text o = totals_text o ++ tally_text o.tallies ++ audit_text o.differences
 
--- what is left at the end: that, the tallies of the journal, and what an audit of the store found
+-- what is left at the end: the quota report as of a moment, and that
 abbrev pub left_text : Outcome → ℕ → List ℕ
-left_text o moment = account_text o moment ++ tally_text o.tallies ++ audit_text o.differences
+left_text o moment = moment_text moment ++ report_text o.records moment ++ rest_text o
 
 -- the outcome of a run: what was told while it ran, and what is left
 abbrev pub outcome_text : Outcome → ℕ → List ℕ

@@ -2,7 +2,7 @@
 ghost use Rattle.std.specs.Prelude.{◌≡◌, codes, decimal, ◌∷◌, []};
 ghost use Rattle.std.specs.List.{concat};
 ghost use Rattle.qtext.specs.Written.{Writes};
-ghost use Rattle.qtext_outcome.specs.Outcomes.{account_text, left_text, moment_text, outcome_text, tally_text};
+ghost use Rattle.qtext_outcome.specs.Outcomes.{left_text, moment_text, outcome_text, rest_text, tally_text};
 ghost use Rattle.qtext_outcome.specs.Outcomes.{told_text, totals_text};
 
 use crate::WriteFault;
@@ -14,7 +14,7 @@ use qrun_replay::Outcome;
 use qtext::{Piece, RefusedWrite, put_pieces};
 use std::io::Write;
 
-fn put_moment<W: Write>(out: &mut W, moment: u64) -> Result<(), RefusedWrite>
+pub(crate) fn put_moment<W: Write>(out: &mut W, moment: u64) -> Result<(), RefusedWrite>
     ensures { Writes (W.contents out.old) (W.contents out.new) result (moment_text moment) }
 {
     let pieces = [
@@ -63,20 +63,20 @@ fn put_tally<W: Write>(out: &mut W, tallies: Tallies) -> Result<(), RefusedWrite
 
 /// Writes the transcripts, and then the boards.
 #[tactic(auto, using(qtext::proofs::Fronts::front_of_first, qtext::proofs::Fronts::writes_then))]
-fn put_told<W: Write>(out: &mut W, outcome: &Outcome) -> Result<(), RefusedWrite>
+pub(crate) fn put_told<W: Write>(out: &mut W, outcome: &Outcome) -> Result<(), RefusedWrite>
     ensures { Writes (W.contents out.old) (W.contents out.new) result (told_text outcome.now) }
 {
     put_transcripts(out, outcome.transcripts.as_slice())?;
     put_boards(out, outcome.boards.as_slice())
 }
 
-/// Writes the report as of the moment, and the totals.
-fn put_account<W: Write>(out: &mut W, outcome: &Outcome, moment: u64) -> Result<(), RefusedWrite>
-    ensures { Writes (W.contents out.old) (W.contents out.new) result (account_text outcome.now moment) }
+/// Writes what stands below a report: the totals, the tallies of the journal, and what an audit of the store found.
+pub(crate) fn put_rest<W: Write>(out: &mut W, outcome: &Outcome) -> Result<(), RefusedWrite>
+    ensures { Writes (W.contents out.old) (W.contents out.new) result (rest_text outcome.now) }
 {
-    put_moment(out, moment)?;
-    put_report(out, outcome.records.as_slice(), moment)?;
-    put_totals(out, outcome)
+    put_totals(out, outcome)?;
+    put_tally(out, outcome.tallies)?;
+    put_audit(out, outcome.differences.as_slice())
 }
 
 /// Writes what is left at the end of a run or of a service: the quota report as of the moment, the totals, the tallies
@@ -85,9 +85,9 @@ fn put_account<W: Write>(out: &mut W, outcome: &Outcome, moment: u64) -> Result<
 pub fn put_left<W: Write>(out: &mut W, outcome: &Outcome, moment: u64) -> Result<(), RefusedWrite>
     ensures { Writes (W.contents out.old) (W.contents out.new) result (left_text outcome.now moment) }
 {
-    put_account(out, outcome, moment)?;
-    put_tally(out, outcome.tallies)?;
-    put_audit(out, outcome.differences.as_slice())
+    put_moment(out, moment)?;
+    put_report(out, outcome.records.as_slice(), moment)?;
+    put_rest(out, outcome)
 }
 
 /// Writes what a run came to: each worker's transcript, what the looks at the boards were given where there were any,

@@ -1,7 +1,7 @@
 //! Transcripts as text.
 ghost use Rattle.std.specs.List.{flat_map};
 ghost use Rattle.qtext.specs.Written.{Writes};
-ghost use Rattle.qtext_outcome.specs.Outcomes.{transcript_text};
+ghost use Rattle.qtext_outcome.specs.Outcomes.{transcript_text, worker_text};
 ghost use Rattle.qtext_write.specs.Answers.{answer_text};
 
 use qplain::{CallFault, Receipt, Transcript};
@@ -22,16 +22,23 @@ fn put_lines<W: Write>(
     Ok(())
 }
 
+/// Writes the line over a transcript.
+pub(crate) fn put_worker<W: Write>(out: &mut W, worker: u64) -> Result<(), RefusedWrite>
+    ensures { Writes (W.contents out.old) (W.contents out.new) result (worker_text worker) }
+{
+    let head = [
+        Piece::Text(b"worker "),
+        Piece::Number(worker),
+        Piece::Text(b"\n"),
+    ];
+    put_pieces(out, &head)
+}
+
 #[tactic(auto, using(qtext::proofs::Fronts::front_of_first, qtext::proofs::Fronts::writes_then))]
 fn put_transcript<W: Write>(out: &mut W, transcript: &Transcript) -> Result<(), RefusedWrite>
     ensures { Writes (W.contents out.old) (W.contents out.new) result (transcript_text transcript.now) }
 {
-    let head = [
-        Piece::Text(b"worker "),
-        Piece::Number(transcript.worker),
-        Piece::Text(b"\n"),
-    ];
-    put_pieces(out, &head)?;
+    put_worker(out, transcript.worker)?;
     put_lines(out, transcript.answers.as_slice())
 }
 

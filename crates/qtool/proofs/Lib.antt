@@ -1,5 +1,3 @@
--- What a writer holds that refuses to be flushed, what a draft holds, and what an ending leaves.
-pub mod Drafts
+-- What an ending leaves, and clients that have handed out nothing.
 pub mod Endings
 pub mod Clients
-pub mod Flushes

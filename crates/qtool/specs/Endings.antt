@@ -3,10 +3,21 @@ use Rattle.std.specs.Prelude.{◌≡◌, ◌⊎◌, ℕ, List, Option}
 use Rattle.qtext_job.specs.Jobs.{IsAskedBy}
 use Rattle.qtext_job.specs.declared.job.Job.{Job}
 use Rattle.qtool.specs.Jobs.{IsService}
+use Rattle.qtool.specs.declared.ending.Ending.{Ending}
+use Rattle.qtool.specs.declared.ending.Ending.TheVariants.{Denied, Output}
 
--- done, or help was asked for; asked wrongly; the machine; the output
+-- done, or help was asked for; done, but not all lines were; asked wrongly; the machine; the output
 abbrev pub IsStatus : ℕ → Type 0
-IsStatus status = (status ≡ 0) ⊎ (status ≡ 2) ⊎ (status ≡ 3) ⊎ (status ≡ 4)
+IsStatus status = (status ≡ 0) ⊎ (status ≡ 1) ⊎ (status ≡ 2) ⊎ (status ≡ 3) ⊎ (status ≡ 4)
+
+-- the program ends so only after its work was done: what came of it was refused, or lines of it were and a caller is
+-- strict
+abbrev pub IsLate : Ending → Type 0
+IsLate ending = (ending ≡ Output) ⊎ (ending ≡ Denied)
+
+-- the status of such an ending
+abbrev pub IsLateStatus : ℕ → Type 0
+IsLateStatus status = (status ≡ 1) ⊎ (status ≡ 4)
 
 -- asked wrongly, or the machine: the output is as it was
 abbrev pub IsUntouchedAt : ℕ → Option (List ℕ) → Option (List ℕ) → Type 0

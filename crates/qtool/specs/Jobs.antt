@@ -2,19 +2,21 @@
 use Rattle.std.specs.Prelude.{◌≡◌, ◌⊎◌, ℕ, ◌<◌, ◌≤◌, List, Option, length}
 use Rattle.qplain.specs.declared.bounds.TheConstants.{MAX_WORKERS}
 use Rattle.qtext_job.specs.declared.job.Job.{Job}
-use Rattle.qtext_job.specs.declared.job.Job.TheVariants.{Run, Replay, Serve}
+use Rattle.qtext_job.specs.declared.job.Job.TheVariants.{Run, Replay, Serve, Expand}
 
 -- a run has a script
 abbrev pub HasScript : Job → Type 0
-HasScript (Run config at journal boards batch scripts) = 1 ≤ length scripts.items
-HasScript (Replay config journal) = Unit {0}
+HasScript (Run config telling journal boards batch scripts) = 1 ≤ length scripts.items
+HasScript (Replay config telling journal) = Unit {0}
 HasScript (Serve config at journal board pairs) = Unit {0}
+HasScript (Expand config script) = Unit {0}
 
 -- a run makes 1 to 64 lines under one lock
 abbrev pub HasBatch : Job → Type 0
-HasBatch (Run config at journal boards batch scripts) = (1 ≤ batch) × (batch ≤ 64)
-HasBatch (Replay config journal) = Unit {0}
+HasBatch (Run config telling journal boards batch scripts) = (1 ≤ batch) × (batch ≤ 64)
+HasBatch (Replay config telling journal) = Unit {0}
 HasBatch (Serve config at journal board pairs) = Unit {0}
+HasBatch (Expand config script) = Unit {0}
 
 -- there is a seat for each script, and one more where boards are taken
 abbrev pub HasSeats : ℕ → ℕ → Type 0
@@ -22,9 +24,10 @@ HasSeats scripts boards = (scripts ≤ MAX_WORKERS) × (0 < boards → scripts <
 
 -- clients are to be served
 abbrev pub IsService : Job → Type 0
-IsService (Run config at journal boards batch scripts) = ⊥
-IsService (Replay config journal) = ⊥
+IsService (Run config telling journal boards batch scripts) = ⊥
+IsService (Replay config telling journal) = ⊥
 IsService (Serve config at journal board pairs) = Unit {0}
+IsService (Expand config script) = ⊥
 
 -- a job that has come to nothing leaves the output as it was, unless it is a service
 abbrev pub IsUntouched : Job → Option (List ℕ) → Option (List ℕ) → Type 0

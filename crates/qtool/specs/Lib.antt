@@ -1,4 +1,3 @@
 pub mod Jobs
 pub mod Endings
-pub mod Held
 pub mod Overwritten

@@ -1,14 +1,16 @@
 //! Names of a service that must not be of one file, or of one stream.
 
 use crate::Files;
-use crate::client_names::{ClientNames, STANDARD};
+use crate::client_names::ClientNames;
+use crate::standard::STANDARD;
 use qplain::NoMemory;
 use std::alloc::Global;
 
-/// What a service has a name for. Clients count from 1.
+/// What a job has a name for. Scripts and clients count from 1.
 #[derive(Clone, Copy, Debug, PartialEq, Eq)]
 pub(crate) enum Role {
     Config,
+    Script(u64),
     Input(u64),
     Output(u64),
     Journal,
@@ -35,25 +37,26 @@ struct Named<'a> {
 
 impl Named<'_> {
     fn is_written(&self) -> bool {
-        !matches!(self.role, Role::Config | Role::Input(_))
+        !matches!(self.role, Role::Config | Role::Script(_) | Role::Input(_))
     }
 
     fn is_standard(&self) -> bool {
-        self.name == STANDARD && matches!(self.role, Role::Input(_) | Role::Output(_))
+        self.name == STANDARD
     }
 }
 
-/// Whether both are one stream of two clients.
+/// Whether both are one stream: standard input, or standard output, or that of two clients.
 fn are_one_stream(one: &Named<'_>, other: &Named<'_>) -> bool {
     if one.name != other.name {
         return false;
     }
+    if one.is_standard() {
+        return one.is_written() == other.is_written();
+    }
     match (one.role, other.role) {
         (Role::Input(_), Role::Input(_)) | (Role::Output(_), Role::Output(_)) => true,
         (Role::Input(client), Role::Output(further))
-        | (Role::Output(client), Role::Input(further)) => {
-            client != further && !one.is_standard()
-        }
+        | (Role::Output(client), Role::Input(further)) => client != further,
         _ => false,
     }
 }

@@ -1,13 +1,10 @@
 //! The names of a service: of the streams of its clients, and of what it reads and writes besides.
 ghost use Rattle.std.specs.Prelude.{◌<◌, IfOk, length};
 
-use crate::Files;
+use crate::standard::STANDARD;
 use qplain::NoMemory;
 use qtext_job::Pair;
 use std::alloc::Global;
-
-/// The name of standard input and of standard output.
-pub(crate) const STANDARD: &str = "-";
 
 /// The names of a client's streams.
 #[derive(Clone, Copy, Debug)]

@@ -1,11 +1,10 @@
 //! How the program ends early, in one line.
 ghost use Rattle.std.specs.Prelude.{◌≡◌, ◌⊎◌, true};
-ghost use Rattle.qtool.specs.Endings.{IsStatus, IsUntouchedAt};
-ghost use Rattle.qtool.specs.declared.ending.Ending.TheVariants.{Output};
+ghost use Rattle.qtool.specs.Endings.{IsLate, IsLateStatus, IsStatus, IsUntouchedAt};
 
 use crate::clashes::{Clash, Role};
 use crate::overwriting::Overwritten;
-use crate::{ConfigFault, TextFault};
+use crate::{ConfigFault, FileFault, TextFault};
 use qplain::NoMemory;
 use qrun_client::ClientEnd;
 use qtext::{Piece, RefusedWrite, put, put_pieces};
@@ -15,11 +14,17 @@ use std::io::Write;
 #[derive(Debug, Drop)]
 pub(crate) enum Ending {
     /// What `clap` says of the command line; help, or the version, is for the output.
-    Line { help: bool, text: String },
+    Line {
+        help: bool,
+        text: String,
+    },
     /// The journal would be written over what the run reads, or over its output.
     Overwrites(Overwritten),
-    /// No file of that name can be read.
-    File(String),
+    /// No file of that name can be read, and why, where that is to be told.
+    File {
+        name: String,
+        why: Option<FileFault>,
+    },
     /// What is wrong with the configuration.
     Config(ConfigFault),
     /// There are more scripts than workers.
@@ -38,6 +43,8 @@ pub(crate) enum Ending {
     Board,
     /// What is wrong with the script of that number.
     Script(u64, TextFault),
+    /// What is wrong with the friendly script in the file of that name.
+    Friendly(String, TextFault),
     /// What is wrong with the journal.
     Journal(TextFault),
     /// The journal's reply at that place is another than the store's.
@@ -50,16 +57,28 @@ pub(crate) enum Ending {
     Memory,
     /// The output refused, or the file for the journal.
     Output,
+    /// Lines were refused or failed where none may be, as was told.
+    Denied,
 }
 
 impl Ending {
-    /// The exit status: 0 for help and the version, 2 for what was asked, 3 for the machine, 4 for the output.
+    /// The same, but for why a file cannot be read, where that is not to be told.
+    pub(crate) fn explained(self, verbose: bool) -> Ending {
+        match self {
+            Ending::File { name, .. } if !verbose => Ending::File { name, why: None },
+            ending => ending,
+        }
+    }
+
+    /// The exit status: 0 for help and the version, 1 for lines that were refused or failed, 2 for what was asked, 3
+    /// for the machine, 4 for the output.
     pub(crate) fn status(&self) -> u8
         ensures status { IsStatus result }
-        ensures output { self.now ≡ Output → result ≡ 4 }
+        ensures late { IsLate self.now → IsLateStatus result }
     {
         match self {
             Ending::Line { help: true, .. } => 0,
+            Ending::Denied => 1,
             Ending::Config(ConfigFault::Memory)
             | Ending::Mismatch(_)
             | Ending::NotStarted(_)
@@ -75,7 +94,7 @@ impl Ending {
     pub(crate) fn tell<O: Write, E: Write>(&self, out: &mut O, err: &mut E) -> u8
         ensures status { IsStatus result }
         ensures untouched { IsUntouchedAt result (O.contents out.old) (O.contents out.new) }
-        ensures output { self.now ≡ Output → result ≡ 4 }
+        ensures late { IsLate self.now → IsLateStatus result }
     {
         if let Ending::Line { help: true, text } = self {
             if put(out, text.as_bytes()).is_ok() && out.flush().is_ok() {
@@ -89,7 +108,7 @@ impl Ending {
     /// Writes and flushes the line, whatever becomes of it, and answers the status.
     fn tell_line<E: Write>(&self, err: &mut E) -> u8
         ensures status { IsStatus result }
-        ensures output { self.now ≡ Output → result ≡ 4 }
+        ensures late { IsLate self.now → IsLateStatus result }
     {
         let _ = self.put_line(err);
         let _ = err.flush();
@@ -100,16 +119,17 @@ impl Ending {
         match self {
             Ending::Line { text, .. } => put(err, text.as_bytes()),
             Ending::Overwrites(what) => put_overwritten(err, *what),
-            Ending::File(name) => put_named(err, b"cannot read ", name.as_bytes()),
+            Ending::File { name, why } => put_file(err, name.as_bytes(), *why),
             Ending::Config(fault) => put_config(err, fault),
             Ending::TooManyScripts => put_fault(err, b"at most 16 scripts"),
             Ending::TooManyWithBoards => put_fault(err, b"at most 15 scripts with boards"),
             Ending::Clash(clash) => put_clash(err, *clash),
             Ending::TooManyClients => put_fault(err, b"at most 16 clients"),
             Ending::TooManyWithBoard => put_fault(err, b"at most 15 clients with a board"),
-            Ending::NotServed(_) => Ok(()),
+            Ending::NotServed(_) | Ending::Denied => Ok(()),
             Ending::Board => put_fault(err, b"board: output"),
             Ending::Script(number, fault) => put_script(err, *number, fault),
+            Ending::Friendly(name, fault) => put_friendly(err, name.as_bytes(), fault),
             Ending::Journal(fault) => put_journal_fault(err, fault),
             Ending::Mismatch(place) => put_mismatch(err, *place),
             Ending::NotStarted(worker) => put_not_started(err, *worker),
@@ -130,16 +150,17 @@ impl From<NoMemory> for Ending {
 fn put_role<E: Write>(err: &mut E, role: Role) -> Result<(), RefusedWrite> {
     match role {
         Role::Config => put(err, b"the configuration"),
+        Role::Script(number) => put_numbered(err, b"script ", number),
         Role::Journal => put(err, b"the journal"),
         Role::Board => put(err, b"the board"),
         Role::Standard => put(err, b"the output"),
-        Role::Input(client) => put_of_client(err, b"the lines of client ", client),
-        Role::Output(client) => put_of_client(err, b"the replies of client ", client),
+        Role::Input(client) => put_numbered(err, b"the lines of client ", client),
+        Role::Output(client) => put_numbered(err, b"the replies of client ", client),
     }
 }
 
-fn put_of_client<E: Write>(err: &mut E, words: &[u8], client: u64) -> Result<(), RefusedWrite> {
-    put_pieces(err, &[Piece::Text(words), Piece::Number(client)])
+fn put_numbered<E: Write>(err: &mut E, words: &[u8], number: u64) -> Result<(), RefusedWrite> {
+    put_pieces(err, &[Piece::Text(words), Piece::Number(number)])
 }
 
 /// Writes a fault of the command line: which two of its names clash.
@@ -198,6 +219,30 @@ fn put_named<'a, E: Write>(
     put(err, b"\n")
 }
 
+/// What is said of a file that cannot be read.
+fn why_words(why: FileFault) -> &'static [u8] {
+    match why {
+        FileFault::NotThere => b"it is not there",
+        FileFault::Folder => b"it is a folder",
+        FileFault::NotPermitted => b"it may not be read",
+        FileFault::NotText => b"it is not UTF-8",
+        FileFault::Fails | FileFault::Memory => b"the system fails to read it",
+    }
+}
+
+/// Writes which file cannot be read, and why, where that is to be told.
+fn put_file<E: Write>(
+    err: &mut E,
+    name: &[u8],
+    why: Option<FileFault>,
+) -> Result<(), RefusedWrite> {
+    put_named(err, b"cannot read ", name)?;
+    match why {
+        Some(why) => put_fault(err, why_words(why)),
+        None => Ok(()),
+    }
+}
+
 /// Writes what became of the stream of this name, which is a client's.
 pub(crate) fn put_client_fault<E: Write>(
     err: &mut E,
@@ -219,6 +264,12 @@ pub(crate) fn put_client_fault<E: Write>(
 fn put_script<E: Write>(err: &mut E, number: u64, fault: &TextFault) -> Result<(), RefusedWrite> {
     let pieces = [Piece::Text(b"quotafs: script "), Piece::Number(number)];
     put_pieces(err, &pieces)?;
+    put_text_fault(err, fault)
+}
+
+fn put_friendly<E: Write>(err: &mut E, name: &[u8], fault: &TextFault) -> Result<(), RefusedWrite> {
+    put(err, b"quotafs: ")?;
+    put_name(err, name)?;
     put_text_fault(err, fault)
 }
 

@@ -1,8 +1,6 @@
 //! From bytes to bytes: the whole program over any files and writers, and the names that it is made of.
 #![tactic(auto)]
 
-pub use files::{FileFault, Files, NamedStreams};
-pub use finishing::{Refuser, write_run, write_service};
 pub use program::tool;
 pub use qaudit::report;
 pub use qaudit_checks::{BoardFault, Mismatch, gather};
@@ -19,15 +17,18 @@ pub use qtext_config::{Config, ConfigFault};
 pub use qtext_files::{FromText, write_journal};
 pub use qtext_job::{Job, LineFault};
 pub use qtext_outcome::{WriteFault, write_outcome};
+pub use qtext_view::{ReportMoment, Telling, View};
+pub use qtool_files::{FileFault, Files, NamedStreams, Refuser, write_run, write_service};
 pub use qtool_runs::{TextReplayFault, check_boards, replay, replay_text, run, run_with, serve};
 
 mod board_file;
 mod clashes;
 mod client_names;
 mod ending;
-mod files;
-mod finishing;
+mod expanding;
 mod overwriting;
 mod program;
 mod serving;
+mod standard;
+mod telling;
 mod told_streams;

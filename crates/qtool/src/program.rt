@@ -1,41 +1,45 @@
 //! The whole program over files, output and fault lines.
 ghost use Rattle.std.specs.Prelude.{◌≡◌, ◌<◌, ◌≤◌, ◌⊎◌, ◌↔◌, length, map, string_bytes, Err, IfErr, IfOk, OnOk};
 ghost use Rattle.qplain.specs.declared.bounds.TheConstants.{MAX_WORKERS};
-ghost use Rattle.qtool.specs.Endings.{IsLeftBy, IsStatus, IsUntouchedBy};
+ghost use Rattle.qtool.specs.Endings.{IsLate, IsLeftBy, IsStatus, IsUntouchedBy};
 ghost use Rattle.qtool.specs.Jobs.{HasBatch, HasScript, HasSeats, IsUntouched};
-ghost use Rattle.qtool.specs.declared.ending.Ending.TheVariants.{Output, TooManyScripts, TooManyWithBoards};
+ghost use Rattle.qtool.specs.declared.ending.Ending.TheVariants.{TooManyScripts, TooManyWithBoards};
 
 use crate::clashes::ServiceNames;
 use crate::client_names::names_of;
 use crate::ending::Ending;
+use crate::expanding::expand_job;
 use crate::overwriting::test_journal;
 use crate::serving::{Asked, serve_job};
+use crate::standard::{test_played, test_scripts};
+use crate::telling::finish;
 use crate::{
     Config, ConfigFault, FileFault, Files, FromText, Job, LineFault, NamedStreams, NoGate, Options,
-    Outcome, Refuser, RunFault, Script, TextFault, TextKind, TextReplayFault, replay_text,
-    run_with, write_run,
+    Outcome, RunFault, Script, TextFault, TextKind, TextReplayFault, replay_text, run_with,
 };
 use qplain::MAX_WORKERS;
 use std::alloc::Global;
 use std::io::Write;
-use std::mem;
 use std::sync::Wait;
 use std::thread::Threads;
 use std::time::Clock;
 
 /// The ending of a file that cannot be read.
-fn unreadable(alloc: Global, name: &str) -> Ending {
+fn unreadable(alloc: Global, name: &str, fault: FileFault) -> Ending {
     match String::from_str(alloc, name) {
-        Ok(name) => Ending::File(name),
+        Ok(name) => Ending::File {
+            name,
+            why: Some(fault),
+        },
         Err(_) => Ending::Memory,
     }
 }
 
-fn load<F: Files>(alloc: Global, files: &mut F, name: &str) -> Result<Vec<u8>, Ending> {
+pub(crate) fn load<F: Files>(alloc: Global, files: &mut F, name: &str) -> Result<Vec<u8>, Ending> {
     match files.read(name) {
         Ok(bytes) => Ok(bytes),
         Err(FileFault::Memory) => Err(Ending::Memory),
-        Err(FileFault::Fails) => Err(unreadable(alloc, name)),
+        Err(fault) => Err(unreadable(alloc, name, fault)),
     }
 }
 
@@ -47,7 +51,7 @@ pub(crate) fn configuration<F: Files>(
 ) -> Result<Config, Ending> {
     let bytes = load(alloc, files, name)?;
     let Ok(text) = std::str::from_utf8(&bytes) else {
-        return Err(unreadable(alloc, name));
+        return Err(unreadable(alloc, name, FileFault::NotText));
     };
     match Config::read(alloc, text) {
         Ok(config) => Ok(config),
@@ -162,24 +166,6 @@ fn replay_of<F: Files>(
     replay_text(alloc, config, text, seed).map_err(ending_of_replay)
 }
 
-/// Writes what came of a run. Its memory is left to the system: to give back each piece takes as long as a call.
-fn finish<F: Files, O: Write>(
-    outcome: Outcome,
-    at: u64,
-    journal: Option<&str>,
-    files: &mut F,
-    out: &mut O,
-) -> Result<(), Ending>
-    ensures { IfErr result (λ ending. ending ≡ Output) }
-{
-    let written = write_run(&outcome, at, journal, files, out);
-    mem::forget(outcome);
-    match written {
-        Ok(()) => Ok(()),
-        Err(Refuser::Output | Refuser::Journal) => Err(Ending::Output),
-    }
-}
-
 /// Does what the job asks for: comes to an outcome, and only then writes.
 fn do_job<F, O, E, R>(
     rt: &R,
@@ -197,13 +183,13 @@ where
     R: Threads + Wait + Clock + Sync,
     requires some { HasScript job.now }
     requires batch { HasBatch job.now }
-    ensures { IfErr result (λ ending. (ending ≡ Output) ⊎ IsUntouched job.now (O.contents out.old)
+    ensures { IfErr result (λ ending. IsLate ending ⊎ IsUntouched job.now (O.contents out.old)
         (O.contents out.new)) }
 {
     match job {
         Job::Run {
             config,
-            at,
+            telling,
             journal,
             boards,
             batch,
@@ -215,13 +201,27 @@ where
             };
             let names = scripts.as_slice();
             let journal = journal.as_ref().map(String::as_str);
+            test_scripts(config.as_str(), names).map_err(Ending::Clash)?;
             test_journal(files, journal, config.as_str(), names).map_err(Ending::Overwrites)?;
-            let outcome = run_of(rt, alloc, seed, config.as_str(), names, options, files)?;
-            finish(outcome, *at, journal, files, out)
+            let outcome = run_of(rt, alloc, seed, config.as_str(), names, options, files).map_err(
+                |ending| ending.explained(telling.verbose),
+            )?;
+            finish(outcome, *telling, journal, files, out, err)
         }
-        Job::Replay { config, journal } => {
-            let outcome = replay_of(alloc, seed, config.as_str(), journal.as_str(), files)?;
-            finish(outcome, 0, None, files, out)
+        Job::Replay {
+            config,
+            telling,
+            journal,
+        } => {
+            test_played(config.as_str(), journal.as_str()).map_err(Ending::Clash)?;
+            let outcome = replay_of(alloc, seed, config.as_str(), journal.as_str(), files).map_err(
+                |ending| ending.explained(telling.verbose),
+            )?;
+            finish(outcome, *telling, None, files, out, err)
+        }
+        Job::Expand { config, script } => {
+            let script = script.as_ref().map(String::as_str);
+            expand_job(alloc, config.as_str(), script, files, out)
         }
         Job::Serve {
             config,
@@ -258,7 +258,7 @@ where
     O: Write,
     E: Write,
     R: Threads + Wait + Clock + Sync,
-    ensures { IfErr result (λ ending. (ending ≡ Output)
+    ensures { IfErr result (λ ending. IsLate ending
         ⊎ IsLeftBy (map (λ w. string_bytes w) words.now) (O.contents out.old) (O.contents out.new)) }
 {
     match Job::read(alloc, words) {
@@ -272,11 +272,12 @@ where
 /// name, runs the scripts or plays the journal, writes what came of it to the output and then, where it is asked for,
 /// the journal of the run to a file, and answers the exit status.
 ///
-/// The first fault ends it with one line on the error output: 2 for the command line, also where the journal would be
-/// written over the configuration, a script or the output, for the configuration, a script or a journal, 3 out of
-/// memory and for a journal that does not fit, 4 for an output or a file for the journal that refuses, also when it is
-/// flushed. Help and the version go to the output, with 0. The line is flushed, so that a buffered error output gets it
-/// by one write.
+/// Where it is to be told strictly, lines that were refused or failed are counted on the error output after all that, a
+/// line for each kind, and it ends with 1. The first fault ends it with one line on the error output: 2 for the command
+/// line, also where the journal would be written over the configuration, a script or the output, for the configuration,
+/// a script or a journal, 3 out of memory and for a journal that does not fit, 4 for an output or a file for the
+/// journal that refuses, also when it is flushed. Help and the version go to the output, with 0. The line is flushed,
+/// so that a buffered error output gets it by one write.
 ///
 /// The program ends after it, so the memory of a run is not given back.
 ///

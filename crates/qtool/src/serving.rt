@@ -6,9 +6,10 @@ ghost use Rattle.qrun.specs.Watching.{seats_for};
 
 use crate::board_file::BoardFile;
 use crate::clashes::{ServiceNames, find_clash};
-use crate::client_names::{ClientNames, STANDARD};
+use crate::client_names::ClientNames;
 use crate::ending::Ending;
 use crate::program::{configuration, ending_of_run};
+use crate::standard::STANDARD;
 use crate::told_streams::ToldStreams;
 use crate::{Files, NamedStreams, Outcome, Setup, serve, write_service};
 use qplain::{MAX_WORKERS, NoMemory};
@@ -124,7 +125,9 @@ pub(crate) fn serve_of<F: Files + NamedStreams + Send, R: Threads + Wait + Clock
     requires { 0 < length names.clients.now }
 {
     test_names(alloc, files, names)?;
-    let config = configuration(alloc, files, names.config)?;
+    let config = configuration(alloc, files, names.config).map_err(|ending| ending.explained(
+        false,
+    ))?;
     let clients = clients_of(alloc, files, names.clients)?;
     let mut refused = false;
     let monitor = monitor_of(rt, alloc, files, names.board, &config.setup, &mut refused)?;

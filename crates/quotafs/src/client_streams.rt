@@ -14,7 +14,7 @@ const INPUT_BUFFER: usize = 65_536;
 const REPLIES_BUFFER: usize = 65_536;
 
 /// The name of standard input and of standard output.
-const STANDARD: &str = "-";
+pub(crate) const STANDARD: &str = "-";
 
 /// Where a client's lines come from.
 #[derive(Drop)]

@@ -1,5 +1,6 @@
 //! A file that is written beside its place, and takes it when it is whole.
 
+use crate::client_streams::{STANDARD, Sink};
 use crate::{OUTPUT_BUFFER, seed};
 use std::fs::{self, File, OpenOptions, Permissions};
 use std::io::{self, BufWriter, ErrorKind, Write};
@@ -14,7 +15,7 @@ const TRIES: u64 = 64;
 /// A file that is written. What has a place of its own in the folder, as a regular file, is written beside it.
 #[derive(Drop)]
 pub(crate) struct Draft {
-    out: BufWriter<File>,
+    out: BufWriter<Sink>,
     beside: Option<Beside>,
 }
 
@@ -42,8 +43,11 @@ fn end_of(rt: &HostRuntime, link: &str) -> io::Result<Option<String>> {
 }
 
 /// The path that a draft for this name takes: of the regular file under it, or of nothing; none where something else
-/// stands there.
+/// stands there, and for standard output.
 fn place_of(rt: &HostRuntime, name: &str) -> io::Result<Option<String>> {
+    if name == STANDARD {
+        return Ok(None);
+    }
     match fs::symlink_metadata(rt, name) {
         Ok(found) if found.is_symlink() => end_of(rt, name),
         Ok(found) if !found.is_file() => Ok(None),
@@ -75,14 +79,30 @@ fn inherit(rt: &HostRuntime, place: &str, file: &File) -> io::Result<()> {
     }
 }
 
-fn buffered(rt: &HostRuntime, file: File) -> io::Result<BufWriter<File>> {
-    Ok(BufWriter::with_capacity(rt.alloc(), OUTPUT_BUFFER, file)?)
+fn buffered(rt: &HostRuntime, sink: Sink) -> io::Result<BufWriter<Sink>> {
+    Ok(BufWriter::with_capacity(rt.alloc(), OUTPUT_BUFFER, sink)?)
 }
 
 /// What is written to a new file, ready for its place.
-fn ready(rt: &HostRuntime, place: &str, file: File) -> io::Result<BufWriter<File>> {
+fn ready(rt: &HostRuntime, place: &str, file: File) -> io::Result<BufWriter<Sink>> {
     inherit(rt, place, &file)?;
-    buffered(rt, file)
+    buffered(rt, Sink::File(file))
+}
+
+/// What is written in place: standard output, a device or a FIFO.
+fn in_place(rt: &HostRuntime, name: &str) -> io::Result<Sink> {
+    if name == STANDARD {
+        return Ok(Sink::Output(rt.stdout()));
+    }
+    Ok(Sink::File(fs::create(rt, name)?))
+}
+
+/// Sees that what was written to a file is on its device.
+fn sync(sink: &Sink) -> io::Result<()> {
+    match sink {
+        Sink::Output(_) => Ok(()),
+        Sink::File(file) => file.sync_all(),
+    }
 }
 
 impl Beside {
@@ -117,8 +137,8 @@ impl Beside {
     }
 
     /// Puts the file in its place once all of it is on its device.
-    fn put_safely(&self, rt: &HostRuntime, file: &File) -> io::Result<()> {
-        match file.sync_all() {
+    fn put_safely(&self, rt: &HostRuntime, sink: &Sink) -> io::Result<()> {
+        match sync(sink) {
             Ok(()) => self.put(rt),
             Err(error) => {
                 self.remove(rt);
@@ -134,7 +154,7 @@ impl Draft {
         match place_of(rt, name)? {
             Some(place) => Beside::begin(rt, place),
             None => Ok(Draft {
-                out: buffered(rt, fs::create(rt, name)?)?,
+                out: buffered(rt, in_place(rt, name)?)?,
                 beside: None,
             }),
         }

@@ -1,12 +1,15 @@
 //! The machine's files.
 
-use crate::client_streams::ClientStreams;
+use crate::client_streams::{ClientStreams, STANDARD};
 use crate::draft::Draft;
 use qplain::NoMemory;
 use qtool::{FileFault, Files, NamedStreams};
 use std::fs;
-use std::io::{self, BufWriter, ErrorKind, Stderr};
+use std::io::{self, BufWriter, ErrorKind, Read, Stderr};
 use std::os::unix::fs::MetadataExt;
+
+/// The name under which the system has what standard input comes from.
+const INPUT: &str = "/proc/self/fd/0";
 
 /// The name under which the system has what standard output goes to.
 const OUTPUT: &str = "/proc/self/fd/1";
@@ -21,11 +24,28 @@ pub(crate) struct MachineFiles<'a> {
 }
 
 fn fault_of(error: &io::Error) -> FileFault {
-    if error.kind() == ErrorKind::OutOfMemory {
-        FileFault::Memory
-    } else {
-        FileFault::Fails
+    match error.kind() {
+        ErrorKind::OutOfMemory => FileFault::Memory,
+        ErrorKind::NotFound | ErrorKind::NotADirectory => FileFault::NotThere,
+        ErrorKind::IsADirectory => FileFault::Folder,
+        ErrorKind::PermissionDenied => FileFault::NotPermitted,
+        _ => FileFault::Fails,
     }
+}
+
+/// The name under which the system has this file, where this is what stands for standard input or output.
+fn path_of<'a>(name: &'a str, standard: &'static str) -> &'a str {
+    if name == STANDARD { standard } else { name }
+}
+
+/// The bytes of a file, or of standard input.
+fn bytes_of(rt: &HostRuntime, name: &str) -> io::Result<Vec<u8>> {
+    if name != STANDARD {
+        return fs::read(rt, name);
+    }
+    let mut bytes = Vec::new(rt.alloc());
+    rt.stdin().read_to_end(&mut bytes)?;
+    Ok(bytes)
 }
 
 /// Whether both names lead to one regular file. What is written to a device or a FIFO takes nothing away.
@@ -42,15 +62,15 @@ impl Files for MachineFiles<'_> {
     type Draft = Draft;
 
     fn read(&mut self, name: &str) -> Result<Vec<u8>, FileFault> {
-        fs::read(self.rt, name).map_err(|error| fault_of(&error))
+        bytes_of(self.rt, name).map_err(|error| fault_of(&error))
     }
 
     fn is_same(&mut self, name: &str, other: &str) -> bool {
-        are_one_file(self.rt, name, other)
+        are_one_file(self.rt, path_of(name, OUTPUT), path_of(other, INPUT))
     }
 
     fn is_output(&mut self, name: &str) -> bool {
-        are_one_file(self.rt, name, OUTPUT)
+        name != STANDARD && are_one_file(self.rt, name, OUTPUT)
     }
 
     fn draft(&mut self, name: &str) -> Result<Draft, FileFault> {

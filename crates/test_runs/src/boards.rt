@@ -11,7 +11,7 @@ use std::sync::Wait;
 use std::test::Fail;
 use std::thread::Threads;
 
-/// The journal of a file that is made, written and asked about. Its replies, at which no check looks, are not a store's.
+/// The journal of a file that is made, written and asked about. Its replies, at which no check looks, are no store's.
 const JOURNAL: &[u8] = b"\
 quotafs journal 2 workers 1
 1 0 1001:0 create /a => refused EEXIST

@@ -1,7 +1,5 @@
 //! What is wrong with a call as it is written, and where the caller's records stand.
-ghost use Rattle.std.specs.Prelude.{◌≡◌, not, nat_lt, ◌||◌, Some, is_some, IfOk, IfErr};
-ghost use Rattle.std.specs.List.{list_all};
-ghost use Rattle.qrules.specs.declared.kind.Kind.TheVariants.{User, Group};
+ghost use Rattle.std.specs.Prelude.{◌≡◌, nat_lt, ◌||◌, Some, IfOk, IfErr};
 ghost use Rattle.qplain.specs.Arguments.{has_bad_number, is_declared, is_undeclared, refusal_of_arguments};
 ghost use Rattle.qstore.specs.Requests.{IsChecked, IsConsistent};
 
@@ -9,7 +7,7 @@ use crate::{Call, Cred, Refusal, Store};
 use qplain::MAX_DATA;
 use qrules::{Kind, MAX_MOMENT};
 use qstore_accounts::Slots;
-use qstore_walk::{caller_owners, paths_fault};
+use qstore_walk::paths_fault;
 
 impl Store {
     /// Whether this principal is declared.
@@ -60,32 +58,25 @@ impl Store {
         }
     }
 
-    /// Whether all these groups are declared.
-    fn are_groups(&self, ids: &[u32]) -> bool
-        ensures { result ≡ list_all (is_declared self.now.state Group) ids.now }
+    /// Whether the moment or a number is none that a call may have.
+    fn has_fault(&self, moment: u64, call: &Call) -> bool
+        ensures { result ≡ (nat_lt MAX_MOMENT moment || has_bad_number self.now.state call.now) }
     {
-        ids.iter().all(|id| self.is_declared(Kind::Group, *id))
-    }
-
-    /// Whether the moment, a further group of the caller's or a number is none that a call may have.
-    fn has_fault(&self, cred: &Cred, moment: u64, call: &Call) -> bool
-        ensures { result ≡ (nat_lt MAX_MOMENT moment || not (list_all (is_declared self.now.state Group) cred.now.more)
-            || has_bad_number self.now.state call.now) }
-    {
-        moment > MAX_MOMENT || !self.are_groups(cred.more()) || self.has_bad_number(call)
+        moment > MAX_MOMENT || self.has_bad_number(call)
     }
 
     /// Where the caller's records stand, or the refusal of a call for what is written.
-    pub(super) fn check(&self, cred: &Cred, moment: u64, call: &Call) -> Result<Slots, Refusal>
-        ensures checked { IfOk result (IsChecked self.now cred.now moment call.now) }
-        ensures whole { IsConsistent self.now }
-        ensures refused { IfErr result (λ refusal. refusal_of_arguments self.now.state cred.now moment call.now
+    pub(super) fn check(&mut self, cred: &Cred, moment: u64, call: &Call) -> Result<Slots, Refusal>
+        ensures same { self.new ≡ self.old }
+        ensures checked { IfOk result (IsChecked self.old cred.now moment call.now) }
+        ensures whole { IsConsistent self.old }
+        ensures refused { IfErr result (λ refusal. refusal_of_arguments self.old.state cred.now moment call.now
             ≡ Some refusal) }
     {
-        let Some(slots) = self.slots(caller_owners(cred, None)) else {
+        let Some(slots) = self.accounts.callers(cred) else {
             return Err(Refusal::EINVAL);
         };
-        if self.has_fault(cred, moment, call) {
+        if self.has_fault(moment, call) {
             return Err(Refusal::EINVAL);
         }
         match paths_fault(call) {

@@ -103,6 +103,7 @@ impl Store {
     }
 
     /// Keeps the bill of a change that makes this exchange and gives N numbers, or refuses it.
+    #[inline(always)]
     pub(super) fn admit(
         &mut self,
         request: &Request,
@@ -124,6 +125,7 @@ impl Store {
     }
 
     /// Decides a change that passed its own tests and wants no room.
+    #[inline(always)]
     pub(super) fn grant(
         &mut self,
         request: &Request,

@@ -21,6 +21,7 @@ impl Store {
     }
 
     /// Decides a further name of a file that may have it, and makes room for it.
+    #[inline(never)]
     fn name_file(&mut self, request: &Request, new: &FurtherName) -> Decision
         requires can { CanDecide self.old request.now }
         requires file { IsFile self.old.state new.now.number }

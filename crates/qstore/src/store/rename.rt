@@ -10,7 +10,6 @@ ghost use Rattle.qstore_change.specs.Changes.{CanRename};
 ghost use Rattle.qstore.specs.Decided.{CanDecide, IsAsked, IsDecision, IsDecisionOf};
 ghost use Rattle.qstore.specs.Renamings.{IsRenaming, with_new_name};
 
-use crate::store::unlink::left_of;
 use crate::{Call, Decision, Exchange, Path, Ready, Reply, Request, Store};
 use qplain::NO_CHANGE;
 use qstore_change::TreeChange;
@@ -34,6 +33,7 @@ impl Store {
     }
 
     /// Decides a name of an inode that leads to another inode now, or to none.
+    #[inline(never)]
     fn rename_over(&mut self, request: &Request, from: &Path, to: &str, new: &Renaming) -> Decision
         requires can { CanDecide self.old request.now }
         requires renaming { IsRenaming self.old.state (name_in from.now) new.now }
@@ -68,13 +68,13 @@ impl Store {
         let Some(node) = inode(self.tree(), number) else {
             unreachable!()
         };
-        let claim = self.claim_of(request, number, node);
-        let to = match &node.content {
-            Content::Directory(_) => None,
-            Content::File(_) => left_of(node, claim),
-        };
-        let from = Some(claim);
-        Exchange { from, to }
+        match &node.content {
+            Content::Directory(_) => {
+                let from = Some(self.claim_of(request, number, node));
+                Exchange { from, to: None }
+            }
+            Content::File(_) => self.given_up(request, number, node),
+        }
     }
 
     /// Decides a rename that passed its own tests, and makes room for it.

@@ -27,6 +27,7 @@ impl Store {
     }
 
     /// Decides that the last name of the path goes out of the directory, where it leads to this number.
+    #[inline(never)]
     fn take_directory(&mut self, request: &Request, path: &Path, dir: u64, number: u64) -> Decision
         requires can { CanDecide self.old request.now }
         requires directory { is_directory self.old.state dir ≡ true }

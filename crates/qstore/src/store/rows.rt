@@ -1,4 +1,5 @@
-//! The rows of a store's records, inodes and names, for audits, reports and boards. An Err leaves nothing made.
+//! The rows of a store's records, inodes and names, for audits, reports and boards, and its names, for who lists
+//! them. An Err leaves nothing made.
 ghost use Rattle.std.specs.Prelude.{◌≡◌, map, IfOk, IsPermutation, OnOk};
 ghost use Rattle.std.specs.Ordering.{nat_cmp};
 ghost use Rattle.std.specs.List.{AllPairs};
@@ -6,9 +7,10 @@ ghost use Rattle.std.specs.List.Sorted.{IsStrictlySortedBy};
 ghost use Rattle.std.specs.Map.{keys_of};
 ghost use Rattle.qplain.specs.State.{name_key_cmp};
 ghost use Rattle.qplain.specs.Journal.{row_of};
+ghost use Rattle.qstore_tree.specs.Listed.{name_entry};
 ghost use Rattle.qstore.specs.Rows.{StandsBefore, inode_row_of, name_row_of, record_row_of};
 
-use crate::{NoMemory, Store};
+use crate::{Name, NoMemory, Store};
 use qrules::{BoardRow, InodeRow, NameRow, RecordRow};
 
 impl Store {
@@ -42,6 +44,14 @@ impl Store {
         ensures by_key { OnOk result (IsStrictlySortedBy name_key_cmp (keys_of self.now.state.names)) }
     {
         self.tree.name_rows(self.alloc)
+    }
+
+    /// The names by directory, then by name, each once, borrowed. O(n log n).
+    pub fn names(&self) -> Result<Vec<Name<'_>>, NoMemory>
+        ensures names { IfOk result (λ names. map name_entry names.items ≡ self.now.state.names) }
+        ensures by_key { OnOk result (IsStrictlySortedBy name_key_cmp (keys_of self.now.state.names)) }
+    {
+        self.tree.names(self.alloc)
     }
 
     /// The names, each once, in any order, for who only counts them. O(n).

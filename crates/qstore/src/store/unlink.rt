@@ -1,27 +1,19 @@
 //! To take a name of a file away, and the file with its last name (unlink(2)).
-ghost use Rattle.std.specs.Prelude.{◌≡◌, ◌≤◌, ◌<◌, Some, None};
+ghost use Rattle.std.specs.Prelude.{◌≡◌, ◌≤◌, ◌<◌, Some};
 ghost use Rattle.qplain.specs.Attempt.{Becomes};
 ghost use Rattle.qplain.specs.Names.{swept, unlink_as, without_name};
-ghost use Rattle.qplain.specs.State.{State, named};
+ghost use Rattle.qplain.specs.State.{State, inode_at, named};
+ghost use Rattle.qstore_tree.specs.Nodes.{inode_of};
 ghost use Rattle.qstore_tree.specs.Room.{Room};
 ghost use Rattle.qstore_walk.specs.Paths.{name_in};
 ghost use Rattle.qstore_change.specs.Changes.{CanChange, changed};
-ghost use Rattle.qstore.specs.Decided.{CanDecide, IsAsked, IsDecision, IsDecisionOf};
+ghost use Rattle.qstore.specs.Decided.{CanDecide, IsAsked, IsDecision, IsDecisionOf, IsGivenUp, no_exchange};
 ghost use Rattle.qstore_change.specs.FileTypes.{CanRemove};
 
 use crate::{Call, Decision, Exchange, Path, Ready, Refusal, Request, Store};
-use qstore_accounts::Claim;
 use qstore_change::{FileType, removal};
 use qstore_tree::{Content, Node};
 use qstore_walk::{inode, last_component, may_remove};
-
-/// What is left of what a file takes, once a name of it has gone.
-pub(super) fn left_of(node: &Node, claim: Claim) -> Option<Claim>
-    ensures more { 1 < node.now.links → result ≡ Some claim }
-    ensures last { node.now.links ≤ 1 → result ≡ None }
-{
-    if node.links > 1 { Some(claim) } else { None }
-}
 
 impl Store {
     /// Decides that a name goes.
@@ -56,19 +48,28 @@ impl Store {
         if !may_remove(tree, request.cred, dir, number, node) {
             return Ok(Ready::refused(Refusal::EPERM));
         }
-        let claim = self.claim_of(request, number, node);
-        let (from, to) = (Some(claim), left_of(node, claim));
-        self.grant_removal(
-            request,
-            path,
-            dir,
-            number,
-            &Exchange { from, to },
-            FileType::File,
-        )
+        let exchange = self.given_up(request, number, node);
+        self.grant_removal(request, path, dir, number, &exchange, FileType::File)
+    }
+
+    /// What is given up of a file where a name of it goes: all that it takes with its last name, and else nothing.
+    #[inline(always)]
+    pub(super) fn given_up(&self, request: &Request, number: u64, node: &Node) -> Exchange
+        requires can { CanDecide self.now request.now }
+        requires there { inode_at self.now.state number ≡ Some (inode_of node.now) }
+        ensures more { 1 < node.now.links → result ≡ no_exchange }
+        ensures last { node.now.links ≤ 1 → IsGivenUp self.now (inode_of node.now) result }
+    {
+        let to = None;
+        if node.links > 1 {
+            return Exchange { from: None, to };
+        }
+        let from = Some(self.claim_of(request, number, node));
+        Exchange { from, to }
     }
 
     /// Decides that the last name of the path goes, once all other tests are passed, and shares the path.
+    #[inline(always)]
     pub(super) fn grant_removal(
         &mut self,
         request: &Request,

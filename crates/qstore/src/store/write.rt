@@ -1,22 +1,24 @@
 //! To write into a file (write(2)).
-ghost use Rattle.std.specs.Prelude.{◌≡◌, ℕ, ◌+◌, ◌≤◌, nat_lt, length, IfOk, IfErr};
+ghost use Rattle.std.specs.Prelude.{◌≡◌, ℕ, ◌+◌, ◌^◌, ◌<◌, ◌≤◌, nat_lt, length, Some, IfOk, IfErr};
+ghost use Rattle.qplain.specs.State.{inode_at};
 ghost use Rattle.qplain.specs.Calls.{attempt_of};
 ghost use Rattle.qplain.specs.Step.{settle};
-ghost use Rattle.qstore.specs.Decided.{CanDecide, IsDecisionOf};
+ghost use Rattle.qstore_tree.specs.Nodes.{inode_of};
+ghost use Rattle.qstore.specs.Decided.{CanDecide, IsDecisionOf, IsStretched, no_exchange};
 ghost use Rattle.qstore.specs.Targets.{IsTarget};
 
 use crate::{Call, Decision, Exchange, Ready, Refusal, Reply, Request, Store};
 use qplain::{Data, MAX_DATA, NO_CHANGE};
 use qstore_accounts::Claim;
 use qstore_change::TreeChange;
-use qstore_tree::Content;
+use qstore_tree::{Content, Node};
 use qstore_walk::{Found, find, may_write};
 
 /// A file that may be written into: what it takes, and how many blocks the write allocates.
 #[derive(Clone, Copy)]
 pub(super) struct Target {
     pub(super) number: u64,
-    pub(super) claim: Claim,
+    pub(super) exchange: Exchange,
     pub(super) missing: u64,
 }
 
@@ -74,11 +76,35 @@ impl Store {
         if self.is_past_limit(off, len) {
             return Err(Reply::Refused(Refusal::EFBIG));
         }
+        let missing = file.missing(off, len);
         Ok(Target {
             number,
-            claim: self.claim_of(request, number, node),
-            missing: file.missing(off, len),
+            exchange: self.stretched(request, number, node, missing),
+            missing,
         })
+    }
+
+    /// What is taken where N blocks are added to a file: nothing changes where there are none.
+    #[inline(always)]
+    fn stretched(&self, request: &Request, number: u64, node: &Node, more: u64) -> Exchange
+        requires can { CanDecide self.now request.now }
+        requires there { inode_at self.now.state number ≡ Some (inode_of node.now) }
+        requires few { more ≤ 2 ^ 28 }
+        ensures none { more ≡ 0 → result ≡ no_exchange }
+        ensures some { 0 < more → IsStretched self.now (inode_of node.now) more result }
+    {
+        if more == 0 {
+            return Exchange {
+                from: None,
+                to: None,
+            };
+        }
+        let claim = self.claim_of(request, number, node);
+        let to = Some(Claim::new(claim.slots, claim.weight.blocks + more));
+        Exchange {
+            from: Some(claim),
+            to,
+        }
     }
 
     /// Makes room for a write that passed all tests but those of space and quota, if it is granted.
@@ -94,10 +120,7 @@ impl Store {
         requires target { IsTarget self.old request.now.cred.now path.now off bytes.now target }
         ensures { IsDecisionOf self.old self.new request.now (Call.Write path.now off bytes.now) result }
     {
-        let (number, claim, missing) = (target.number, target.claim, target.missing);
-        let from = Some(claim);
-        let to = Some(Claim::new(claim.slots, claim.weight.blocks + missing));
-        let exchange = Exchange { from, to };
+        let (number, exchange, missing) = (target.number, target.exchange, target.missing);
         match self.admit(request, &exchange, 0) {
             Ok(()) => {}
             Err(refusal) => return Ok(Ready::refused(refusal)),

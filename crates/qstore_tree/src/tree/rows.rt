@@ -1,11 +1,13 @@
-//! The rows of a tree, for audits.
+//! The rows of a tree, for audits, and its names, for who lists them.
 ghost use Rattle.std.specs.Prelude.{◌≡◌, ◌<◌, ◌^◌, length, map, All, IfOk, IsPermutation, OnOk};
 ghost use Rattle.std.specs.Ordering.{nat_cmp};
 ghost use Rattle.std.specs.List.Sorted.{IsStrictlySortedBy};
 ghost use Rattle.std.specs.Map.{keys_of};
 ghost use Rattle.qplain.specs.State.{name_key_cmp};
+ghost use Rattle.qstore_tree.specs.Listed.{name_entry};
 ghost use Rattle.qstore_tree.specs.Tree.{kept_row, name_row_of, names_in_all};
 
+use crate::name::Name;
 use crate::names::Names;
 use crate::tree::Tree;
 use qplain::NoMemory;
@@ -38,6 +40,19 @@ impl Tree {
             names.push_rows(alloc, *dir, &mut rows)?;
         }
         Ok(rows)
+    }
+
+    /// The names, by directory, then by name, borrowed. O(n log n).
+    pub fn names(&self, alloc: Global) -> Result<Vec<Name<'_>>, NoMemory>
+        ensures names { IfOk result (λ names. map name_entry names.items ≡ self.now.names) }
+        ensures by_key { OnOk result (IsStrictlySortedBy name_key_cmp (keys_of self.now.names)) }
+    {
+        let directories = self.directories(alloc)?;
+        let mut all = Vec::new(alloc);
+        for (dir, names) in directories.iter() {
+            names.push_names(alloc, *dir, &mut all)?;
+        }
+        Ok(all)
     }
 
     /// The directories by number, borrowed, each with its names. O(n), and a sort of the directories.

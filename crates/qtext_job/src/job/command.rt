@@ -7,8 +7,10 @@ ghost use Rattle.qtext_job.specs.Commands as line;
 use after_help::AFTER_HELP;
 use clap::{Arg, ArgAction, Command, value_parser};
 use std::alloc::{AllocError, Global};
+use telling::with_report;
 
 mod after_help;
+mod telling;
 
 /// What help says of clients.
 const CLIENTS: &str = "\
@@ -20,6 +22,7 @@ fn config<'a>(alloc: Global) -> Arg<'a>
     ensures local { result.global ≡ false }
 {
     Arg::new(alloc, "config")
+        .short('c')
         .long("config")
         .value_name("FILE")
         .help("The configuration: bounds, graces, users, groups and projects, in TOML")
@@ -32,6 +35,7 @@ fn at<'a>(alloc: Global) -> Arg<'a>
     ensures local { result.global ≡ false }
 {
     Arg::new(alloc, "at")
+        .short('a')
         .long("at")
         .value_name("MOMENT")
         .help("The moment of the report, in seconds, from which graces are told")
@@ -45,6 +49,7 @@ fn journal<'a>(alloc: Global) -> Arg<'a>
     ensures local { result.global ≡ false }
 {
     Arg::new(alloc, "journal")
+        .short('j')
         .long("journal")
         .value_name("FILE")
         .help("The file that the journal is written to, after what is printed")
@@ -124,6 +129,16 @@ fn played<'a>(alloc: Global) -> Arg<'a>
         .action(ArgAction::Set)
 }
 
+fn friendly<'a>(alloc: Global) -> Arg<'a>
+    ensures rule { rule_of result ≡ line.friendly }
+    ensures local { result.global ≡ false }
+{
+    Arg::new(alloc, "script")
+        .value_name("FILE")
+        .help("The friendly script; - and no file are standard input")
+        .action(ArgAction::Set)
+}
+
 /// The command with one more argument.
 fn with_arg<'a>(command: Command<'a>, arg: Arg<'a>) -> Result<Command<'a>, AllocError>
     requires { arg.global ≡ false }
@@ -171,8 +186,7 @@ fn run<'a>(alloc: Global) -> Result<Command<'a>, AllocError>
         "run",
         "Plays scripts, read whole beforehand, on a new store and prints what came of it",
     );
-    let command = with_arg(command, config(alloc))?;
-    let command = with_arg(command, at(alloc))?;
+    let command = with_report(alloc, command)?;
     let command = with_arg(command, journal(alloc))?;
     let command = with_sharing(alloc, command)?;
     with_arg(command, scripts(alloc))
@@ -187,7 +201,7 @@ fn replay<'a>(alloc: Global) -> Result<Command<'a>, AllocError>
         "replay",
         "Plays a journal of either again on a new store and prints what came of it",
     );
-    let command = with_arg(command, config(alloc))?;
+    let command = with_report(alloc, command)?;
     with_arg(command, played(alloc))
 }
 
@@ -216,6 +230,28 @@ fn serve<'a>(alloc: Global) -> Result<Command<'a>, AllocError>
     with_arg(command, clients(alloc))
 }
 
+fn expand<'a>(alloc: Global) -> Result<Command<'a>, AllocError>
+    ensures app { IfOk result (λ c. app_of c ≡ line.expand) }
+    ensures local { IfOk result (λ c. (out-Command c).has_globals ≡ false) }
+{
+    let command = named(
+        alloc,
+        "expand",
+        "Writes a friendly script, with names, units and comments, out as one that run takes",
+    );
+    let command = with_arg(command, config(alloc))?;
+    with_arg(command, friendly(alloc))
+}
+
+/// The command with those that play calls on a store.
+fn with_stores<'a>(alloc: Global, command: Command<'a>) -> Result<Command<'a>, AllocError>
+    ensures { IfOk result (λ c. app_of c ≡ line.with_stores (app_of command.entry)) }
+{
+    let command = with_command(command, run(alloc)?)?;
+    let command = with_command(command, serve(alloc)?)?;
+    with_command(command, replay(alloc)?)
+}
+
 /// The whole command line.
 pub(crate) fn command<'a>(alloc: Global) -> Result<Command<'a>, AllocError>
     ensures { IfOk result (λ c. app_of c ≡ line.quotafs) }
@@ -225,7 +261,6 @@ pub(crate) fn command<'a>(alloc: Global) -> Result<Command<'a>, AllocError>
     let command = named(alloc, "quotafs", about)
         .version("0.1.0")
         .subcommand_required(true);
-    let command = with_command(command, run(alloc)?)?;
-    let command = with_command(command, serve(alloc)?)?;
-    with_command(command, replay(alloc)?)
+    let command = with_stores(alloc, command)?;
+    with_command(command, expand(alloc)?)
 }

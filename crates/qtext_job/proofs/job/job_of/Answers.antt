@@ -32,3 +32,15 @@ returns-in-Some-replay-default-clause-err c =
     no_job_at (subcommand_rows_of c.args.matches.now) (codes "replay") (rows_of (found_of c.in-Some-replay-default.matches.now)) c.replay.result
     (map_first _ _ _ ∙ sym (rw c.in-Some-replay-default.is at c.subcommand.ensures.name) ∙ ap some_text c.in-Some-replay-default.is-replay)
     (sym (rw c.in-Some-replay-default.is at c.subcommand.ensures.rows)) c.replay.ensures.err
+
+pub returns-in-Some-expand-default-clause-ok : goal.returns-in-Some-expand-default-clause-ok
+returns-in-Some-expand-default-clause-ok c =
+    job_at (subcommand_rows_of c.args.matches.now) (codes "expand") (rows_of (found_of c.in-Some-expand-default.matches.now)) c.expand.result
+    (map_first _ _ _ ∙ sym (rw c.in-Some-expand-default.is at c.subcommand.ensures.name) ∙ ap some_text c.in-Some-expand-default.is-expand)
+    (sym (rw c.in-Some-expand-default.is at c.subcommand.ensures.rows)) c.expand.ensures.ok
+
+pub returns-in-Some-expand-default-clause-err : goal.returns-in-Some-expand-default-clause-err
+returns-in-Some-expand-default-clause-err c =
+    no_job_at (subcommand_rows_of c.args.matches.now) (codes "expand") (rows_of (found_of c.in-Some-expand-default.matches.now)) c.expand.result
+    (map_first _ _ _ ∙ sym (rw c.in-Some-expand-default.is at c.subcommand.ensures.name) ∙ ap some_text c.in-Some-expand-default.is-expand)
+    (sym (rw c.in-Some-expand-default.is at c.subcommand.ensures.rows)) c.expand.ensures.err

@@ -1,7 +1,8 @@
 use Rattle.std.proofs.Common.{ℕ, codes}
 use Rattle.clap.specs.Words.{found_of, rows_of}
 use Rattle.qtext_job.specs.declared.job.Job.{Job}
-use Rattle.qtext_job.specs.Jobs.{IsMomentIn, IsNamedBy}
+use Rattle.qtext_job.specs.Jobs.{IsNamedBy}
+use Rattle.qtext_job.specs.Tellings.{IsMomentIn}
 use Rattle.qtext_job.proofs.JobLaws.{its_moment, passed_on}
 use Rattle.qtext_job.proofs.job.serve.Goals as goal
 

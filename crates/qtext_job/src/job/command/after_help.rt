@@ -28,6 +28,7 @@ Example, a script of two lines:
 
 Statuses:
   0  done, also where calls were refused
+  1  with --strict: done, and a line was refused or failed
   2  the command line, the configuration, a script or the journal is at fault,
      or unreadable, or a client's stream
   3  memory or a thread is wanting, or a replay comes to another reply than its

@@ -1,23 +1,22 @@
 use Rattle.std.proofs.Common.{◌++◌}
+use Rattle.qaudit.specs.Reports.{report_text}
 use Rattle.qtext.proofs.Fronts.{appends_then, front_of_first, front_of_second, refused_first, writes_then}
-use Rattle.qaudit.specs.Audits.{audit_text}
-use Rattle.qtext_outcome.specs.Outcomes.{account_text, tally_text}
+use Rattle.qtext_outcome.specs.Outcomes.{moment_text, rest_text}
 use Rattle.qtext_outcome.proofs.outcome_text.put_left.Goals as goal
 
-pub returns-in_err-put_account : goal.returns-in_err-put_account
-returns-in_err-put_account g c =
-    refused_first _ _ _ _ (audit_text c.args.outcome.now.differences) c.from_residual.ensures.0
-    (front_of_first _ _ _ (tally_text c.args.outcome.now.tallies) c.in_err-put_account.ensures)
+pub returns-in_err-put_moment : goal.returns-in_err-put_moment
+returns-in_err-put_moment g c =
+    refused_first _ _ _ _ (rest_text c.args.outcome.now) c.from_residual.ensures.0
+    (front_of_first _ _ _ (report_text c.args.outcome.now.records c.args.moment) c.in_err-put_moment.ensures)
 
-pub returns-in_err-put_tally : goal.returns-in_err-put_tally
-returns-in_err-put_tally g c =
-    refused_first _ _ _ _ (audit_text c.args.outcome.now.differences) c.from_residual-in_err-put_tally.ensures.0
-    (front_of_second _ _ _ (account_text c.args.outcome.now c.args.moment) (tally_text c.args.outcome.now.tallies)
-    c.in_ok-put_account.ensures c.in_err-put_tally.ensures)
+pub returns-in_err-put_report : goal.returns-in_err-put_report
+returns-in_err-put_report g c =
+    refused_first _ _ _ _ (rest_text c.args.outcome.now) c.from_residual-in_err-put_report.ensures.0
+    (front_of_second _ _ _ (moment_text c.args.moment) (report_text c.args.outcome.now.records c.args.moment)
+    c.in_ok-put_moment.ensures (rw c.as_slice.ensures at c.in_err-put_report.ensures))
 
 pub returns : goal.returns
 returns g c =
-    writes_then _ _ _ _ (account_text c.args.outcome.now c.args.moment ++ tally_text c.args.outcome.now.tallies)
-    (audit_text c.args.outcome.now.differences)
-    (appends_then _ _ _ (account_text c.args.outcome.now c.args.moment) (tally_text c.args.outcome.now.tallies)
-    c.in_ok-put_account.ensures c.in_ok-put_tally.ensures) (rw c.as_slice.ensures at c.put_audit.ensures)
+    writes_then _ _ _ _ _ (rest_text c.args.outcome.now)
+    (appends_then _ _ _ (moment_text c.args.moment) (report_text c.args.outcome.now.records c.args.moment)
+    c.in_ok-put_moment.ensures (rw c.as_slice.ensures at c.in_ok-put_report.ensures)) c.put_rest.ensures

@@ -5,4 +5,4 @@ use Rattle.qtool.proofs.program.tool.Goals as goal
 
 pub returns-in-Err-clause-untouched : goal.returns-in-Err-clause-untouched
 returns-in-Err-clause-untouched g c =
-    untouched_by_words (map (λ w. string_bytes w) c.args.words.now) c.in-Err.ending _ _ _ _ c.in-Err.ensures c.tell.ensures.output c.tell.ensures.untouched
+    untouched_by_words (map (λ w. string_bytes w) c.args.words.now) c.in-Err.ending _ _ _ _ c.in-Err.ensures c.tell.ensures.late c.tell.ensures.untouched

@@ -1,33 +1,32 @@
-use Rattle.std.proofs.Common.{rules, sym, ap, subst, ◌∙◌}
-use Rattle.qstore_accounts.specs.Books.{HasSlots}
-use Rattle.qstore.specs.Requests.{are_declared}
-use Rattle.qstore.proofs.Arguments.{caller-declared, fine-parts, refusal-faulty, refusal-paths}
+use Rattle.std.proofs.Common.{rules, ◌≡◌, ◌||◌, false, nat_lt, Some, sym, subst, ◌∙◌}
+use Rattle.qrules.specs.declared.graces.TheConstants.{MAX_MOMENT}
+use Rattle.qplain.specs.Arguments.{has_bad_number, refusal_of_arguments}
+use Rattle.qstore.specs.Kept.{state_of}
+use Rattle.qstore.specs.Requests.{IsChecked}
+use Rattle.qstore.specs.Stored.{Stored}
+use Rattle.qstore.proofs.Arguments.{caller-declared, fine-parts, refusal-paths}
 use Rattle.qstore.proofs.store.Store.check.Goals as goal
 
 pub returns-in-Some-paths_fault-clause-refused : goal.returns-in-Some-paths_fault-clause-refused
 returns-in-Some-paths_fault-clause-refused c =
-    let S = c.args.self.now.state in
-    let cred = c.args.cred.now in
-    let known = sym (ap (are_declared S) c.caller_owners.ensures) ∙ sym c.in-Some.ensures.declared in
-    refusal-paths S cred c.args.moment c.args.call.now (caller-declared S cred known) (search rules)
-    ∙ sym c.paths_fault.ensures ∙ c.in-Some-paths_fault.is
+    let x = c.args in
+    let S = state_of c.self.inside in
+    let known = sym (c.in-Some.ensures.known S c.self.invariant.books) in
+    let fine : (nat_lt MAX_MOMENT x.moment || has_bad_number S x.call.now) ≡ false = search rules in
+    subst (λ (v : Stored). refusal_of_arguments v.state x.cred.now x.moment x.call.now ≡ Some c.in-Some-paths_fault.refusal) c.self.view_is
+    (refusal-paths S x.cred.now x.moment x.call.now known fine ∙ sym c.paths_fault.ensures ∙ c.in-Some-paths_fault.is)
 
 pub returns-in-None-clause-checked : goal.returns-in-None-clause-checked
 returns-in-None-clause-checked c =
-    let S = c.args.self.now.state in
-    let cred = c.args.cred.now in
-    let known = sym (ap (are_declared S) c.caller_owners.ensures) ∙ sym c.in-Some.ensures.declared in
-    let paths = refusal-paths S cred c.args.moment c.args.call.now (caller-declared S cred known) in
-    let slots = c.in-Some.ensures.slots in
-    let fine = fine-parts S c.args.cred.now c.args.moment c.args.call.now (sym c.has_fault.ensures ∙ c.if-has_fault.false) in
-    record {
-      allowed = paths (search rules) ∙ sym c.paths_fault.ensures ∙ c.in-None.is;
-      in_range = fine.0;
-      known = known;
-      callers = subst (HasSlots c.args.self.now.books c.in-Some.slots) c.caller_owners.ensures slots;
-      numbers = fine.1;
-    }
-
-pub returns-then-has_fault-clause-refused : goal.returns-then-has_fault-clause-refused
-returns-then-has_fault-clause-refused c =
-    refusal-faulty c.args.self.now.state c.args.cred.now c.args.moment c.args.call.now (sym c.has_fault.ensures ∙ c.if-has_fault.true)
+    let x = c.args in
+    let S = state_of c.self.inside in
+    let known = sym (c.in-Some.ensures.known S c.self.invariant.books) in
+    let fine : (nat_lt MAX_MOMENT x.moment || has_bad_number S x.call.now) ≡ false = search rules in
+    let parts = fine-parts S x.cred.now x.moment x.call.now fine in
+    subst (λ (v : Stored). IsChecked v x.cred.now x.moment x.call.now c.in-Some.slots) c.self.view_is (record {
+      allowed = refusal-paths S x.cred.now x.moment x.call.now known fine ∙ sym c.paths_fault.ensures ∙ c.in-None.is;
+      in_range = parts.0;
+      known = caller-declared S x.cred.now known;
+      callers = c.in-Some.ensures.slots;
+      numbers = parts.1;
+    })

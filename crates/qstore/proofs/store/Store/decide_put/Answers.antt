@@ -8,7 +8,6 @@ use Rattle.qplain.specs.State.{State, inode_at}
 use Rattle.qstore_tree.specs.Tree.{file_room}
 use Rattle.qstore_change.specs.declared.tree_change.TreeChange.{TreeChange}
 use Rattle.qstore_change.specs.declared.tree_change.TreeChange.TheVariants.{Write}
-use Rattle.qstore.specs.declared.request.Exchange.{Exchange}
 use Rattle.qstore.specs.declared.ready.Plan.TheVariants.{Change}
 use Rattle.qstore.specs.declared.ready.Ready.{Ready}
 use Rattle.qstore.specs.Decided.{IsBilled}
@@ -24,7 +23,7 @@ admit-requires-clause-asked c =
     let x = c.args in
     let t = c.requires.target in (
       with_file x.self.now.state x.target.number t.inode (after_write t.inode.file x.off x.bytes.now),
-      target-asked x.self.now c.requires.can.whole x.request.now.cred.now x.path.now x.off x.bytes.now x.target t c.new.result c.new.ensures,
+      target-asked x.self.now c.requires.can.whole x.request.now.cred.now x.path.now x.off x.bytes.now x.target t,
     )
 
 pub returns-in-Err : goal.returns-in-Err
@@ -32,7 +31,7 @@ returns-in-Err c =
     let x = c.args in
     let s = x.self.now in
     let t = c.requires.target in
-    let asked = target-asked s c.requires.can.whole x.request.now.cred.now x.path.now x.off x.bytes.now x.target t c.new.result c.new.ensures in
+    let asked = target-asked s c.requires.can.whole x.request.now.cred.now x.path.now x.off x.bytes.now x.target t in
     decision-unbilled s c.admit.new.self c.admit.ensures.same x.request.now _ x.target.number 0 _ _ asked t.becomes c.refused.result
     c.in-Err.refusal c.in-Err.ensures.refused c.refused.ensures
 
@@ -41,7 +40,7 @@ returns-in_err-spare c =
     let x = c.args in
     let s = x.self.now in
     let t = c.requires.target in
-    let asked = target-asked s c.requires.can.whole x.request.now.cred.now x.path.now x.off x.bytes.now x.target t c.new.result c.new.ensures in
+    let asked = target-asked s c.requires.can.whole x.request.now.cred.now x.path.now x.off x.bytes.now x.target t in
     let same = same-with_room s c.admit.new.self c.self.inside c.ready_write.new.self c.admit.ensures.same c.self.view_is c.ready_write.ensures.same in
     decision-unmade s _ same x.request.now _ x.target.number 0 _ _ asked t.becomes _ _ c.in-Ok.ensures.granted c.from_residual.ensures.0
 
@@ -50,7 +49,7 @@ returns-in_err-copy c =
     let x = c.args in
     let s = x.self.now in
     let t = c.requires.target in
-    let asked = target-asked s c.requires.can.whole x.request.now.cred.now x.path.now x.off x.bytes.now x.target t c.new.result c.new.ensures in
+    let asked = target-asked s c.requires.can.whole x.request.now.cred.now x.path.now x.off x.bytes.now x.target t in
     let same = same-with_room s c.admit.new.self c.self.inside c.ready_write.new.self c.admit.ensures.same c.self.view_is c.ready_write.ensures.same in
     decision-unmade s _ same x.request.now _ x.target.number 0 _ _ asked t.becomes _ _ c.in-Ok.ensures.granted c.from_residual-in_err-copy.ensures.0
 
@@ -61,8 +60,8 @@ returns c =
     let a = c.self.inside in
     let q = x.request.now in
     let t = c.requires.target in
-    let asked = target-asked s c.requires.can.whole q.cred.now x.path.now x.off x.bytes.now x.target t c.new.result c.new.ensures in
-    let exchange : Exchange = record { from = Some x.target.claim; to = Some c.new.result } in
+    let asked = target-asked s c.requires.can.whole q.cred.now x.path.now x.off x.bytes.now x.target t in
+    let exchange = x.target.exchange in
     let tree = c.ready_write.new.self in
     let same = same-with_room s c.admit.new.self a tree c.admit.ensures.same c.self.view_is c.ready_write.ensures.same in
     let limit = t.bound in

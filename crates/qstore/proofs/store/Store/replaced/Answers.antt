@@ -20,18 +20,14 @@ returns-in-Directory c name r =
     let s = c.args.self.now in
     let replaced = inode_of c.in-Some-inode.node.now in
     let there : inode_at s.state c.in-Some.number ≡ Some replaced = sym (c.in-Some-inode.ensures.there s.state c.tree.ensures) in
-    let blocks = c.claim_of-claim.ensures.blocks in
-    let few = c.claim_of-claim.ensures.few in
-    directory-asked s c.requires.can.whole name c.args.new.now r c.requires.empty c.in-Some.number replaced c.in-Some.is there
-    c.claim_of-claim.result None c.claim_of-claim.ensures.claimed (omega (arith, blocks, few)) (ap is_dir_content c.in-Directory.is) refl
+    directory-asked s c.requires.can.whole name c.args.new.now r c.requires.empty c.in-Some.number replaced c.in-Some.is there _
+    (ap is_dir_content c.in-Directory.is) (record { claim = c.claim_of.result; claimed = c.claim_of.ensures.claimed; is = refl })
 
 pub returns-in-File : goal.returns-in-File
 returns-in-File c name r =
     let s = c.args.self.now in
     let node = c.in-Some-inode.node.now in
     let there : inode_at s.state c.in-Some.number ≡ Some (inode_of node) = sym (c.in-Some-inode.ensures.there s.state c.tree.ensures) in
-    let blocks = c.claim_of-claim.ensures.blocks in
-    let few = c.claim_of-claim.ensures.few in
     file-asked s c.requires.can.whole name c.args.new.now r c.requires.empty c.in-Some.number (inode_of node) c.in-Some.is there
-    c.claim_of-claim.result c.left_of-to.result c.claim_of-claim.ensures.claimed (omega (arith, blocks, few)) node.links
-    (ap is_dir_content c.in-File.is) (c.in-Some-inode.ensures.links s.state c.tree.ensures) c.left_of-to.ensures.more c.left_of-to.ensures.last
+    c.given_up.result node.links (ap is_dir_content c.in-File.is) (c.in-Some-inode.ensures.links s.state c.tree.ensures)
+    c.given_up.ensures.more c.given_up.ensures.last

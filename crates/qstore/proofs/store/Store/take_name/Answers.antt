@@ -13,13 +13,9 @@ grant_removal-requires-clause-asked c =
     let s = x.self.now in
     let node = c.in-Some.node.now in
     let there : inode_at s.state x.number ≡ Some (inode_of node) = sym (c.in-Some.ensures.there s.state c.tree-tree.ensures) in
-    let claim = c.claim_of-claim.ensures in
-    let left = c.left_of-to.ensures in
-    let few = claim.few in
-    let blocks = claim.blocks in
+    let exchange = c.given_up-exchange.ensures in
     unlinked-asked s c.requires.can.whole x.dir (name_in x.path.now) x.number (inode_of node) c.requires.led there (ap is_dir_content c.in-File.is)
-    c.claim_of-claim.result c.left_of-to.result node.links claim.claimed (omega (arith, blocks, few))
-    (c.in-Some.ensures.links s.state c.tree-tree.ensures) left.more left.last
+    c.given_up-exchange.result node.links (c.in-Some.ensures.links s.state c.tree-tree.ensures) exchange.more exchange.last
 
 pub grant_removal-requires-clause-can : goal.grant_removal-requires-clause-can
 grant_removal-requires-clause-can c =

@@ -70,17 +70,16 @@ returns-clause-granted c =
       inode = inode;
       there = (c.in-Ok.ensures.there S c.tree.ensures);
       is_file = file;
-      claimed = c.claim_of.ensures.claimed;
-      blocks = c.claim_of.ensures.blocks;
-      few = c.claim_of.ensures.few;
+      none = c.stretched.ensures.none;
+      some = c.stretched.ensures.some;
       missing = search rules;
-      few_missing = c.missing.ensures.bound;
+      few_missing = c.missing-missing.ensures.bound;
       bound = grind (arith, tests, low);
       becomes = found ∙ write-becomes S cred x.off x.bytes.now c.in-Ok.found.number inode file may some low;
     }
 
-pub missing-requires : goal.missing-requires
-missing-requires c =
+pub missing-missing-requires : goal.missing-missing-requires
+missing-missing-requires c =
     let x = c.args in
     let S = x.self.now.state in
     let cred = x.request.now.cred.now in

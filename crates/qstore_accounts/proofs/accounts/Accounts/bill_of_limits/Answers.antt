@@ -13,7 +13,7 @@ returns-clause-books c S id there lawful books =
     let x = c.args in
     let q = c.relimited-posting.result in
     let graces = ap (λ (b : Books). b.graces) c.self.view_is ∙ books.graces in
-    limits-settled S x.self.now books lawful (subst AreInRange c.self.view_is c.self.invariant) x.kind x.slot id x.limits x.moment q c.bill_with.result
+    limits-settled S x.self.now books lawful (subst AreInRange c.self.view_is c.self.invariant.0) x.kind x.slot id x.limits x.moment q c.bill_with.result
     c.bill_with.ensures.postings there
     (subst (λ (os : List KeptHolder). IfSome (slice_get os x.slot)
     (λ o. q ≡ record { slot = x.slot; id = o.id; account = with_limits o.account x.limits S.graces x.moment })) c.ledger.ensures

@@ -64,18 +64,20 @@ invariant_of-result c =
     let lawful = c.users.ensures.lawful in
     let users = c.in_ok-users.ensures ∙ ap (map (new_holder g)) c.users.ensures.users in
     let groups = c.in_ok-groups.ensures ∙ ap (map (new_holder g)) c.groups.ensures.groups in
-    let projects = c.in_ok-projects.ensures ∙ ap (map (new_holder g)) c.projects.ensures.projects in
-    record {
-      size = c.blocks-2.ensures.range.1;
-      most_inodes = c.inodes.ensures.range.1;
-      graces = c.graces-graces.ensures.range;
-      users = by_id-made g s.users _ users (kind-ids-rise s lawful User);
-      groups = by_id-made g s.groups _ groups (kind-ids-rise s lawful Group);
-      projects = by_id-made g s.projects _ projects (kind-ids-rise s lawful Project);
-      few_users = few-new g s.users _ users (kind-few s lawful User);
-      few_groups = few-new g s.groups _ groups (kind-few s lawful Group);
-      few_projects = few-new g s.projects _ projects (kind-few s lawful Project);
-    }
+    let projects = c.in_ok-projects.ensures ∙ ap (map (new_holder g)) c.projects.ensures.projects in (
+      record {
+        size = c.blocks-2.ensures.range.1;
+        most_inodes = c.inodes.ensures.range.1;
+        graces = c.graces-graces.ensures.range;
+        users = by_id-made g s.users _ users (kind-ids-rise s lawful User);
+        groups = by_id-made g s.groups _ groups (kind-ids-rise s lawful Group);
+        projects = by_id-made g s.projects _ projects (kind-ids-rise s lawful Project);
+        few_users = few-new g s.users _ users (kind-few s lawful User);
+        few_groups = few-new g s.groups _ groups (kind-few s lawful Group);
+        few_projects = few-new g s.projects _ projects (kind-few s lawful Project);
+      },
+      c.in_ok-known.ensures _,
+    )
 
 pub returns-clause-in_range : goal.returns-clause-in_range
-returns-clause-in_range c = invariant_of-result c
+returns-clause-in_range c = (invariant_of-result c).0

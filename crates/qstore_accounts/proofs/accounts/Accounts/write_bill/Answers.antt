@@ -28,7 +28,7 @@ write_postings-requires-clause-replacement c =
       r.2,
       r.3,
       rw (c.share_of-user.ensures, c.share_of-next_user.ensures)
-          (replaced (books_of c.self.inside) x.from x.to r.0 r.1 r.2 r.3 c.self.invariant inside User),
+          (replaced (books_of c.self.inside) x.from x.to r.0 r.1 r.2 r.3 c.self.invariant.0 inside User),
     )
 
 pub write_postings-requires-2-clause-replacement : goal.write_postings-requires-2-clause-replacement
@@ -42,7 +42,7 @@ write_postings-requires-2-clause-replacement c =
       r.2,
       r.3,
       rw (c.share_of-group.ensures, c.share_of-next_group.ensures)
-          (replaced (books_of c.self.inside) x.from x.to r.0 r.1 r.2 r.3 c.self.invariant inside Group),
+          (replaced (books_of c.self.inside) x.from x.to r.0 r.1 r.2 r.3 c.self.invariant.0 inside Group),
     )
 
 pub write_postings-requires-3-clause-replacement : goal.write_postings-requires-3-clause-replacement
@@ -56,11 +56,11 @@ write_postings-requires-3-clause-replacement c =
       r.2,
       r.3,
       rw (c.share_of-project.ensures, c.share_of-next_project.ensures)
-          (replaced (books_of c.self.inside) x.from x.to r.0 r.1 r.2 r.3 c.self.invariant inside Project),
+          (replaced (books_of c.self.inside) x.from x.to r.0 r.1 r.2 r.3 c.self.invariant.0 inside Project),
     )
 
 pub returns-clause-in_range : goal.returns-clause-in_range
-returns-clause-in_range c = rw (← c.self.view_is) c.self.invariant
+returns-clause-in_range c = rw (← c.self.view_is) c.self.invariant.0
 
 -- postings for the shares are postings for what equals them
 posted-shares : (os : List KeptHolder) (kind : Kind) (S1 : State) (moment : ℕ) (p : Postings) {f f1 t t1 : Option OwnerClaim}
@@ -73,7 +73,7 @@ pub returns-clause-bill : goal.returns-clause-bill
 returns-clause-bill c = rw (← c.self.view_is) (λ S S1 f t r.
     let x = c.args in
     let b = books_of c.self.inside in
-    let of_kind = replaced b x.from x.to S S1 f t c.self.invariant r in
+    let of_kind = replaced b x.from x.to S S1 f t c.self.invariant.0 r in
     let gained = c.weight_of-gained.ensures in
     let lost = c.weight_of-lost.ensures in
     record {

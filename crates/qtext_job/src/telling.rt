@@ -1,0 +1,90 @@
+//! How a command line asks to be told what came of a job.
+ghost use Rattle.std.specs.Prelude.{◌≡◌, IfOk, IfErr};
+ghost use Rattle.clap.specs.Words.{found_of, rows_of};
+ghost use Rattle.qtext_job.specs.Jobs.{FailsUnless};
+ghost use Rattle.qtext_job.specs.Tellings.{IsReportAt, IsTellingIn, is_given, is_word_at, view_of};
+ghost use Rattle.qtext_view.specs.declared.report_moment.ReportMoment.{ReportMoment};
+ghost use Rattle.qtext_view.specs.declared.telling.Telling.{Telling};
+
+use crate::LineFault;
+use crate::number::number_at;
+use clap::ArgMatches;
+use qrules::MAX_MOMENT;
+use qtext_view::{ReportMoment, Telling, View};
+use std::alloc::{AllocError, Global};
+
+/// Whether this word stands at an option.
+fn is_word_at(matches: &ArgMatches<'_>, id: &str, word: &str) -> bool
+    ensures { result ≡ is_word_at id.now word.now (rows_of (found_of matches.now)) }
+{
+    match matches.get_str(id) {
+        Some(text) => text == word,
+        None => false,
+    }
+}
+
+/// Whether a flag was given.
+fn is_set(matches: &ArgMatches<'_>, id: &str) -> bool
+    ensures { result ≡ is_given id.now (rows_of (found_of matches.now)) }
+{
+    is_word_at(matches, id, "true")
+}
+
+/// What is said of a word that is no moment.
+fn text_of(alloc: Global, word: &str) -> Result<String, AllocError> {
+    format!(in alloc;
+        "error: invalid value {word:?} for '--at <MOMENT>': a number from 0 to {MAX_MOMENT}, or last, is wanted\n\n\
+         For more information, try '--help'.\n"
+    )
+}
+
+fn no_moment(alloc: Global, matches: &ArgMatches<'_>) -> LineFault
+    ensures { FailsUnless ⊥ result }
+{
+    match text_of(alloc, matches.get_str("at").unwrap_or("")) {
+        Ok(text) => LineFault::Line { help: false, text },
+        Err(_) => LineFault::Memory,
+    }
+}
+
+/// The moment of the report.
+fn report_moment(alloc: Global, matches: &ArgMatches<'_>) -> Result<ReportMoment, LineFault>
+    ensures ok { IfOk result (IsReportAt (rows_of (found_of matches.now))) }
+    ensures err { IfErr result (FailsUnless
+        ((at : ReportMoment) × IsReportAt (rows_of (found_of matches.now)) at)) }
+{
+    if is_word_at(matches, "at", "last") {
+        return Ok(ReportMoment::Last);
+    }
+    match number_at(matches, "at", 0, MAX_MOMENT) {
+        Some(moment) => Ok(ReportMoment::At(moment)),
+        None => Err(no_moment(alloc, matches)),
+    }
+}
+
+/// What is to be shown.
+fn view(matches: &ArgMatches<'_>) -> View
+    ensures { result ≡ view_of (rows_of (found_of matches.now)) }
+{
+    View {
+        quiet: is_set(matches, "quiet"),
+        heads: is_set(matches, "heads"),
+        calls: is_set(matches, "calls"),
+        human_readable: is_set(matches, "human-readable"),
+        over: is_set(matches, "over"),
+    }
+}
+
+/// How it is to be told what came of a job.
+pub(crate) fn telling(alloc: Global, matches: &ArgMatches<'_>) -> Result<Telling, LineFault>
+    ensures ok { IfOk result (IsTellingIn (rows_of (found_of matches.now))) }
+    ensures err { IfErr result (FailsUnless
+        ((telling : Telling) × IsTellingIn (rows_of (found_of matches.now)) telling)) }
+{
+    Ok(Telling {
+        at: report_moment(alloc, matches)?,
+        view: view(matches),
+        strict: is_set(matches, "strict"),
+        verbose: is_set(matches, "verbose"),
+    })
+}

@@ -1,0 +1,2 @@
+-- Lines beside what they were answered.
+pub mod CalledLines

@@ -1,0 +1,6 @@
+use Rattle.std.proofs.Common.{◌≡◌, map, take}
+use Rattle.std.specs.Prelude.{fold, max}
+use Rattle.qtext_outcome.proofs.moments.last_of.Given as goal
+
+abbrev pub invariant-loop-line : goal.invariant-loop-line
+invariant-loop-line l = l.last ≡ fold max l.least (map (λ line. line.moment) (take l.line-index l.lines))

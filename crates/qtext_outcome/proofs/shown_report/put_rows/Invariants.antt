@@ -1,0 +1,8 @@
+use Rattle.std.proofs.Common.{drop}
+use Rattle.qtext.specs.Written.{Partly}
+use Rattle.qtext_outcome.specs.Reports.{shown_rows}
+use Rattle.qtext_outcome.proofs.shown_report.put_rows.Given as goal
+
+abbrev pub invariant-loop-row : goal.invariant-loop-row
+invariant-loop-row g l = Partly (g.W.Write.contents l.fn.out) (g.W.Write.contents l.out)
+    (shown_rows l.view l.rows l.moment) (shown_rows l.view (drop l.row-index l.rows) l.moment)

@@ -1,0 +1,16 @@
+use Rattle.std.specs.List.{flat_map}
+use Rattle.qtext.proofs.Fronts.{refused_first, writes_then}
+use Rattle.qtext_outcome.specs.Boards.{boards_text}
+use Rattle.qtext_outcome.specs.Calls.{called_transcript}
+use Rattle.qtext_outcome.proofs.shown_text.put_called.Goals as goal
+
+pub returns-in_err-put_called_transcripts : goal.returns-in_err-put_called_transcripts
+returns-in_err-put_called_transcripts g c =
+    refused_first _ _ _ (flat_map called_transcript c.args.outcome.now.transcripts)
+    (boards_text c.args.outcome.now.boards) c.from_residual.ensures.0
+    (rw c.as_slice.ensures at c.in_err-put_called_transcripts.ensures)
+
+pub returns : goal.returns
+returns g c = writes_then _ _ _ _ (flat_map called_transcript c.args.outcome.now.transcripts)
+    (boards_text c.args.outcome.now.boards) (rw c.as_slice.ensures at c.in_ok-put_called_transcripts.ensures)
+    (rw c.as_slice-2.ensures at c.put_boards.ensures)

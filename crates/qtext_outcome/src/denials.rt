@@ -1,0 +1,134 @@
+//! Lines that were refused or failed.
+ghost use Rattle.std.specs.Prelude.{◌≡◌, ◌↔◌, All, IsTrue, map};
+ghost use Rattle.qtext.specs.Written.{Writes};
+ghost use Rattle.qtext_outcome.specs.Denials.{
+  IsDone,
+  denial_line,
+  denial_number,
+  denials_text,
+  denied,
+  denied_in,
+  kinds_text,
+  refused_number,
+};
+
+use qplain::{CallFault, Receipt, Reply, Transcript};
+use qtext::{Piece, RefusedWrite, put_pieces};
+use std::io::Write;
+
+fn refused_number(reply: &Reply) -> u32
+    ensures { result ≡ refused_number reply.now }
+{
+    match reply {
+        Reply::Refused(refusal) => refusal.number(),
+        _ => 0,
+    }
+}
+
+/// The number of an answer's refusal or fault, and 0 where the call was done.
+fn denial_number(answer: &Result<Receipt, CallFault>) -> u32
+    ensures { result ≡ denial_number answer.now }
+{
+    match answer {
+        Ok(receipt) => refused_number(&receipt.reply),
+        Err(fault) => fault.number(),
+    }
+}
+
+fn is_done(transcript: &Transcript) -> bool
+    ensures { IsTrue result ↔ IsDone transcript.now }
+{
+    transcript
+        .answers
+        .as_slice()
+        .iter()
+        .all(|answer| denial_number(answer) == 0)
+}
+
+/// Whether no line was refused or failed.
+pub fn are_all_done(transcripts: &[Transcript]) -> bool
+    ensures { IsTrue result ↔ All IsDone transcripts.now }
+{
+    transcripts.iter().all(is_done)
+}
+
+/// How many lines of a transcript were answered with this number.
+fn denied_in(number: u32, transcript: &Transcript) -> usize
+    ensures { result ≡ denied_in number transcript.now }
+{
+    transcript
+        .answers
+        .as_slice()
+        .iter()
+        .filter(|answer| denial_number(answer) == number)
+        .count()
+}
+
+/// How many lines of all transcripts were.
+fn denied(number: u32, transcripts: &[Transcript]) -> u128
+    ensures { result ≡ denied number transcripts.now }
+{
+    let mut count = 0;
+    for transcript in transcripts {
+        count += denied_in(number, transcript) as u128;
+    }
+    count
+}
+
+fn put_denial<W: Write>(out: &mut W, count: u128, words: &[u8]) -> Result<(), RefusedWrite>
+    ensures { Writes (W.contents out.old) (W.contents out.new) result (denial_line count words.now) }
+{
+    if count == 0 {
+        return Ok(());
+    }
+    let pieces = [
+        Piece::Text(b"quotafs: "),
+        Piece::RightNumber(count, 0),
+        Piece::Text(b" "),
+        Piece::Text(words),
+        Piece::Text(b"\n"),
+    ];
+    put_pieces(out, &pieces)
+}
+
+/// Writes how many lines there are of these kinds, a line for each that there is.
+fn put_kinds<W: Write>(
+    out: &mut W,
+    transcripts: &[Transcript],
+    kinds: &[(u32, &[u8])],
+) -> Result<(), RefusedWrite>
+    ensures { Writes (W.contents out.old) (W.contents out.new) result
+        (kinds_text transcripts.now (map (λ kind. (kind.0, kind.1.now)) kinds.now)) }
+{
+    for (number, words) in kinds {
+        put_denial(out, denied(*number, transcripts), words)?;
+    }
+    Ok(())
+}
+
+/// Writes how many lines were refused or failed, a line for each kind that there is, in the order of their numbers. It
+/// takes no memory. After an Err some beginning of the text went out.
+pub fn put_denials<W: Write>(out: &mut W, transcripts: &[Transcript]) -> Result<(), RefusedWrite>
+    ensures { Writes (W.contents out.old) (W.contents out.new) result (denials_text transcripts.now) }
+{
+    let kinds: [(u32, &[u8]); 17] = [
+        (1, b"refused EINVAL"),
+        (2, b"refused ENAMETOOLONG"),
+        (3, b"refused ENOENT"),
+        (4, b"refused ENOTDIR"),
+        (5, b"refused EEXIST"),
+        (6, b"refused ENOSPC"),
+        (7, b"refused EDQUOT"),
+        (8, b"refused EISDIR"),
+        (9, b"refused EACCES"),
+        (10, b"refused EFBIG"),
+        (11, b"refused EPERM"),
+        (12, b"refused EMLINK"),
+        (13, b"refused ENOTEMPTY"),
+        (14, b"refused EBUSY"),
+        (15, b"refused ESRCH"),
+        (20, b"failed JournalFull"),
+        (21, b"failed OutOfMemory"),
+    ];
+    put_kinds(out, transcripts, &kinds)
+}

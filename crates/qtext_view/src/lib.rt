@@ -1,0 +1,10 @@
+//! How a caller asks to be told what came of scripts and journals.
+#![tactic(auto)]
+
+pub use report_moment::ReportMoment;
+pub use telling::Telling;
+pub use view::View;
+
+mod report_moment;
+mod telling;
+mod view;

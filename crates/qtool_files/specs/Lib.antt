@@ -1,0 +1,2 @@
+-- What files hold.
+pub mod Held
