@@ -80,7 +80,7 @@ fn entry_in<'a>(
     }
 }
 
-/// Reads the entries of a journal with this head, and keeps the last caller and a page of paths.
+/// Reads the entries of a journal with this head, and keeps callers and a page of paths.
 #[derive(Drop)]
 pub(crate) struct EntryReader<'a> {
     pub(crate) alloc: Global,

@@ -28,7 +28,7 @@ fn entries_of(alloc: Global, head: Head, text: &[u8]) -> Result<Items<Entry>, Te
     let mut reader = EntryReader {
         alloc,
         head,
-        callers: Callers::new(),
+        callers: Callers::new(alloc),
         paths: Paths::of(text),
     };
     read_lines(alloc, &mut reader, 1, text)

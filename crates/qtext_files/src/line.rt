@@ -40,7 +40,7 @@ fn line_in<'a>(
     }
 }
 
-/// Reads the lines of a script, and keeps the last caller and a page of paths.
+/// Reads the lines of a script, and keeps callers and a page of paths.
 #[derive(Drop)]
 pub(crate) struct LineReader<'a> {
     pub(crate) alloc: Global,

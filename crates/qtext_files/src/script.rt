@@ -22,7 +22,7 @@ fn lines_of(alloc: Global, text: &[u8]) -> Result<Items<Line>, TextFault>
 {
     let mut reader = LineReader {
         alloc,
-        callers: Callers::new(),
+        callers: Callers::new(alloc),
         paths: Paths::of(text),
     };
     read_lines(alloc, &mut reader, 0, text)
