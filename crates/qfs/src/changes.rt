@@ -1,8 +1,8 @@
 //! Calls that change the store.
-ghost use Rattle.std.specs.Prelude.{◌≡◌, replicate};
+ghost use Rattle.std.specs.Prelude.{◌≡◌, ◌<◌, ◌≤◌, replicate};
 ghost use Rattle.qplain.specs.declared.call.Call.TheVariants.{Create, Mkdir, Write, Truncate, Link, Unlink, Rmdir};
 ghost use Rattle.qplain.specs.declared.call.Call.TheVariants.{Rename, SetQuota, SetGrace};
-ghost use Rattle.qsession.specs.Called.{IsCalled, IsReplyTo};
+ghost use Rattle.qsession.specs.Called.{IsCalled, IsReplyTo, IsToldNoKind};
 ghost use Rattle.qsession.specs.Holdings.{held_in};
 ghost use Rattle.qsession.specs.Replies.{done_in};
 ghost use Rattle.qsession.specs.Requests.{chown_by, kind_in, limits_in, line_by};
@@ -13,7 +13,7 @@ use qsession::{Caller, DoneReply, NewLimits, NewOwners, Session, data_of, kind_o
 use std::alloc::Global;
 
 /// Makes an empty file.
-#[tactic(auto, using(qsession::proofs::Calling::faulted, qsession::proofs::Calling::not_granted))]
+#[tactic(auto, using(qsession::proofs::Calling::path_faulted, qsession::proofs::Calling::not_granted))]
 #[unsafe(no_mangle)]
 pub extern "C" fn qfs_create(
     alloc: Global,
@@ -24,7 +24,7 @@ pub extern "C" fn qfs_create(
     done: &mut DoneReply,
 ) -> u32
     ensures called { IsCalled (held_in session.old.slot.kept) (held_in session.new.slot.kept)
-        (line_by caller.now moment (Create path.now)) result }
+        caller.now moment (Create path.now) result }
     ensures done { result ≡ 0 → IsReplyTo (held_in session.old.slot.kept)
         (line_by caller.now moment (Create path.now)) (done_in done.new) }
 {
@@ -37,7 +37,7 @@ pub extern "C" fn qfs_create(
 }
 
 /// Makes an empty directory.
-#[tactic(auto, using(qsession::proofs::Calling::faulted, qsession::proofs::Calling::not_granted))]
+#[tactic(auto, using(qsession::proofs::Calling::path_faulted, qsession::proofs::Calling::not_granted))]
 #[unsafe(no_mangle)]
 pub extern "C" fn qfs_mkdir(
     alloc: Global,
@@ -48,7 +48,7 @@ pub extern "C" fn qfs_mkdir(
     done: &mut DoneReply,
 ) -> u32
     ensures called { IsCalled (held_in session.old.slot.kept) (held_in session.new.slot.kept)
-        (line_by caller.now moment (Mkdir path.now)) result }
+        caller.now moment (Mkdir path.now) result }
     ensures done { result ≡ 0 → IsReplyTo (held_in session.old.slot.kept)
         (line_by caller.now moment (Mkdir path.now)) (done_in done.new) }
 {
@@ -61,7 +61,7 @@ pub extern "C" fn qfs_mkdir(
 }
 
 /// Writes all of the bytes at the offset, or none.
-#[tactic(auto, using(qsession::proofs::Calling::faulted, qsession::proofs::Calling::not_granted))]
+#[tactic(auto, using(qsession::proofs::Calling::path_faulted, qsession::proofs::Calling::not_granted))]
 #[unsafe(no_mangle)]
 pub extern "C" fn qfs_write(
     alloc: Global,
@@ -74,7 +74,7 @@ pub extern "C" fn qfs_write(
     done: &mut DoneReply,
 ) -> u32
     ensures called { IsCalled (held_in session.old.slot.kept) (held_in session.new.slot.kept)
-        (line_by caller.now moment (Write path.now off bytes.now)) result }
+        caller.now moment (Write path.now off bytes.now) result }
     ensures done { result ≡ 0 → IsReplyTo (held_in session.old.slot.kept)
         (line_by caller.now moment (Write path.now off bytes.now)) (done_in done.new) }
 {
@@ -91,7 +91,7 @@ pub extern "C" fn qfs_write(
 }
 
 /// Writes so many equal bytes at the offset, or none.
-#[tactic(auto, using(qsession::proofs::Calling::faulted, qsession::proofs::Calling::not_granted))]
+#[tactic(auto, using(qsession::proofs::Calling::path_faulted, qsession::proofs::Calling::not_granted))]
 #[unsafe(no_mangle)]
 pub extern "C" fn qfs_fill(
     alloc: Global,
@@ -105,7 +105,7 @@ pub extern "C" fn qfs_fill(
     done: &mut DoneReply,
 ) -> u32
     ensures called { IsCalled (held_in session.old.slot.kept) (held_in session.new.slot.kept)
-        (line_by caller.now moment (Write path.now off (replicate count byte))) result }
+        caller.now moment (Write path.now off (replicate count byte)) result }
     ensures done { result ≡ 0 → IsReplyTo (held_in session.old.slot.kept)
         (line_by caller.now moment (Write path.now off (replicate count byte))) (done_in done.new) }
 {
@@ -122,7 +122,7 @@ pub extern "C" fn qfs_fill(
 }
 
 /// Sets a file's size, in bytes.
-#[tactic(auto, using(qsession::proofs::Calling::faulted, qsession::proofs::Calling::not_granted))]
+#[tactic(auto, using(qsession::proofs::Calling::path_faulted, qsession::proofs::Calling::not_granted))]
 #[unsafe(no_mangle)]
 pub extern "C" fn qfs_truncate(
     alloc: Global,
@@ -134,7 +134,7 @@ pub extern "C" fn qfs_truncate(
     done: &mut DoneReply,
 ) -> u32
     ensures called { IsCalled (held_in session.old.slot.kept) (held_in session.new.slot.kept)
-        (line_by caller.now moment (Truncate path.now size)) result }
+        caller.now moment (Truncate path.now size) result }
     ensures done { result ≡ 0 → IsReplyTo (held_in session.old.slot.kept)
         (line_by caller.now moment (Truncate path.now size)) (done_in done.new) }
 {
@@ -147,7 +147,7 @@ pub extern "C" fn qfs_truncate(
 }
 
 /// Gives a file a further name.
-#[tactic(auto, using(qsession::proofs::Calling::faulted, qsession::proofs::Calling::not_granted))]
+#[tactic(auto, using(qsession::proofs::Calling::path_faulted, qsession::proofs::Calling::not_granted))]
 #[unsafe(no_mangle)]
 pub extern "C" fn qfs_link(
     alloc: Global,
@@ -159,7 +159,7 @@ pub extern "C" fn qfs_link(
     done: &mut DoneReply,
 ) -> u32
     ensures called { IsCalled (held_in session.old.slot.kept) (held_in session.new.slot.kept)
-        (line_by caller.now moment (Link from.now to.now)) result }
+        caller.now moment (Link from.now to.now) result }
     ensures done { result ≡ 0 → IsReplyTo (held_in session.old.slot.kept)
         (line_by caller.now moment (Link from.now to.now)) (done_in done.new) }
 {
@@ -176,7 +176,7 @@ pub extern "C" fn qfs_link(
 }
 
 /// Takes a file's name away.
-#[tactic(auto, using(qsession::proofs::Calling::faulted, qsession::proofs::Calling::not_granted))]
+#[tactic(auto, using(qsession::proofs::Calling::path_faulted, qsession::proofs::Calling::not_granted))]
 #[unsafe(no_mangle)]
 pub extern "C" fn qfs_unlink(
     alloc: Global,
@@ -187,7 +187,7 @@ pub extern "C" fn qfs_unlink(
     done: &mut DoneReply,
 ) -> u32
     ensures called { IsCalled (held_in session.old.slot.kept) (held_in session.new.slot.kept)
-        (line_by caller.now moment (Unlink path.now)) result }
+        caller.now moment (Unlink path.now) result }
     ensures done { result ≡ 0 → IsReplyTo (held_in session.old.slot.kept)
         (line_by caller.now moment (Unlink path.now)) (done_in done.new) }
 {
@@ -200,7 +200,7 @@ pub extern "C" fn qfs_unlink(
 }
 
 /// Takes an empty directory away.
-#[tactic(auto, using(qsession::proofs::Calling::faulted, qsession::proofs::Calling::not_granted))]
+#[tactic(auto, using(qsession::proofs::Calling::path_faulted, qsession::proofs::Calling::not_granted))]
 #[unsafe(no_mangle)]
 pub extern "C" fn qfs_rmdir(
     alloc: Global,
@@ -211,7 +211,7 @@ pub extern "C" fn qfs_rmdir(
     done: &mut DoneReply,
 ) -> u32
     ensures called { IsCalled (held_in session.old.slot.kept) (held_in session.new.slot.kept)
-        (line_by caller.now moment (Rmdir path.now)) result }
+        caller.now moment (Rmdir path.now) result }
     ensures done { result ≡ 0 → IsReplyTo (held_in session.old.slot.kept)
         (line_by caller.now moment (Rmdir path.now)) (done_in done.new) }
 {
@@ -224,7 +224,7 @@ pub extern "C" fn qfs_rmdir(
 }
 
 /// Gives what has one name another.
-#[tactic(auto, using(qsession::proofs::Calling::faulted, qsession::proofs::Calling::not_granted))]
+#[tactic(auto, using(qsession::proofs::Calling::path_faulted, qsession::proofs::Calling::not_granted))]
 #[unsafe(no_mangle)]
 pub extern "C" fn qfs_rename(
     alloc: Global,
@@ -236,7 +236,7 @@ pub extern "C" fn qfs_rename(
     done: &mut DoneReply,
 ) -> u32
     ensures called { IsCalled (held_in session.old.slot.kept) (held_in session.new.slot.kept)
-        (line_by caller.now moment (Rename from.now to.now)) result }
+        caller.now moment (Rename from.now to.now) result }
     ensures done { result ≡ 0 → IsReplyTo (held_in session.old.slot.kept)
         (line_by caller.now moment (Rename from.now to.now)) (done_in done.new) }
 {
@@ -253,7 +253,7 @@ pub extern "C" fn qfs_rename(
 }
 
 /// Gives an inode another user, group or project.
-#[tactic(auto, using(qsession::proofs::Calling::faulted, qsession::proofs::Calling::not_granted))]
+#[tactic(auto, using(qsession::proofs::Calling::path_faulted, qsession::proofs::Calling::not_granted))]
 #[unsafe(no_mangle)]
 pub extern "C" fn qfs_chown(
     alloc: Global,
@@ -265,7 +265,7 @@ pub extern "C" fn qfs_chown(
     done: &mut DoneReply,
 ) -> u32
     ensures called { IsCalled (held_in session.old.slot.kept) (held_in session.new.slot.kept)
-        (line_by caller.now moment (chown_by path.now owners.now)) result }
+        caller.now moment (chown_by path.now owners.now) result }
     ensures done { result ≡ 0 → IsReplyTo (held_in session.old.slot.kept)
         (line_by caller.now moment (chown_by path.now owners.now)) (done_in done.new) }
 {
@@ -283,7 +283,7 @@ pub extern "C" fn qfs_chown(
 }
 
 /// Sets the limits of a user, a group or a project: of kind 0, 1 or 2.
-#[tactic(auto, using(qsession::proofs::Calling::faulted, qsession::proofs::Calling::not_granted))]
+#[tactic(auto, using(qsession::proofs::Calling::path_faulted, qsession::proofs::Calling::not_granted))]
 #[unsafe(no_mangle)]
 pub extern "C" fn qfs_setquota(
     alloc: Global,
@@ -295,8 +295,9 @@ pub extern "C" fn qfs_setquota(
     limits: &NewLimits,
     done: &mut DoneReply,
 ) -> u32
-    ensures called { IsCalled (held_in session.old.slot.kept) (held_in session.new.slot.kept)
-        (line_by caller.now moment (SetQuota (kind_in kind) id (limits_in limits.now))) result }
+    ensures kind { 2 < kind → IsToldNoKind (held_in session.old.slot.kept) (held_in session.new.slot.kept) result }
+    ensures called { kind ≤ 2 → IsCalled (held_in session.old.slot.kept) (held_in session.new.slot.kept)
+        caller.now moment (SetQuota (kind_in kind) id (limits_in limits.now)) result }
     ensures done { result ≡ 0 → IsReplyTo (held_in session.old.slot.kept)
         (line_by caller.now moment (SetQuota (kind_in kind) id (limits_in limits.now))) (done_in done.new) }
 {
@@ -324,7 +325,7 @@ pub extern "C" fn qfs_setgrace(
     done: &mut DoneReply,
 ) -> u32
     ensures called { IsCalled (held_in session.old.slot.kept) (held_in session.new.slot.kept)
-        (line_by caller.now moment (SetGrace (record { block = block; inode = inode }))) result }
+        caller.now moment (SetGrace (record { block = block; inode = inode })) result }
     ensures done { result ≡ 0 → IsReplyTo (held_in session.old.slot.kept)
         (line_by caller.now moment (SetGrace (record { block = block; inode = inode }))) (done_in done.new) }
 {

@@ -1,8 +1,8 @@
 //! Calls that only look.
-ghost use Rattle.std.specs.Prelude.{◌≡◌, length, take};
+ghost use Rattle.std.specs.Prelude.{◌≡◌, ◌<◌, ◌≤◌, length, take};
 ghost use Rattle.qplain.specs.declared.call.Call.TheVariants.{Read, Stat as AskStat, Quota as AskQuota};
 ghost use Rattle.qplain.specs.declared.reply.Reply.TheVariants.{Bytes};
-ghost use Rattle.qsession.specs.Called.{IsCalled, IsReplyTo};
+ghost use Rattle.qsession.specs.Called.{IsCalled, IsReplyTo, IsToldNoKind};
 ghost use Rattle.qsession.specs.Holdings.{held_in};
 ghost use Rattle.qsession.specs.Replies.{quota_in, stat_in};
 ghost use Rattle.qsession.specs.Requests.{kind_in, line_by};
@@ -11,7 +11,7 @@ use qsession::{Caller, QuotaReply, Session, StatReply, kind_of, path_of};
 use std::alloc::Global;
 
 /// Reads as many bytes from the offset on as the buffer has, up to the end of the file.
-#[tactic(auto, using(qsession::proofs::Calling::faulted, qsession::proofs::Calling::not_granted))]
+#[tactic(auto, using(qsession::proofs::Calling::path_faulted, qsession::proofs::Calling::not_granted))]
 #[unsafe(no_mangle)]
 pub extern "C" fn qfs_read(
     alloc: Global,
@@ -24,7 +24,7 @@ pub extern "C" fn qfs_read(
     len: &mut usize,
 ) -> u32
     ensures called { IsCalled (held_in session.old.slot.kept) (held_in session.new.slot.kept)
-        (line_by caller.now moment (Read path.now off (length buffer.old))) result }
+        caller.now moment (Read path.now off (length buffer.old)) result }
     ensures bytes { result ≡ 0 → IsReplyTo (held_in session.old.slot.kept)
         (line_by caller.now moment (Read path.now off (length buffer.old))) (Bytes (take len.new buffer.new)) }
 {
@@ -36,7 +36,7 @@ pub extern "C" fn qfs_read(
 }
 
 /// Asks for an inode's numbers.
-#[tactic(auto, using(qsession::proofs::Calling::faulted, qsession::proofs::Calling::not_granted))]
+#[tactic(auto, using(qsession::proofs::Calling::path_faulted, qsession::proofs::Calling::not_granted))]
 #[unsafe(no_mangle)]
 pub extern "C" fn qfs_stat(
     alloc: Global,
@@ -47,7 +47,7 @@ pub extern "C" fn qfs_stat(
     stat: &mut StatReply,
 ) -> u32
     ensures called { IsCalled (held_in session.old.slot.kept) (held_in session.new.slot.kept)
-        (line_by caller.now moment (AskStat path.now)) result }
+        caller.now moment (AskStat path.now) result }
     ensures stat { result ≡ 0 → IsReplyTo (held_in session.old.slot.kept) (line_by caller.now moment (AskStat path.now))
         (stat_in stat.new) }
 {
@@ -59,7 +59,7 @@ pub extern "C" fn qfs_stat(
 }
 
 /// Asks for the quota record of a user, a group or a project: of kind 0, 1 or 2.
-#[tactic(auto, using(qsession::proofs::Calling::faulted, qsession::proofs::Calling::not_granted))]
+#[tactic(auto, using(qsession::proofs::Calling::path_faulted, qsession::proofs::Calling::not_granted))]
 #[unsafe(no_mangle)]
 pub extern "C" fn qfs_quota(
     alloc: Global,
@@ -70,8 +70,9 @@ pub extern "C" fn qfs_quota(
     id: u32,
     quota: &mut QuotaReply,
 ) -> u32
-    ensures called { IsCalled (held_in session.old.slot.kept) (held_in session.new.slot.kept)
-        (line_by caller.now moment (AskQuota (kind_in kind) id)) result }
+    ensures kind { 2 < kind → IsToldNoKind (held_in session.old.slot.kept) (held_in session.new.slot.kept) result }
+    ensures called { kind ≤ 2 → IsCalled (held_in session.old.slot.kept) (held_in session.new.slot.kept)
+        caller.now moment (AskQuota (kind_in kind) id) result }
     ensures quota { result ≡ 0 → IsReplyTo (held_in session.old.slot.kept)
         (line_by caller.now moment (AskQuota (kind_in kind) id)) (quota_in quota.new) }
 {

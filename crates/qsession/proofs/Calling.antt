@@ -1,16 +1,31 @@
 -- From what a call came to, to what a caller of another language is told of it.
-use Rattle.std.proofs.Common.{◌≡◌, ℕ, ◌<◌, ◌≤◌, Bool, true, false, Option, Some, None, Result, Ok, Err, IfOk, refl, sym, ap, subst, ◌∙◌, arith, lit<}
+use Rattle.std.proofs.Common.{◌≡◌, ◌⊎◌, inl, inr, ℕ, ◌<◌, ◌≤◌, Bool, true, false, All, List, ◌∷◌, Option, Some, None, Result, Ok, Err, IfOk, IfErr, OnErr, IsErr, refl, sym, ap, subst, ◌∙◌, arith, lit<}
+use Rattle.std.proofs.lemmas.List.Elements.{All-head, All-tail}
+use Rattle.qrules.specs.declared.kind.Kind.{Kind as WhoseKind}
+use Rattle.qrules.specs.declared.kind.Kind.TheVariants.{User, Group, Project}
+use Rattle.qrules.specs.declared.over.Over.{Over}
+use Rattle.qrules.specs.declared.over.Over.TheVariants.{InodeHard, InodeSoft, BlockHard, BlockSoft}
+use Rattle.qplain.specs.declared.call.Call.{Call}
 use Rattle.qplain.specs.declared.line.Line.{Line}
+use Rattle.qplain.specs.declared.refusal.Refusal.{Refusal}
+use Rattle.qplain.specs.declared.refusal.Refusal.TheVariants.{EINVAL, ENAMETOOLONG, ENOENT, ENOTDIR, EEXIST, ENOSPC, EDQUOT, EISDIR, EACCES}
+use Rattle.qplain.specs.declared.refusal.Refusal.TheVariants.{EFBIG, EPERM, EMLINK, ENOTEMPTY, EBUSY, ESRCH}
 use Rattle.qplain.specs.declared.reply.Reply.{Reply}
+use Rattle.qplain.specs.declared.reply.Reply.TheVariants.{Done, Bytes, Stat, Quota, Refused}
+use Rattle.qplain.specs.Arguments.{paths_of}
+use Rattle.qplain.specs.Paths.{ArePathBytes}
 use Rattle.qplain.specs.State.{State}
+use Rattle.qsession.specs.declared.caller.Caller.{Caller as BroughtCaller}
 use Rattle.qsession.specs.declared.fault.Fault.{Fault}
 use Rattle.qsession.specs.declared.fault.Fault.TheVariants.{Closed, Memory, Path, Caller, Open, Room, JournalFull, Kind, NoJournal}
 use Rattle.qsession.specs.declared.fault.Fault.TheVariants.{Line as NoLine}
-use Rattle.qsession.specs.Called.{IsCalled, IsReplyTo, IsStepOf}
-use Rattle.qsession.specs.Codes.{FAULTS}
+use Rattle.qsession.specs.Brought.{HasBadPath, HasTooManyGroups, IsCauseOfCaller, IsCauseOfPath}
+use Rattle.qsession.specs.Called.{IsCalled, IsCause, IsReplyTo, IsStepOf, IsToldStep, code_of}
+use Rattle.qsession.specs.Codes.{FAULTS, over_code, refusal_code, reply_code}
 use Rattle.qsession.specs.Faults.{fault_code}
 use Rattle.qsession.specs.Holdings.{Holding}
-use Rattle.qsession.specs.Steps.{HasCause, IsFull, is_of_arguments, stepped}
+use Rattle.qsession.specs.Requests.{line_by}
+use Rattle.qsession.specs.Steps.{HasCause, IsFull, stepped}
 
 -- where each reply to the line's call passes a test, the one that was given does
 pub passes : (test : Reply → Bool) (old new : Option Holding) (line : Line) (answer : Result Reply Fault)
@@ -41,56 +56,140 @@ fault_high NoJournal = lit< tt
 low_fault : (fault : Fault) (number : ℕ) → number ≡ fault_code fault → number < FAULTS → ⊥
 low_fault fault number is below = absurd_of (fault_code fault) FAULTS (subst (λ (n : ℕ). n < FAULTS) is below) (fault_high fault)
 
--- a session is known to be closed where that is the fault, and its journal to be full where that is
-closed_of : (old : Option Holding) (fault : Fault) → HasCause old fault → fault_code fault ≡ fault_code Closed → old ≡ None
-closed_of old Closed cause is = cause
-closed_of old Memory cause is = let no : 65 ≡ 64 = is in absurd (omega (arith, no))
-closed_of old Path cause is = let no : 66 ≡ 64 = is in absurd (omega (arith, no))
-closed_of old Caller cause is = let no : 67 ≡ 64 = is in absurd (omega (arith, no))
-closed_of old Open cause is = let no : 68 ≡ 64 = is in absurd (omega (arith, no))
-closed_of old Room cause is = let no : 69 ≡ 64 = is in absurd (omega (arith, no))
-closed_of old NoLine cause is = let no : 70 ≡ 64 = is in absurd (omega (arith, no))
-closed_of old JournalFull cause is = let no : 71 ≡ 64 = is in absurd (omega (arith, no))
-closed_of old Kind cause is = let no : 72 ≡ 64 = is in absurd (omega (arith, no))
-closed_of old NoJournal cause is = let no : 73 ≡ 64 = is in absurd (omega (arith, no))
+-- each reply has a number below 64
+over_low : (kind : WhoseKind) (over : Over) → over_code kind over < FAULTS
+over_low User InodeHard = lit< tt
+over_low User InodeSoft = lit< tt
+over_low User BlockHard = lit< tt
+over_low User BlockSoft = lit< tt
+over_low Group InodeHard = lit< tt
+over_low Group InodeSoft = lit< tt
+over_low Group BlockHard = lit< tt
+over_low Group BlockSoft = lit< tt
+over_low Project InodeHard = lit< tt
+over_low Project InodeSoft = lit< tt
+over_low Project BlockHard = lit< tt
+over_low Project BlockSoft = lit< tt
 
-full_of : (old : Option Holding) (fault : Fault) → HasCause old fault → fault_code fault ≡ fault_code JournalFull → IsFull old
-full_of old Closed cause is = let no : 64 ≡ 71 = is in absurd (omega (arith, no))
-full_of old Memory cause is = let no : 65 ≡ 71 = is in absurd (omega (arith, no))
-full_of old Path cause is = let no : 66 ≡ 71 = is in absurd (omega (arith, no))
-full_of old Caller cause is = let no : 67 ≡ 71 = is in absurd (omega (arith, no))
-full_of old Open cause is = let no : 68 ≡ 71 = is in absurd (omega (arith, no))
-full_of old Room cause is = let no : 69 ≡ 71 = is in absurd (omega (arith, no))
-full_of old NoLine cause is = let no : 70 ≡ 71 = is in absurd (omega (arith, no))
-full_of old JournalFull cause is = cause
-full_of old Kind cause is = let no : 72 ≡ 71 = is in absurd (omega (arith, no))
-full_of old NoJournal cause is = let no : 73 ≡ 71 = is in absurd (omega (arith, no))
+refusal_low : (refusal : Refusal) → refusal_code refusal < FAULTS
+refusal_low (EDQUOT kind over) = over_low kind over
+refusal_low EINVAL = lit< tt
+refusal_low ENAMETOOLONG = lit< tt
+refusal_low ENOENT = lit< tt
+refusal_low ENOTDIR = lit< tt
+refusal_low EEXIST = lit< tt
+refusal_low ENOSPC = lit< tt
+refusal_low EISDIR = lit< tt
+refusal_low EACCES = lit< tt
+refusal_low EFBIG = lit< tt
+refusal_low EPERM = lit< tt
+refusal_low EMLINK = lit< tt
+refusal_low ENOTEMPTY = lit< tt
+refusal_low EBUSY = lit< tt
+refusal_low ESRCH = lit< tt
 
--- a fault of what is brought to a call may come whatever the session holds
-pub of_arguments : (held : Option Holding) (fault : Fault) → is_of_arguments fault ≡ true → HasCause held fault
-of_arguments held Closed is = let none : false ≡ true = is in absurd (cc)
-of_arguments held Memory is = tt
-of_arguments held Path is = tt
-of_arguments held Caller is = tt
-of_arguments held Open is = tt
-of_arguments held Room is = tt
-of_arguments held NoLine is = tt
-of_arguments held JournalFull is = let none : false ≡ true = is in absurd (cc)
-of_arguments held Kind is = tt
-of_arguments held NoJournal is = tt
+reply_low : (reply : Reply) → reply_code reply < FAULTS
+reply_low (Refused refusal) = refusal_low refusal
+reply_low (Done number change) = lit< tt
+reply_low (Bytes bytes) = lit< tt
+reply_low (Stat stat) = lit< tt
+reply_low (Quota quota) = lit< tt
 
--- it changes nothing
-pub faulted : (old : Option Holding) (line : Line) (fault : Fault) (number : ℕ) → is_of_arguments fault ≡ true → number ≡ fault_code fault
-    → IsCalled old old line number
-faulted old line fault number own is =
-    let cause : HasCause old fault = of_arguments old fault own in
-    record {
-      told = λ below. absurd (low_fault fault number is below);
-      fault = λ above. refl;
-      closed = λ at. closed_of old fault cause (sym is ∙ at);
-      full = λ at. full_of old fault cause (sym is ∙ at);
-      refuses = λ at. subst (λ (n : ℕ). FAULTS ≤ n) (sym is) (fault_high fault);
-    }
+-- a step is told by the number of its reply
+told_step : (old new : Option Holding) (line : Line) (reply : Reply) → IsStepOf old new line reply → IsToldStep old new line (reply_code reply)
+told_step (Some old) (Some new) line reply is = (ap Some is.held, ap reply_code is.reply_is)
+told_step (Some old) None line reply is = absurd is
+told_step None new line reply is = absurd is
+
+-- a caller that was not taken is a cause
+pub caller_cause : (held : Option Holding) (caller : BroughtCaller) (call : Call) (fault : Fault) → IsCauseOfCaller caller fault
+    → IsCause held caller call fault
+caller_cause held caller call Closed cause = absurd cause
+caller_cause held caller call Memory cause = tt
+caller_cause held caller call Path cause = absurd cause
+caller_cause held caller call Caller cause = cause
+caller_cause held caller call Open cause = absurd cause
+caller_cause held caller call Room cause = absurd cause
+caller_cause held caller call NoLine cause = absurd cause
+caller_cause held caller call JournalFull cause = absurd cause
+caller_cause held caller call Kind cause = absurd cause
+caller_cause held caller call NoJournal cause = absurd cause
+
+-- and so is a call that what is held did not make
+pub held_cause : (h : Holding) (caller : BroughtCaller) (call : Call) (fault : Fault) → HasCause h fault → IsCause (Some h) caller call fault
+held_cause h caller call Closed cause = absurd cause
+held_cause h caller call Memory cause = tt
+held_cause h caller call Path cause = absurd cause
+held_cause h caller call Caller cause = absurd cause
+held_cause h caller call Open cause = absurd cause
+held_cause h caller call Room cause = absurd cause
+held_cause h caller call NoLine cause = absurd cause
+held_cause h caller call JournalFull cause = cause
+held_cause h caller call Kind cause = absurd cause
+held_cause h caller call NoJournal cause = absurd cause
+
+module _ (old : Option Holding) (caller : BroughtCaller) (moment : ℕ) (call : Call) (number : ℕ) where
+  path_cause : (fault : Fault) (path : List ℕ) → IsCauseOfPath path fault → ((ArePathBytes path → ⊥) → HasBadPath call)
+      → IsCause old caller call fault
+  path_cause Closed path cause bad = absurd cause
+  path_cause Memory path cause bad = tt
+  path_cause Path path cause bad = bad cause
+  path_cause Caller path cause bad = absurd cause
+  path_cause Open path cause bad = absurd cause
+  path_cause Room path cause bad = absurd cause
+  path_cause NoLine path cause bad = absurd cause
+  path_cause JournalFull path cause bad = absurd cause
+  path_cause Kind path cause bad = absurd cause
+  path_cause NoJournal path cause bad = absurd cause
+
+  -- a fault that has its cause changes nothing
+  pub faulted : (fault : Fault) → number ≡ fault_code fault → IsCause old caller call fault → IsCalled old old caller moment call number
+  faulted fault is cause =
+      let high : FAULTS ≤ number = subst (λ (n : ℕ). FAULTS ≤ n) (sym is) (fault_high fault) in
+      record {
+        told = λ below. absurd (low_fault fault number is below);
+        fault = λ above. refl;
+        cause = λ above. (fault, is, cause);
+        full = λ full. high;
+        path = λ bad. high;
+        groups = λ many. high;
+      }
+
+  -- want of memory may come to any call
+  pub memory_faulted : (fault : Fault) → fault ≡ Memory → number ≡ fault_code fault → IsCalled old old caller moment call number
+  memory_faulted fault own is = faulted Memory (is ∙ ap fault_code own) tt
+
+  -- so may a path that was not taken
+  pub path_faulted : (path : List ℕ) (rest : List (List ℕ)) (fault : Fault) → paths_of call ≡ path ∷ rest → IsCauseOfPath path fault
+      → number ≡ fault_code fault → IsCalled old old caller moment call number
+  path_faulted path rest fault paths cause is =
+      faulted fault is (path_cause fault path cause (λ bad all.
+      bad (All-head ArePathBytes path rest (subst (λ ps. All ArePathBytes ps) paths all))))
+
+  -- and a second one
+  pub second_faulted : (first path : List ℕ) (rest : List (List ℕ)) (fault : Fault) → paths_of call ≡ first ∷ path ∷ rest
+      → IsCauseOfPath path fault → number ≡ fault_code fault → IsCalled old old caller moment call number
+  second_faulted first path rest fault paths cause is =
+      faulted fault is (path_cause fault path cause (λ bad all.
+      bad (All-head ArePathBytes path rest (All-tail ArePathBytes first (path ∷ rest) (subst (λ ps. All ArePathBytes ps) paths all)))))
+
+  -- what an answer came to is told by its number
+  pub called : (new : Option Holding) (answer : Result Reply Fault) → number ≡ code_of answer
+      → IfOk answer (IsStepOf old new (line_by caller moment call)) → OnErr answer (new ≡ old) → IfErr answer (IsCause old caller call)
+      → (IsFull old → IsErr answer) → (HasTooManyGroups caller ⊎ HasBadPath call → IsErr answer) → IsCalled old new caller moment call number
+  called new (Ok reply) is ok err cause full brought =
+      let step = told_step old new (line_by caller moment call) reply ok in
+      let below : number < FAULTS = subst (λ (n : ℕ). n < FAULTS) (sym is) (reply_low reply) in
+      record {
+        told = λ low. subst (λ (n : ℕ). IsToldStep old new (line_by caller moment call) n) (sym is) step;
+        fault = λ above. absurd (absurd_of number FAULTS below above);
+        cause = λ above. absurd (absurd_of number FAULTS below above);
+        full = λ f. absurd (full f);
+        path = λ bad. absurd (brought (inr bad));
+        groups = λ many. absurd (brought (inl many));
+      }
+  called new (Err fault) is ok err cause full brought =
+      subst (λ (n : Option Holding). IsCalled old n caller moment call number) (sym err) (faulted fault is cause)
 
 -- and is not told as granted
 pub not_granted : (old : Option Holding) (line : Line) (reply : Reply) (fault : Fault) (number : ℕ) → number ≡ fault_code fault → number ≡ 0

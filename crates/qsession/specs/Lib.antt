@@ -6,6 +6,7 @@ pub mod Steps
 pub mod Answers
 pub mod Codes
 pub mod Faults
+pub mod Brought
 pub mod Called
 pub mod Requests
 pub mod Replies

@@ -1,5 +1,5 @@
 -- What a call makes of what is held: a step of the plain machine, which is journaled where a journal is kept.
-use Rattle.std.specs.Prelude.{◌≡◌, ℕ, Bool, true, false, List, [], ◌∷◌, ◌++◌, length, Option, Some, None}
+use Rattle.std.specs.Prelude.{◌≡◌, ℕ, List, [], ◌∷◌, ◌++◌, length, Option, Some, None}
 use Rattle.qplain.specs.declared.bounds.TheConstants.{MAX_ENTRIES}
 use Rattle.qplain.specs.declared.line.Line.{Line}
 use Rattle.qplain.specs.declared.reply.Reply.{Reply}
@@ -8,7 +8,7 @@ use Rattle.qplain.specs.Journal.{entry_of}
 use Rattle.qplain.specs.Step.{step}
 use Rattle.qstore.specs.Ready.{IsReady, committed}
 use Rattle.qsession.specs.declared.fault.Fault.{Fault}
-use Rattle.qsession.specs.declared.fault.Fault.TheVariants.{Closed, JournalFull}
+use Rattle.qsession.specs.declared.fault.Fault.TheVariants.{Memory, JournalFull}
 use Rattle.qsession.specs.declared.recorder.TheConstants.{WORKER}
 use Rattle.qsession.specs.declared.kept.Kept.{Kept}
 use Rattle.qsession.specs.declared.kept.Kept.TheVariants.{Plain, Journaled}
@@ -52,17 +52,11 @@ abbrev pub IsFull : Option Holding → Type 0
 IsFull None = ⊥
 IsFull (Some h) = IsFullJournal h.journal
 
--- what is known of a session where a call of it was not made for this fault
-abbrev pub HasCause : Option Holding → Fault → Type 0
-HasCause held Closed = held ≡ None
-HasCause held JournalFull = IsFull held
-HasCause held fault = Unit {0}
-
--- the fault may come whatever the session holds: it is of what is brought to a call
-abbrev pub is_of_arguments : Fault → Bool
-is_of_arguments Closed = false
-is_of_arguments JournalFull = false
-is_of_arguments fault = true
+-- why a call of what is held was not made: memory was wanting, or its journal is full
+abbrev pub HasCause : Holding → Fault → Type 0
+HasCause h Memory = Unit {0}
+HasCause h JournalFull = IsFullJournal h.journal
+HasCause h fault = ⊥
 
 -- what is kept is as the call that is ready needs it
 abbrev pub CanCommit : Kept → ReadyCall → Type 0

@@ -1,8 +1,8 @@
 //! What a caller of another language brings to a call: bytes, which are copied, and numbers.
-ghost use Rattle.std.specs.Prelude.{◌≡◌, ◌<◌, ◌↔◌, true, Err, IfOk, IfErr};
+ghost use Rattle.std.specs.Prelude.{◌≡◌, ◌<◌, ◌↔◌, Err, IsErr, IfOk, IfErr};
 ghost use Rattle.qplain.specs.Paths.{ArePathBytes};
 ghost use Rattle.qsession.specs.Requests.{kind_in};
-ghost use Rattle.qsession.specs.Steps.{is_of_arguments};
+ghost use Rattle.qsession.specs.Brought.{IsCauseOfPath};
 
 use crate::fault::Fault;
 use qplain::{Data, Path, SharedItems};
@@ -13,7 +13,7 @@ use std::alloc::Global;
 pub fn path_of(alloc: Global, bytes: &[u8]) -> Result<Path, Fault>
     ensures path { IfOk result (λ path. path ≡ bytes.now) }
     ensures form { (result ≡ Err Fault.Path) ↔ (ArePathBytes bytes.now → ⊥) }
-    ensures fault { IfErr result (λ fault. is_of_arguments fault ≡ true) }
+    ensures fault { IfErr result (IsCauseOfPath bytes.now) }
 {
     match Path::new(alloc, bytes) {
         Ok(Some(path)) => Ok(path),
@@ -39,8 +39,8 @@ pub fn data_of(alloc: Global, bytes: &[u8]) -> Result<Data, Fault>
 /// Whose record it is: 0 a user's, 1 a group's, 2 a project's. Any other number is no kind.
 pub fn kind_of(number: u32) -> Result<Kind, Fault>
     ensures kind { IfOk result (λ kind. kind ≡ kind_in number) }
-    ensures known { (result ≡ Err Fault.Kind) ↔ (2 < number) }
-    ensures fault { IfErr result (λ fault. is_of_arguments fault ≡ true) }
+    ensures known { IsErr result ↔ (2 < number) }
+    ensures fault { IfErr result (λ fault. fault ≡ Fault.Kind) }
 {
     match number {
         0 => Ok(Kind::User),

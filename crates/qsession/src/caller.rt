@@ -1,8 +1,8 @@
 //! Who makes a call.
-ghost use Rattle.std.specs.Prelude.{◌≡◌, ◌<◌, ◌↔◌, true, Err, IfOk, IfErr};
+ghost use Rattle.std.specs.Prelude.{◌≡◌, ◌<◌, ◌↔◌, Err, IfOk, IfErr};
 ghost use Rattle.qplain.specs.declared.cred.TheConstants.{MAX_MORE_GROUPS};
 ghost use Rattle.qsession.specs.Requests.{caller_in};
-ghost use Rattle.qsession.specs.Steps.{is_of_arguments};
+ghost use Rattle.qsession.specs.Brought.{IsCauseOfCaller};
 
 use crate::fault::Fault;
 use qplain::{Cred, MAX_MORE_GROUPS};
@@ -24,7 +24,7 @@ impl Caller {
     pub fn cred(&self, alloc: Global) -> Result<Cred, Fault>
         ensures caller { IfOk result (λ cred. cred ≡ caller_in self.now) }
         ensures few { (result ≡ Err Fault.Caller) ↔ (MAX_MORE_GROUPS < self.now.count) }
-        ensures fault { IfErr result (λ fault. is_of_arguments fault ≡ true) }
+        ensures fault { IfErr result (IsCauseOfCaller self.now) }
     {
         let count = self.count as usize;
         if count > MAX_MORE_GROUPS {

@@ -86,7 +86,7 @@ impl Kept {
         ensures ok { IfOk result
             (IsStep (holding_of self.old) (holding_of self.new) (line_of cred.now moment call.now)) }
         ensures err { OnErr result (holding_of self.new ≡ holding_of self.old) }
-        ensures cause { IfErr result (HasCause (Some (holding_of self.old))) }
+        ensures cause { IfErr result (HasCause (holding_of self.old)) }
         ensures full { (result ≡ Err Fault.JournalFull) ↔ IsFull (Some (holding_of self.old)) }
     {
         match self {
@@ -105,7 +105,7 @@ impl Kept {
     pub fn ready(&mut self, cred: &Cred, moment: u64, call: &Call) -> Result<ReadyCall, Fault>
         ensures same { holding_of self.new ≡ holding_of self.old }
         ensures ready { IfOk result (IsReadyFor self.new (line_of cred.now moment call.now)) }
-        ensures cause { IfErr result (HasCause (Some (holding_of self.old))) }
+        ensures cause { IfErr result (HasCause (holding_of self.old)) }
         ensures full { (result ≡ Err Fault.JournalFull) ↔ IsFull (Some (holding_of self.old)) }
     {
         match self {

@@ -1,5 +1,10 @@
-//! A law of the plain machine, as the contract of a function that does nothing when it runs.
+//! Laws, as the contracts of functions that do nothing when they run.
+ghost use Rattle.std.specs.Prelude.{All};
+ghost use Rattle.qplain.specs.Arguments.{paths_of};
+ghost use Rattle.qplain.specs.Paths.{ArePathBytes};
 ghost use Rattle.qsession.specs.Answers.{ChangesAreDone, QuotasTellRecords, ReadsTellBytes, StatsTellNumbers};
+
+use qplain::Call;
 
 /// Each call has a reply of its kind, or a refusal.
 pub fn replies_are_of_their_kind()
@@ -8,3 +13,26 @@ pub fn replies_are_of_their_kind()
     ensures stats { StatsTellNumbers }
     ensures quotas { QuotasTellRecords }
 {}
+
+/// The paths of a call are of bytes that may stand in a path.
+pub(crate) fn paths_are_good(call: &Call)
+    ensures { All ArePathBytes (paths_of call.now) }
+{
+    match call {
+        Call::Create { path }
+        | Call::Mkdir { path }
+        | Call::Write { path, .. }
+        | Call::Truncate { path, .. }
+        | Call::Read { path, .. }
+        | Call::Stat { path }
+        | Call::Unlink { path }
+        | Call::Rmdir { path }
+        | Call::Chown { path, .. } => {
+            let _bytes = path.bytes();
+        }
+        Call::Link { from, to } | Call::Rename { from, to } => {
+            let _bytes = (from.bytes(), to.bytes());
+        }
+        Call::SetQuota { .. } | Call::SetGrace { .. } | Call::Quota { .. } => {}
+    }
+}

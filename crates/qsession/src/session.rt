@@ -1,19 +1,20 @@
 //! Sessions.
-ghost use Rattle.std.specs.Prelude.{◌≡◌, Some, None, true, IsErr, IfSome, IfNone, IfOk, IfErr, OnErr, is_some};
+ghost use Rattle.std.specs.Prelude.{◌≡◌, ◌⊎◌, Some, None, true, IsErr, IfSome, IfNone, IfOk, IfErr, OnErr, is_some};
 ghost use Rattle.std.specs.Prelude.{length, take};
 ghost use Rattle.qplain.specs.declared.call.Call.TheVariants.{Read, Stat as AskStat, Quota as AskQuota};
 ghost use Rattle.qplain.specs.declared.reply.Reply.TheVariants.{Bytes};
 ghost use Rattle.qsession.specs.Answers.{is_change};
-ghost use Rattle.qsession.specs.Called.{IsCalled, IsReplyTo, IsStepOf};
+ghost use Rattle.qsession.specs.Brought.{HasBadPath, HasTooManyGroups};
+ghost use Rattle.qsession.specs.Called.{IsCalled, IsCause, IsReplyTo, IsStepOf};
 ghost use Rattle.qsession.specs.Holdings.{HoldsTrue, held_in};
 ghost use Rattle.qsession.specs.Replies.{done_in, quota_in, stat_in};
 ghost use Rattle.qsession.specs.Requests.{line_by};
-ghost use Rattle.qsession.specs.Steps.{HasCause, IsFull};
+ghost use Rattle.qsession.specs.Steps.{IsFull};
 
 use crate::caller::Caller;
 use crate::fault::Fault;
 use crate::kept::Kept;
-use crate::laws::replies_are_of_their_kind;
+use crate::laws::{paths_are_good, replies_are_of_their_kind};
 use crate::loose::Loose;
 use crate::replies::{DoneReply, QuotaReply, StatReply};
 use crate::slot::Slot;
@@ -111,9 +112,11 @@ impl Session {
         ensures ok { IfOk result (IsStepOf (held_in self.old.slot.kept) (held_in self.new.slot.kept)
             (line_by caller.now moment call.now)) }
         ensures err { OnErr result (held_in self.new.slot.kept ≡ held_in self.old.slot.kept) }
-        ensures cause { IfErr result (HasCause (held_in self.old.slot.kept)) }
+        ensures cause { IfErr result (IsCause (held_in self.old.slot.kept) caller.now call.now) }
         ensures full { IsFull (held_in self.old.slot.kept) → IsErr result }
+        ensures brought { HasTooManyGroups caller.now ⊎ HasBadPath call.now → IsErr result }
     {
+        paths_are_good(call);
         let cred = match caller.cred(alloc) {
             Ok(cred) => cred,
             Err(fault) => return Err(fault),
@@ -137,7 +140,7 @@ impl Session {
     ) -> u32
         requires { is_change call.now ≡ true }
         ensures called { IsCalled (held_in self.old.slot.kept) (held_in self.new.slot.kept)
-            (line_by caller.now moment call.now) result }
+            caller.now moment call.now result }
         ensures done { result ≡ 0
             → IsReplyTo (held_in self.old.slot.kept) (line_by caller.now moment call.now) (done_in done.new) }
     {
@@ -158,7 +161,7 @@ impl Session {
         len: &mut usize,
     ) -> u32
         ensures called { IsCalled (held_in self.old.slot.kept) (held_in self.new.slot.kept)
-            (line_by caller.now moment (Read path off (length buffer.old))) result }
+            caller.now moment (Read path off (length buffer.old)) result }
         ensures bytes { result ≡ 0
             → IsReplyTo (held_in self.old.slot.kept) (line_by caller.now moment (Read path off (length buffer.old)))
             (Bytes (take len.new buffer.new)) }
@@ -182,7 +185,7 @@ impl Session {
         stat: &mut StatReply,
     ) -> u32
         ensures called { IsCalled (held_in self.old.slot.kept) (held_in self.new.slot.kept)
-            (line_by caller.now moment (AskStat path)) result }
+            caller.now moment (AskStat path) result }
         ensures stat { result ≡ 0
             → IsReplyTo (held_in self.old.slot.kept) (line_by caller.now moment (AskStat path)) (stat_in stat.new) }
     {
@@ -202,7 +205,7 @@ impl Session {
         quota: &mut QuotaReply,
     ) -> u32
         ensures called { IsCalled (held_in self.old.slot.kept) (held_in self.new.slot.kept)
-            (line_by caller.now moment (AskQuota kind id)) result }
+            caller.now moment (AskQuota kind id) result }
         ensures quota { result ≡ 0
             → IsReplyTo (held_in self.old.slot.kept) (line_by caller.now moment (AskQuota kind id))
             (quota_in quota.new) }

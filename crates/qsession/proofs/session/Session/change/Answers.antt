@@ -2,7 +2,7 @@ use Rattle.std.proofs.Common.{Some}
 use Rattle.qsession.specs.Answers.{tells_done}
 use Rattle.qsession.specs.Holdings.{held_in}
 use Rattle.qsession.specs.Requests.{line_by}
-use Rattle.qsession.proofs.Calling.{passes}
+use Rattle.qsession.proofs.Calling.{called, passes}
 use Rattle.qsession.proofs.session.Session.change.Goals as goal
 
 pub tell_done-requires : goal.tell_done-requires
@@ -10,3 +10,9 @@ tell_done-requires c =
     let line = line_by c.args.caller.now c.args.moment c.args.call.now in
     passes tells_done (held_in c.args.self.now.slot.kept) (held_in c.call.new.self.slot.kept) line c.call.result
     (λ S. c.replies_are_of_their_kind.ensures.changes S line.cred line.moment line.call c.requires) c.call.ensures.ok
+
+pub returns-clause-called : goal.returns-clause-called
+returns-clause-called c =
+    let e = c.call.ensures in
+    called (held_in c.args.self.now.slot.kept) c.args.caller.now c.args.moment c.args.call.now _ (held_in c.call.new.self.slot.kept)
+    c.call.result c.tell_done.ensures.code e.ok e.err e.cause e.full e.brought
