@@ -95,6 +95,10 @@ reply_low (Bytes bytes) = lit< tt
 reply_low (Stat stat) = lit< tt
 reply_low (Quota quota) = lit< tt
 
+-- a reply is no fault
+no_err : (reply : Reply) → IsErr {T = Reply} {E = Fault} (Ok reply) → ⊥
+no_err reply is = let none : false ≡ true = is in absurd (cc)
+
 -- a step is told by the number of its reply
 told_step : (old new : Option Holding) (line : Line) (reply : Reply) → IsStepOf old new line reply → IsToldStep old new line (reply_code reply)
 told_step (Some old) (Some new) line reply is = (ap Some is.held, ap reply_code is.reply_is)
@@ -184,9 +188,9 @@ module _ (old : Option Holding) (caller : BroughtCaller) (moment : ℕ) (call : 
         told = λ low. subst (λ (n : ℕ). IsToldStep old new (line_by caller moment call) n) (sym is) step;
         fault = λ above. absurd (absurd_of number FAULTS below above);
         cause = λ above. absurd (absurd_of number FAULTS below above);
-        full = λ f. absurd (full f);
-        path = λ bad. absurd (brought (inr bad));
-        groups = λ many. absurd (brought (inl many));
+        full = λ f. absurd (no_err reply (full f));
+        path = λ bad. absurd (no_err reply (brought (inr bad)));
+        groups = λ many. absurd (no_err reply (brought (inl many)));
       }
   called new (Err fault) is ok err cause full brought =
       subst (λ (n : Option Holding). IsCalled old n caller moment call number) (sym err) (faulted fault is cause)

@@ -31,7 +31,8 @@ pub(crate) fn paths_are_good(call: &Call)
             let _bytes = path.bytes();
         }
         Call::Link { from, to } | Call::Rename { from, to } => {
-            let _bytes = (from.bytes(), to.bytes());
+            let _first = from.bytes();
+            let _second = to.bytes();
         }
         Call::SetQuota { .. } | Call::SetGrace { .. } | Call::Quota { .. } => {}
     }
