@@ -72,7 +72,7 @@ def escaped(text):
 
 
 def drawing(entries, points, reports):
-    """All panels of those who have a use or a limit at some point, two in a row."""
+    """The panels of those who have a limit or take a block at some point, two for each."""
     kept = [who for who in reports[0] if any(any(report[who][at] for at in (0, 1, 2, 5, 6)) for report in reports)]
     lines = []
     for row, (kind, name) in enumerate(kept):
@@ -85,7 +85,7 @@ def drawing(entries, points, reports):
     yield f"<style>\n{STYLE}</style>"
     yield f'<rect width="{width}" height="{height}" fill="#fff"/>'
     refused = sum(" => refused EDQUOT " in entry for entry in entries)
-    yield f'<text x="{LEFT}" y="18">use over {len(entries)} calls, of which {refused} were refused for a quota</text>'
+    yield f'<text x="{LEFT}" y="18">use over {len(entries)} calls; refused for a quota: {refused}</text>'
     yield from lines
     yield "</svg>"
 
