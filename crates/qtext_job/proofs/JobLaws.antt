@@ -15,7 +15,7 @@ use Rattle.clap.specs.declared.error.kind.ErrorKind.{ErrorKind}
 use Rattle.clap.specs.declared.error.kind.ErrorKind.TheVariants.{OutOfMemory}
 use Rattle.clap.specs.Words.{IsAmong, Kinds, Row, Text, fault_of, subcommand_of, all_of, first_of, one_of, rows_of}
 use Rattle.qtext_job.specs.declared.job.Job.{Job}
-use Rattle.qtext_job.specs.declared.job.Job.TheVariants.{Run, Serve, Replay, Expand}
+use Rattle.qtext_job.specs.declared.job.Job.TheVariants.{Run, Serve, Replay, Expand, Check}
 use Rattle.qtext_job.specs.declared.line_fault.LineFault.{LineFault}
 use Rattle.qtext_job.specs.declared.line_fault.LineFault.TheVariants.{Line, Memory}
 use Rattle.qtext_view.specs.declared.telling.Telling.{Telling}
@@ -200,6 +200,9 @@ its_numbers rows (Replay config telling journal) h =
 its_numbers rows (Expand config script) h =
     let same : codes "run" ≡ codes "expand" = h.0 in
     absurd cc
+its_numbers rows (Check config scripts) h =
+    let same : codes "run" ≡ codes "check" = h.0 in
+    absurd cc
 
 -- a replay has how it is told
 pub its_telling : (rows : List Row) (job : Job) → IsNamedBy (codes "replay") rows job → (telling : Telling) × IsTellingIn rows telling
@@ -213,6 +216,9 @@ its_telling rows (Replay config telling journal) h = (telling, h.2)
 its_telling rows (Expand config script) h =
     let first : 114 ≡ 101 = ap (λ name. get_or name 0 0) h.0 in
     absurd (omega (arith, first))
+its_telling rows (Check config scripts) h =
+    let same : codes "replay" ≡ codes "check" = h.0 in
+    absurd cc
 
 -- a job that serves has its moment
 pub its_moment : (rows : List Row) (job : Job) → IsNamedBy (codes "serve") rows job → (at : ℕ) × IsMomentIn rows at
@@ -226,6 +232,9 @@ its_moment rows (Replay config telling journal) h =
 its_moment rows (Expand config script) h =
     let same : codes "serve" ≡ codes "expand" = h.0 in
     absurd cc
+its_moment rows (Check config scripts) h =
+    let first : 115 ≡ 99 = ap (λ name. get_or name 0 0) h.0 in
+    absurd (omega (arith, first))
 
 -- ---- the words
 

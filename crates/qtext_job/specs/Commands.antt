@@ -196,6 +196,18 @@ friendly = record (new_rule (codes "script")) {
 abbrev pub expand : App
 expand = with_rule (with_rule (new_app (codes "expand")) config) friendly
 
+-- any number of scripts that are looked at
+abbrev pub checked : Rule
+checked = record (new_rule (codes "scripts")) {
+  value_names = 1;
+  range = Some (record { start_inclusive = 1; end_inclusive = 2 ^ 64 - 1 });
+  action = Some Append;
+}
+
+-- `check`
+abbrev pub check : App
+check = with_rule (with_rule (new_app (codes "check")) config) checked
+
 -- a command that does nothing of its own
 abbrev pub with_need : App → App
 with_need a = record a { top = record a.top { subcommand_required = true } }
@@ -214,4 +226,4 @@ with_stores a = with_subcommand (with_subcommand (with_subcommand a run.top) ser
 
 -- the command line
 abbrev pub quotafs : App
-quotafs = with_subcommand (with_stores bare) expand.top
+quotafs = with_subcommand (with_subcommand (with_stores bare) expand.top) check.top

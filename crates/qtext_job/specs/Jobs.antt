@@ -1,11 +1,11 @@
 -- What a job names, as `clap`'s matches give it, and why words are none.
 use Rattle.std.specs.Prelude.{◌≡◌, ◌⊎◌, ◌<◌, ℕ, Bool, true, false, List, [], map, Option, Some, None, ⊤}
-use Rattle.std.specs.Prelude.{codes, length, string_bytes, option_map}
+use Rattle.std.specs.Prelude.{codes, length, string_bytes, option_map, unwrap_or}
 use Rattle.clap.specs.Words.{IsAmong, Kinds, Row, Text, all_of, fault_of, first_of, subcommand_of}
 use Rattle.clap.specs.declared.error.kind.ErrorKind.{ErrorKind}
 use Rattle.clap.specs.declared.error.kind.ErrorKind.TheVariants.{DisplayHelp, DisplayVersion}
 use Rattle.qtext_job.specs.declared.job.Job.{Job}
-use Rattle.qtext_job.specs.declared.job.Job.TheVariants.{Run, Serve, Replay, Expand}
+use Rattle.qtext_job.specs.declared.job.Job.TheVariants.{Run, Serve, Replay, Expand, Check}
 use Rattle.qtext_job.specs.declared.line_fault.LineFault.{LineFault}
 use Rattle.qtext_job.specs.declared.line_fault.LineFault.TheVariants.{Line, Memory}
 use Rattle.qtext_job.specs.Commands.{quotafs}
@@ -24,6 +24,10 @@ IsBatchIn rows batch = IsNumberAt (codes "batch") 1 64 rows batch
 -- the scripts are those that are named, at least one
 abbrev pub AreScriptsIn : List Row → List Text → Type 0
 AreScriptsIn rows scripts = (all_of (codes "scripts") rows ≡ Some scripts) × (0 < length scripts)
+
+-- the scripts that are named, none where no word names one
+abbrev pub checked_in : List Row → List Text
+checked_in rows = unwrap_or (all_of (codes "scripts") rows) []
 
 -- the job of a subcommand of this name with these matches
 abbrev pub IsNamedBy : Text → List Row → Job → Type 0
@@ -47,6 +51,9 @@ IsNamedBy name rows (Replay config telling journal) = (name ≡ codes "replay")
 IsNamedBy name rows (Expand config script) = (name ≡ codes "expand")
     × (first_of (codes "config") rows ≡ Some (string_bytes config))
     × (first_of (codes "script") rows ≡ option_map (λ s. string_bytes s) script)
+IsNamedBy name rows (Check config scripts) = (name ≡ codes "check")
+    × (first_of (codes "config") rows ≡ Some (string_bytes config))
+    × (map (λ s. string_bytes s) scripts.items ≡ checked_in rows)
 
 -- the job of a subcommand's name and its matches
 abbrev pub IsJobOf : Option (Text × List Row) → Job → Type 0

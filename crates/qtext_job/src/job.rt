@@ -4,7 +4,7 @@ ghost use Rattle.clap.specs.Words.{first_of, found_of, kind_of, rows_of, subcomm
 ghost use Rattle.clap.specs.declared.error.kind.ErrorKind.TheVariants.{OutOfMemory};
 ghost use Rattle.qtext_job.specs.declared.line_fault.LineFault.TheVariants.{Memory};
 ghost use Rattle.qtext_job.specs.Jobs.{AreScriptsIn, FailsUnless, IsAskedBy, IsJobOf, IsNamedBy};
-ghost use Rattle.qtext_job.specs.Jobs.{IsRefusalOf, IsToldBy};
+ghost use Rattle.qtext_job.specs.Jobs.{IsRefusalOf, IsToldBy, checked_in};
 ghost use Rattle.qtext_job.specs.Numbers.{IsNumberAt};
 
 use crate::number::number_at;
@@ -60,6 +60,12 @@ pub enum Job {
     Expand {
         config: String,
         script: Option<String>,
+    },
+    /// To play nothing, and to tell all that is wrong in the configuration and in the scripts, of which there may be
+    /// none.
+    Check {
+        config: String,
+        scripts: Vec<String>,
     },
 }
 
@@ -210,6 +216,27 @@ fn expand(alloc: Global, matches: &ArgMatches<'_>) -> Result<Job, LineFault>
     Ok(Job::Expand { config, script })
 }
 
+/// The scripts that are named, none where no word names one.
+fn checked(alloc: Global, matches: &ArgMatches<'_>) -> Result<Vec<String>, AllocError>
+    ensures { IfOk result (λ v. map (λ s. string_bytes s) v.items
+        ≡ checked_in (rows_of (found_of matches.now))) }
+{
+    match matches.get_strs("scripts") {
+        Some(names) => copies(alloc, names),
+        None => Ok(Vec::new(alloc)),
+    }
+}
+
+fn check(alloc: Global, matches: &ArgMatches<'_>) -> Result<Job, LineFault>
+    ensures ok { IfOk result (IsNamedBy (codes "check") (rows_of (found_of matches.now))) }
+    ensures err { IfErr result (FailsUnless
+        ((job : Job) × IsNamedBy (codes "check") (rows_of (found_of matches.now)) job)) }
+{
+    let config = named(alloc, matches, "config")?;
+    let scripts = checked(alloc, matches)?;
+    Ok(Job::Check { config, scripts })
+}
+
 fn job_of(alloc: Global, matches: &ArgMatches<'_>) -> Result<Job, LineFault>
     ensures ok { IfOk result (IsJobOf (subcommand_rows_of matches.now)) }
     ensures err { IfErr result (FailsUnless ((job : Job) × IsJobOf (subcommand_rows_of matches.now) job)) }
@@ -219,6 +246,7 @@ fn job_of(alloc: Global, matches: &ArgMatches<'_>) -> Result<Job, LineFault>
         Some(("serve", matches)) => serve(alloc, matches),
         Some(("replay", matches)) => replay(alloc, matches),
         Some(("expand", matches)) => expand(alloc, matches),
+        Some(("check", matches)) => check(alloc, matches),
         _ => Err(missing(alloc)),
     }
 }

@@ -2,7 +2,7 @@
 use Rattle.std.specs.Prelude.{◌≡◌, ◌⊎◌, ℕ, ◌<◌, ◌≤◌, List, Option, length}
 use Rattle.qplain.specs.declared.bounds.TheConstants.{MAX_WORKERS}
 use Rattle.qtext_job.specs.declared.job.Job.{Job}
-use Rattle.qtext_job.specs.declared.job.Job.TheVariants.{Run, Replay, Serve, Expand}
+use Rattle.qtext_job.specs.declared.job.Job.TheVariants.{Run, Replay, Serve, Expand, Check}
 
 -- a run has a script
 abbrev pub HasScript : Job → Type 0
@@ -10,6 +10,7 @@ HasScript (Run config telling journal boards batch scripts) = 1 ≤ length scrip
 HasScript (Replay config telling journal) = Unit {0}
 HasScript (Serve config at journal board pairs) = Unit {0}
 HasScript (Expand config script) = Unit {0}
+HasScript (Check config scripts) = Unit {0}
 
 -- a run makes 1 to 64 lines under one lock
 abbrev pub HasBatch : Job → Type 0
@@ -17,6 +18,7 @@ HasBatch (Run config telling journal boards batch scripts) = (1 ≤ batch) × (b
 HasBatch (Replay config telling journal) = Unit {0}
 HasBatch (Serve config at journal board pairs) = Unit {0}
 HasBatch (Expand config script) = Unit {0}
+HasBatch (Check config scripts) = Unit {0}
 
 -- there is a seat for each script, and one more where boards are taken
 abbrev pub HasSeats : ℕ → ℕ → Type 0
@@ -28,6 +30,7 @@ IsService (Run config telling journal boards batch scripts) = ⊥
 IsService (Replay config telling journal) = ⊥
 IsService (Serve config at journal board pairs) = Unit {0}
 IsService (Expand config script) = ⊥
+IsService (Check config scripts) = ⊥
 
 -- a job that has come to nothing leaves the output as it was, unless it is a service
 abbrev pub IsUntouched : Job → Option (List ℕ) → Option (List ℕ) → Type 0

@@ -59,6 +59,8 @@ pub(crate) enum Ending {
     Output,
     /// Lines were refused or failed where none may be, as was told.
     Denied,
+    /// What was looked at has faults, as was told.
+    Faulty,
 }
 
 impl Ending {
@@ -115,7 +117,7 @@ impl Ending {
         self.status()
     }
 
-    fn put_line<E: Write>(&self, err: &mut E) -> Result<(), RefusedWrite> {
+    pub(crate) fn put_line<E: Write>(&self, err: &mut E) -> Result<(), RefusedWrite> {
         match self {
             Ending::Line { text, .. } => put(err, text.as_bytes()),
             Ending::Overwrites(what) => put_overwritten(err, *what),
@@ -126,7 +128,7 @@ impl Ending {
             Ending::Clash(clash) => put_clash(err, *clash),
             Ending::TooManyClients => put_fault(err, b"at most 16 clients"),
             Ending::TooManyWithBoard => put_fault(err, b"at most 15 clients with a board"),
-            Ending::NotServed(_) | Ending::Denied => Ok(()),
+            Ending::NotServed(_) | Ending::Denied | Ending::Faulty => Ok(()),
             Ending::Board => put_fault(err, b"board: output"),
             Ending::Script(number, fault) => put_script(err, *number, fault),
             Ending::Friendly(name, fault) => put_friendly(err, name.as_bytes(), fault),
@@ -320,7 +322,7 @@ fn put_config<E: Write>(err: &mut E, fault: &ConfigFault) -> Result<(), RefusedW
 }
 
 /// Writes a name with its control bytes escaped as TOML does, so that a fault stays one line.
-fn put_name<E: Write>(err: &mut E, name: &[u8]) -> Result<(), RefusedWrite> {
+pub(crate) fn put_name<E: Write>(err: &mut E, name: &[u8]) -> Result<(), RefusedWrite> {
     for byte in name {
         put_name_byte(err, *byte)?;
     }

@@ -22,6 +22,7 @@ pub use qtool_files::{FileFault, Files, NamedStreams, Refuser, write_run, write_
 pub use qtool_runs::{TextReplayFault, check_boards, replay, replay_text, run, run_with, serve};
 
 mod board_file;
+mod checking;
 mod clashes;
 mod client_names;
 mod ending;

@@ -5,6 +5,7 @@ ghost use Rattle.qtool.specs.Endings.{IsLate, IsLeftBy, IsStatus, IsUntouchedBy}
 ghost use Rattle.qtool.specs.Jobs.{HasBatch, HasScript, HasSeats, IsUntouched};
 ghost use Rattle.qtool.specs.declared.ending.Ending.TheVariants.{TooManyScripts, TooManyWithBoards};
 
+use crate::checking::check_job;
 use crate::clashes::ServiceNames;
 use crate::client_names::names_of;
 use crate::ending::Ending;
@@ -222,6 +223,9 @@ where
         Job::Expand { config, script } => {
             let script = script.as_ref().map(String::as_str);
             expand_job(alloc, config.as_str(), script, files, out)
+        }
+        Job::Check { config, scripts } => {
+            check_job(alloc, config.as_str(), scripts.as_slice(), files, err)
         }
         Job::Serve {
             config,

@@ -139,6 +139,17 @@ fn friendly<'a>(alloc: Global) -> Arg<'a>
         .action(ArgAction::Set)
 }
 
+fn checked<'a>(alloc: Global) -> Arg<'a>
+    ensures rule { rule_of result ≡ line.checked }
+    ensures local { result.global ≡ false }
+{
+    Arg::new(alloc, "scripts")
+        .value_name("SCRIPT")
+        .help("The scripts to look at, any number")
+        .num_args(1..)
+        .action(ArgAction::Append)
+}
+
 /// The command with one more argument.
 fn with_arg<'a>(command: Command<'a>, arg: Arg<'a>) -> Result<Command<'a>, AllocError>
     requires { arg.global ≡ false }
@@ -243,6 +254,19 @@ fn expand<'a>(alloc: Global) -> Result<Command<'a>, AllocError>
     with_arg(command, friendly(alloc))
 }
 
+fn check<'a>(alloc: Global) -> Result<Command<'a>, AllocError>
+    ensures app { IfOk result (λ c. app_of c ≡ line.check) }
+    ensures local { IfOk result (λ c. (out-Command c).has_globals ≡ false) }
+{
+    let command = named(
+        alloc,
+        "check",
+        "Plays nothing and tells all that is wrong in a configuration and in scripts",
+    );
+    let command = with_arg(command, config(alloc))?;
+    with_arg(command, checked(alloc))
+}
+
 /// The command with those that play calls on a store.
 fn with_stores<'a>(alloc: Global, command: Command<'a>) -> Result<Command<'a>, AllocError>
     ensures { IfOk result (λ c. app_of c ≡ line.with_stores (app_of command.entry)) }
@@ -262,5 +286,6 @@ pub(crate) fn command<'a>(alloc: Global) -> Result<Command<'a>, AllocError>
         .version("0.1.0")
         .subcommand_required(true);
     let command = with_stores(alloc, command)?;
-    with_command(command, expand(alloc)?)
+    let command = with_command(command, expand(alloc)?)?;
+    with_command(command, check(alloc)?)
 }

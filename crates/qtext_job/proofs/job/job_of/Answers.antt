@@ -44,3 +44,15 @@ returns-in-Some-expand-default-clause-err c =
     no_job_at (subcommand_rows_of c.args.matches.now) (codes "expand") (rows_of (found_of c.in-Some-expand-default.matches.now)) c.expand.result
     (map_first _ _ _ ∙ sym (rw c.in-Some-expand-default.is at c.subcommand.ensures.name) ∙ ap some_text c.in-Some-expand-default.is-expand)
     (sym (rw c.in-Some-expand-default.is at c.subcommand.ensures.rows)) c.expand.ensures.err
+
+pub returns-in-Some-check-default-clause-ok : goal.returns-in-Some-check-default-clause-ok
+returns-in-Some-check-default-clause-ok c =
+    job_at (subcommand_rows_of c.args.matches.now) (codes "check") (rows_of (found_of c.in-Some-check-default.matches.now)) c.check.result
+    (map_first _ _ _ ∙ sym (rw c.in-Some-check-default.is at c.subcommand.ensures.name) ∙ ap some_text c.in-Some-check-default.is-check)
+    (sym (rw c.in-Some-check-default.is at c.subcommand.ensures.rows)) c.check.ensures.ok
+
+pub returns-in-Some-check-default-clause-err : goal.returns-in-Some-check-default-clause-err
+returns-in-Some-check-default-clause-err c =
+    no_job_at (subcommand_rows_of c.args.matches.now) (codes "check") (rows_of (found_of c.in-Some-check-default.matches.now)) c.check.result
+    (map_first _ _ _ ∙ sym (rw c.in-Some-check-default.is at c.subcommand.ensures.name) ∙ ap some_text c.in-Some-check-default.is-check)
+    (sym (rw c.in-Some-check-default.is at c.subcommand.ensures.rows)) c.check.ensures.err

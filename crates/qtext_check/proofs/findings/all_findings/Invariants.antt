@@ -1,0 +1,18 @@
+use Rattle.std.proofs.Common.{◌≡◌, ◌≤◌, ◌+◌, ◌++◌, length, map}
+use Rattle.std.specs.Option.{option_map}
+use Rattle.qtext.specs.Words.{parts}
+use Rattle.qtext_files.specs.RawLines.{raw_lines_from}
+use Rattle.qtext_check.specs.Faults.{faults_in, faults_of}
+use Rattle.qtext_check.proofs.findings.all_findings.Given as goal
+
+-- the faults so far, and those of the lines that are left
+abbrev pub invariant-loop-rest : goal.invariant-loop-rest
+invariant-loop-rest l = record {
+  count : l.number + length l.rest ≤ length l.text;
+  faults : map (λ f. f.fault) l.findings.items
+      ++ faults_in (option_map (λ s. s.now) l.setup) (raw_lines_from (l.number + 1) (parts 10 l.rest))
+      ≡ faults_of (option_map (λ s. s.now) l.setup) l.text;
+}
+
+abbrev pub decreases-loop-rest : goal.decreases-loop-rest
+decreases-loop-rest l = length l.rest

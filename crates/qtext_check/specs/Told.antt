@@ -1,0 +1,12 @@
+-- How a fault is told, as far as clauses say it.
+use Rattle.std.specs.Prelude.{◌≡◌, ℕ, List, ◌++◌, codes, decimal}
+
+-- :LINE:COLUMN:
+abbrev pub place_text : ℕ → ℕ → List ℕ
+place_text line column = codes ":" ++ decimal line ++ codes ":" ++ decimal column ++ codes ": "
+
+-- the text begins with the line and some column of it
+pub record IsToldAt (line : ℕ) (text : List ℕ) : Type 0 where
+  pub column : ℕ
+  pub rest : List ℕ
+  pub parts : text ≡ place_text line column ++ rest

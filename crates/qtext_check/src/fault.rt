@@ -1,0 +1,28 @@
+use qplain::Refusal;
+use qtext::TextKind;
+
+/// What is wrong in a line.
+#[derive(Clone, Copy, Debug, PartialEq, Eq)]
+pub enum Wrong {
+    /// It is no line of a script.
+    Text(TextKind),
+    /// Its call is refused, whatever the store holds.
+    Refused(Refusal),
+}
+
+/// A line at fault, counted from 1, with the first thing wrong in it.
+#[derive(Clone, Copy, Debug, PartialEq, Eq)]
+pub struct Fault {
+    pub line: u64,
+    pub wrong: Wrong,
+}
+
+/// A fault beside its line.
+#[derive(Clone, Copy, Debug)]
+pub struct Finding<'a> {
+    pub fault: Fault,
+    /// Which word of the line is at fault, from 0, where one is.
+    pub word: usize,
+    /// The line, with no line end.
+    pub bytes: &'a [u8],
+}

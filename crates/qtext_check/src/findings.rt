@@ -1,0 +1,151 @@
+//! All that is wrong in a script.
+ghost use Rattle.std.specs.Prelude.{◌≡◌, ◌++◌, map, true, IfOk};
+ghost use Rattle.std.specs.List.{list_all};
+ghost use Rattle.std.specs.Option.{option_map};
+ghost use Rattle.qtext.specs.Words.{is_text_byte, words as words_of};
+ghost use Rattle.qtext_check.specs.Faults.{fault_in, faults_of, first_text_fault, listed, told};
+ghost use Rattle.qtext_check.specs.Wrongs.{refused_in, wrong_in};
+ghost use Rattle.qtext_files.specs.Scripts.{script_of};
+
+use crate::fault::{Fault, Finding, Wrong};
+use crate::place::word_at_fault;
+use crate::raw_line::{RawLine, next_line};
+use crate::reading::script_line_of;
+use crate::refusing::{refusal_of, refused_word};
+use qplain::{Line, Setup};
+use qtext::ReadFault;
+use qtext_read::Paths;
+use std::alloc::{AllocError, Global};
+
+/// What is wrong in a line, and which of its words is at fault, from 0.
+#[derive(Clone, Copy)]
+struct Found {
+    wrong: Wrong,
+    word: usize,
+}
+
+/// What a store of the setup, where one is known, refuses in a line whatever its state.
+fn refused_in(setup: Option<&Setup>, line: &Line) -> Option<Found>
+    ensures { option_map (λ f. f.wrong) result ≡ refused_in (option_map (λ s. s.now) setup.entry) line.now }
+{
+    let Some(setup) = setup else {
+        return None;
+    };
+    match refusal_of(setup, line) {
+        Some(refusal) => Some(Found {
+            wrong: Wrong::Refused(refusal),
+            word: refused_word(setup, line, refusal),
+        }),
+        None => None,
+    }
+}
+
+/// What is wrong in the line of that number, whose words these are.
+fn wrong_in<'a>(
+    alloc: Global,
+    setup: Option<&Setup>,
+    paths: &mut Paths<'a>,
+    number: u64,
+    line: &RawLine<'a>,
+    words: &[&'a [u8]],
+) -> Result<Option<Found>, AllocError>
+    requires bytes { line.now.is_text ≡ list_all is_text_byte line.now.bytes.now }
+    requires words { line.now.is_text ≡ true → map (λ word. word.now) words.now ≡ words_of line.now.bytes.now }
+    ensures { IfOk result (λ found. option_map (λ f. f.wrong) found ≡ wrong_in (option_map (λ s. s.now) setup.entry)
+        (record { number = number; bytes = line.now.bytes.now; whole = line.now.whole })) }
+{
+    match script_line_of(alloc, paths, number, line, words) {
+        Ok(line) => Ok(refused_in(setup, &line)),
+        Err(ReadFault::Memory) => Err(AllocError),
+        Err(ReadFault::Fault(kind)) => Ok(Some(Found {
+            wrong: Wrong::Text(kind),
+            word: word_at_fault(kind, words),
+        })),
+    }
+}
+
+/// The fault of the line of that number, beside the line.
+fn finding_in<'a>(
+    alloc: Global,
+    setup: Option<&Setup>,
+    paths: &mut Paths<'a>,
+    number: u64,
+    line: &RawLine<'a>,
+    words: &[&'a [u8]],
+) -> Result<Option<Finding<'a>>, AllocError>
+    requires bytes { line.now.is_text ≡ list_all is_text_byte line.now.bytes.now }
+    requires words { line.now.is_text ≡ true → map (λ word. word.now) words.now ≡ words_of line.now.bytes.now }
+    ensures { IfOk result (λ found. option_map (λ f. f.fault) found ≡ fault_in (option_map (λ s. s.now) setup.entry)
+        (record { number = number; bytes = line.now.bytes.now; whole = line.now.whole })) }
+{
+    match wrong_in(alloc, setup, paths, number, line, words)? {
+        Some(found) => Ok(Some(Finding {
+            fault: Fault {
+                line: number,
+                wrong: found.wrong,
+            },
+            word: found.word,
+            bytes: line.bytes,
+        })),
+        None => Ok(None),
+    }
+}
+
+/// Puts a fault behind those that are there, where there is one.
+fn put_some<'a>(
+    findings: &mut Vec<Finding<'a>>,
+    found: Option<Finding<'a>>,
+) -> Result<(), AllocError>
+    ensures { IfOk result (λ _. map (λ f. f.fault) findings.new.items
+        ≡ map (λ f. f.fault) findings.old.items ++ listed (option_map (λ f. f.fault) found.entry)) }
+{
+    match found {
+        Some(finding) => Ok(findings.push(finding)?),
+        None => Ok(()),
+    }
+}
+
+/// The faults of all lines, in their order.
+fn all_findings<'a>(
+    alloc: Global,
+    setup: Option<&Setup>,
+    text: &'a [u8],
+) -> Result<Vec<Finding<'a>>, AllocError>
+    ensures { IfOk result (λ found. map (λ f. f.fault) found.items
+        ≡ faults_of (option_map (λ s. s.now) setup.entry) text.now) }
+{
+    let mut findings = Vec::new(alloc);
+    let mut room = Vec::new(alloc);
+    let mut paths = Paths::of(text);
+    let mut rest = text;
+    let mut number = 0;
+    while !rest.is_empty() {
+        number += 1;
+        let line = next_line(&mut room, rest)?;
+        let found = finding_in(alloc, setup, &mut paths, number, &line, &room)?;
+        put_some(&mut findings, found)?;
+        rest = line.after;
+    }
+    Ok(findings)
+}
+
+/// All that is wrong in a script, each line by itself: for what it is no line of a script, or, where the setup is known,
+/// with what a store of it refuses its call whatever it holds: a moment past 2^40, a caller or an owner that is not
+/// declared, a path, data, a limit or a grace that no call may have (profile).
+///
+/// An Err is out of memory, and tells nothing.
+pub fn findings_of<'a>(
+    alloc: Global,
+    setup: Option<&Setup>,
+    text: &'a [u8],
+) -> Result<Vec<Finding<'a>>, AllocError>
+    // The fault of each line that has one, in the order of the lines.
+    ensures all { IfOk result (λ found. map (λ f. f.fault) found.items
+        ≡ faults_of (option_map (λ s. s.now) setup.entry) text.now) }
+
+    // The first for which a line is none is the one that reading the script tells, and where it tells none there is none.
+    ensures first { IfOk result (λ found. first_text_fault (map (λ f. f.fault) found.items)
+        ≡ told (script_of text.now)) }
+{
+    all_findings(alloc, setup, text)
+}

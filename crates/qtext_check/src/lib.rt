@@ -1,0 +1,18 @@
+//! All that is wrong in a script, line by line, and how it is told.
+#![tactic(auto)]
+
+pub use fault::{Fault, Finding, Wrong};
+pub use findings::findings_of;
+pub use telling::finding_text;
+
+mod allowed;
+mod argument;
+mod fault;
+mod findings;
+mod near;
+mod place;
+mod raw_line;
+mod reading;
+mod refusing;
+mod shown;
+mod telling;

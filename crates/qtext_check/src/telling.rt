@@ -1,0 +1,114 @@
+//! How a fault is told.
+ghost use Rattle.std.specs.Prelude.{◌≡◌, IfOk};
+ghost use Rattle.qtext_check.specs.Told.{IsToldAt, place_text};
+
+use crate::allowed::{allowed_words, near_words};
+use crate::fault::{Finding, Wrong};
+use crate::place::{bytes_before, word_of};
+use crate::shown::{put_pointed, put_word};
+use qplain::Refusal;
+use qtext::{Piece, RefusedWrite, TextKind, put, put_pieces};
+use std::alloc::{AllocError, Global};
+use std::io::Write;
+
+/// Writes what is wrong.
+fn put_wrong<W: Write>(out: &mut W, wrong: Wrong) -> Result<(), RefusedWrite> {
+    match wrong {
+        Wrong::Text(kind) => put(out, kind.words().as_bytes()),
+        Wrong::Refused(Refusal::ENAMETOOLONG) => put(out, b"refused ENAMETOOLONG"),
+        Wrong::Refused(_) => put(out, b"refused EINVAL"),
+    }
+}
+
+/// The word that is shown of a fault, and none where the fault is of the line.
+fn shown_word<'a>(finding: &Finding<'a>) -> &'a [u8] {
+    match finding.fault.wrong {
+        Wrong::Text(TextKind::Cut | TextKind::BadByte | TextKind::TooMany) => &[],
+        _ => word_of(finding.bytes, finding.word),
+    }
+}
+
+/// Writes the word at fault, or the byte.
+fn put_at_fault<W: Write>(
+    out: &mut W,
+    finding: &Finding<'_>,
+    word: &[u8],
+) -> Result<(), RefusedWrite> {
+    if finding.fault.wrong == Wrong::Text(TextKind::BadByte) {
+        return match finding.bytes.get(bytes_before(finding)) {
+            Some(byte) => put_pieces(out, &[Piece::Text(b": 0x"), Piece::Byte(*byte)]),
+            None => Ok(()),
+        };
+    }
+    if word.is_empty() {
+        return Ok(());
+    }
+    put(out, b": ")?;
+    put_word(out, word)
+}
+
+fn put_near<W: Write>(out: &mut W, near: Option<&[u8]>) -> Result<(), RefusedWrite> {
+    match near {
+        Some(near) => put_pieces(
+            out,
+            &[Piece::Text(b"; "), Piece::Text(near), Piece::Text(b"?")],
+        ),
+        None => Ok(()),
+    }
+}
+
+/// Writes what is wrong, the word, what is allowed in its place, and a word near to it.
+fn put_reason<W: Write>(out: &mut W, finding: &Finding<'_>) -> Result<(), RefusedWrite> {
+    let wrong = finding.fault.wrong;
+    let verb = word_of(finding.bytes, 2);
+    let word = shown_word(finding);
+    put_wrong(out, wrong)?;
+    put_at_fault(out, finding, word)?;
+    put(out, b"; wanted: ")?;
+    put(out, allowed_words(wrong, verb, finding.word).as_bytes())?;
+    put_near(out, near_words(wrong, verb, finding.word, word))
+}
+
+/// Writes what stands behind the place of a fault, and below it the line and a caret.
+fn put_told<W: Write>(out: &mut W, finding: &Finding<'_>) -> Result<(), RefusedWrite> {
+    put_reason(out, finding)?;
+    put(out, b"\n")?;
+    put_pointed(out, finding.bytes, bytes_before(finding))
+}
+
+fn told_text(alloc: Global, finding: &Finding<'_>) -> Result<Vec<u8>, AllocError> {
+    let mut text = Vec::new(alloc);
+    match put_told(&mut text, finding) {
+        Ok(()) => Ok(text),
+        Err(_) => Err(AllocError),
+    }
+}
+
+/// `:LINE:COLUMN: `
+fn place_text(alloc: Global, line: u64, column: u64) -> Result<Vec<u8>, AllocError>
+    ensures { IfOk result (λ text. text.items ≡ place_text line column) }
+{
+    let mut text = Vec::new(alloc);
+    let pieces = [
+        Piece::Text(b":"),
+        Piece::Number(line),
+        Piece::Text(b":"),
+        Piece::Number(column),
+        Piece::Text(b": "),
+    ];
+    match put_pieces(&mut text, &pieces) {
+        Ok(()) => Ok(text),
+        Err(_) => Err(AllocError),
+    }
+}
+
+/// A fault as text, behind the name of its file: `:LINE:COLUMN: WRONG: WORD; wanted: WHAT`, then `; NEAR?` where a word is
+/// near, and below it the line and a caret under the word. Columns count bytes from 1.
+pub fn finding_text(alloc: Global, finding: &Finding<'_>) -> Result<Vec<u8>, AllocError>
+    ensures { IfOk result (λ text. IsToldAt finding.now.fault.line text.items) }
+{
+    let column = (bytes_before(finding) as u64).saturating_add(1);
+    let mut text = place_text(alloc, finding.fault.line, column)?;
+    text.extend_from_slice(&told_text(alloc, finding)?)?;
+    Ok(text)
+}
