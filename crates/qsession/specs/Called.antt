@@ -36,7 +36,8 @@ IsCause held caller call fault = ⊥
 
 -- a number below 64 is that of the reply, and the call was made; at another it was not, the session is as it was, and
 -- the number is that of a fault which has its cause; a full journal, a bad path and too many groups are such
-pub record IsCalled (old new : Option Holding) (caller : BroughtCaller) (moment : ℕ) (call : Call) (number : ℕ) : Type 0 where
+pub record IsCalled (old new : Option Holding) (caller : BroughtCaller) (moment : ℕ) (call : Call)
+    (number : ℕ) : Type 0 where
   pub told : number < FAULTS → IsToldStep old new (line_by caller moment call) number
   pub fault : FAULTS ≤ number → new ≡ old
   pub cause : FAULTS ≤ number → (fault : Fault) × (number ≡ fault_code fault) × IsCause old caller call fault

@@ -16,5 +16,6 @@ tell_bytes-requires c =
 pub returns-clause-called : goal.returns-clause-called
 returns-clause-called c =
     let e = c.call.ensures in
-    called (held_in c.args.self.now.slot.kept) c.args.caller.now c.args.moment (Read c.args.path c.args.off (length c.args.buffer.now)) _ (held_in c.call.new.self.slot.kept)
+    called (held_in c.args.self.now.slot.kept) c.args.caller.now c.args.moment
+    (Read c.args.path c.args.off (length c.args.buffer.now)) _ (held_in c.call.new.self.slot.kept)
     c.call.result c.tell_bytes.ensures.code e.ok e.err e.cause e.full e.brought
