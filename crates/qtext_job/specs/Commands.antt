@@ -39,6 +39,15 @@ report_at = record (new_rule (codes "at")) {
   action = Some Set;
 }
 
+-- `--format FORMAT`, a word that has to be a format, and `text` where it is not given
+abbrev pub format : Rule
+format = record (new_rule (codes "format")) {
+  long = Some (codes "format");
+  value_names = 1;
+  defaults = codes "text" ∷ [];
+  action = Some Set;
+}
+
 -- `--quiet`, or `-q`
 abbrev pub quiet : Rule
 quiet = record (new_rule (codes "quiet")) {
@@ -165,9 +174,9 @@ verbose = record (new_rule (codes "verbose")) {
 abbrev pub with_view : App → App
 with_view a = with_rule (with_rule (with_rule (with_rows (with_rule a quiet)) calls) strict) verbose
 
--- a command that makes a report, of this configuration and as of this moment
+-- a command that makes a report, of this configuration, as of this moment and in this format
 abbrev pub with_report : App → App
-with_report a = with_view (with_rule (with_rule a config) report_at)
+with_report a = with_view (with_rule (with_rule (with_rule a config) report_at) format)
 
 -- `run`
 abbrev pub run : App

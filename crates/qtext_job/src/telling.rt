@@ -1,8 +1,9 @@
 //! How a command line asks to be told what came of a job.
-ghost use Rattle.std.specs.Prelude.{◌≡◌, IfOk, IfErr};
+ghost use Rattle.std.specs.Prelude.{◌≡◌, IfOk, IfErr, OnOk, true};
 ghost use Rattle.clap.specs.Words.{found_of, rows_of};
 ghost use Rattle.qtext_job.specs.Jobs.{FailsUnless};
-ghost use Rattle.qtext_job.specs.Tellings.{IsReportAt, IsTellingIn, is_given, is_word_at, view_of};
+ghost use Rattle.qtext_job.specs.Tellings.{IsReportAt, IsTellingIn, format_of, has_format, is_given, is_word_at};
+ghost use Rattle.qtext_job.specs.Tellings.{view_of};
 ghost use Rattle.qtext_view.specs.declared.report_moment.ReportMoment.{ReportMoment};
 ghost use Rattle.qtext_view.specs.declared.telling.Telling.{Telling};
 
@@ -10,7 +11,7 @@ use crate::LineFault;
 use crate::number::number_at;
 use clap::ArgMatches;
 use qrules::MAX_MOMENT;
-use qtext_view::{ReportMoment, Telling, View};
+use qtext_view::{Format, ReportMoment, Telling, View};
 use std::alloc::{AllocError, Global};
 
 /// Whether this word stands at an option.
@@ -62,11 +63,62 @@ fn report_moment(alloc: Global, matches: &ArgMatches<'_>) -> Result<ReportMoment
     }
 }
 
+/// Whether the word at `--format` is a format.
+fn has_format(matches: &ArgMatches<'_>) -> bool
+    ensures { result ≡ has_format (rows_of (found_of matches.now)) }
+{
+    is_word_at(matches, "format", "text")
+        || is_word_at(matches, "format", "json")
+        || is_word_at(matches, "format", "csv")
+}
+
+/// The format of this word, which is one.
+fn format(matches: &ArgMatches<'_>) -> Format
+    ensures { result ≡ format_of (rows_of (found_of matches.now)) }
+{
+    if is_word_at(matches, "format", "json") {
+        Format::Json
+    } else if is_word_at(matches, "format", "csv") {
+        Format::Csv
+    } else {
+        Format::Text
+    }
+}
+
+/// What is said of a word that is no format.
+fn format_text_of(alloc: Global, word: &str) -> Result<String, AllocError> {
+    format!(in alloc;
+        "error: invalid value {word:?} for '--format <FORMAT>': text, json or csv is wanted\n\n\
+         For more information, try '--help'.\n"
+    )
+}
+
+fn no_format(alloc: Global, matches: &ArgMatches<'_>) -> LineFault
+    ensures { FailsUnless ⊥ result }
+{
+    match format_text_of(alloc, matches.get_str("format").unwrap_or("")) {
+        Ok(text) => LineFault::Line { help: false, text },
+        Err(_) => LineFault::Memory,
+    }
+}
+
+fn test_format(alloc: Global, matches: &ArgMatches<'_>) -> Result<(), LineFault>
+    ensures ok { OnOk result (has_format (rows_of (found_of matches.now)) ≡ true) }
+    ensures err { IfErr result (FailsUnless (has_format (rows_of (found_of matches.now)) ≡ true)) }
+{
+    if has_format(matches) {
+        Ok(())
+    } else {
+        Err(no_format(alloc, matches))
+    }
+}
+
 /// What is to be shown.
 fn view(matches: &ArgMatches<'_>) -> View
     ensures { result ≡ view_of (rows_of (found_of matches.now)) }
 {
     View {
+        format: format(matches),
         quiet: is_set(matches, "quiet"),
         heads: is_set(matches, "heads"),
         calls: is_set(matches, "calls"),
@@ -81,8 +133,10 @@ pub(crate) fn telling(alloc: Global, matches: &ArgMatches<'_>) -> Result<Telling
     ensures err { IfErr result (FailsUnless
         ((telling : Telling) × IsTellingIn (rows_of (found_of matches.now)) telling)) }
 {
+    let at = report_moment(alloc, matches)?;
+    test_format(alloc, matches)?;
     Ok(Telling {
-        at: report_moment(alloc, matches)?,
+        at,
         view: view(matches),
         strict: is_set(matches, "strict"),
         verbose: is_set(matches, "verbose"),

@@ -1,6 +1,7 @@
 -- Outcomes as a view shows them (profile, after repquota(8)).
 use Rattle.std.specs.Prelude.{ℕ, false, List, [], ◌∷◌, ◌++◌, codes, if◌then◌else◌}
 use Rattle.std.specs.List.{concat, flat_map}
+use Rattle.qtext_view.specs.declared.format.Format.TheVariants.{Text}
 use Rattle.qtext_view.specs.declared.view.View.{View}
 use Rattle.qrun_replay.specs.declared.outcome.Outcome.{Outcome}
 use Rattle.qtext_outcome.specs.Boards.{boards_text}
@@ -10,7 +11,7 @@ use Rattle.qtext_outcome.specs.Outcomes.{moment_text, rest_text, told_text}
 
 -- a view that asks for nothing
 abbrev pub plain : View
-plain = record { quiet = false; heads = false; calls = false; human_readable = false; over = false }
+plain = record { format = Text; quiet = false; heads = false; calls = false; human_readable = false; over = false }
 
 -- what is left at the end, with the report as it is shown
 abbrev pub shown_left : View → Outcome → ℕ → List ℕ

@@ -8,7 +8,8 @@ use qplain::{Board, LookFault};
 use qtext::{Piece, RefusedWrite, put_pieces};
 use std::io::Write;
 
-fn fault_word(fault: LookFault) -> &'static [u8]
+/// The word of a look that was shown no board.
+pub fn look_fault_word(fault: LookFault) -> &'static [u8]
     ensures { result.now ≡ look_fault_text fault }
 {
     match fault {
@@ -38,7 +39,7 @@ fn put_no_board<W: Write>(out: &mut W, fault: LookFault) -> Result<(), RefusedWr
 {
     let pieces = [
         Piece::Text(b"board - failed "),
-        Piece::Text(fault_word(fault)),
+        Piece::Text(look_fault_word(fault)),
         Piece::Text(b"\n"),
     ];
     put_pieces(out, &pieces)

@@ -39,7 +39,7 @@ fn repeated_in(bytes: &[u8]) -> Option<u8>
 }
 
 /// The byte that all of a write's are, where there are more than a few.
-fn repeated(bytes: Input<'_>) -> Option<u8>
+pub fn repeated(bytes: Input<'_>) -> Option<u8>
     ensures { result ≡ repeated (input_bytes bytes.entry) }
 {
     match bytes {

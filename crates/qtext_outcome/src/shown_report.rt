@@ -36,14 +36,14 @@ fn put_heads<W: Write>(out: &mut W, view: View) -> Result<(), RefusedWrite>
 }
 
 /// Whether an amount is over a limit, of which 0 is none.
-fn is_over(amount: u128, limit: u64) -> bool
+pub fn is_over(amount: u128, limit: u64) -> bool
     ensures { result ≡ is_over amount limit }
 {
     limit != 0 && amount > limit as u128
 }
 
 /// What a record uses of blocks, in KiB.
-fn kib_of(row: &RecordRow) -> u128
+pub fn kib_of(row: &RecordRow) -> u128
     ensures value { result ≡ KIB_PER_BLOCK * row.now.blocks }
     ensures small { result < 2 ^ 66 }
 {
@@ -51,7 +51,7 @@ fn kib_of(row: &RecordRow) -> u128
 }
 
 /// Whether use is over a limit, soft or hard, of blocks or of inodes.
-fn is_over_any(row: &RecordRow) -> bool
+pub fn is_over_any(row: &RecordRow) -> bool
     ensures { result ≡ is_over_any row.now }
 {
     let (kib, inodes) = (kib_of(row), row.inodes as u128);

@@ -1,6 +1,10 @@
-/// What of an outcome is shown beside its text, or in place of it.
+use crate::Format;
+
+/// What of an outcome is shown, and in which form.
 #[derive(Clone, Copy, Debug, PartialEq, Eq)]
 pub struct View {
+    /// The form of what is shown.
+    pub format: Format,
     /// The report alone.
     pub quiet: bool,
     /// A line over the report that names its columns.

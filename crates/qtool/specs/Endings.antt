@@ -15,7 +15,11 @@ IsStatus status = (status ≡ 0) ⊎ (status ≡ 1) ⊎ (status ≡ 2) ⊎ (stat
 abbrev pub IsLate : Ending → Type 0
 IsLate ending = (ending ≡ Output) ⊎ (ending ≡ Denied)
 
--- the status of such an ending
+-- a job that has come to nothing leaves the output as it was, unless it ends late
+abbrev pub IsLeftUnlessLate : Option (List ℕ) → Option (List ℕ) → Ending → Type 0
+IsLeftUnlessLate old new ending = IsLate ending ⊎ (new ≡ old)
+
+-- the status of an ending that comes late
 abbrev pub IsLateStatus : ℕ → Type 0
 IsLateStatus status = (status ≡ 1) ⊎ (status ≡ 4)
 

@@ -1,7 +1,8 @@
 //! All that is wrong in a configuration and in scripts, told at once.
 
-use crate::ending::{Ending, put_name};
-use crate::program::{configuration, load};
+use crate::ending::Ending;
+use crate::fault_text::put_name;
+use crate::reading::{configuration, load};
 use crate::standard::test_scripts;
 use crate::{Files, Setup};
 use qtext::put;

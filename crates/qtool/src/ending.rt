@@ -2,12 +2,16 @@
 ghost use Rattle.std.specs.Prelude.{◌≡◌, ◌⊎◌, true};
 ghost use Rattle.qtool.specs.Endings.{IsLate, IsLateStatus, IsStatus, IsUntouchedAt};
 
-use crate::clashes::{Clash, Role};
+use crate::clashes::Clash;
+use crate::fault_text::{
+    put_clash, put_config, put_fault, put_file, put_friendly, put_journal_fault, put_mismatch,
+    put_not_started, put_overwritten, put_script,
+};
 use crate::overwriting::Overwritten;
 use crate::{ConfigFault, FileFault, TextFault};
 use qplain::NoMemory;
 use qrun_client::ClientEnd;
-use qtext::{Piece, RefusedWrite, put, put_pieces};
+use qtext::{RefusedWrite, put};
 use std::io::Write;
 
 /// Why the program ends before its work is done.
@@ -145,198 +149,5 @@ impl Ending {
 impl From<NoMemory> for Ending {
     fn from(_none: NoMemory) -> Ending {
         Ending::Memory
-    }
-}
-
-/// Writes what a name of a service is of.
-fn put_role<E: Write>(err: &mut E, role: Role) -> Result<(), RefusedWrite> {
-    match role {
-        Role::Config => put(err, b"the configuration"),
-        Role::Script(number) => put_numbered(err, b"script ", number),
-        Role::Journal => put(err, b"the journal"),
-        Role::Board => put(err, b"the board"),
-        Role::Standard => put(err, b"the output"),
-        Role::Input(client) => put_numbered(err, b"the lines of client ", client),
-        Role::Output(client) => put_numbered(err, b"the replies of client ", client),
-    }
-}
-
-fn put_numbered<E: Write>(err: &mut E, words: &[u8], number: u64) -> Result<(), RefusedWrite> {
-    put_pieces(err, &[Piece::Text(words), Piece::Number(number)])
-}
-
-/// Writes a fault of the command line: which two of its names clash.
-fn put_clash<E: Write>(err: &mut E, clash: Clash) -> Result<(), RefusedWrite> {
-    put(err, b"error: ")?;
-    match clash {
-        Clash::Over(one, other) => {
-            put_role(err, one)?;
-            put(err, b" would be written over ")?;
-            put_role(err, other)?;
-            put(err, b"\n")
-        }
-        Clash::Stream(one, other) => {
-            put_role(err, one)?;
-            put(err, b" and ")?;
-            put_role(err, other)?;
-            put(err, b" are one stream\n")
-        }
-    }
-}
-
-/// Writes a fault of the command line: which of its files the journal names.
-fn put_overwritten<E: Write>(err: &mut E, what: Overwritten) -> Result<(), RefusedWrite> {
-    put(err, b"error: the journal would be written over ")?;
-    match what {
-        Overwritten::Config => put(err, b"the configuration\n"),
-        Overwritten::Script(number) => put_pieces(
-            err,
-            &[
-                Piece::Text(b"script "),
-                Piece::Number(number),
-                Piece::Text(b"\n"),
-            ],
-        ),
-        Overwritten::Output => put(err, b"the output\n"),
-    }
-}
-
-fn put_fault<E: Write>(err: &mut E, words: &[u8]) -> Result<(), RefusedWrite> {
-    let pieces = [
-        Piece::Text(b"quotafs: "),
-        Piece::Text(words),
-        Piece::Text(b"\n"),
-    ];
-    put_pieces(err, &pieces)
-}
-
-/// Writes a fault of what has this name.
-fn put_named<'a, E: Write>(
-    err: &mut E,
-    words: &'a [u8],
-    name: &'a [u8],
-) -> Result<(), RefusedWrite> {
-    put_pieces(err, &[Piece::Text(b"quotafs: "), Piece::Text(words)])?;
-    put_name(err, name)?;
-    put(err, b"\n")
-}
-
-/// What is said of a file that cannot be read.
-fn why_words(why: FileFault) -> &'static [u8] {
-    match why {
-        FileFault::NotThere => b"it is not there",
-        FileFault::Folder => b"it is a folder",
-        FileFault::NotPermitted => b"it may not be read",
-        FileFault::NotText => b"it is not UTF-8",
-        FileFault::Fails | FileFault::Memory => b"the system fails to read it",
-    }
-}
-
-/// Writes which file cannot be read, and why, where that is to be told.
-fn put_file<E: Write>(
-    err: &mut E,
-    name: &[u8],
-    why: Option<FileFault>,
-) -> Result<(), RefusedWrite> {
-    put_named(err, b"cannot read ", name)?;
-    match why {
-        Some(why) => put_fault(err, why_words(why)),
-        None => Ok(()),
-    }
-}
-
-/// Writes what became of the stream of this name, which is a client's.
-pub(crate) fn put_client_fault<E: Write>(
-    err: &mut E,
-    client: u64,
-    words: &str,
-    name: &str,
-) -> Result<(), RefusedWrite> {
-    let pieces = [
-        Piece::Text(b"quotafs: client "),
-        Piece::Number(client),
-        Piece::Text(b": "),
-    ];
-    put_pieces(err, &pieces)?;
-    put(err, words.as_bytes())?;
-    put_name(err, name.as_bytes())?;
-    put(err, b"\n")
-}
-
-fn put_script<E: Write>(err: &mut E, number: u64, fault: &TextFault) -> Result<(), RefusedWrite> {
-    let pieces = [Piece::Text(b"quotafs: script "), Piece::Number(number)];
-    put_pieces(err, &pieces)?;
-    put_text_fault(err, fault)
-}
-
-fn put_friendly<E: Write>(err: &mut E, name: &[u8], fault: &TextFault) -> Result<(), RefusedWrite> {
-    put(err, b"quotafs: ")?;
-    put_name(err, name)?;
-    put_text_fault(err, fault)
-}
-
-fn put_journal_fault<E: Write>(err: &mut E, fault: &TextFault) -> Result<(), RefusedWrite> {
-    put(err, b"quotafs: journal")?;
-    put_text_fault(err, fault)
-}
-
-/// Writes which line is at fault and why, after the text's name.
-fn put_text_fault<E: Write>(err: &mut E, fault: &TextFault) -> Result<(), RefusedWrite> {
-    let pieces = [
-        Piece::Text(b": line "),
-        Piece::Number(fault.line),
-        Piece::Text(b": "),
-        Piece::Text(fault.kind.words().as_bytes()),
-        Piece::Text(b"\n"),
-    ];
-    put_pieces(err, &pieces)
-}
-
-fn put_mismatch<E: Write>(err: &mut E, place: u64) -> Result<(), RefusedWrite> {
-    let pieces = [
-        Piece::Text(b"quotafs: mismatch at "),
-        Piece::Number(place),
-        Piece::Text(b"\n"),
-    ];
-    put_pieces(err, &pieces)
-}
-
-fn put_not_started<E: Write>(err: &mut E, worker: u64) -> Result<(), RefusedWrite> {
-    let pieces = [
-        Piece::Text(b"quotafs: worker "),
-        Piece::Number(worker),
-        Piece::Text(b" not started\n"),
-    ];
-    put_pieces(err, &pieces)
-}
-
-fn put_config<E: Write>(err: &mut E, fault: &ConfigFault) -> Result<(), RefusedWrite> {
-    match fault {
-        ConfigFault::Text => put_fault(err, b"config: text"),
-        ConfigFault::Field(key) => put_named(err, b"config: field ", key.as_bytes()),
-        ConfigFault::Range => put_fault(err, b"config: range"),
-        ConfigFault::Duplicate => put_fault(err, b"config: duplicate"),
-        ConfigFault::NoZero => put_fault(err, b"config: no zero"),
-        ConfigFault::Memory => put_fault(err, b"memory"),
-    }
-}
-
-/// Writes a name with its control bytes escaped as TOML does, so that a fault stays one line.
-pub(crate) fn put_name<E: Write>(err: &mut E, name: &[u8]) -> Result<(), RefusedWrite> {
-    for byte in name {
-        put_name_byte(err, *byte)?;
-    }
-    Ok(())
-}
-
-fn put_name_byte<E: Write>(err: &mut E, byte: u8) -> Result<(), RefusedWrite> {
-    match byte {
-        0x08 => put(err, b"\\b"),
-        b'\t' => put(err, b"\\t"),
-        b'\n' => put(err, b"\\n"),
-        0x0c => put(err, b"\\f"),
-        b'\r' => put(err, b"\\r"),
-        0..0x20 | 0x7f => put_pieces(err, &[Piece::Text(b"\\u00"), Piece::Byte(byte)]),
-        _ => put(err, &[byte]),
     }
 }

@@ -4,7 +4,7 @@ ghost use Rattle.qtext.specs.Written.{Writes};
 ghost use Rattle.qtool.specs.declared.ending.Ending.TheVariants.{Output};
 
 use crate::ending::Ending;
-use crate::program::{configuration, load};
+use crate::reading::{configuration, load};
 use crate::{Files, TextFault, TextKind};
 use qtext::{RefusedWrite, put};
 use qtext_expand::expand;

@@ -21,14 +21,17 @@ pub use qtext_view::{ReportMoment, Telling, View};
 pub use qtool_files::{FileFault, Files, NamedStreams, Refuser, write_run, write_service};
 pub use qtool_runs::{TextReplayFault, check_boards, replay, replay_text, run, run_with, serve};
 
-mod board_file;
 mod checking;
 mod clashes;
 mod client_names;
 mod ending;
 mod expanding;
+mod fault_text;
 mod overwriting;
 mod program;
+mod reading;
+mod replaying;
+mod running;
 mod serving;
 mod standard;
 mod telling;

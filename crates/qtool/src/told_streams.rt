@@ -1,6 +1,6 @@
 //! The streams of a client, of which it is told at once when they cannot be opened or refuse.
 
-use crate::ending::put_client_fault;
+use crate::fault_text::put_client_fault;
 use qrun_client::ClientEnd;
 use qtext_client::{Pair, Streams};
 use std::io::Write;

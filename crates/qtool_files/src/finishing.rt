@@ -3,7 +3,7 @@ ghost use Rattle.std.specs.Prelude.{◌≡◌, Err, IfOk, IfErr, IfSome, IsSome,
 ghost use Rattle.std.specs.Io.KnownBytes.{Appends};
 ghost use Rattle.qtext.specs.Written.{AppendsFront, Writes};
 ghost use Rattle.qtext_outcome.specs.Outcomes.{left_text};
-ghost use Rattle.qtext_outcome.specs.Views.{shown_text};
+ghost use Rattle.qtext_rows.specs.Formats.{formatted_text};
 ghost use Rattle.qtext_files.specs.Spelling.{CanBeRead, journal_spelling};
 ghost use Rattle.qtool_files.specs.Held.{IsKept};
 ghost use Rattle.qtool_files.specs.declared.finishing.Refuser.TheVariants.{Output};
@@ -13,7 +13,8 @@ use qplain::Journal;
 use qrun_replay::Outcome;
 use qtext::RefusedWrite;
 use qtext_files::put_journal;
-use qtext_outcome::{put_left, put_shown};
+use qtext_outcome::put_left;
+use qtext_rows::put_formatted;
 use qtext_view::View;
 use std::io::Write;
 
@@ -34,9 +35,9 @@ fn finish_outcome<W: Write>(
     at: u64,
     out: &mut W,
 ) -> Result<(), RefusedWrite>
-    ensures { Writes (W.contents out.old) (W.contents out.new) result (shown_text view outcome.now at) }
+    ensures { Writes (W.contents out.old) (W.contents out.new) result (formatted_text view outcome.now at) }
 {
-    if put_shown(out, view, outcome, at).is_err() || out.flush().is_err() {
+    if put_formatted(out, view, outcome, at).is_err() || out.flush().is_err() {
         return Err(RefusedWrite);
     }
     Ok(())
@@ -114,9 +115,9 @@ pub fn write_run<F: Files, O: Write>(
     out: &mut O,
 ) -> Result<(), Refuser>
     ensures whole { (result ≡ Err Output → ⊥)
-        → Appends (O.contents out.old) (O.contents out.new) (shown_text view outcome.now at) }
+        → Appends (O.contents out.old) (O.contents out.new) (formatted_text view outcome.now at) }
     ensures beginning { result ≡ Err Output
-        → AppendsFront (O.contents out.old) (O.contents out.new) (shown_text view outcome.now at) }
+        → AppendsFront (O.contents out.old) (O.contents out.new) (formatted_text view outcome.now at) }
     ensures no_file { result ≡ Err Output → files.new ≡ files.old }
     ensures again { IfOk result (λ _. IsSome journal.entry → CanBeRead outcome.now.journal) }
 

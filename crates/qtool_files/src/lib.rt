@@ -1,8 +1,10 @@
 //! Files by name, and what came of a run or of a service, written to them.
 #![tactic(auto)]
 
+pub use board_file::BoardFile;
 pub use files::{FileFault, Files, NamedStreams};
 pub use finishing::{Refuser, write_run, write_service};
 
+mod board_file;
 mod files;
 mod finishing;

@@ -23,6 +23,18 @@ fn report_at<'a>(alloc: Global) -> Arg<'a>
         .action(ArgAction::Set)
 }
 
+fn format<'a>(alloc: Global) -> Arg<'a>
+    ensures rule { rule_of result ≡ line.format }
+    ensures local { result.global ≡ false }
+{
+    Arg::new(alloc, "format")
+        .long("format")
+        .value_name("FORMAT")
+        .help("The form of what is printed: text, json, an object a line, or csv, the report alone")
+        .default_value("text")
+        .action(ArgAction::Set)
+}
+
 fn quiet<'a>(alloc: Global) -> Arg<'a>
     ensures rule { rule_of result ≡ line.quiet }
     ensures local { result.global ≡ false }
@@ -133,5 +145,6 @@ pub(super) fn with_report<'a>(
 {
     let command = with_arg(command, config(alloc))?;
     let command = with_arg(command, report_at(alloc))?;
+    let command = with_arg(command, format(alloc))?;
     with_view(alloc, command)
 }

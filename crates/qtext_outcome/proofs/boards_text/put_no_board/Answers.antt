@@ -1,4 +1,4 @@
 use Rattle.qtext_outcome.proofs.boards_text.put_no_board.Goals as goal
 
 pub returns : goal.returns
-returns g c = rw c.fault_word.ensures at c.put_pieces.ensures
+returns g c = rw c.look_fault_word.ensures at c.put_pieces.ensures

@@ -2,8 +2,8 @@ use Rattle.std.proofs.Common.{subst}
 use Rattle.qtool.specs.Jobs.{HasBatch, HasScript}
 use Rattle.qtool.proofs.program.do_job.Goals as goal
 
-pub run_of-requires-clause-some : goal.run_of-requires-clause-some
-run_of-requires-clause-some g c κs within = rw c.as_slice-names.ensures.value (subst HasScript c.in-Run.is c.requires.some)
+pub run_job-requires-clause-some : goal.run_job-requires-clause-some
+run_job-requires-clause-some g c κs within = rw c.as_slice.ensures.value (subst HasScript c.in-Run.is c.requires.some)
 
-pub run_of-requires-clause-batch : goal.run_of-requires-clause-batch
-run_of-requires-clause-batch g c κs within = subst HasBatch c.in-Run.is c.requires.batch
+pub run_job-requires-clause-batch : goal.run_job-requires-clause-batch
+run_job-requires-clause-batch g c κs within = subst HasBatch c.in-Run.is c.requires.batch

@@ -1,5 +1,5 @@
 use Rattle.std.proofs.Common.{◌≡◌, length}
-use Rattle.qtool.proofs.program.read_scripts.Given as goal
+use Rattle.qtool.proofs.reading.read_scripts.Given as goal
 
 abbrev pub invariant-loop-name : goal.invariant-loop-name
 invariant-loop-name g l = (l.number ≡ l.name-index) × (length l.scripts.items ≡ l.name-index)

@@ -1,6 +1,7 @@
 //! The file in which a monitor reads the quotas of a service.
 
-use crate::{Board, Files, Setup};
+use crate::Files;
+use qplain::{Board, Setup};
 use qrun::Monitor;
 use qtext::RefusedWrite;
 use qtext_metrics::put_metrics;
@@ -16,12 +17,16 @@ const MOMENT: u64 = 1;
 
 /// A file that holds the board shown last, whole at any time. Where it refuses once, no further board is written.
 #[derive(Drop)]
-pub(crate) struct BoardFile<'a, F: Files, R: Clock> {
-    pub(crate) clock: &'a R,
-    pub(crate) files: &'a mut F,
-    pub(crate) name: &'a str,
-    pub(crate) setup: Setup,
-    pub(crate) refused: &'a mut bool,
+pub struct BoardFile<'a, F: Files, R: Clock> {
+    /// By which it waits.
+    pub clock: &'a R,
+    pub files: &'a mut F,
+    /// The name of the file.
+    pub name: &'a str,
+    /// The setup of the store, which has the names.
+    pub setup: Setup,
+    /// Whether the file has refused.
+    pub refused: &'a mut bool,
 }
 
 /// Writes a board, and flushes it.

@@ -1,0 +1,8 @@
+-- In reading order: lines, records and the rest of an outcome as objects, an outcome as lines of JSON, the report as
+-- records of CSV, and an outcome in a format.
+pub mod Lines
+pub mod Records
+pub mod Rest
+pub mod Json
+pub mod Csv
+pub mod Formats

@@ -1,0 +1,130 @@
+//! The lines of transcripts as objects.
+ghost use Rattle.std.specs.Prelude.{◌++◌, [], if◌then◌else◌};
+ghost use Rattle.qtext.specs.Written.{Writes};
+ghost use Rattle.qtext_rows.specs.Lines.{asked_members, line_object, line_objects, line_start, shown_call};
+ghost use Rattle.qtext_rows.specs.Lines.{transcript_objects, transcripts_objects};
+ghost use Rattle.qtext_json.specs.Replies.{answer_members};
+
+use qplain::{Call, CallFault, Line, Receipt, Transcript};
+use qtext::RefusedWrite;
+use qtext_json::{Part, Value, put_answer, put_call, put_caller_members, put_fill, put_parts};
+use qtext_outcome::repeated;
+use std::io::Write;
+
+fn put_start<W: Write>(out: &mut W, worker: u64, place: u64) -> Result<(), RefusedWrite>
+    ensures { Writes (W.contents out.old) (W.contents out.new) result (line_start worker place) }
+{
+    let parts = [
+        Part::Open(b"line"),
+        Part::Member(b"worker", Value::Number(worker)),
+        Part::Member(b"line", Value::Number(place)),
+    ];
+    put_parts(out, &parts)
+}
+
+/// Writes a call, of which a write is told as a fill where all of its bytes are equal.
+fn put_shown_call<W: Write>(out: &mut W, call: &Call) -> Result<(), RefusedWrite>
+    ensures { Writes (W.contents out.old) (W.contents out.new) result (shown_call call.now) }
+{
+    match call {
+        Call::Write { path, off, bytes } => match repeated(bytes.input()) {
+            Some(byte) => put_fill(out, path, *off, bytes.len(), byte),
+            None => put_call(out, call),
+        },
+        call => put_call(out, call),
+    }
+}
+
+#[tactic(auto, using(qtext::proofs::Fronts::front_of_first, qtext::proofs::Fronts::writes_then))]
+fn put_asked<W: Write>(out: &mut W, line: &Line) -> Result<(), RefusedWrite>
+    ensures { Writes (W.contents out.old) (W.contents out.new) result (asked_members line.now) }
+{
+    put_caller_members(out, line)?;
+    put_shown_call(out, &line.call)
+}
+
+/// Writes what a line asked for, where calls are to be shown.
+fn put_shown<W: Write>(out: &mut W, calls: bool, line: &Line) -> Result<(), RefusedWrite>
+    ensures { Writes (W.contents out.old) (W.contents out.new) result (if calls then asked_members line.now else []) }
+{
+    if calls { put_asked(out, line) } else { Ok(()) }
+}
+
+#[tactic(auto, using(qtext::proofs::Fronts::front_of_first, qtext::proofs::Fronts::writes_then))]
+fn put_rest<W: Write>(
+    out: &mut W,
+    calls: bool,
+    line: &Line,
+    answer: &Result<Receipt, CallFault>,
+) -> Result<(), RefusedWrite>
+    ensures { Writes (W.contents out.old) (W.contents out.new) result
+        ((if calls then asked_members line.now else []) ++ answer_members answer.now) }
+{
+    put_shown(out, calls, line)?;
+    put_answer(out, answer)
+}
+
+/// Writes the object of a worker's line.
+#[tactic(auto, using(qtext::proofs::Fronts::front_of_first, qtext::proofs::Fronts::writes_then))]
+fn put_line<W: Write>(
+    out: &mut W,
+    calls: bool,
+    worker: u64,
+    place: u64,
+    line: &Line,
+    answer: &Result<Receipt, CallFault>,
+) -> Result<(), RefusedWrite>
+    ensures { Writes (W.contents out.old) (W.contents out.new) result
+        (line_object calls worker place line.now answer.now) }
+{
+    put_start(out, worker, place)?;
+    put_rest(out, calls, line, answer)
+}
+
+/// Writes an object for each line with what it was answered.
+fn put_lines<W: Write>(
+    out: &mut W,
+    calls: bool,
+    worker: u64,
+    lines: &[Line],
+    answers: &[Result<Receipt, CallFault>],
+) -> Result<(), RefusedWrite>
+    ensures { Writes (W.contents out.old) (W.contents out.new) result
+        (line_objects calls worker 1 lines.now answers.now) }
+{
+    for at in 0..lines.len().min(answers.len()) {
+        put_line(out, calls, worker, at as u64 + 1, &lines[at], &answers[at])?;
+    }
+    Ok(())
+}
+
+fn put_transcript<W: Write>(
+    out: &mut W,
+    calls: bool,
+    transcript: &Transcript,
+) -> Result<(), RefusedWrite>
+    ensures { Writes (W.contents out.old) (W.contents out.new) result (transcript_objects calls transcript.now) }
+{
+    let (lines, answers) = (&transcript.lines, &transcript.answers);
+    put_lines(
+        out,
+        calls,
+        transcript.worker,
+        lines.as_slice(),
+        answers.as_slice(),
+    )
+}
+
+/// Writes the objects of all lines, one transcript after the other.
+pub(crate) fn put_transcripts<W: Write>(
+    out: &mut W,
+    calls: bool,
+    transcripts: &[Transcript],
+) -> Result<(), RefusedWrite>
+    ensures { Writes (W.contents out.old) (W.contents out.new) result (transcripts_objects calls transcripts.now) }
+{
+    for transcript in transcripts {
+        put_transcript(out, calls, transcript)?;
+    }
+    Ok(())
+}

@@ -1,0 +1,60 @@
+//! Replays, from the name of a journal to what is told of it.
+ghost use Rattle.std.specs.Prelude.{IfErr};
+ghost use Rattle.qtool.specs.Endings.{IsLeftUnlessLate};
+
+use crate::ending::Ending;
+use crate::reading::{configuration, load};
+use crate::standard::test_played;
+use crate::telling::finish;
+use crate::{Files, Outcome, Telling, TextReplayFault, replay_text};
+use std::alloc::Global;
+use std::io::Write;
+
+/// The ending of a replay that has no outcome.
+fn ending_of_replay(fault: TextReplayFault) -> Ending {
+    match fault {
+        TextReplayFault::Memory => Ending::Memory,
+        TextReplayFault::Text(fault) => Ending::Journal(fault),
+        TextReplayFault::Mismatch(place) => Ending::Mismatch(place),
+    }
+}
+
+/// Reads the configuration and the journal, and plays it.
+fn replay_of<F: Files>(
+    alloc: Global,
+    seed: u64,
+    config: &str,
+    journal: &str,
+    files: &mut F,
+) -> Result<Outcome, Ending> {
+    let config = configuration(alloc, files, config)?;
+    let text = load(alloc, files, journal)?;
+    replay_text(alloc, config, text, seed).map_err(ending_of_replay)
+}
+
+/// What a replay is asked for.
+#[derive(Clone, Copy)]
+pub(crate) struct AskedReplay<'a> {
+    pub(crate) config: &'a str,
+    pub(crate) journal: &'a str,
+    pub(crate) telling: Telling,
+}
+
+/// Plays the journal, and only then writes what came of it.
+pub(crate) fn replay_job<F: Files, O: Write, E: Write>(
+    alloc: Global,
+    seed: u64,
+    asked: AskedReplay<'_>,
+    files: &mut F,
+    out: &mut O,
+    err: &mut E,
+) -> Result<(), Ending>
+    ensures { IfErr result (IsLeftUnlessLate (O.contents out.old) (O.contents out.new)) }
+{
+    let (config, journal) = (asked.config, asked.journal);
+    test_played(config, journal).map_err(Ending::Clash)?;
+    let outcome = replay_of(alloc, seed, config, journal, files).map_err(|ending| ending.explained(
+        asked.telling.verbose,
+    ))?;
+    finish(outcome, asked.telling, None, files, out, err)
+}

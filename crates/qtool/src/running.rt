@@ -1,0 +1,95 @@
+//! Runs, from the names of their scripts to what is told of them.
+ghost use Rattle.std.specs.Prelude.{◌≡◌, ◌<◌, ◌≤◌, ◌↔◌, length, Err, IfErr, OnOk};
+ghost use Rattle.qplain.specs.declared.bounds.TheConstants.{MAX_WORKERS};
+ghost use Rattle.qtool.specs.Endings.{IsLeftUnlessLate};
+ghost use Rattle.qtool.specs.Jobs.{HasSeats};
+ghost use Rattle.qtool.specs.declared.ending.Ending.TheVariants.{TooManyScripts, TooManyWithBoards};
+
+use crate::ending::Ending;
+use crate::overwriting::test_journal;
+use crate::reading::{configuration, read_scripts};
+use crate::standard::test_scripts;
+use crate::telling::finish;
+use crate::{Files, NoGate, Options, Outcome, RunFault, Telling, run_with};
+use qplain::MAX_WORKERS;
+use std::alloc::Global;
+use std::io::Write;
+use std::sync::Wait;
+use std::thread::Threads;
+
+/// The ending of a run that has no outcome.
+pub(crate) fn ending_of_run(fault: RunFault) -> Ending {
+    match fault {
+        RunFault::Memory => Ending::Memory,
+        RunFault::NotStarted(worker) => Ending::NotStarted(worker),
+        RunFault::Mismatch(place) => Ending::Mismatch(place),
+        RunFault::NoReader => Ending::NoReader,
+    }
+}
+
+/// Tests that there is a seat for each script, and one more where boards are taken.
+fn test_seats(scripts: u64, boards: u64) -> Result<(), Ending>
+    ensures seats { OnOk result (HasSeats scripts boards) }
+    ensures too_many { result ≡ Err TooManyScripts ↔ MAX_WORKERS < scripts }
+    ensures with_boards { result ≡ Err TooManyWithBoards ↔ (scripts ≡ MAX_WORKERS) × (0 < boards) }
+{
+    if scripts > MAX_WORKERS {
+        return Err(Ending::TooManyScripts);
+    }
+    if scripts == MAX_WORKERS && boards > 0 {
+        return Err(Ending::TooManyWithBoards);
+    }
+    Ok(())
+}
+
+/// Reads the configuration and the scripts, in the order in which faults are reported, and runs them.
+fn run_of<F: Files, R: Threads + Wait + Sync>(
+    rt: &R,
+    alloc: Global,
+    seed: u64,
+    config: &str,
+    names: &[String],
+    options: Options,
+    files: &mut F,
+) -> Result<Outcome, Ending>
+    requires some { 1 ≤ length names.now }
+    requires batch { (1 ≤ options.batch) × (options.batch ≤ 64) }
+{
+    let config = configuration(alloc, files, config)?;
+    test_seats(names.len() as u64, options.boards)?;
+    let scripts = read_scripts(alloc, files, names)?;
+    run_with(rt, alloc, config, scripts, options, seed, &NoGate).map_err(ending_of_run)
+}
+
+/// What a run is asked for.
+#[derive(Clone, Copy)]
+pub(crate) struct AskedRun<'a> {
+    pub(crate) config: &'a str,
+    pub(crate) scripts: &'a [String],
+    pub(crate) options: Options,
+    pub(crate) telling: Telling,
+    pub(crate) journal: Option<&'a str>,
+}
+
+/// Runs the scripts, and only then writes what came of it.
+pub(crate) fn run_job<F: Files, O: Write, E: Write, R: Threads + Wait + Sync>(
+    rt: &R,
+    alloc: Global,
+    seed: u64,
+    asked: AskedRun<'_>,
+    files: &mut F,
+    out: &mut O,
+    err: &mut E,
+) -> Result<(), Ending>
+    requires some { 1 ≤ length asked.scripts.now }
+    requires batch { (1 ≤ asked.options.batch) × (asked.options.batch ≤ 64) }
+    ensures { IfErr result (IsLeftUnlessLate (O.contents out.old) (O.contents out.new)) }
+{
+    let (config, scripts) = (asked.config, asked.scripts);
+    test_scripts(config, scripts).map_err(Ending::Clash)?;
+    test_journal(files, asked.journal, config, scripts).map_err(Ending::Overwrites)?;
+    let outcome = run_of(rt, alloc, seed, config, scripts, asked.options, files).map_err(
+        |ending| ending.explained(asked.telling.verbose),
+    )?;
+    finish(outcome, asked.telling, asked.journal, files, out, err)
+}
