@@ -1,3 +1,2 @@
 pub mod Jobs
 pub mod Endings
-pub mod Overwritten

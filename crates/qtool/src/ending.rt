@@ -7,11 +7,11 @@ use crate::fault_text::{
     put_clash, put_config, put_fault, put_file, put_friendly, put_journal_fault, put_mismatch,
     put_not_started, put_overwritten, put_script,
 };
-use crate::overwriting::Overwritten;
 use crate::{ConfigFault, FileFault, TextFault};
 use qplain::NoMemory;
 use qrun_client::ClientEnd;
 use qtext::{RefusedWrite, put};
+use qtool_files::Overwritten;
 use std::io::Write;
 
 /// Why the program ends before its work is done.

@@ -1,9 +1,9 @@
 //! Fault lines, each as it goes to the error output.
 
 use crate::clashes::{Clash, Role};
-use crate::overwriting::Overwritten;
 use crate::{ConfigFault, FileFault, TextFault};
 use qtext::{Piece, RefusedWrite, put, put_pieces};
+use qtool_files::Overwritten;
 use std::io::Write;
 
 /// Writes what a name of a service is of.

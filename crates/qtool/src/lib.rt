@@ -27,7 +27,6 @@ mod client_names;
 mod ending;
 mod expanding;
 mod fault_text;
-mod overwriting;
 mod program;
 mod reading;
 mod replaying;

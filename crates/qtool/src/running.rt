@@ -6,12 +6,12 @@ ghost use Rattle.qtool.specs.Jobs.{HasSeats};
 ghost use Rattle.qtool.specs.declared.ending.Ending.TheVariants.{TooManyScripts, TooManyWithBoards};
 
 use crate::ending::Ending;
-use crate::overwriting::test_journal;
 use crate::reading::{configuration, read_scripts};
 use crate::standard::test_scripts;
 use crate::telling::finish;
 use crate::{Files, NoGate, Options, Outcome, RunFault, Telling, run_with};
 use qplain::MAX_WORKERS;
+use qtool_files::test_journal;
 use std::alloc::Global;
 use std::io::Write;
 use std::sync::Wait;

@@ -1,2 +1,3 @@
--- What files hold.
+-- In reading order: what files hold, what a journal must not be written over.
 pub mod Held
+pub mod Overwritten

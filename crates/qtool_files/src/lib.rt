@@ -4,7 +4,9 @@
 pub use board_file::BoardFile;
 pub use files::{FileFault, Files, NamedStreams};
 pub use finishing::{Refuser, write_run, write_service};
+pub use overwriting::{Overwritten, test_journal};
 
 mod board_file;
 mod files;
 mod finishing;
+mod overwriting;

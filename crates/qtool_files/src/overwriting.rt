@@ -1,12 +1,12 @@
 //! What the journal of a run must not be written over.
 ghost use Rattle.std.specs.Prelude.{◌≤◌, IfErr, IfSome, length};
-ghost use Rattle.qtool.specs.Overwritten.{IsOneOf};
+ghost use Rattle.qtool_files.specs.Overwritten.{IsOneOf};
 
 use crate::Files;
 
 /// What a journal would be written over: what the run reads, or what it prints to.
 #[derive(Clone, Copy, Debug, PartialEq, Eq)]
-pub(crate) enum Overwritten {
+pub enum Overwritten {
     Config,
     /// The script of that number, from 1.
     Script(u64),
@@ -27,8 +27,9 @@ fn script_under<F: Files>(files: &mut F, name: &str, scripts: &[String]) -> Opti
     None
 }
 
-/// Tests that the journal, where one is asked for, is written over nothing that the run reads or prints to.
-pub(crate) fn test_journal<F: Files>(
+/// Tests that the journal, where one is asked for, is written over nothing that the run reads or prints to. Err is the
+/// first of these that it would be written over: the configuration, a script by its number from 1, the output.
+pub fn test_journal<F: Files>(
     files: &mut F,
     journal: Option<&str>,
     config: &str,

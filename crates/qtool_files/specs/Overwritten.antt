@@ -1,7 +1,7 @@
 -- What a journal must not be written over.
 use Rattle.std.specs.Prelude.{ℕ, ◌≤◌}
-use Rattle.qtool.specs.declared.overwriting.Overwritten.{Overwritten}
-use Rattle.qtool.specs.declared.overwriting.Overwritten.TheVariants.{Config, Script, Output}
+use Rattle.qtool_files.specs.declared.overwriting.Overwritten.{Overwritten}
+use Rattle.qtool_files.specs.declared.overwriting.Overwritten.TheVariants.{Config, Script, Output}
 
 -- a script that is told is one of so many, numbered from 1
 abbrev pub IsOneOf : ℕ → Overwritten → Type 0
