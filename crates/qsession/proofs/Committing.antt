@@ -1,9 +1,7 @@
 -- What a call that was ready leaves of what is kept.
-use Rattle.std.proofs.Common.{◌≡◌, List, [], ◌∷◌, ◌++◌, None, Some, sym, ap, subst, ◌∙◌}
-use Rattle.qplain.specs.declared.entry.Entry.{Entry}
+use Rattle.std.proofs.Common.{◌≡◌, [], ◌∷◌, ◌++◌, None, Some, sym, ap, subst, ◌∙◌}
 use Rattle.qplain.specs.declared.line.Line.{Line}
 use Rattle.qplain.specs.declared.reply.Reply.{Reply}
-use Rattle.qplain.specs.Setups.{Setting}
 use Rattle.qplain.specs.State.{State, start}
 use Rattle.qplain.specs.Journal.{play, played}
 use Rattle.qplain_laws.proofs.Playing.{play-one_more}

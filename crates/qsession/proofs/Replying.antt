@@ -1,8 +1,7 @@
 -- Each call has a reply of its kind, or a refusal.
-use Rattle.std.proofs.Common.{◌≡◌, ℕ, ◌+◌, ◌==◌, ◌≤◌, Bool, true, false, not, ◌&&◌, ◌||◌, nat_lt, nat_le, cond, List, length, take, drop, Option, Some, None, is_some, refl, arith, tests}
+use Rattle.std.proofs.Common.{◌≡◌, ℕ, ◌+◌, ◌==◌, ◌≤◌, true, false, not, ◌&&◌, ◌||◌, nat_lt, nat_le, List, length, drop, Option, Some, None, is_some, refl, arith, tests}
 use Rattle.std.proofs.lemmas.List.{length-take}
 use Rattle.std.specs.List.{find}
-use Rattle.qrules.specs.declared.kind.Kind.{Kind}
 use Rattle.qblocks.specs.File.{File, read_at}
 use Rattle.qplain.specs.declared.call.Call.{Call}
 use Rattle.qplain.specs.declared.call.Call.TheVariants.{Create, Mkdir, Write, Truncate, Read, Stat as AskStat, Link, Unlink, Rmdir, Rename, Chown, SetQuota, SetGrace, Quota as AskQuota}
@@ -13,7 +12,7 @@ use Rattle.qplain.specs.State.{Holder, Inode, State, is_directory, named, new_di
 use Rattle.qplain.specs.Use.{is_empty}
 use Rattle.qplain.specs.Walk.{components}
 use Rattle.qplain.specs.Arguments.{is_declared, is_holder, refusal_of_arguments}
-use Rattle.qplain.specs.Attempt.{Attempt, Answer, Becomes, no_change}
+use Rattle.qplain.specs.Attempt.{Becomes, no_change}
 use Rattle.qplain.specs.Rights.{is_own, may_give, may_remove, may_write}
 use Rattle.qplain.specs.Names.{create_as, created, link_as, link_to, mkdir_as, owners_by, rmdir_as, rmdir_at, unlink_as, unlink_at, with_name}
 use Rattle.qplain.specs.Renames.{meets, passes, rename_as, rename_from, rename_over, rename_to, renamed}

@@ -1,20 +1,18 @@
 -- The machine values of a slot. Assumes `Logic`.
-use Rattle.std.proofs.Common.{◌≡◌, ℕ, List, [], ◌∷◌, ◌++◌, refl, sym, ap, subst, Some, None, Option, IsSome}
+use Rattle.std.proofs.Common.{◌≡◌, List, [], ◌∷◌, ◌++◌, refl, subst, Some, None, Option, IsSome}
 use seplogic.Ra.Ura.{Ura}
-use mir.Val.{Val, vptr, vstruct, of_list}
+use mir.Val.{Val, vstruct, of_list}
 use types.Logic.{Logic}
-use types.Kit.{Item, Goal, Seq, Step, step, ‵, ◌$◌, move, drop, fsplit, fjoin, fpick, fpack, feq_i, feq_l, rewrite}
-use base.Fml.{ftrue}
+use types.Kit.{Item, Goal, Seq, Step, step, ‵, ◌$◌, move, drop, fsplit, fjoin, fpick, fpack, feq_i, feq_l}
 use denote.RattleType.{RattleType, Valss}
 use denote.Builtin.{RawPtr}
-use denote.RawPtr.{Ptr, block_ptr, null_ptr, ptr_val}
+use denote.RawPtr.{Ptr, ptr_val}
 use denote.Steps.{nothing}
 use denote.Param.{layout}
 use denote.Struct.Struct.{within}
 use denote.Struct.Owning.{shape, to}
 use Rattle.core.proofs.alloc.Calls.{Al, handle_tells}
 use Rattle.core.proofs.cell.Inside.{Good}
-use Rattle.std_alloc.specs.Box.Ownership.{box_owns}
 use Rattle.std_heap.specs.contracts.Global as Heap
 use Rattle.std_heap.specs.contracts.GlobalAllocator.TheImpl.{ghosts}
 use Rattle.std_heap.proofs.Global.TheLaws as heap

@@ -1,5 +1,5 @@
 -- What may be wrong with what is brought to a call.
-use Rattle.std.specs.Prelude.{◌≡◌, ◌<◌, ℕ, List, All}
+use Rattle.std.specs.Prelude.{◌<◌, ℕ, List, All}
 use Rattle.qplain.specs.declared.call.Call.{Call}
 use Rattle.qplain.specs.declared.cred.TheConstants.{MAX_MORE_GROUPS}
 use Rattle.qplain.specs.Arguments.{paths_of}

@@ -1,5 +1,4 @@
 -- What the structs that replies are told in stand for.
-use Rattle.std.specs.Prelude.{ℕ}
 use Rattle.qplain.specs.declared.reply.Reply.{Reply}
 use Rattle.qplain.specs.declared.reply.Reply.TheVariants.{Done, Stat, Quota}
 use Rattle.qplain.specs.declared.tallies.Tallies.{Tallies}

@@ -1,5 +1,5 @@
 -- What a call makes of what is held: a step of the plain machine, which is journaled where a journal is kept.
-use Rattle.std.specs.Prelude.{◌≡◌, ℕ, List, [], ◌∷◌, ◌++◌, length, Option, Some, None}
+use Rattle.std.specs.Prelude.{◌≡◌, [], ◌∷◌, ◌++◌, length, Option, Some, None}
 use Rattle.qplain.specs.declared.bounds.TheConstants.{MAX_ENTRIES}
 use Rattle.qplain.specs.declared.line.Line.{Line}
 use Rattle.qplain.specs.declared.reply.Reply.{Reply}

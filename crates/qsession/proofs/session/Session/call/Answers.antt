@@ -1,5 +1,5 @@
 use Rattle.qsession.specs.Holdings.{held_in}
-use Rattle.qsession.proofs.Calling.{caller_cause, held_cause}
+use Rattle.qsession.proofs.Calling.{caller_cause}
 use Rattle.qsession.proofs.session.Session.call.Goals as goal
 
 pub returns-in-Err-clause-cause : goal.returns-in-Err-clause-cause

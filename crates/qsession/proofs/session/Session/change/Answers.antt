@@ -1,4 +1,3 @@
-use Rattle.std.proofs.Common.{Some}
 use Rattle.qsession.specs.Answers.{tells_done}
 use Rattle.qsession.specs.Holdings.{held_in}
 use Rattle.qsession.specs.Requests.{line_by}

@@ -1,10 +1,10 @@
 -- `into_loose` gives what is owned behind the slot's pointer: a walk of its MIR, by hand.
-use Rattle.std.proofs.Common.{◌≡◌, List, [], ◌∷◌, ◌++◌, refl, sym, subst, Some, None, Option, ap, ◌∙◌, IsSome}
+use Rattle.std.proofs.Common.{◌≡◌, List, [], ◌∷◌, ◌++◌, refl, sym, subst, Some, Option, ap, ◌∙◌, IsSome}
 use mir.Val.{Val, vptr}
 use base.Logic.{SProp, ent, emp, id⊢, never, fst∗}
 use base.Fml.{ftrue}
 use prog.Wp.{WpFn}
-use types.Kit.{‵, raw, ◌⊛◌, ◌$◌, ◌∵◌, !, qed, by, move, keep, drop, split, fsplit, fjoin, suffices, use0, use1, rewrite}
+use types.Kit.{‵, raw, ◌⊛◌, ◌$◌, ◌∵◌, !, qed, by, move, keep, split, fsplit, fjoin, suffices, use0, rewrite}
 use types.Run.{stop, fld, of_opd, no_more, and_then, returns, enter}
 use types.ByLocal.{alloc_all, pass_all, free_all, look_at, get, get_in, sets}
 use types.Part.{agg, sub, whole}
@@ -14,7 +14,7 @@ use contract.Running.{tables}
 use mir.Raw.{raw as bare}
 use denote.Exit.{yes}
 use denote.Memory.{lone}
-use denote.RattleType.{RattleType, owns}
+use denote.RattleType.{owns}
 use denote.Signature.{types_at, plain}
 use denote.RawPtr.{Ptr, block_ptr, null_ptr, in_a_block}
 use denote.Steps.{nothing, heard}
@@ -24,7 +24,7 @@ use Rattle.std_alloc.specs.Box.Ownership.{box_owns}
 use Rattle.std.proofs.raw_atomic.Walks.{proved_at, leaves}
 use Rattle.std_heap.specs.contracts.GlobalAllocator.TheImpl.{ghosts}
 use Rattle.std_heap.proofs.Global.TheLaws as heap
-use Rattle.qsession.proofs.LooseValues.{Loose, both, loose_good, loose_in}
+use Rattle.qsession.proofs.LooseValues.{both, loose_good, loose_in}
 use Rattle.qsession.proofs.SlotValues.{R, Z, slot_out, value_of}
 use Rattle.qsession.specs.Slots.{slot_owns}
 use Rattle.qsession.specs.contracts.slot.Slot as Slot
