@@ -1,5 +1,5 @@
 -- What a job names, as `clap`'s matches give it, and why words are none.
-use Rattle.std.specs.Prelude.{◌≡◌, ◌⊎◌, ◌<◌, ℕ, Bool, true, false, List, [], map, Option, Some, None, ⊤}
+use Rattle.std.specs.Prelude.{◌≡◌, ◌⊎◌, ◌<◌, ◌≤◌, ℕ, Bool, true, false, List, [], map, Option, Some, None, ⊤}
 use Rattle.std.specs.Prelude.{codes, length, string_bytes, option_map, unwrap_or}
 use Rattle.clap.specs.Words.{IsAmong, Kinds, Row, Text, all_of, fault_of, first_of, subcommand_of}
 use Rattle.clap.specs.declared.error.kind.ErrorKind.{ErrorKind}
@@ -54,6 +54,11 @@ IsNamedBy name rows (Expand config script) = (name ≡ codes "expand")
 IsNamedBy name rows (Check config scripts) = (name ≡ codes "check")
     × (first_of (codes "config") rows ≡ Some (string_bytes config))
     × (map (λ s. string_bytes s) scripts.items ≡ checked_in rows)
+
+-- a run has a script
+abbrev pub HasScript : Job → Type 0
+HasScript (Run config telling journal boards batch scripts) = 1 ≤ length scripts.items
+HasScript job = Unit {0}
 
 -- the job of a subcommand's name and its matches
 abbrev pub IsJobOf : Option (Text × List Row) → Job → Type 0

@@ -2,8 +2,8 @@
 ghost use Rattle.qtext.specs.Written.{Writes};
 ghost use Rattle.qtext_rows.specs.Formats.{formatted_text};
 
-use crate::csv::put_csv;
-use crate::json::put_json;
+use crate::objects::put_json;
+use crate::report_rows::put_csv;
 use qrun_replay::Outcome;
 use qtext::RefusedWrite;
 use qtext_outcome::put_shown;

@@ -3,10 +3,10 @@
 
 pub use formatted::put_formatted;
 
-mod csv;
 mod field;
 mod formatted;
-mod json;
 mod line_objects;
+mod objects;
 mod record_objects;
+mod report_rows;
 mod rest_objects;

@@ -4,14 +4,6 @@ use Rattle.qplain.specs.declared.bounds.TheConstants.{MAX_WORKERS}
 use Rattle.qtext_job.specs.declared.job.Job.{Job}
 use Rattle.qtext_job.specs.declared.job.Job.TheVariants.{Run, Replay, Serve, Expand, Check}
 
--- a run has a script
-abbrev pub HasScript : Job → Type 0
-HasScript (Run config telling journal boards batch scripts) = 1 ≤ length scripts.items
-HasScript (Replay config telling journal) = Unit {0}
-HasScript (Serve config at journal board pairs) = Unit {0}
-HasScript (Expand config script) = Unit {0}
-HasScript (Check config scripts) = Unit {0}
-
 -- a run makes 1 to 64 lines under one lock
 abbrev pub HasBatch : Job → Type 0
 HasBatch (Run config telling journal boards batch scripts) = (1 ≤ batch) × (batch ≤ 64)

@@ -1,7 +1,8 @@
 //! The whole program over files, output and fault lines.
 ghost use Rattle.std.specs.Prelude.{◌≡◌, ◌⊎◌, map, string_bytes, IfErr};
 ghost use Rattle.qtool.specs.Endings.{IsLate, IsLeftBy, IsStatus, IsUntouchedBy};
-ghost use Rattle.qtool.specs.Jobs.{HasBatch, HasScript, IsUntouched};
+ghost use Rattle.qtext_job.specs.Jobs.{HasScript};
+ghost use Rattle.qtool.specs.Jobs.{HasBatch, IsUntouched};
 
 use crate::checking::check_job;
 use crate::clashes::ServiceNames;

@@ -1,5 +1,6 @@
 use Rattle.std.proofs.Common.{subst}
-use Rattle.qtool.specs.Jobs.{HasBatch, HasScript}
+use Rattle.qtext_job.specs.Jobs.{HasScript}
+use Rattle.qtool.specs.Jobs.{HasBatch}
 use Rattle.qtool.proofs.program.do_job.Goals as goal
 
 pub run_job-requires-clause-some : goal.run_job-requires-clause-some

@@ -1,7 +1,7 @@
 use Rattle.qtext.proofs.Fronts.{refused_first, writes_then}
 use Rattle.qtext_rows.specs.Records.{record_objects}
 use Rattle.qtext_rows.specs.Rest.{rest_objects}
-use Rattle.qtext_rows.proofs.json.put_records_and_rest.Goals as goal
+use Rattle.qtext_rows.proofs.objects.put_records_and_rest.Goals as goal
 
 pub returns-in_err-put_records : goal.returns-in_err-put_records
 returns-in_err-put_records g c =

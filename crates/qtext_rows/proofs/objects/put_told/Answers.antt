@@ -2,7 +2,7 @@ use Rattle.std.specs.List.{flat_map}
 use Rattle.qtext.proofs.Fronts.{refused_first, writes_then}
 use Rattle.qtext_rows.specs.Lines.{transcripts_objects}
 use Rattle.qtext_rows.specs.Rest.{look_object}
-use Rattle.qtext_rows.proofs.json.put_told.Goals as goal
+use Rattle.qtext_rows.proofs.objects.put_told.Goals as goal
 
 pub returns-in_err-put_transcripts : goal.returns-in_err-put_transcripts
 returns-in_err-put_transcripts g c =

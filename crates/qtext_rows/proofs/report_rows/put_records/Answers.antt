@@ -1,6 +1,6 @@
 use Rattle.qtext.proofs.Fronts.{rows_end, rows_go_on, rows_refused}
 use Rattle.qtext_rows.specs.Csv.{csv_record}
-use Rattle.qtext_rows.proofs.csv.put_records.Goals as goal
+use Rattle.qtext_rows.proofs.report_rows.put_records.Goals as goal
 
 pub loop-row-preserved : goal.loop-row-preserved
 loop-row-preserved g c = rows_go_on _ _ _ (csv_record c.args.view c.args.kind c.args.moment) _ _ c.row-item.result _ c.row-item.is c.loop-row.invariant
