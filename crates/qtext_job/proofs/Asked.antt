@@ -1,5 +1,5 @@
 -- What words that ask for a job say of it.
-use Rattle.std.proofs.Common.{ℕ, List, length, Option, Some, None, arith}
+use Rattle.std.proofs.Common.{List, Option, Some, None, arith}
 use Rattle.std.specs.Prelude.{string_bytes}
 use Rattle.std.proofs.lemmas.List.{length-map}
 use Rattle.clap.specs.Words.{Row, Text, subcommand_of}

@@ -1,5 +1,5 @@
 -- Why words are no moment.
-use Rattle.std.proofs.Common.{◌≡◌, ℕ, List, Bool, true, false}
+use Rattle.std.proofs.Common.{ℕ, List}
 use Rattle.clap.specs.Words.{Row}
 use Rattle.qtext_view.specs.declared.report_moment.ReportMoment.{ReportMoment}
 use Rattle.qtext_view.specs.declared.report_moment.ReportMoment.TheVariants.{At, Last}
