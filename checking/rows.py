@@ -35,9 +35,10 @@ WORKED = "a", "a0", "a0_group_blocks", "a0_group_inodes", "a_projects", "example
 # The folders of journals, each with its configuration.
 JOURNALS = "journals", "project_journals"
 FAILED = b"- failed OutOfMemory\n"
+MEMORY = b"quotafs: memory\n"
 # How a run may end without an outcome where an allocation is refused.
 WITHOUT = {
-    (3, b"", b"quotafs: memory\n"): "memory",
+    (3, b"", MEMORY): "memory",
     (3, b"", b"quotafs: no reader\n"): "no reader",
     **{(3, b"", b"quotafs: worker %d not started\n" % worker): "not started" for worker in (1, 2)},
 }
@@ -84,7 +85,13 @@ class Case:
 
     def ending(self, answer):
         """How a run ends in which one allocation was refused, or None where it may not end so."""
-        return "unchanged" if answer == self.answer else WITHOUT.get(answer)
+        return "unchanged" if answer == self.answer else WITHOUT.get(self.without_faults(answer))
+
+    def without_faults(self, answer):
+        """The answer of a check without the faults that it has told, as with ample memory, before memory was wanting."""
+        status, out, err = answer
+        told = err.removesuffix(MEMORY)
+        return (status, out, MEMORY) if self.words[0] == "check" and self.answer[2].startswith(told) else answer
 
 
 class Change(Case):
