@@ -88,10 +88,9 @@ def judge(line):
     for at, reader in enumerate([number, caller, verb]):
         read(reader, words, at)
     arguments = words[3:]
-    if words[2] == "chown" and len(arguments) in (3, 4):
-        readers = [path, owner, owner, ids][: len(arguments)]
-    else:
-        readers = CALLS.get(words[2], [])
+    readers = CALLS.get(words[2], [path, owner, owner])
+    if words[2] == "chown" and len(arguments) == 4:
+        readers = [*readers, ids]
     if len(readers) != len(arguments):
         fault = Fault("word count")
         fault.word = 2
