@@ -91,7 +91,7 @@ class Case:
         """The answer of a check without the faults that it has told, as with ample memory, before memory was wanting."""
         status, out, err = answer
         told = err.removesuffix(MEMORY)
-        return (status, out, MEMORY) if self.words[0] == "check" and self.answer[2].startswith(told) else answer
+        return (status, out, MEMORY) if self.words[:1] == ["check"] and self.answer[2].startswith(told) else answer
 
 
 class Change(Case):
