@@ -2,6 +2,8 @@
 //! store, an audit, and a store that seats share. Their `CALLING.md` show these callers.
 #![tactic(auto)]
 
+ghost use Rattle.std.specs.Prelude.{◌≡◌};
+
 use qblocks::BlockFile;
 use qplain::Reply;
 use qrules::{Over, Record};
@@ -84,7 +86,7 @@ fn show_seats<S: StoreId, W: Wait + Print>(rt: &W, alloc: Global, opened: Opened
     let mut shares = Vec::new(alloc);
     for mut seat in seats {
         let path = given::path(alloc, "/a")?;
-        if let Ok(receipt) = seats::create(rt, &shared, &mut seat, &builder, &path) {
+        if let Ok(receipt) = seats::create(rt, &shared, &mut seat, &builder, path) {
             println!(rt; "seat: its call is at place {}", receipt.place)?;
         }
         shares.push(seat.finish())?;

@@ -17,14 +17,11 @@ pub(crate) fn create<S: StoreId, B: Boards<S>, V: Drop, W: Wait>(
     shared: &Shared<S, B>,
     seat: &mut Seat<S, V>,
     cred: &Cred,
-    path: &Path,
+    path: Path,
 ) -> Result<Receipt, CallFault>
     ensures seen { HasSeenOn S.id.setting seat.old seat.new }
-    ensures called { IfOk result (IsCalled (line_of cred.now 0 (Create path.now)) seat.old seat.new) }
+    ensures called { IfOk result (IsCalled (line_of cred.now 0 (Create path)) seat.old seat.new) }
     ensures err { OnErr result (seat.new.tally ≡ seat.old.tally) }
 {
-    let Ok(path) = path.copy() else {
-        return Err(CallFault::OutOfMemory);
-    };
     shared.call(rt, seat, cred, 0, &Call::Create { path })
 }
