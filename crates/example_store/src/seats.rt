@@ -1,0 +1,27 @@
+//! A call of a seat of a shared store.
+ghost use Rattle.std.specs.Prelude.{◌≡◌, IfOk, OnErr};
+ghost use Rattle.qplain.specs.declared.call.Call.TheVariants.{Create};
+ghost use Rattle.qstore_journaled.specs.Lines.{line_of};
+ghost use Rattle.qshare.specs.Calls.{IsCalled};
+ghost use Rattle.qshare.specs.Seats.{HasSeenOn};
+
+use qplain::{Call, Cred, Path};
+use qshare::{Boards, CallFault, Receipt, Seat, Shared};
+use qshare_history::StoreId;
+use std::sync::Wait;
+
+/// Makes an empty file from a seat. The seat has then seen a legal history in which its call stands at the receipt's
+/// place, after all that it had seen; a call that was not answered is counted nowhere.
+pub(crate) fn create<S: StoreId, B: Boards<S>, V: Drop, W: Wait>(
+    rt: &W,
+    shared: &Shared<S, B>,
+    seat: &mut Seat<S, V>,
+    cred: &Cred,
+    path: Path,
+) -> Result<Receipt, CallFault>
+    ensures seen { HasSeenOn S.id.setting seat.old seat.new }
+    ensures called { IfOk result (IsCalled (line_of cred.now 0 (Create path)) seat.old seat.new) }
+    ensures err { OnErr result (seat.new.tally ≡ seat.old.tally) }
+{
+    shared.call(rt, seat, cred, 0, &Call::Create { path })
+}
