@@ -1,6 +1,6 @@
 -- A path of no more bytes than a component may have is not too long, nor is any component of it.
-use Rattle.std.proofs.Common.{◌≡◌, ℕ, suc, ◌≤◌, ◌+◌, Bool, true, false, cond, nat_lt, ◌||◌, List, [], ◌∷◌, codes, drop, length, All, refl, sym, ap, subst, ◌∙◌, arith, tests}
-use Rattle.std.specs.List.{list_any, onto_first, slice_split}
+use Rattle.std.proofs.Common.{◌≡◌, ℕ, suc, ◌≤◌, Bool, true, false, cond, nat_lt, ◌||◌, List, [], ◌∷◌, codes, drop, length, All, refl, sym, subst, arith, tests}
+use Rattle.std.specs.List.{onto_first, slice_split}
 use Rattle.std.proofs.lemmas.List.Elements.{All-cons, All-drop, All-head, All-nil, All-tail, All-weaker}
 use Rattle.std.proofs.lemmas.List.Folds.{list_any_none}
 use Rattle.std.proofs.lemmas.List.Splits.{slice_split-cons_no, slice_split-cons_yes}

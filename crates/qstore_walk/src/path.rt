@@ -1,7 +1,7 @@
 //! One path: what is wrong with it, and its components one after another.
 ghost use Rattle.std.specs.Prelude.{◌≡◌, ◌∷◌, ◌<◌, length, option_map, Some, IfSome};
 ghost use Rattle.std.specs.List.{position, slice_split};
-ghost use Rattle.qplain.specs.Walk.{components, is_name, is_slash, is_too_long, is_well_formed};
+ghost use Rattle.qplain.specs.Walk.{components, is_name, is_slash, is_well_formed};
 ghost use Rattle.qstore_walk.specs.Paths.{name_in, parts_in, path_fault};
 
 use qplain::{MAX_NAME, MAX_PATH, Refusal};
@@ -73,19 +73,29 @@ fn is_well_formed(path: &str) -> bool
     true
 }
 
-/// Whether the whole path has more than 4095 bytes, or a component more than 255. O(bytes).
+/// What is wrong with a path of any length. O(bytes).
 #[inline(never)]
-fn is_too_long(path: &str) -> bool
-    ensures { result ≡ is_too_long path.now }
+fn fault_of_any(path: &str) -> Option<Refusal>
+    ensures { result ≡ path_fault path.now }
 {
+    if path.as_bytes().first() != Some(&b'/') {
+        return Some(Refusal::EINVAL);
+    }
     let mut is_too_long = path.len() > MAX_PATH;
     let mut behind = names_of(path);
     while let Some(names) = behind {
         let (name, rest) = cut(names);
+        if !is_name(name) {
+            return Some(Refusal::EINVAL);
+        }
         is_too_long = is_too_long || name.len() > MAX_NAME;
         behind = rest;
     }
-    is_too_long
+    if is_too_long {
+        Some(Refusal::ENAMETOOLONG)
+    } else {
+        None
+    }
 }
 
 /// What is wrong with a path: EINVAL for its form, else ENAMETOOLONG of a component above 255 bytes, or of the whole
@@ -93,12 +103,13 @@ fn is_too_long(path: &str) -> bool
 pub(crate) fn fault_of(path: &str) -> Option<Refusal>
     ensures { result ≡ path_fault path.now }
 {
-    if !is_well_formed(path) {
-        return Some(Refusal::EINVAL);
+    if path.len() > MAX_NAME {
+        return fault_of_any(path);
     }
-    // No component is longer than the whole.
-    if path.len() > MAX_NAME && is_too_long(path) {
-        return Some(Refusal::ENAMETOOLONG);
+    // No component is longer than the whole, so only its form can be wrong.
+    if is_well_formed(path) {
+        None
+    } else {
+        Some(Refusal::EINVAL)
     }
-    None
 }
