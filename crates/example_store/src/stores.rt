@@ -5,8 +5,8 @@ ghost use Rattle.qplain.specs.Step.{step};
 
 use qstore::{Call, Cred, NoMemory, Path, Reply, Store};
 
-/// Makes an empty file: what is answered, and what the store is then, is the plain machine's; without memory the store is
-/// as before.
+/// Makes an empty file: what is answered, and what the store is then, is the plain machine's; without memory the store
+/// is as before.
 pub(crate) fn create(
     store: &mut Store,
     cred: &Cred,

@@ -129,9 +129,9 @@ fn all_findings<'a>(
     Ok(findings)
 }
 
-/// All that is wrong in a script, each line by itself: for what it is no line of a script, or, where the setup is known,
-/// with what a store of it refuses its call whatever it holds: a moment past 2^40, a caller or an owner that is not
-/// declared, a path, data, a limit or a grace that no call may have (profile).
+/// All that is wrong in a script, each line by itself: for what it is no line of a script, or, where the setup is
+/// known, with what a store of it refuses its call whatever it holds: a moment past 2^40, a caller or an owner that is
+/// not declared, a path, data, a limit or a grace that no call may have (profile).
 ///
 /// An Err is out of memory, and tells nothing.
 pub fn findings_of<'a>(
@@ -143,7 +143,7 @@ pub fn findings_of<'a>(
     ensures all { IfOk result (λ found. map (λ f. f.fault) found.items
         ≡ faults_of (option_map (λ s. s.now) setup.entry) text.now) }
 
-    // The first for which a line is none is the one that reading the script tells, and where it tells none there is none.
+    // The first for which a line is none is what reading the script tells, and where it tells none there is none.
     ensures first { IfOk result (λ found. first_text_fault (map (λ f. f.fault) found.items)
         ≡ told (script_of text.now)) }
 {

@@ -102,8 +102,8 @@ fn place_text(alloc: Global, line: u64, column: u64) -> Result<Vec<u8>, AllocErr
     }
 }
 
-/// A fault as text, behind the name of its file: `:LINE:COLUMN: WRONG: WORD; wanted: WHAT`, then `; NEAR?` where a word is
-/// near, and below it the line and a caret under the word. Columns count bytes from 1.
+/// A fault as text, behind the name of its file: `:LINE:COLUMN: WRONG: WORD; wanted: WHAT`, then `; NEAR?` where a word
+/// is near, and below it the line and a caret under the word. Columns count bytes from 1.
 pub fn finding_text(alloc: Global, finding: &Finding<'_>) -> Result<Vec<u8>, AllocError>
     ensures { IfOk result (λ text. IsToldAt finding.now.fault.line text.items) }
 {

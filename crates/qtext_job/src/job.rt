@@ -254,10 +254,10 @@ fn job_of(alloc: Global, matches: &ArgMatches<'_>) -> Result<Job, LineFault>
 impl Job {
     /// Reads the program's words, its own name the first of them, by one `clap` command: the job that its matches name,
     /// with the moment that the word at `--at` spells, in seconds from 0 to 2^40, and 0 where there is none, or of a
-    /// run and of a replay the last one where the word is `last`, in the format that `--format` names, and as text where
-    /// it does not, the flags that are given, the boards at `--boards`,
-    /// from 0 to 1000, and 0 where there is none, and the lines at `--batch`, from 1 to 64, and 1 where there is none;
-    /// and each client of a service as a word cut at its first colon, with a name on both sides.
+    /// run and of a replay the last one where the word is `last`, in the format that `--format` names, and as text
+    /// where it does not, the flags that are given, the boards at `--boards`, from 0 to 1000, and 0 where there is
+    /// none, and the lines at `--batch`, from 1 to 64, and 1 where there is none; and each client of a service as a
+    /// word cut at its first colon, with a name on both sides.
     ///
     /// A request for help or for the version is a fault, too, whose text is for the output. Out of memory may come in
     /// place of any answer.

@@ -10,10 +10,10 @@ use qtext_outcome::put_shown;
 use qtext_view::{Format, View};
 use std::io::Write;
 
-/// Writes what came of a run as the view shows it, in the format that it asks for, with the report as of the moment: the
-/// text that `put_shown` writes, lines of JSON, or the report alone as records of CSV, which are those of `repquota -O
-/// csv` (repquota(8)). JSON and CSV have their amounts as numbers, of space in KiB, and the names of all values, whatever
-/// the view asks for in larger units or heads; CSV has no calls.
+/// Writes what came of a run as the view shows it, in the format that it asks for, with the report as of the moment:
+/// the text that `put_shown` writes, lines of JSON, or the report alone as records of CSV, which are those of
+/// `repquota -O csv` (repquota(8)). JSON and CSV have their amounts as numbers, of space in KiB, and the names of all
+/// values, whatever the view asks for in larger units or heads; CSV has no calls.
 ///
 /// It takes no memory. After an Err some beginning of the text went out.
 pub fn put_formatted<W: Write>(
