@@ -21,13 +21,15 @@ use Rattle.qtext_json.specs.Values.{member, object_start}
 -- a look: the board's version and its totals, or why none was shown
 abbrev pub look_object : Result Board LookFault → List ℕ
 look_object (Ok b) = concat (object_start (codes "board") ∷ member (codes "version") (decimal b.version)
-    ∷ member (codes "blocks") (decimal b.blocks) ∷ member (codes "inodes") (decimal b.inodes) ∷ codes "}\n" ∷ [])
+    ∷ member (codes "blocks") (decimal b.blocks) ∷ member (codes "inodes") (decimal b.inodes)
+    ∷ codes "}\n" ∷ [])
 look_object (Err fault) = concat (object_start (codes "board") ∷ member (codes "version") (codes "null")
     ∷ member (codes "error") (quoted (look_fault_text fault)) ∷ codes "}\n" ∷ [])
 
 -- what stands over a report: its moment
 abbrev pub moment_object : ℕ → List ℕ
-moment_object moment = concat (object_start (codes "quota") ∷ member (codes "at") (decimal moment) ∷ codes "}\n" ∷ [])
+moment_object moment = concat (object_start (codes "quota") ∷ member (codes "at") (decimal moment)
+    ∷ codes "}\n" ∷ [])
 
 -- the totals, each beside its bound
 abbrev pub totals_object : Outcome → List ℕ
@@ -47,7 +49,8 @@ tally_object t = concat (object_start (codes "tally") ∷ member (codes "blocks_
 
 -- a record that shows other uses than were counted
 abbrev pub use_object : Kind → RecordRow → CountRow → List ℕ
-use_object kind r counted = concat (object_start (codes "difference") ∷ member (codes "kind") (quoted (kind_text kind))
+use_object kind r counted = concat (object_start (codes "difference")
+    ∷ member (codes "kind") (quoted (kind_text kind))
     ∷ member (codes "id") (decimal r.id) ∷ member (codes "blocks") (decimal r.blocks)
     ∷ member (codes "blocks_counted") (decimal counted.blocks) ∷ member (codes "inodes") (decimal r.inodes)
     ∷ member (codes "inodes_counted") (decimal counted.inodes) ∷ codes "}\n" ∷ [])
