@@ -13,8 +13,7 @@ pub(crate) fn charge(
     blocks: u64,
     inodes: u64,
 ) -> Result<(), Over>
-    requires blocks { quota.old.blocks + blocks ≤ MAX_USE }
-    requires inodes { quota.old.inodes + inodes ≤ MAX_USE }
+    requires uses { (quota.old.blocks + blocks ≤ MAX_USE) × (quota.old.inodes + inodes ≤ MAX_USE) }
     requires moment { moment ≤ MAX_MOMENT }
     requires graces { (graces.block ≤ MAX_GRACE) × (graces.inode ≤ MAX_GRACE) }
     ensures answer { result ≡ answer_to false (charge_fault quota.old moment blocks inodes) }
