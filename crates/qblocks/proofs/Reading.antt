@@ -1,8 +1,8 @@
 -- Lemmas on bytes that are read piece by piece.
-use Rattle.std.proofs.Common.{◌≡◌, ℕ, ◌+◌, ◌-◌, ◌<◌, ◌≤◌, zero, suc, List, ◌∷◌, ◌++◌, length, get_or, take, drop, replicate, map, min, refl, sym, ap, ◌∙◌, arith, append_assoc, ⊎_elim, length-drop, length-take-le, length-append}
+use Rattle.std.proofs.Common.{◌≡◌, ℕ, ◌+◌, ◌-◌, ◌<◌, ◌≤◌, zero, suc, List, ◌∷◌, ◌++◌, [], length, get_or, take, drop, replicate, map, min, refl, sym, ap, ◌∙◌, arith, append_assoc, append-nil, ap₂, ⊎_elim, length-drop, length-take-le, length-append, take_at}
 use Rattle.std.proofs.lemmas.Grind.{same_number_lists}
 use Rattle.std.proofs.lemmas.Bool.{cases_lt}
-use Rattle.std.proofs.lemmas.List.{get_or_append_left, get_or-append_right, get_or-take, get_or-drop, get_or_past, length-replicate, take_all}
+use Rattle.std.proofs.lemmas.List.{get_or_append_left, get_or-append_right, get_or-take, get_or-drop, get_or_past, length-replicate, take_all, drop_all}
 use Rattle.std.proofs.lemmas.List.FromFn.{length-map-range_with_len, get_or-map-range_with_len}
 use Rattle.std.specs.List.{range_with_len}
 use Rattle.qblocks.proofs.Bytes.{zeros}
@@ -107,3 +107,33 @@ pub length-read : (f : ℕ → ℕ) (old new : List ℕ) (a n : ℕ) → new ≡
     → length new ≡ length old + n
 length-read f old new a n e =
     ap length e ∙ length-append old (map f (range_with_len a n)) ∙ ap (λ (x : ℕ). length old + x) (length-map-range_with_len f a n)
+
+-- a buffer that is filled by the bytes of a list up to its end, and then by zeros
+pub fills-past : (xs out part none : List ℕ) (at from to q r : ℕ) → from ≡ min at (length xs)
+    → to ≡ min (at + length out) (length xs) → part ≡ take (to - from) (drop from xs) → none ≡ replicate q 0
+    → q ≡ length out - (to - from) → length out ≤ r + (to - from)
+    → take (to - from) (part ++ drop (to - from) out) ++ (none ++ drop r (drop (to - from) (part ++ drop (to - from) out)))
+    ≡ map (λ i. get_or xs i 0) (range_with_len at (length out))
+fills-past xs out part none at from to q r start ends is zeros_behind rest whole =
+    let k : ℕ = to - from in
+    let long : length part ≡ k = ap length is ∙ length-take-le k (drop from xs) (omega (arith, length-drop from xs)) in
+    let mid = part ++ drop k out in
+    let behind : drop r (drop k mid) ≡ [] = drop_all r (drop k mid)
+    (omega (arith, length-drop k mid, length-append part (drop k out), length-drop k out, long)) in
+    ap₂ (λ u v. u ++ (none ++ v)) (take_at part (drop k out) k long) behind
+    ∙ ap (λ l. part ++ l) (append-nil none)
+    ∙ ap₂ (λ u v. u ++ v) is (zeros_behind ∙ ap (λ (x : ℕ). replicate x 0) rest)
+    ∙ reads-past xs at (length out) from to start ends
+
+-- a piece more is filled, of a buffer that is filled from its front
+pub fills-next : (f g : ℕ → ℕ) (out part back : List ℕ) (a done b m to : ℕ)
+    → take done out ≡ map f (range_with_len a done) → done ≤ length out → part ≡ map g (range_with_len b m)
+    → ((i : ℕ) → i < m → g (b + i) ≡ f (a + done + i)) → to ≡ done + m
+    → take to (take done out ++ (part ++ back)) ≡ map f (range_with_len a to)
+fills-next f g out part back a done b m to so_far room more same ends =
+    let front = take done out in
+    let long = length-take-le done out room in
+    let piece = ap length more ∙ length-map-range_with_len g b m in
+    let all : length (front ++ part) ≡ to = omega (arith, length-append front part, long, piece) in
+    ap (take to) (sym (append_assoc front part back)) ∙ take_at (front ++ part) back to all
+    ∙ reads-next f g [] front (front ++ part) a done b m to so_far (ap (λ xs. front ++ xs) more) same ends

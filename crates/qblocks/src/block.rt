@@ -109,6 +109,17 @@ impl Block {
         out.resize(end, 0)?;
         Ok(())
     }
+
+    /// Fills `out` with the bytes from the byte `at` on.
+    pub(crate) fn read_into(&self, at: usize, out: &mut [u8])
+        requires { at + length out.old ≤ 4096 }
+        ensures { out.new ≡ map (slice_index self.now) (range_with_len at (length out.old)) }
+    {
+        let from = at.min(self.bytes.len());
+        let to = (at + out.len()).min(self.bytes.len());
+        out[..to - from].copy_from_slice(&self.bytes[from..to]);
+        out[to - from..].fill(0);
+    }
 }
 
 /// Writes `input` over all of `bytes`.

@@ -1,5 +1,5 @@
 //! A file: its size, its blocks and the room for its next write.
-ghost use Rattle.std.specs.Prelude.{◌≡◌, ℕ, ◌+◌, ◌≤◌, ◌^◌, ◌||◌, length, IfOk, OnOk, OnErr};
+ghost use Rattle.std.specs.Prelude.{◌≡◌, ℕ, ◌+◌, ◌≤◌, ◌^◌, ◌||◌, drop, length, take, IfOk, OnOk, OnErr};
 ghost use Rattle.std.specs.List.Sorted.{IsStrictlyIncreasing};
 ghost use Rattle.qblocks.specs.File.{empty_file, size_of, blocks_of, MoreBlocks, Adds, AllocatesTouched, after_write};
 ghost use Rattle.qblocks.specs.File.{after_truncate, read_at};
@@ -117,6 +117,22 @@ impl BlockFile {
         let mut bytes = Vec::with_capacity(self.alloc, (end - off) as usize)?;
         rows::read(&self.rows, off, end, &mut bytes)?;
         Ok(bytes)
+    }
+
+    /// Fills the front of a buffer with what `read` gives of as many bytes as it has, and gives how many those are.
+    /// What is behind them in the buffer stays. It takes no memory and always succeeds. Cost as for `read`.
+    pub fn read_into(&self, off: u64, buffer: &mut [u8]) -> usize
+        ensures bytes { take result buffer.new ≡ read_at self.now.file off (length buffer.old) }
+        ensures count { result ≡ length (read_at self.now.file off (length buffer.old)) }
+        ensures behind { drop result buffer.new ≡ drop result buffer.old }
+    {
+        let end = self.size.min(off.saturating_add(buffer.len() as u64));
+        if end <= off {
+            return 0;
+        }
+        let count = (end - off) as usize;
+        rows::read_into(&self.rows, off, &mut buffer[..count]);
+        count
     }
 
     /// Makes all that a write of `len` bytes at `off` needs, and leaves the file as it was.

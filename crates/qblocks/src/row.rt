@@ -176,3 +176,34 @@ pub(crate) fn read(row: &Row, from: u64, to: u64, out: &mut Vec<u8>) -> Result<(
     }
     Ok(())
 }
+
+/// Fills `out` with bytes of the block `j` from `at` on.
+fn read_block_into(row: &Row, j: u64, at: u64, out: &mut [u8])
+    requires slot { j < ROW_BLOCKS }
+    requires within { at + length out.old ≤ BLOCK_SIZE }
+    ensures { out.new ≡ map (byte_of (slot_at row.now j)) (range_with_len at (length out.old)) }
+{
+    match &row[j as usize] {
+        Some(block) => block.read_into(at as usize, out),
+        None => out.fill(0),
+    }
+}
+
+/// Fills `out` with the bytes of the row from `from` on.
+pub(crate) fn read_into(row: &Row, from: u64, out: &mut [u8])
+    requires { from + length out.old ≤ ROW_SIZE }
+    ensures { out.new ≡ map (row_byte row.now) (range_with_len from (length out.old)) }
+{
+    let mut done = 0;
+    while done < out.len() {
+        let at = from + done as u64;
+        let len = ((BLOCK_SIZE - at % BLOCK_SIZE) as usize).min(out.len() - done);
+        read_block_into(
+            row,
+            at / BLOCK_SIZE,
+            at % BLOCK_SIZE,
+            &mut out[done..done + len],
+        );
+        done += len;
+    }
+}

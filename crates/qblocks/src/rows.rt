@@ -119,3 +119,33 @@ pub(crate) fn read(rows: &Rows, off: u64, end: u64, out: &mut Vec<u8>) -> Result
     }
     Ok(())
 }
+
+/// Fills `out` with bytes of the row `r` from `at` on.
+fn read_row_into(rows: &Rows, r: u64, at: u64, out: &mut [u8])
+    requires { at + length out.old ≤ ROW_SIZE }
+    ensures { out.new ≡ map (row_byte (row_of rows.now r)) (range_with_len at (length out.old)) }
+{
+    match rows.get(&r) {
+        Some(row) => row::read_into(row, at, out),
+        None => out.fill(0),
+    }
+}
+
+/// Fills `out` with the bytes from `off` on.
+pub(crate) fn read_into(rows: &Rows, off: u64, out: &mut [u8])
+    requires { off + length out.old ≤ 2 ^ 40 }
+    ensures { out.new ≡ map (byte_at rows.now) (range_with_len off (length out.old)) }
+{
+    let mut done = 0;
+    while done < out.len() {
+        let at = off + done as u64;
+        let len = ((ROW_SIZE - at % ROW_SIZE) as usize).min(out.len() - done);
+        read_row_into(
+            rows,
+            at / ROW_SIZE,
+            at % ROW_SIZE,
+            &mut out[done..done + len],
+        );
+        done += len;
+    }
+}

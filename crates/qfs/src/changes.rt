@@ -7,9 +7,12 @@ ghost use Rattle.qsession.specs.Holdings.{held_in};
 ghost use Rattle.qsession.specs.Replies.{done_in};
 ghost use Rattle.qsession.specs.Requests.{chown_by, kind_in, limits_in, line_by};
 
-use qplain::{Call, Data};
+use qblocks::Input;
+use qplain::Call;
 use qrules::Graces;
-use qsession::{Caller, DoneReply, NewLimits, NewOwners, Session, data_of, kind_of, path_of};
+use qsession::{
+    BorrowedCall, Caller, DoneReply, NewLimits, NewOwners, PathText, Session, kind_of, path_of,
+};
 use std::alloc::Global;
 
 /// Makes an empty file.
@@ -28,12 +31,12 @@ pub extern "C" fn qfs_create(
     ensures done { result ≡ 0 → IsReplyTo (held_in session.old.slot.kept)
         (line_by caller.now moment (Create path.now)) (done_in done.new) }
 {
-    let path = match path_of(alloc, path) {
+    let path = match PathText::new(path) {
         Ok(path) => path,
         Err(fault) => return fault.code(),
     };
-    let call = Call::Create { path };
-    session.change(alloc, caller, moment, &call, done)
+    let call = BorrowedCall::Create { path };
+    session.change_borrowed(alloc, caller, moment, call, done)
 }
 
 /// Makes an empty directory.
@@ -52,12 +55,12 @@ pub extern "C" fn qfs_mkdir(
     ensures done { result ≡ 0 → IsReplyTo (held_in session.old.slot.kept)
         (line_by caller.now moment (Mkdir path.now)) (done_in done.new) }
 {
-    let path = match path_of(alloc, path) {
+    let path = match PathText::new(path) {
         Ok(path) => path,
         Err(fault) => return fault.code(),
     };
-    let call = Call::Mkdir { path };
-    session.change(alloc, caller, moment, &call, done)
+    let call = BorrowedCall::Mkdir { path };
+    session.change_borrowed(alloc, caller, moment, call, done)
 }
 
 /// Writes all of the bytes at the offset, or none.
@@ -78,16 +81,13 @@ pub extern "C" fn qfs_write(
     ensures done { result ≡ 0 → IsReplyTo (held_in session.old.slot.kept)
         (line_by caller.now moment (Write path.now off bytes.now)) (done_in done.new) }
 {
-    let path = match path_of(alloc, path) {
+    let path = match PathText::new(path) {
         Ok(path) => path,
         Err(fault) => return fault.code(),
     };
-    let bytes = match data_of(alloc, bytes) {
-        Ok(bytes) => bytes,
-        Err(fault) => return fault.code(),
-    };
-    let call = Call::Write { path, off, bytes };
-    session.change(alloc, caller, moment, &call, done)
+    let bytes = Input::Bytes(bytes);
+    let call = BorrowedCall::Write { path, off, bytes };
+    session.change_borrowed(alloc, caller, moment, call, done)
 }
 
 /// Writes so many equal bytes at the offset, or none.
@@ -109,16 +109,13 @@ pub extern "C" fn qfs_fill(
     ensures done { result ≡ 0 → IsReplyTo (held_in session.old.slot.kept)
         (line_by caller.now moment (Write path.now off (replicate count byte))) (done_in done.new) }
 {
-    let path = match path_of(alloc, path) {
+    let path = match PathText::new(path) {
         Ok(path) => path,
         Err(fault) => return fault.code(),
     };
-    let call = Call::Write {
-        path,
-        off,
-        bytes: Data::fill(count, byte),
-    };
-    session.change(alloc, caller, moment, &call, done)
+    let bytes = Input::Fill { count, byte };
+    let call = BorrowedCall::Write { path, off, bytes };
+    session.change_borrowed(alloc, caller, moment, call, done)
 }
 
 /// Sets a file's size, in bytes.

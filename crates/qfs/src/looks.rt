@@ -7,7 +7,7 @@ ghost use Rattle.qsession.specs.Holdings.{held_in};
 ghost use Rattle.qsession.specs.Replies.{quota_in, stat_in};
 ghost use Rattle.qsession.specs.Requests.{kind_in, line_by};
 
-use qsession::{Caller, QuotaReply, Session, StatReply, kind_of, path_of};
+use qsession::{Caller, PathText, QuotaReply, Session, StatReply, kind_of, path_of};
 use std::alloc::Global;
 
 /// Reads as many bytes from the offset on as the buffer has, up to the end of the file.
@@ -51,7 +51,7 @@ pub extern "C" fn qfs_stat(
     ensures stat { result ≡ 0 → IsReplyTo (held_in session.old.slot.kept) (line_by caller.now moment (AskStat path.now))
         (stat_in stat.new) }
 {
-    let path = match path_of(alloc, path) {
+    let path = match PathText::new(path) {
         Ok(path) => path,
         Err(fault) => return fault.code(),
     };

@@ -1,6 +1,5 @@
 -- Which entries name a project: those of edition 1 do not.
 use Rattle.std.specs.Prelude.{Bool, true, false, not, ◌||◌, is_some}
-use Rattle.qrules.specs.declared.kind.Kind.{Kind}
 use Rattle.qrules.specs.declared.kind.Kind.TheVariants.{Project}
 use Rattle.qrules.specs.Kinds.{is_same_kind}
 use Rattle.qplain.specs.declared.call.Call.{Call}

@@ -1,5 +1,6 @@
 -- What holds of new stores, of lawful states and of every step, whatever is called: the laws above the definitions.
-use Rattle.std.specs.Prelude.{◌≡◌, ℕ, ◌+◌, ◌≤◌, Bool, true, false, not, ◌&&◌, ◌||◌, ◌==◌, nat_le, nat_lt, if◌then◌else◌}
+use Rattle.std.specs.Prelude.{◌≡◌, ℕ, ◌+◌, ◌≤◌, Bool, true, false, not, ◌&&◌}
+use Rattle.std.specs.Prelude.{◌||◌, ◌==◌, nat_le, nat_lt, if◌then◌else◌}
 use Rattle.std.specs.Prelude.{is_some, Ok, List, ◌∷◌, filter, map, sum_by, All, Option, Some, None}
 use Rattle.std.specs.Map.{keys_of, values_of}
 use Rattle.std.specs.Ordering.{nat_cmp}
@@ -242,12 +243,15 @@ RightsHold = (S : State) (cred : Caller) (moment : ℕ) (call : Call) → IsLawf
 pub record KeepsOwners (cred : Caller) (old new : State) : Type 0 where
   pub made : (number : ℕ) (after : Inode) → inode_at old number ≡ None → inode_at new number ≡ Some after
       → (after.owners.uid ≡ cred.uid) × (after.owners.gid ≡ cred.gid)
-  pub user : (number : ℕ) (inode after : Inode) → inode_at old number ≡ Some inode → inode_at new number ≡ Some after
+  pub user : (number : ℕ) (inode after : Inode) → inode_at old number ≡ Some inode
+      → inode_at new number ≡ Some after
       → after.owners.uid ≡ inode.owners.uid
-  pub group : (number : ℕ) (inode after : Inode) → inode_at old number ≡ Some inode → inode_at new number ≡ Some after
+  pub group : (number : ℕ) (inode after : Inode) → inode_at old number ≡ Some inode
+      → inode_at new number ≡ Some after
       → (after.owners.gid == inode.owners.gid
       || list_any (λ group. group == after.owners.gid) (cred.gid ∷ cred.more)) ≡ true
-  pub project : (number : ℕ) (inode after : Inode) → inode_at old number ≡ Some inode → inode_at new number ≡ Some after
+  pub project : (number : ℕ) (inode after : Inode) → inode_at old number ≡ Some inode
+      → inode_at new number ≡ Some after
       → after.owners.project ≡ inode.owners.project
 
 -- no caller but the superuser makes another user or another project own an inode, or a group that is not one of the
@@ -264,4 +268,5 @@ EndsAreTheRules = (S : State) (moment : ℕ) (h : Holder)
 -- new limits do to a holder what the rules do to its record
 abbrev pub NewLimitsAreTheRules : Type 0
 NewLimitsAreTheRules = (S : State) (moment : ℕ) (limits : Limits) (h : Holder)
-    → account_of S (with_ends_of S moment (relimited limits h)) ≡ with_limits (account_of S h) limits S.graces moment
+    → account_of S (with_ends_of S moment (relimited limits h))
+    ≡ with_limits (account_of S h) limits S.graces moment

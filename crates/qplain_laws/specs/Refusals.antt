@@ -1,5 +1,6 @@
 -- The order of refusals, call by call: the tests of each call in a row, of which the first that fails is the answer.
-use Rattle.std.specs.Prelude.{◌≡◌, ℕ, ◌+◌, Bool, true, not, ◌&&◌, ◌||◌, ◌==◌, nat_lt, if◌then◌else◌, List, [], ◌∷◌}
+use Rattle.std.specs.Prelude.{◌≡◌, ℕ, ◌+◌, Bool, true, not, ◌&&◌, ◌||◌, ◌==◌}
+use Rattle.std.specs.Prelude.{nat_lt, if◌then◌else◌, List, [], ◌∷◌}
 use Rattle.std.specs.Prelude.{length, Option, Some, None, is_some, Result, Ok, Err}
 use Rattle.std.specs.Option.{option_or}
 use Rattle.qplain.specs.declared.call.Call.{Call}
@@ -57,7 +58,8 @@ in_directory tests name (Err r) = (true, r) ∷ []
 in_directory tests name (Ok dir) = tests dir name
 
 -- the walk to the parent of these names, and the tests of the last one there; without a name, this refusal
-abbrev pub of_last : State → Refusal → List (List ℕ) → (ℕ → List ℕ → List Test) → Option (List ℕ) → List Test
+abbrev pub of_last : State → Refusal → List (List ℕ) → (ℕ → List ℕ → List Test) → Option (List ℕ)
+    → List Test
 of_last S of_root names tests None = (true, of_root) ∷ []
 of_last S of_root names tests (Some name) = in_directory tests name (parent S names)
 
@@ -66,7 +68,8 @@ abbrev pub of_place : State → Refusal → List ℕ → (ℕ → List ℕ → L
 of_place S of_root path tests = of_last S of_root (components path) tests (last_name (components path))
 
 -- the tests of a rename, unless both names are of one inode
-abbrev pub rename_tests : State → Caller → List (List ℕ) → ℕ → List ℕ → ℕ → Inode → ℕ → List ℕ → Option ℕ → List Test
+abbrev pub rename_tests : State → Caller → List (List ℕ) → ℕ → List ℕ → ℕ → Inode → ℕ
+    → List ℕ → Option ℕ → List Test
 rename_tests S cred to dir name number inode to_dir to_name target =
     if passes (λ n. n == number) target then []
     else (inode.dir && meets S to number, EINVAL)
@@ -96,7 +99,8 @@ tests_of S cred (Link from to) = of_path S from (λ number inode. of_place S EEX
 tests_of S cred (Unlink path) = of_place S EISDIR path (λ dir name. of_name S dir name (λ number inode.
     (inode.dir, EISDIR) ∷ (not (may_remove S cred dir number), EPERM) ∷ []))
 tests_of S cred (Rmdir path) = of_place S EBUSY path (λ dir name. of_name S dir name (λ number inode.
-    (not inode.dir, ENOTDIR) ∷ (not (may_remove S cred dir number), EPERM) ∷ (not (is_empty S number), ENOTEMPTY) ∷ []))
+    (not inode.dir, ENOTDIR) ∷ (not (may_remove S cred dir number), EPERM)
+    ∷ (not (is_empty S number), ENOTEMPTY) ∷ []))
 tests_of S cred (Rename from to) = of_place S EBUSY from (λ dir name. of_name S dir name (λ number inode.
     of_place S EBUSY to (λ to_dir to_name.
     rename_tests S cred (components to) dir name number inode to_dir to_name (named S to_dir to_name))))
@@ -115,10 +119,13 @@ first_refusal_of S cred moment call =
 
 -- that is what is answered; where there is none, a refusal is for a limit; and space comes before quota
 pub record AreInOrder (S : State) (cred : Caller) (moment : ℕ) (call : Call) : Type 0 where
-  pub first : (r : Refusal) → first_refusal_of S cred moment call ≡ Some r → (step S cred moment call).1 ≡ Refused r
-  pub limits : first_refusal_of S cred moment call ≡ None → (r : Refusal) → (step S cred moment call).1 ≡ Refused r
+  pub first : (r : Refusal) → first_refusal_of S cred moment call ≡ Some r
+      → (step S cred moment call).1 ≡ Refused r
+  pub limits : first_refusal_of S cred moment call ≡ None → (r : Refusal)
+      → (step S cred moment call).1 ≡ Refused r
       → is_for_limits r ≡ true
-  pub space : (new : State) (number : ℕ) → attempt S cred moment call ≡ Becomes new number → is_too_full new ≡ true
+  pub space : (new : State) (number : ℕ) → attempt S cred moment call ≡ Becomes new number
+      → is_too_full new ≡ true
       → (step S cred moment call).1 ≡ Refused ENOSPC
 
 -- refusals come in this order

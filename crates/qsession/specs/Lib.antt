@@ -9,6 +9,7 @@ pub mod Faults
 pub mod Brought
 pub mod Called
 pub mod Requests
+pub mod BorrowedCalls
 pub mod Replies
 pub mod Inodes
 pub mod Names

@@ -1,13 +1,15 @@
 //! What an open session keeps.
-ghost use Rattle.std.specs.Prelude.{◌≡◌, ◌↔◌, Some, None, Err, IfSome, IfNone, IfOk, IfErr, OnErr};
+ghost use Rattle.std.specs.Prelude.{◌≡◌, ◌↔◌, Some, None, Err, IsErr, IfSome, IfNone, IfOk, IfErr, OnErr};
 ghost use Rattle.qplain.specs.declared.line.Line.{Line};
 ghost use Rattle.qplain.specs.declared.edition.Edition.TheVariants.{Two};
 ghost use Rattle.qstore_journaled.specs.Lines.{line_of};
 ghost use Rattle.qsession.specs.declared.kept.Kept.TheVariants.{Journaled as KeptJournaled};
+ghost use Rattle.qsession.specs.BorrowedCalls.{call_of};
 ghost use Rattle.qsession.specs.Faults.{fault_told};
 ghost use Rattle.qsession.specs.Holdings.{HoldsTrue, holding_of, new_journaled, new_plain};
 ghost use Rattle.qsession.specs.Steps.{CanCommit, HasCause, IsFull, IsReadyFor, IsStep};
 
+use crate::borrowed_call::BorrowedCall;
 use crate::fault::Fault;
 use crate::ready_call::ReadyCall;
 use crate::recorder::Recorder;
@@ -82,6 +84,7 @@ impl Kept {
 
     /// One call: what is held and the reply are those of the plain machine's step, and where a journal is kept it has
     /// one entry more. An Err is JournalFull, before all else, or Memory, after all refusals, and changes nothing.
+    #[inline(never)]
     pub fn call(&mut self, cred: &Cred, moment: u64, call: &Call) -> Result<Reply, Fault>
         ensures ok { IfOk result
             (IsStep (holding_of self.old) (holding_of self.new) (line_of cred.now moment call.now)) }
@@ -99,6 +102,35 @@ impl Kept {
                 Err(fault) => Err(fault_of(fault)),
             },
         }
+    }
+
+    /// `call` of a borrowed call, of which nothing is copied unless a journal keeps it. An Err is JournalFull, where the
+    /// journal is full, or Memory, also of a copy, which comes before refusals and JournalFull; it changes nothing.
+    #[inline(always)]
+    pub fn ask(
+        &mut self,
+        alloc: Global,
+        cred: &Cred,
+        moment: u64,
+        call: BorrowedCall<'_>,
+    ) -> Result<Reply, Fault>
+        ensures ok { IfOk result
+            (IsStep (holding_of self.old) (holding_of self.new) (line_of cred.now moment (call_of call.entry))) }
+        ensures err { OnErr result (holding_of self.new ≡ holding_of self.old) }
+        ensures cause { IfErr result (HasCause (holding_of self.old)) }
+        ensures full { IsFull (Some (holding_of self.old)) → IsErr result }
+    {
+        if let Kept::Plain(store) = self {
+            return match call.apply(store, cred, moment) {
+                Ok(reply) => Ok(reply),
+                Err(_) => Err(Fault::Memory),
+            };
+        }
+        let call = match call.owned(alloc) {
+            Ok(call) => call,
+            Err(fault) => return Err(fault),
+        };
+        self.call(cred, moment, &call)
     }
 
     /// Decides a call and makes every growth that it needs; what is held stays as it was. Faults are those of `call`.

@@ -2,11 +2,13 @@
 #![tactic(auto)]
 
 pub use asking::{data_of, kind_of, path_of};
+pub use borrowed_call::BorrowedCall;
 pub use caller::Caller;
 pub use fault::Fault;
 pub use inodes::{ListedInode, list_inodes};
 pub use kept::Kept;
 pub use names::{ListedName, list_names};
+pub use path_text::PathText;
 pub use ready_call::ReadyCall;
 pub use recorder::Recorder;
 pub use replies::{DoneReply, QuotaReply, StatReply, TallyReply};
@@ -15,6 +17,7 @@ pub use session::Session;
 pub use slot::Slot;
 
 mod asking;
+mod borrowed_call;
 mod caller;
 mod fault;
 mod inodes;
@@ -22,6 +25,7 @@ mod kept;
 mod laws;
 mod loose;
 mod names;
+mod path_text;
 mod ready_call;
 mod recorder;
 mod replies;

@@ -4,6 +4,7 @@ ghost use Rattle.std.specs.Prelude.{length, take};
 ghost use Rattle.qplain.specs.declared.call.Call.TheVariants.{Read, Stat as AskStat, Quota as AskQuota};
 ghost use Rattle.qplain.specs.declared.reply.Reply.TheVariants.{Bytes};
 ghost use Rattle.qsession.specs.Answers.{is_change};
+ghost use Rattle.qsession.specs.BorrowedCalls.{call_of};
 ghost use Rattle.qsession.specs.Brought.{HasBadPath, HasTooManyGroups};
 ghost use Rattle.qsession.specs.Called.{IsCalled, IsCause, IsReplyTo, IsStepOf};
 ghost use Rattle.qsession.specs.Holdings.{HoldsTrue, held_in};
@@ -11,11 +12,13 @@ ghost use Rattle.qsession.specs.Replies.{done_in, quota_in, stat_in};
 ghost use Rattle.qsession.specs.Requests.{line_by};
 ghost use Rattle.qsession.specs.Steps.{IsFull};
 
+use crate::borrowed_call::BorrowedCall;
 use crate::caller::Caller;
 use crate::fault::Fault;
 use crate::kept::Kept;
-use crate::laws::{paths_are_good, replies_are_of_their_kind};
+use crate::laws::{borrowed_paths_are_good, paths_are_good, replies_are_of_their_kind};
 use crate::loose::Loose;
+use crate::path_text::PathText;
 use crate::replies::{DoneReply, QuotaReply, StatReply};
 use crate::slot::Slot;
 use crate::telling::{tell_bytes, tell_done, tell_quota, tell_stat};
@@ -129,6 +132,55 @@ impl Session {
         answer
     }
 
+    /// `call` of a borrowed call.
+    #[inline(always)]
+    fn ask(
+        &mut self,
+        alloc: Global,
+        caller: &Caller,
+        moment: u64,
+        call: BorrowedCall<'_>,
+    ) -> Result<Reply, Fault>
+        ensures ok { IfOk result (IsStepOf (held_in self.old.slot.kept) (held_in self.new.slot.kept)
+            (line_by caller.now moment (call_of call.entry))) }
+        ensures err { OnErr result (held_in self.new.slot.kept ≡ held_in self.old.slot.kept) }
+        ensures cause { IfErr result (IsCause (held_in self.old.slot.kept) caller.now (call_of call.entry)) }
+        ensures full { IsFull (held_in self.old.slot.kept) → IsErr result }
+        ensures brought { HasTooManyGroups caller.now ⊎ HasBadPath (call_of call.entry) → IsErr result }
+    {
+        borrowed_paths_are_good(&call);
+        let cred = match caller.cred(alloc) {
+            Ok(cred) => cred,
+            Err(fault) => return Err(fault),
+        };
+        let Some(mut kept) = self.take(alloc) else {
+            return Err(Fault::Closed);
+        };
+        let answer = kept.ask(alloc, &cred, moment, call);
+        *self = Session::of(kept);
+        answer
+    }
+
+    /// A borrowed call that changes something, as a caller of another language is told it.
+    #[inline(always)]
+    pub fn change_borrowed(
+        &mut self,
+        alloc: Global,
+        caller: &Caller,
+        moment: u64,
+        call: BorrowedCall<'_>,
+        done: &mut DoneReply,
+    ) -> u32
+        requires { is_change (call_of call) ≡ true }
+        ensures called { IsCalled (held_in self.old.slot.kept) (held_in self.new.slot.kept)
+            caller.now moment (call_of call.entry) result }
+        ensures done { result ≡ 0 → IsReplyTo (held_in self.old.slot.kept)
+            (line_by caller.now moment (call_of call.entry)) (done_in done.new) }
+    {
+        replies_are_of_their_kind();
+        tell_done(self.ask(alloc, caller, moment, call), done)
+    }
+
     /// A call that changes something, as a caller of another language is told it.
     pub fn change(
         &mut self,
@@ -176,22 +228,23 @@ impl Session {
     }
 
     /// A stat, as a caller of another language is told it.
+    #[inline(always)]
     pub fn stat(
         &mut self,
         alloc: Global,
         caller: &Caller,
         moment: u64,
-        path: Path,
+        path: PathText<'_>,
         stat: &mut StatReply,
     ) -> u32
         ensures called { IsCalled (held_in self.old.slot.kept) (held_in self.new.slot.kept)
-            caller.now moment (AskStat path) result }
-        ensures stat { result ≡ 0
-            → IsReplyTo (held_in self.old.slot.kept) (line_by caller.now moment (AskStat path)) (stat_in stat.new) }
+            caller.now moment (AskStat path.entry.text.now) result }
+        ensures stat { result ≡ 0 → IsReplyTo (held_in self.old.slot.kept)
+            (line_by caller.now moment (AskStat path.entry.text.now)) (stat_in stat.new) }
     {
         replies_are_of_their_kind();
-        let call = Call::Stat { path };
-        tell_stat(self.call(alloc, caller, moment, &call), stat)
+        let call = BorrowedCall::Stat { path };
+        tell_stat(self.ask(alloc, caller, moment, call), stat)
     }
 
     /// A quota record, as a caller of another language is told it.

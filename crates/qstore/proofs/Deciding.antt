@@ -169,6 +169,19 @@ module _ (old new : Stored) (same : IsSameStore old new) (request : Request) (at
         books = subst (λ (S : State). AreBooksOf S (settled new.bill new.books)) (sym there)
             (subst (λ (b : Books). AreBooksOf (ends_after S1 request.moment) (settled new.bill b)) (sym same.books) left)
 
+-- of what is granted memory may still be wanting
+pub decision-lacking : (old new : Stored) (request : Request) (attempt : Attempt) (d : Ready) (number : ℕ) (change : TotalChange)
+    → d.reply ≡ Done number change → IsDecision old new request attempt (Ok d) → (result : Result Ready AllocError) → IsErr result
+    → IsDecision old new request attempt result
+decision-lacking old new request attempt d number change is decision (Ok other) wanting = cc
+decision-lacking old new request attempt d number change is decision (Err lack) wanting = record {
+  same = decision.same;
+  decided = tt;
+  refused_first =
+      done-unrefused number change (settle old.state request.cred.now request.moment attempt).1
+      (sym (ap (λ (t : State × Reply). t.1) decision.decided.step) ∙ is);
+}
+
 -- a decision along an equal attempt
 pub decision-along : (old new : Stored) (request : Request) (attempt other : Attempt) (result : Result Ready AllocError) → attempt ≡ other
     → IsDecision old new request other result → IsDecision old new request attempt result

@@ -3,6 +3,7 @@ pub mod Arguments
 pub mod Beginning
 pub mod Settling
 pub mod Steps
+pub mod Applied
 pub mod Listed
 pub mod Deciding
 pub mod Even

@@ -20,7 +20,7 @@ use Rattle.qstore_accounts.specs.Replacements.{IsClaimed, IsReplacement}
 use Rattle.qstore.specs.declared.request.Exchange.{Exchange}
 use Rattle.qstore.specs.declared.ready.Ready.{Ready}
 use Rattle.qstore.specs.declared.request.Request.{Request}
-pub use Rattle.qstore.specs.Requests.{CanDecide, IsChecked, IsConsistent, IsFree}
+pub use Rattle.qstore.specs.Requests.{CanDecide, IsConsistent, IsFree}
 use Rattle.qstore.specs.Ready.{CanCarryOut, IsRefused, committed}
 use Rattle.qstore.specs.Stored.{IsSameStore, Stored}
 

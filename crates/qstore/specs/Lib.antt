@@ -1,6 +1,7 @@
 -- In reading order. A module that no public clause cites says so.
 pub mod Stored
 pub mod Ready
+pub mod Applied
 pub mod Rows
 pub mod Told
 pub mod Requests

@@ -1,10 +1,11 @@
 -- Who asks, and what each decision rests on. No public clause cites this module.
-use Rattle.std.specs.Prelude.{◌≡◌, ℕ, ◌≤◌, true, false, List, Option, Some, None, Bool, ◌&&◌}
+use Rattle.std.specs.Prelude.{◌≡◌, ℕ, ◌≤◌, true, false, List, [], ◌∷◌, Option, Some, None, Bool, ◌&&◌}
 use Rattle.qrules.specs.declared.graces.TheConstants.{MAX_MOMENT}
 use Rattle.qrules.specs.declared.kind.Kind.TheVariants.{User, Group, Project}
 use Rattle.qplain.specs.declared.owners.Owners.{Owners}
 use Rattle.qplain.specs.declared.call.Call.{Call}
-use Rattle.qplain.specs.Arguments.{has_bad_number, is_declared, refusal_of_arguments}
+use Rattle.qplain.specs.declared.refusal.Refusal.{Refusal}
+use Rattle.qplain.specs.Arguments.{has_bad_number, is_declared, paths_of, refusal_of_arguments}
 use Rattle.qplain.specs.Caller.{Caller}
 use Rattle.qplain.specs.State.{State, is_directory, named}
 use Rattle.qstore_accounts.specs.declared.claim.Slots.{Slots}
@@ -12,6 +13,7 @@ use Rattle.qstore_accounts.specs.Books.{AreBooksOf, Books, HasSlots}
 use Rattle.qstore_accounts.specs.KeptHolders.{IsSlotFor}
 use Rattle.qstore.specs.declared.request.Request.{Request}
 use Rattle.qstore_walk.specs.Owners.{caller_owners}
+use Rattle.qstore_walk.specs.Paths.{paths_fault}
 use Rattle.qstore.specs.Stored.{IsStorable, Stored}
 
 -- the state is storable, and the books are its own
@@ -35,14 +37,6 @@ pub record CanDecide (s : Stored) (request : Request) : Type 0 where
   pub known : are_declared s.state (caller_owners request.cred.now None) ≡ true
   pub callers : HasSlots s.books request.callers (caller_owners request.cred.now None)
 
--- the call is written as it may be, at a moment that may be, and the caller's records stand at these slots
-pub record IsChecked (s : Stored) (cred : Caller) (moment : ℕ) (call : Call) (slots : Slots) : Type 0 where
-  pub allowed : refusal_of_arguments s.state cred moment call ≡ None
-  pub in_range : moment ≤ MAX_MOMENT
-  pub known : are_declared s.state (caller_owners cred None) ≡ true
-  pub callers : HasSlots s.books slots (caller_owners cred None)
-  pub numbers : has_bad_number s.state call ≡ false
-
 -- the slots are those of the same user and group, and of this project, if there is one
 pub record IsWithProject (b : Books) (slots : Slots) (id : Option ℕ) (more : Slots) : Type 0 where
   pub user : more.user ≡ slots.user
@@ -53,3 +47,17 @@ pub record IsWithProject (b : Books) (slots : Slots) (id : Option ℕ) (more : S
 pub record IsFree (S : State) (dir : ℕ) (name : List ℕ) : Type 0 where
   pub directory : is_directory S dir ≡ true
   pub absent : named S dir name ≡ None
+
+-- the call has a bad number, or none, as it is said, and its paths have this fault
+pub record IsWritten (S : State) (bad : Bool) (fault : Option Refusal) (call : Call) : Type 0 where
+  pub numbers : has_bad_number S call ≡ bad
+  pub paths : paths_fault (paths_of call) ≡ fault
+
+-- the request is the caller's at the moment, the store can decide it, and each call that is written so is as it may be
+pub record IsRequestFor (s : Stored) (cred : Caller) (moment : ℕ) (bad : Bool) (fault : Option Refusal)
+    (request : Request) : Type 0 where
+  pub cred_is : request.cred.now ≡ cred
+  pub moment_is : request.moment ≡ moment
+  pub can : CanDecide s request
+  pub allowed : (call : Call) → IsWritten s.state bad fault call → refusal_of_arguments s.state cred moment call ≡ None
+  pub numbers : bad ≡ false

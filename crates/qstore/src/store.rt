@@ -9,14 +9,14 @@ ghost use Rattle.qplain.specs.Arguments.{has_bad_number};
 ghost use Rattle.qplain.specs.Step.{step};
 ghost use Rattle.qplain_laws.specs.Laws.{IsLawful, PassesNoLimit};
 ghost use Rattle.qstore_tree.specs.TreeOf.{IsTreeOf};
-ghost use Rattle.qstore.specs.Stored.{IsSameStore, IsStorable, Stored};
+ghost use Rattle.qstore.specs.Stored.{Stored};
 ghost use Rattle.qstore.specs.Decided.{CanDecide, IsDecisionOf};
-ghost use Rattle.qstore.specs.Ready.{CanCarryOut, IsReady, IsRefused, committed, wants_no_memory};
+ghost use Rattle.qstore.specs.Ready.{IsReady, IsRefused, committed, wants_no_memory};
 
 use crate::{Call, Cred, Decision, NoMemory, Plan, Ready, Reply, Request, Setup};
 use qstore_accounts::{Accounts, Bill};
 use qstore_tree::Tree;
-use qstore_walk::root_owners;
+use qstore_walk::{paths_fault, root_owners};
 use std::alloc::Global;
 use std::marker::Model;
 
@@ -26,17 +26,13 @@ mod claims;
 mod commit;
 mod create;
 mod link;
-mod mkdir;
+mod look;
 mod quota;
-mod read;
+mod removal;
 mod rename;
-mod rmdir;
 mod rows;
 mod set_grace;
-mod set_quota;
-mod stat;
 mod truncate;
-mod unlink;
 mod write;
 
 /// Inodes, names and quota records in memory, whose state and replies are those of the plain machine.
@@ -109,27 +105,6 @@ impl Store {
         &self.tree
     }
 
-    /// Decides a call, and makes every growth that it needs.
-    fn decide(&mut self, cred: &Cred, moment: u64, call: &Call) -> Decision
-        ensures same { IsSameStore self.old self.new }
-        ensures step { IfOk result (λ r. committed self.new r ≡ step self.old.state cred.now moment call.now) }
-        ensures can { IfOk result (λ r. CanCarryOut self.new r.plan) }
-        ensures sound { IsStorable self.old.state }
-        ensures refused_first { IsRefused (step self.old.state cred.now moment call.now).1 → IsOk result }
-        ensures answered { wants_no_memory call.now ≡ true → IsOk result }
-    {
-        let callers = match self.check(cred, moment, call) {
-            Ok(callers) => callers,
-            Err(refusal) => return Ok(Ready::refused(refusal)),
-        };
-        let request = Request {
-            cred,
-            callers,
-            moment,
-        };
-        self.decide_lawful(&request, call)
-    }
-
     /// Decides a call that is written as it may be, and makes every growth that it needs.
     #[inline(always)]
     fn decide_lawful(&mut self, request: &Request, call: &Call) -> Decision
@@ -178,10 +153,10 @@ impl Store {
     /// leaves the state as it was, too: only a granted create, mkdir, write, read, link, unlink, rmdir or rename meets
     /// it. The bytes of a write are not copied: the call and what is ready share them.
     ///
-    /// The `Ready` is for `commit` of this store, before any other `ready`, `apply` or `commit` of it. It may be
-    /// dropped: the room of a create, a mkdir or a link serves the next of them in its directory, a write's blocks go
-    /// with it, and what is left in its file is taken out by that file's next write.
-    #[inline(always)]
+    /// The `Ready` is for `commit` of this store, before any other call of it but a stat. It may be dropped: the room
+    /// of a create, a mkdir or a link serves the next of them in its directory, a write's blocks go with it, and what
+    /// is left in its file is taken out by that file's next write.
+    #[inline(never)]
     pub fn ready(&mut self, cred: &Cred, moment: u64, call: &Call) -> Decision
         ensures state { self.new.state ≡ self.old.state }
         ensures step { IfOk result (λ r. committed self.new r ≡ step self.old.state cred.now moment call.now) }
@@ -190,11 +165,16 @@ impl Store {
         ensures refused_first { IsRefused (step self.old.state cred.now moment call.now).1 → IsOk result }
         ensures answered { wants_no_memory call.now ≡ true → IsOk result }
     {
-        self.decide(cred, moment, call)
+        let has_bad_number = self.has_bad_number(call);
+        let request = match self.check(cred, moment, has_bad_number, paths_fault(call)) {
+            Ok(request) => request,
+            Err(refusal) => return Ok(Ready::refused(refusal)),
+        };
+        self.decide_lawful(&request, call)
     }
 
     /// Does what is ready, and gives the reply. It takes no memory and always succeeds.
-    /// The caller owes that this store had no other `ready`, `apply` or `commit` since.
+    /// The caller owes that this store had no other call since, but a stat.
     #[inline(always)]
     pub fn commit(&mut self, ready: Ready) -> Reply
         requires { IsReady self.old ready }

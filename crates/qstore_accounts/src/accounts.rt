@@ -19,7 +19,7 @@ ghost use Rattle.qstore_accounts.specs.Ledgers.{refusal_of};
 ghost use Rattle.qstore_accounts.specs.Decisions.{bill_refusal, IsBillOf};
 ghost use Rattle.qstore_accounts.specs.Rows.{StandsBefore, record_row_of};
 
-use crate::bill::{Bill, Posting, Postings};
+use crate::bill::{Bill, Posting};
 use crate::claim::{Claim, share_of, weight_of};
 use crate::kept_holder::KeptHolder;
 use crate::known_callers::KnownCallers;
@@ -247,36 +247,45 @@ impl Accounts {
         self.fault(moment, bill)
     }
 
-    /// The bill of new limits for the record at this slot. It is granted always, and leaves the totals.
-    pub fn bill_of_limits(&self, kind: Kind, slot: usize, limits: Limits, moment: u64) -> Bill
+    /// Writes the bill of new limits for the record at this slot. It is granted always, and leaves the totals.
+    pub fn bill_of_limits(
+        &self,
+        kind: Kind,
+        slot: usize,
+        limits: Limits,
+        moment: u64,
+        bill: &mut Bill,
+    )
         requires slot { (id : ℕ) × IsSlotOf (ledger_in kind self.now) slot id }
         requires moment { moment ≤ MAX_MOMENT }
         ensures books { (S : State) (id : ℕ) → IsSlotOf (ledger_in kind self.now) slot id
             → IsLawful S → AreBooksOf S self.now
-            → AreBooksOf (ends_after (with_limits_of S kind id limits) moment) (settled result self.now) }
-        ensures placed { IsBillFor self.now result }
+            → AreBooksOf (ends_after (with_limits_of S kind id limits) moment) (settled bill.new self.now) }
+        ensures placed { IsBillFor self.now bill.new }
     {
         let posting = self
             .ledger(kind)
             .relimited(slot, limits, self.graces, moment);
-        self.bill_with(kind, posting)
+        self.write_only(kind, posting, bill);
     }
 
-    /// A bill that leaves the totals and all records but one.
-    fn bill_with(&self, kind: Kind, posting: Posting) -> Bill
-        ensures postings { (other : Kind) → postings_in other result ≡ only_in kind posting other }
-        ensures blocks { result.blocks ≡ self.now.blocks }
-        ensures inodes { result.inodes ≡ self.now.inodes }
+    /// Writes a bill that leaves the totals and all records but one.
+    #[inline(always)]
+    fn write_only(&self, kind: Kind, posting: Posting, bill: &mut Bill)
+        ensures postings { (other : Kind) → postings_in other bill.new ≡ only_in kind posting other }
+        ensures blocks { bill.new.blocks ≡ self.now.blocks }
+        ensures inodes { bill.new.inodes ≡ self.now.inodes }
     {
-        let mut bill = Bill::empty();
+        bill.users.clear();
+        bill.groups.clear();
+        bill.projects.clear();
         bill.blocks = self.blocks;
         bill.inodes = self.inodes;
         match kind {
-            Kind::User => bill.users = Postings::only(posting),
-            Kind::Group => bill.groups = Postings::only(posting),
-            Kind::Project => bill.projects = Postings::only(posting),
+            Kind::User => bill.users.to = Some(posting),
+            Kind::Group => bill.groups.to = Some(posting),
+            Kind::Project => bill.projects.to = Some(posting),
         }
-        bill
     }
 
     /// Puts the records and totals of a bill in their places. It takes no memory and always succeeds.

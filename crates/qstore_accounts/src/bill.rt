@@ -1,5 +1,5 @@
 //! What a granted call makes of the accounts.
-ghost use Rattle.std.specs.Prelude.{◌≡◌, None, Some};
+ghost use Rattle.std.specs.Prelude.{◌≡◌, None};
 ghost use Rattle.qstore_accounts.specs.Bills.{no_bill};
 
 use qrules::Record;
@@ -10,6 +10,16 @@ pub struct Posting {
     pub(crate) slot: usize,
     pub(crate) id: u32,
     pub(crate) account: Record,
+}
+
+/// Leaves no posting. It writes nothing where there is none.
+#[inline(always)]
+pub(crate) fn clear(posting: &mut Option<Posting>)
+    ensures { posting.new ≡ None }
+{
+    if posting.is_some() {
+        *posting = None;
+    }
 }
 
 /// What becomes of the records of one kind: that of the owner who gives an inode up, if it is another's, and that of
@@ -57,13 +67,12 @@ impl Postings {
         }
     }
 
-    /// One record changes.
-    pub(crate) fn only(posting: Posting) -> Postings
-        ensures { result ≡ record { from = None; to = Some posting } }
+    /// Leaves no record to change.
+    #[inline(always)]
+    pub(crate) fn clear(&mut self)
+        ensures { self.new ≡ record { from = None; to = None } }
     {
-        Postings {
-            from: None,
-            to: Some(posting),
-        }
+        clear(&mut self.from);
+        clear(&mut self.to);
     }
 }

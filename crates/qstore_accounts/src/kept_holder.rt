@@ -6,7 +6,7 @@ ghost use Rattle.qrules.specs.Charge.{first_fault};
 ghost use Rattle.qstore_accounts.specs.Boards.{board_row};
 ghost use Rattle.qstore_accounts.specs.Ledgers.{holder_row, new_holder};
 
-use qplain::{NoMemory, Principal, Refusal};
+use qplain::{NoMemory, Principal, Quota, Refusal};
 use qrules::{BoardRow, Graces, Kind, Limits, MAX_GRACE, PrincipalName, Record, RecordRow};
 use std::alloc::Global;
 
@@ -65,6 +65,26 @@ pub(crate) fn board_row(kind: Kind, id: u32, account: &Record) -> BoardRow
 }
 
 impl KeptHolder {
+    /// What its record holds.
+    pub fn quota(&self) -> Quota
+        ensures { result ≡ record {
+          blocks = self.now.account.blocks;
+          inodes = self.now.account.inodes;
+          limits = self.now.account.limits;
+          block_end = self.now.account.block_end;
+          inode_end = self.now.account.inode_end;
+        } }
+    {
+        let account = &self.account;
+        Quota {
+            blocks: account.blocks(),
+            inodes: account.inodes(),
+            limits: account.limits(),
+            block_end: account.block_end(),
+            inode_end: account.inode_end(),
+        }
+    }
+
     /// The row of this record.
     pub(crate) fn row(&self, alloc: Global, kind: Kind) -> Result<RecordRow, NoMemory>
         ensures { IfOk result (λ row. row ≡ holder_row kind self.now) }

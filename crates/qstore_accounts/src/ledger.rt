@@ -13,23 +13,13 @@ ghost use Rattle.qstore_accounts.specs.Boards.{board_row_of};
 ghost use Rattle.qstore_accounts.specs.Ledgers.{ArePosted, AreTimesInRange, holder_row, IsFinal, IsHolderAt};
 ghost use Rattle.qstore_accounts.specs.Ledgers.{IsLedgerReplacement, new_holder, refusal_of};
 
-use crate::bill::{Posting, Postings};
+use crate::bill::{Posting, Postings, clear};
 use crate::claim::{OwnerClaim, apart, weight_at};
 use crate::kept_holder::{KeptHolder, board_row, new_holder};
 use qplain::{NoMemory, Principal, Refusal};
 use qrules::{BoardRow, Graces, Kind, Limits, MAX_GRACE, RecordRow};
 use std::alloc::Global;
 use std::marker::Model;
-
-/// Leaves no posting. It writes nothing where there is none.
-#[inline(always)]
-fn clear(posting: &mut Option<Posting>)
-    ensures { posting.new ≡ None }
-{
-    if posting.is_some() {
-        *posting = None;
-    }
-}
 
 /// The kept holders of one kind, of whom no two have the same id. Contracts see them as a list by id.
 #[derive(Drop)]
@@ -175,8 +165,7 @@ impl Ledger {
             → ArePosted self.now kind S1 moment from to postings.new }
     {
         if from.is_none() && to.is_none() {
-            clear(&mut postings.from);
-            clear(&mut postings.to);
+            postings.clear();
             return;
         }
         let lost = apart(from, to);

@@ -2,6 +2,7 @@
 #![tactic(auto)]
 
 pub use file_type::{FileType, creation, removal};
+pub use parts::write;
 pub use tree_change::{TreeChange, make};
 
 mod file_type;

@@ -3,19 +3,31 @@ ghost use Rattle.std.specs.Prelude.{◌≡◌, ℕ, ◌-◌, ◌<◌, false, str
 ghost use Rattle.std.specs.BTreeMap.{is_at};
 ghost use Rattle.std.specs.Map.{lookup, remove_entry, set_value};
 ghost use Rattle.std.specs.Ordering.{nat_cmp};
+ghost use Rattle.qblocks.specs.Input.{input_bytes};
 ghost use Rattle.qplain.specs.State.{State, is_dir, new_directory};
 ghost use Rattle.qplain.specs.Names.{created, swept, with_name, without_name};
 ghost use Rattle.qplain.specs.Renames.{renamed};
 ghost use Rattle.qplain_laws.specs.Laws.{IsLawful};
 ghost use Rattle.qstore_tree.specs.TreeOf.{IsTreeOf};
 ghost use Rattle.qstore_walk.specs.Paths.{name_in};
-ghost use Rattle.qstore_change.specs.Changes.{CanCreate, CanLink, CanRename, CanRmdir, CanUnlink};
+ghost use Rattle.qstore_change.specs.Changes.{CanCreate, CanLink, CanRename, CanRmdir, CanUnlink, CanWrite, changed};
 
 use crate::replacement::{drop_replaced, led_to, move_node};
+use crate::tree_change::TreeChange;
+use qblocks::{Input, Spare};
 use qplain::{Owners, Path};
 use qstore_tree::{Node, Tree};
 use qstore_walk::last_of;
 use std::alloc::Global;
+
+/// Writes into a file, for which room is made. It takes no memory and always succeeds.
+pub fn write(tree: &mut Tree, number: u64, off: u64, input: Input, spare: Spare)
+    requires { (S : State) × IsTreeOf S tree.old × CanWrite S tree.old.room number off spare (input_bytes input) }
+    ensures { (S : State) → IsTreeOf S tree.old → CanWrite S tree.old.room number off spare (input_bytes input.entry)
+        → IsTreeOf (changed S (TreeChange.Write number off (input_bytes input.entry) spare)) tree.new }
+{
+    tree.put(number, off, input, spare);
+}
 
 /// Takes one link from a file, and the file with its last one.
 pub(crate) fn drop_link(tree: &mut Tree, number: u64)

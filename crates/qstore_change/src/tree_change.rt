@@ -5,7 +5,7 @@ ghost use Rattle.qplain_laws.specs.Laws.{IsLawful};
 ghost use Rattle.qstore_tree.specs.TreeOf.{IsTreeOf};
 ghost use Rattle.qstore_change.specs.Changes.{CanChange, changed};
 
-use crate::parts::{add_directory, add_name, rename, take_directory, take_name};
+use crate::parts::{add_directory, add_name, rename, take_directory, take_name, write};
 use qblocks::Spare;
 use qplain::{Data, Owners, Path};
 use qstore_tree::Tree;
@@ -94,9 +94,7 @@ pub fn make(tree: &mut Tree, next: u64, alloc: Global, change: TreeChange) -> u6
             off,
             bytes,
             spare,
-        } => {
-            tree.put(number, off, &bytes, spare);
-        }
+        } => write(tree, number, off, bytes.input(), spare),
         TreeChange::Truncate { number, size } => {
             tree.truncate(number, size);
         }

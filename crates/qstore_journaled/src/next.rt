@@ -18,6 +18,7 @@ pub struct Next {
 }
 
 /// The entry of a caller's call, which shares what the call has.
+#[inline(always)]
 pub(crate) fn entry_for(
     worker: u64,
     cred: &Cred,

@@ -6,17 +6,20 @@ ghost use Rattle.std.specs.Cmp.Lexicographic.{slice_cmp};
 ghost use Rattle.std.specs.BTreeMap.{insert_entry, is_at};
 ghost use Rattle.std.specs.Map.{lookup};
 ghost use Rattle.qblocks.specs.File.{Adds, MoreBlocks, after_truncate, after_write};
+ghost use Rattle.qblocks.specs.Input.{input_bytes};
 ghost use Rattle.qblocks.specs.WriteRoom.{IsReadyToPut};
 ghost use Rattle.qplain.specs.State.{new_directory, new_file};
+ghost use Rattle.qrules.specs.Sort.{Blocks};
 ghost use Rattle.qplain.specs.Owners.{with_owners};
+ghost use Rattle.qplain.specs.Use.{weight};
 ghost use Rattle.qstore_tree.specs.InOrder.{in_order};
 ghost use Rattle.qstore_tree.specs.Names.{LosesName, name_row};
 ghost use Rattle.qstore_tree.specs.Nodes.{IsSameNode, inode_of, is_dir_content, name_room_in, names_in, node_row};
 ghost use Rattle.qstore_tree.specs.Nodes.{roomy_file_in};
 
 use crate::names::Names;
-use qblocks::{BlockFile, MAX_SIZE, Spare};
-use qplain::{Data, NoMemory, Owners};
+use qblocks::{BlockFile, Input, MAX_SIZE, Spare};
+use qplain::{NoMemory, Owners};
 use qrules::{InodeRow, NameRow};
 use std::alloc::Global;
 
@@ -155,20 +158,30 @@ impl Node {
 
     /// Writes into this file where room is made, and gives the number of blocks newly allocated. It
     /// takes no memory and always succeeds.
-    pub(crate) fn put(&mut self, off: u64, bytes: &Data, spare: Spare) -> u64
-        requires bound { off + length bytes.now ≤ MAX_SIZE }
+    pub(crate) fn put(&mut self, off: u64, input: Input, spare: Spare) -> u64
+        requires bound { off + length (input_bytes input) ≤ MAX_SIZE }
         requires there { is_some (roomy_file_in self.old.content) ≡ true }
         requires ready { IfSome (roomy_file_in self.old.content)
-            (λ f. IsReadyToPut f off (length bytes.now) spare) }
-        ensures inode { inode_of self.new
-            ≡ record (inode_of self.old) { file = after_write (inode_of self.old).file off bytes.now } }
+            (λ f. IsReadyToPut f off (length (input_bytes input)) spare) }
+        ensures inode { inode_of self.new ≡ record (inode_of self.old)
+            { file = after_write (inode_of self.old).file off (input_bytes input.entry) } }
         ensures count { MoreBlocks (inode_of self.old).file (inode_of self.new).file result }
         ensures links { self.new.links ≡ self.old.links }
         ensures names { names_in self.new.content ≡ names_in self.old.content }
     {
         match &mut self.content {
-            Content::File(file) => file.put(off, bytes.input(), spare),
+            Content::File(file) => file.put(off, input, spare),
             Content::Directory(_) => unreachable!(),
+        }
+    }
+
+    /// The allocated blocks of this inode. O(1).
+    pub fn blocks(&self) -> u64
+        ensures { result ≡ weight Blocks (inode_of self.now) }
+    {
+        match &self.content {
+            Content::Directory(_) => 0,
+            Content::File(file) => file.allocated(),
         }
     }
 

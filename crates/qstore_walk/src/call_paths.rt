@@ -6,6 +6,14 @@ ghost use Rattle.qstore_walk.specs.Paths.{paths_fault};
 use crate::path::fault_of;
 use qplain::{Call, Refusal};
 
+/// What is wrong with a path: EINVAL for its form, else ENAMETOOLONG of a component above 255 bytes, or of the whole
+/// above 4095. O(bytes).
+pub fn path_fault(path: &str) -> Option<Refusal>
+    ensures { result ≡ paths_fault (path.now ∷ []) }
+{
+    fault_of(path)
+}
+
 /// What is wrong with two paths: EINVAL of either comes before ENAMETOOLONG of either.
 fn fault_of_both(from: &str, to: &str) -> Option<Refusal>
     ensures { result ≡ paths_fault (from.now ∷ to.now ∷ []) }

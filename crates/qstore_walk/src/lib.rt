@@ -2,7 +2,7 @@
 //! make or give. No question changes anything.
 #![tactic(auto)]
 
-pub use call_paths::paths_fault;
+pub use call_paths::{path_fault, paths_fault};
 pub use directory::{has_all_links, is_empty};
 pub use links::{FurtherName, further_name};
 pub use owners::{caller_owners, renewed, root_owners};

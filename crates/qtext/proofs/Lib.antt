@@ -5,7 +5,6 @@ pub mod Fronts
 pub mod HexPieces
 pub mod Loops
 pub mod Numerals
-pub mod Runs
 pub mod Splitting
 pub mod Joining
 pub mod WordsAgain

@@ -1,4 +1,5 @@
--- In reading order: what is wrong in a line, all that is wrong in a script, and how it is told.
+-- In reading order: what is wrong in a line, all that is wrong in a script, how it is told, and how words are shown.
 pub mod Wrongs
 pub mod Faults
 pub mod Told
+pub mod Shown

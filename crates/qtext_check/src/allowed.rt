@@ -2,7 +2,7 @@
 
 use crate::argument::{Argument, argument_at};
 use crate::fault::Wrong;
-use crate::near::is_near;
+use crate::near::{MOST_DIFFERING, difference};
 use crate::place::word_of;
 use qplain::Refusal;
 use qtext::TextKind;
@@ -116,11 +116,36 @@ pub(crate) fn allowed_words(wrong: Wrong, verb: &[u8], word: usize) -> &'static 
     }
 }
 
-fn near_verb(verb: &[u8]) -> Option<&'static [u8]> {
+/// The call that does what a verb of a shell or of the quota tools does.
+fn call_meant(verb: &[u8]) -> Option<&'static [u8]> {
+    match verb {
+        b"touch" => Some(b"create"),
+        b"cat" => Some(b"read"),
+        b"ln" => Some(b"link"),
+        b"mv" => Some(b"rename"),
+        b"rm" | b"del" | b"remove" => Some(b"unlink"),
+        b"getquota" => Some(b"quota"),
+        _ => None,
+    }
+}
+
+/// The first verb from which a word differs by at most so many bytes.
+fn verb_within(word: &[u8], most: usize) -> Option<&'static [u8]> {
     for call in CALLS {
-        let name = word_of(call.as_bytes(), 0);
-        if is_near(verb, name) {
-            return Some(name);
+        let verb = word_of(call.as_bytes(), 0);
+        if difference(word, verb) <= most {
+            return Some(verb);
+        }
+    }
+    None
+}
+
+/// The verb that a word is nearly: the first of those from which it differs least.
+fn near_verb(word: &[u8]) -> Option<&'static [u8]> {
+    for most in 0..=MOST_DIFFERING {
+        match verb_within(word, most) {
+            Some(verb) => return Some(verb),
+            None => {}
         }
     }
     None
@@ -128,7 +153,7 @@ fn near_verb(verb: &[u8]) -> Option<&'static [u8]> {
 
 fn near_kind(word: &[u8]) -> Option<&'static [u8]> {
     for kind in KINDS {
-        if is_near(word, kind.as_bytes()) {
+        if difference(word, kind.as_bytes()) <= MOST_DIFFERING {
             return Some(kind.as_bytes());
         }
     }
@@ -143,7 +168,7 @@ pub(crate) fn near_words(
     word: &[u8],
 ) -> Option<&'static [u8]> {
     match wrong {
-        Wrong::Text(TextKind::BadVerb) => near_verb(word),
+        Wrong::Text(TextKind::BadVerb) => call_meant(word).or(near_verb(word)),
         Wrong::Text(TextKind::BadWord) if number == 3 && argument_at(verb, 0) == Argument::Kind => {
             near_kind(word)
         }

@@ -3,7 +3,9 @@
 
 pub use fault::{Fault, Finding, Wrong};
 pub use findings::findings_of;
-pub use telling::finding_text;
+pub use near::near_of;
+pub use shown::{put_name, put_word};
+pub use telling::{fault_text, finding_text};
 
 mod allowed;
 mod argument;

@@ -1,4 +1,5 @@
 //! Words that are nearly another.
+ghost use Rattle.std.specs.Prelude.{map, Contains, IfSome};
 
 fn is_same(one: u8, other: u8) -> bool {
     one.to_ascii_lowercase() == other.to_ascii_lowercase()
@@ -22,9 +23,50 @@ fn without_back<'a, 'b>(word: &'a [u8], other: &'b [u8]) -> (&'a [u8], &'b [u8])
     }
 }
 
-/// Whether the words are the same, whatever their case, but for at most two bytes in one place of each.
-pub(crate) fn is_near(word: &[u8], other: &[u8]) -> bool {
+/// The most bytes in which a word may differ from one that it is nearly.
+pub(crate) const MOST_DIFFERING: usize = 2;
+
+/// How many bytes differ in one place of two words, whatever their case: as many as the word has there that has more.
+pub(crate) fn difference(word: &[u8], other: &[u8]) -> usize {
     let (word, other) = without_front(word, other);
     let (word, other) = without_back(word, other);
-    word.len() <= 2 && other.len() <= 2
+    word.len().max(other.len())
+}
+
+/// The first of the known words from which a word differs by at most so many bytes.
+fn within<'a>(word: &[u8], known: &[&'a str], most: usize) -> Option<&'a str>
+    ensures { IfSome result (λ near. Contains (map (λ k. k.now) known.now) near.now) }
+{
+    for other in known {
+        if difference(word, other.as_bytes()) <= most {
+            return Some(*other);
+        }
+    }
+    None
+}
+
+/// The first of the known words that ends with a word.
+fn ending_with<'a>(word: &[u8], known: &[&'a str]) -> Option<&'a str>
+    ensures { IfSome result (λ near. Contains (map (λ k. k.now) known.now) near.now) }
+{
+    for other in known {
+        if !word.is_empty() && other.as_bytes().ends_with(word) {
+            return Some(*other);
+        }
+    }
+    None
+}
+
+/// The known word that a word is nearly: the first of those from which it differs least, by at most two bytes in one
+/// place, whatever their case, or else the first that ends with it.
+pub fn near_of<'a>(word: &[u8], known: &[&'a str]) -> Option<&'a str>
+    ensures { IfSome result (λ near. Contains (map (λ k. k.now) known.now) near.now) }
+{
+    for most in 0..=MOST_DIFFERING {
+        match within(word, known, most) {
+            Some(near) => return Some(near),
+            None => {}
+        }
+    }
+    ending_with(word, known)
 }

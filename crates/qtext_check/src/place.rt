@@ -1,4 +1,7 @@
 //! Which word of a line is at fault, and where it stands.
+ghost use Rattle.std.specs.Prelude.{◌≡◌};
+ghost use Rattle.qtext.specs.Words.{is_text_byte};
+
 use crate::argument::{argument_at, is_read};
 use crate::fault::{Finding, Wrong};
 use qtext::{TextKind, first_part, number};
@@ -60,7 +63,9 @@ fn start_of(bytes: &[u8], number: usize) -> usize {
 }
 
 /// Whether a byte is a space or one that prints.
-pub(crate) fn is_text(byte: u8) -> bool {
+pub(crate) fn is_text(byte: u8) -> bool
+    ensures { result ≡ is_text_byte byte }
+{
     (0x20..=0x7e).contains(&byte)
 }
 

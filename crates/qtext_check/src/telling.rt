@@ -69,16 +69,34 @@ fn put_reason<W: Write>(out: &mut W, finding: &Finding<'_>) -> Result<(), Refuse
     put_near(out, near_words(wrong, verb, finding.word, word))
 }
 
-/// Writes what stands behind the place of a fault, and below it the line and a caret.
-fn put_told<W: Write>(out: &mut W, finding: &Finding<'_>) -> Result<(), RefusedWrite> {
-    put_reason(out, finding)?;
-    put(out, b"\n")?;
-    put_pointed(out, finding.bytes, bytes_before(finding))
+fn reason_text(alloc: Global, finding: &Finding<'_>) -> Result<Vec<u8>, AllocError> {
+    let mut text = Vec::new(alloc);
+    match put_reason(&mut text, finding) {
+        Ok(()) => Ok(text),
+        Err(_) => Err(AllocError),
+    }
 }
 
-fn told_text(alloc: Global, finding: &Finding<'_>) -> Result<Vec<u8>, AllocError> {
+/// Writes a reason, and below it a line and a caret behind so many bytes of it.
+fn put_told<W: Write>(
+    out: &mut W,
+    bytes: &[u8],
+    before: usize,
+    reason: &[u8],
+) -> Result<(), RefusedWrite> {
+    put(out, reason)?;
+    put(out, b"\n")?;
+    put_pointed(out, bytes, before)
+}
+
+fn told_text(
+    alloc: Global,
+    bytes: &[u8],
+    before: usize,
+    reason: &[u8],
+) -> Result<Vec<u8>, AllocError> {
     let mut text = Vec::new(alloc);
-    match put_told(&mut text, finding) {
+    match put_told(&mut text, bytes, before, reason) {
         Ok(()) => Ok(text),
         Err(_) => Err(AllocError),
     }
@@ -102,13 +120,28 @@ fn place_text(alloc: Global, line: u64, column: u64) -> Result<Vec<u8>, AllocErr
     }
 }
 
-/// A fault as text, behind the name of its file: `:LINE:COLUMN: WRONG: WORD; wanted: WHAT`, then `; NEAR?` where a word
-/// is near, and below it the line and a caret under the word. Columns count bytes from 1.
+/// A fault as text, behind the name of its file: `:LINE:COLUMN: REASON`, and below it the line of that number, whose
+/// bytes these are, and a caret behind so many of them. Columns count bytes from 1.
+pub fn fault_text(
+    alloc: Global,
+    line: u64,
+    bytes: &[u8],
+    before: usize,
+    reason: &[u8],
+) -> Result<Vec<u8>, AllocError>
+    ensures { IfOk result (λ text. IsToldAt line text.items) }
+{
+    let mut text = place_text(alloc, line, (before as u64).saturating_add(1))?;
+    text.extend_from_slice(&told_text(alloc, bytes, before, reason)?)?;
+    Ok(text)
+}
+
+/// A fault of a script as text, behind the name of its file, with the reason `WRONG: WORD; wanted: WHAT`, and `; NEAR?`
+/// where a word is near, and the caret under the word.
 pub fn finding_text(alloc: Global, finding: &Finding<'_>) -> Result<Vec<u8>, AllocError>
     ensures { IfOk result (λ text. IsToldAt finding.now.fault.line text.items) }
 {
-    let column = (bytes_before(finding) as u64).saturating_add(1);
-    let mut text = place_text(alloc, finding.fault.line, column)?;
-    text.extend_from_slice(&told_text(alloc, finding)?)?;
-    Ok(text)
+    let before = bytes_before(finding);
+    let reason = reason_text(alloc, finding)?;
+    fault_text(alloc, finding.fault.line, finding.bytes, before, &reason)
 }

@@ -11,6 +11,7 @@ use crate::ConfigFault;
 use keys::known_keys;
 use qplain::Setup;
 use setting::setup_of;
+pub use size::blocks_of_size;
 use std::alloc::Global;
 use toml::Table;
 use written::fields_of;

@@ -50,6 +50,7 @@ impl<'a> Callers<'a> {
     }
 
     /// The caller that this word spells, if it is the one that is kept in the place of the last.
+    #[inline(always)]
     fn kept(&self, word: &[u8]) -> Result<Option<Cred>, NoMemory>
         ensures { IfOk result (λ cred. IfSome cred (λ c. caller_of word.now ≡ Ok c)) }
     {
@@ -76,6 +77,7 @@ impl<'a> Callers<'a> {
     }
 
     /// `UID:GID`, then at most 16 times `,GROUP`, all of them ids without leading zeros, or BadCred.
+    #[inline(always)]
     pub(crate) fn read(&mut self, alloc: Global, word: &'a [u8]) -> Result<Cred, ReadFault>
         ensures { Gives result (caller_of word.now) }
     {

@@ -30,6 +30,19 @@ fn put_receipt<W: Write>(
     put_reply(out, line, &receipt.reply)
 }
 
+/// Writes the line of a call that was not journaled. It is out of line, so that an answer has no room for pieces.
+#[inline(never)]
+fn put_failed<W: Write>(out: &mut W, fault: CallFault) -> Result<(), RefusedWrite>
+    ensures { Writes (W.contents out.old) (W.contents out.new) result (answer_text (Err fault)) }
+{
+    let pieces = [
+        Piece::Text(b"- failed "),
+        Piece::Text(fault_word(fault)),
+        Piece::Text(b"\n"),
+    ];
+    put_pieces(out, &pieces)
+}
+
 /// Writes the line of an answer, which is put together in place of what the text line holds. After an Err some
 /// beginning of it went out.
 pub fn put_answer<W: Write>(
@@ -41,13 +54,6 @@ pub fn put_answer<W: Write>(
 {
     match answer {
         Ok(receipt) => put_receipt(out, line, receipt),
-        Err(fault) => {
-            let pieces = [
-                Piece::Text(b"- failed "),
-                Piece::Text(fault_word(*fault)),
-                Piece::Text(b"\n"),
-            ];
-            put_pieces(out, &pieces)
-        }
+        Err(fault) => put_failed(out, *fault),
     }
 }

@@ -1,12 +1,12 @@
 //! All that is wrong in a configuration and in scripts, told at once.
 
 use crate::ending::Ending;
-use crate::fault_text::put_name;
-use crate::reading::{configuration, load};
+use crate::reading::{load, text_of};
 use crate::standard::test_scripts;
-use crate::{Files, Setup};
+use crate::{Config, Files, Setup};
 use qtext::put;
-use qtext_check::{Finding, finding_text, findings_of};
+use qtext_check::{Finding, finding_text, findings_of, put_name};
+use qtext_config_check::{Verdict, check_config};
 use std::alloc::Global;
 use std::io::Write;
 
@@ -22,6 +22,12 @@ fn or_told<T: Drop, E: Write>(read: Result<T, Ending>, err: &mut E) -> Result<Op
     }
 }
 
+/// Tells a fault, behind the name of its file.
+fn tell_text<E: Write>(name: &str, text: &[u8], err: &mut E) {
+    let _ = put_name(err, name.as_bytes());
+    let _ = put(err, text);
+}
+
 fn tell<E: Write>(
     alloc: Global,
     name: &str,
@@ -32,10 +38,29 @@ fn tell<E: Write>(
         let Ok(text) = finding_text(alloc, finding) else {
             return Err(Ending::Memory);
         };
-        let _ = put_name(err, name.as_bytes());
-        let _ = put(err, &text);
+        tell_text(name, &text, err);
     }
     Ok(())
+}
+
+/// Reads a configuration. What is wrong in it is told before it ends for that.
+fn sound_config<F: Files, E: Write>(
+    alloc: Global,
+    name: &str,
+    files: &mut F,
+    err: &mut E,
+) -> Result<Config, Ending> {
+    let bytes = load(alloc, files, name)?;
+    match check_config(alloc, text_of(alloc, name, &bytes)?) {
+        Ok(Verdict::Sound(config)) => Ok(config),
+        Ok(Verdict::Faulty(findings)) => {
+            for finding in &findings {
+                tell_text(name, &finding.text, err);
+            }
+            Err(Ending::Faulty)
+        }
+        Err(_none) => Err(Ending::Memory),
+    }
 }
 
 /// Tells all that is wrong in a script, and answers whether nothing is.
@@ -63,11 +88,9 @@ pub(crate) fn check_job<F: Files, E: Write>(
     err: &mut E,
 ) -> Result<(), Ending> {
     test_scripts(config, names).map_err(Ending::Clash)?;
-    let config = or_told(configuration(alloc, files, config), err)?;
-    let setup = match &config {
-        Some(config) => Some(&config.setup),
-        None => None,
-    };
+    let read = sound_config(alloc, config, files, err);
+    let config = or_told(read, err)?;
+    let setup = config.as_ref().map(|config| &config.setup);
     let mut sound = setup.is_some();
     for name in names {
         let text = or_told(load(alloc, files, name.as_str()), err)?;

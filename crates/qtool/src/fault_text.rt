@@ -3,6 +3,7 @@
 use crate::clashes::{Clash, Role};
 use crate::{ConfigFault, FileFault, TextFault};
 use qtext::{Piece, RefusedWrite, put, put_pieces};
+use qtext_check::put_name;
 use qtool_files::Overwritten;
 use std::io::Write;
 
@@ -173,25 +174,5 @@ pub(crate) fn put_config<E: Write>(err: &mut E, fault: &ConfigFault) -> Result<(
         ConfigFault::Duplicate => put_fault(err, b"config: duplicate"),
         ConfigFault::NoZero => put_fault(err, b"config: no zero"),
         ConfigFault::Memory => put_fault(err, b"memory"),
-    }
-}
-
-/// Writes a name with its control bytes escaped as TOML does, so that a fault stays one line.
-pub(crate) fn put_name<E: Write>(err: &mut E, name: &[u8]) -> Result<(), RefusedWrite> {
-    for byte in name {
-        put_name_byte(err, *byte)?;
-    }
-    Ok(())
-}
-
-fn put_name_byte<E: Write>(err: &mut E, byte: u8) -> Result<(), RefusedWrite> {
-    match byte {
-        0x08 => put(err, b"\\b"),
-        b'\t' => put(err, b"\\t"),
-        b'\n' => put(err, b"\\n"),
-        0x0c => put(err, b"\\f"),
-        b'\r' => put(err, b"\\r"),
-        0..0x20 | 0x7f => put_pieces(err, &[Piece::Text(b"\\u00"), Piece::Byte(byte)]),
-        _ => put(err, &[byte]),
     }
 }

@@ -25,17 +25,22 @@ pub(crate) fn load<F: Files>(alloc: Global, files: &mut F, name: &str) -> Result
     }
 }
 
-/// Reads the configuration. One that is not UTF-8 cannot be read.
+/// The text of a configuration. One that is not UTF-8 cannot be read.
+pub(crate) fn text_of<'a>(alloc: Global, name: &str, bytes: &'a [u8]) -> Result<&'a str, Ending> {
+    match std::str::from_utf8(bytes) {
+        Ok(text) => Ok(text),
+        Err(_) => Err(unreadable(alloc, name, FileFault::NotText)),
+    }
+}
+
+/// Reads the configuration.
 pub(crate) fn configuration<F: Files>(
     alloc: Global,
     files: &mut F,
     name: &str,
 ) -> Result<Config, Ending> {
     let bytes = load(alloc, files, name)?;
-    let Ok(text) = std::str::from_utf8(&bytes) else {
-        return Err(unreadable(alloc, name, FileFault::NotText));
-    };
-    match Config::read(alloc, text) {
+    match Config::read(alloc, text_of(alloc, name, &bytes)?) {
         Ok(config) => Ok(config),
         Err(ConfigFault::Memory) => Err(Ending::Memory),
         Err(fault) => Err(Ending::Config(fault)),

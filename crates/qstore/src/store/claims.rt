@@ -18,17 +18,7 @@ use qplain::{MAX_BLOCKS, Owners};
 use qrules::Kind;
 use qstore_accounts::{Claim, Slots};
 use qstore_change::TreeChange;
-use qstore_tree::{Content, Node};
-
-/// The allocated blocks of an inode.
-fn blocks_of(node: &Node) -> u64
-    ensures { result ≡ weight Blocks (inode_of node.now) }
-{
-    match &node.content {
-        Content::Directory(_) => 0,
-        Content::File(file) => file.allocated(),
-    }
-}
+use qstore_tree::Node;
 
 impl Store {
     /// Where the records of these owners stand, if all are declared.
@@ -99,7 +89,7 @@ impl Store {
         ensures few { result.weight.blocks ≤ MAX_BLOCKS }
     {
         let _ = &self.next;
-        self.claim(request, node.owners, blocks_of(node))
+        self.claim(request, node.owners, node.blocks())
     }
 
     /// Keeps the bill of a change that makes this exchange and gives N numbers, or refuses it.

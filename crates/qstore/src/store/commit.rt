@@ -39,7 +39,7 @@ impl Store {
 
     /// Puts the rows that `commit` of a ready call will change on a board after others, of which there is room for
     /// `MAX_CHANGED_ROWS`. O(1). It is out of line, so that what is ready has no address where a call changes no row.
-    /// The caller owes that this store had no other `ready`, `apply` or `commit` since.
+    /// The caller owes that this store had no other call since, but a stat.
     #[inline(never)]
     pub fn push_changed_rows(&self, ready: &Ready, rows: &mut Vec<PlacedRow>)
         requires ready { IsReady self.now ready.now }

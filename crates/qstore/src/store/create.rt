@@ -1,18 +1,43 @@
-//! To create a file (open(2)).
+//! To create a file (open(2)), and to make a directory (mkdir(2)).
 ghost use Rattle.std.specs.Prelude.{◌≡◌, string_bytes, true};
 ghost use Rattle.qplain.specs.Attempt.{Becomes};
-ghost use Rattle.qplain.specs.Names.{created, owners_by, project_of};
-ghost use Rattle.qplain.specs.State.{State, inode_at, is_directory};
+ghost use Rattle.qplain.specs.Names.{created, owners_by, project_of, unless_too_many_links};
+ghost use Rattle.qplain.specs.State.{State, inode_at, is_directory, new_directory};
 ghost use Rattle.qstore_tree.specs.Room.{Room};
 ghost use Rattle.qstore_change.specs.Changes.{CanChange, CanCreate, changed};
+ghost use Rattle.qstore.specs.Applied.{IsApplied};
 ghost use Rattle.qstore.specs.Decided.{CanDecide, IsConsistent, IsDecision, IsDecisionOf, IsFree};
 ghost use Rattle.qstore_change.specs.FileTypes.{inode_new};
 
-use crate::{Call, Decision, Exchange, Ready, Refusal, Request, Store};
+use crate::{Call, Cred, Decision, Exchange, NoMemory, Ready, Refusal, Reply, Request, Store};
 use qstore_change::{FileType, creation};
-use qstore_walk::{caller_owners, inode, last_component};
+use qstore_walk::{caller_owners, has_all_links, inode, last_component, path_fault};
 
 impl Store {
+    /// A create by `apply`, of a path that is borrowed.
+    pub fn create(&mut self, cred: &Cred, moment: u64, path: &str) -> Result<Reply, NoMemory>
+        ensures { IsApplied self.old.state self.new.state cred.now moment (Call.Create path.now) result }
+    {
+        let request = match self.check(cred, moment, false, path_fault(path)) {
+            Ok(request) => request,
+            Err(refusal) => return Ok(Reply::Refused(refusal)),
+        };
+        let ready = self.decide_create(&request, path)?;
+        Ok(self.commit(ready))
+    }
+
+    /// A mkdir by `apply`, of a path that is borrowed.
+    pub fn mkdir(&mut self, cred: &Cred, moment: u64, path: &str) -> Result<Reply, NoMemory>
+        ensures { IsApplied self.old.state self.new.state cred.now moment (Call.Mkdir path.now) result }
+    {
+        let request = match self.check(cred, moment, false, path_fault(path)) {
+            Ok(request) => request,
+            Err(refusal) => return Ok(Reply::Refused(refusal)),
+        };
+        let ready = self.decide_mkdir(&request, path)?;
+        Ok(self.commit(ready))
+    }
+
     /// Decides the creation of a file, and makes room for it.
     pub(super) fn decide_create(&mut self, request: &Request, path: &str) -> Decision
         requires { CanDecide self.old request.now }
@@ -69,5 +94,34 @@ impl Store {
         self.tree.make_room(dir)?;
         let change = creation(sort, dir, name, owners);
         Ok(Ready::granted(self.next, &exchange, change))
+    }
+
+    /// Decides the making of a directory, and makes room for it.
+    pub(super) fn decide_mkdir(&mut self, request: &Request, path: &str) -> Decision
+        requires { CanDecide self.old request.now }
+        ensures { IsDecisionOf self.old self.new request.now (Call.Mkdir path.now) result }
+    {
+        let last = match last_component(self.tree(), path, Refusal::EEXIST) {
+            Ok(last) => last,
+            Err(refusal) => return Ok(Ready::refused(refusal)),
+        };
+        match last.leads_to {
+            Some(_) => Ok(Ready::refused(Refusal::EEXIST)),
+            None => self.make_directory(request, last.dir, last.name),
+        }
+    }
+
+    /// Makes room for a new directory, if its parent may have one link more and it is granted.
+    fn make_directory(&mut self, request: &Request, dir: u64, name: &str) -> Decision
+        requires can { CanDecide self.old request.now }
+        requires free { IsFree self.old.state dir name.now }
+        ensures { let cred = request.now.cred.now in IsDecision self.old self.new request.now (unless_too_many_links
+            (created self.old.state (new_directory (owners_by self.old.state cred dir)) dir name.now)
+            self.old.state.next) result }
+    {
+        if has_all_links(self.tree(), dir) {
+            return Ok(Ready::refused(Refusal::EMLINK));
+        }
+        self.make_inode(request, dir, name, FileType::Directory)
     }
 }

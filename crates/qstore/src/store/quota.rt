@@ -1,33 +1,13 @@
-//! To ask for a quota record (quotactl(2), Q_GETQUOTA).
+//! To ask for a quota record, and to set limits (quotactl(2), Q_GETQUOTA, Q_SETQUOTA; setquota(8)).
 ghost use Rattle.std.specs.Prelude.{◌≡◌, ℕ};
 ghost use Rattle.qplain.specs.Quotas.{ask_quota};
 ghost use Rattle.qplain.specs.Step.{settle};
+ghost use Rattle.qstore.specs.Decided.{CanDecide, IsDecisionOf};
 
-use crate::{Cred, Refusal, Reply, Store};
-use qplain::Quota;
-use qrules::Kind;
-use qstore_accounts::KeptHolder;
+use crate::{Call, Cred, Plan, Ready, Refusal, Reply, Request, Store};
+use qplain::NO_CHANGE;
+use qrules::{Kind, Limits};
 use qstore_walk::is_own;
-
-/// What a kept holder's record holds.
-fn quota_of(holder: &KeptHolder) -> Quota
-    ensures { result ≡ record {
-      blocks = holder.now.account.blocks;
-      inodes = holder.now.account.inodes;
-      limits = holder.now.account.limits;
-      block_end = holder.now.account.block_end;
-      inode_end = holder.now.account.inode_end;
-    } }
-{
-    let account = &holder.account;
-    Quota {
-        blocks: account.blocks(),
-        inodes: account.inodes(),
-        limits: account.limits(),
-        block_end: account.block_end(),
-        inode_end: account.inode_end(),
-    }
-}
 
 impl Store {
     /// The reply to a question for a record.
@@ -39,8 +19,35 @@ impl Store {
             return Reply::Refused(Refusal::EPERM);
         }
         match self.accounts.find(kind, id) {
-            Some(holder) => Reply::Quota(quota_of(holder)),
+            Some(holder) => Reply::Quota(holder.quota()),
             None => Reply::Refused(Refusal::ESRCH),
+        }
+    }
+
+    /// Decides the setting of limits.
+    pub(super) fn decide_set_quota(
+        &mut self,
+        request: &Request,
+        kind: Kind,
+        id: u32,
+        limits: Limits,
+    ) -> Ready
+        requires { CanDecide self.old request.now }
+        ensures { IsDecisionOf self.old self.new request.now (Call.SetQuota kind id limits) (Ok result) }
+    {
+        if request.cred.uid() != 0 {
+            return Ready::refused(Refusal::EPERM);
+        }
+        match self.accounts.slot(kind, id) {
+            None => Ready::refused(Refusal::ESRCH),
+            Some(slot) => {
+                self.accounts
+                    .bill_of_limits(kind, slot, limits, request.moment, &mut self.bill);
+                Ready {
+                    reply: Reply::Done(0, NO_CHANGE),
+                    plan: Plan::Limits,
+                }
+            }
         }
     }
 }

@@ -1,18 +1,22 @@
 //! To write into a file (write(2)).
 ghost use Rattle.std.specs.Prelude.{◌≡◌, ℕ, ◌+◌, ◌^◌, ◌<◌, ◌≤◌, nat_lt, length, Some, IfOk, IfErr};
+ghost use Rattle.qblocks.specs.Input.{input_bytes};
 ghost use Rattle.qplain.specs.State.{inode_at};
 ghost use Rattle.qplain.specs.Calls.{attempt_of};
 ghost use Rattle.qplain.specs.Step.{settle};
 ghost use Rattle.qstore_tree.specs.Nodes.{inode_of};
+ghost use Rattle.qstore.specs.Applied.{IsApplied};
 ghost use Rattle.qstore.specs.Decided.{CanDecide, IsDecisionOf, IsStretched, no_exchange};
-ghost use Rattle.qstore.specs.Targets.{IsTarget};
+ghost use Rattle.qstore.specs.Ready.{IsReady, committed};
+ghost use Rattle.qstore.specs.Targets.{IsTarget, put_decision, put_ready};
 
-use crate::{Call, Decision, Exchange, Ready, Refusal, Reply, Request, Store};
+use crate::{Call, Cred, Decision, Exchange, NoMemory, Ready, Refusal, Reply, Request, Store};
+use qblocks::{Input, Spare};
 use qplain::{Data, MAX_DATA, NO_CHANGE};
-use qstore_accounts::Claim;
-use qstore_change::TreeChange;
+use qstore_accounts::{Claim, change_of};
+use qstore_change::{TreeChange, write};
 use qstore_tree::{Content, Node};
-use qstore_walk::{Found, find, may_write};
+use qstore_walk::{Found, find, may_write, path_fault};
 
 /// A file that may be written into: what it takes, and how many blocks the write allocates.
 #[derive(Clone, Copy)]
@@ -23,6 +27,32 @@ pub(super) struct Target {
 }
 
 impl Store {
+    /// A write by `apply`, of a path and bytes that are borrowed: the bytes are copied into the file alone.
+    pub fn write(
+        &mut self,
+        cred: &Cred,
+        moment: u64,
+        path: &str,
+        off: u64,
+        bytes: Input<'_>,
+    ) -> Result<Reply, NoMemory>
+        ensures { IsApplied self.old.state self.new.state cred.now moment
+            (Call.Write path.now off (input_bytes bytes.entry)) result }
+    {
+        let request = match self.check(cred, moment, bytes.len() > MAX_DATA, path_fault(path)) {
+            Ok(request) => request,
+            Err(refusal) => return Ok(Reply::Refused(refusal)),
+        };
+        let target = match self.target(&request, path, off, bytes) {
+            Ok(target) => target,
+            Err(reply) => return Ok(reply),
+        };
+        match self.room_for_put(&request, path, off, bytes, &target)? {
+            Ok(spare) => Ok(self.put(&target, off, bytes, spare)),
+            Err(refusal) => Ok(Reply::Refused(refusal)),
+        }
+    }
+
     /// Decides a write, and makes room for it.
     pub(super) fn decide_write(
         &mut self,
@@ -35,10 +65,23 @@ impl Store {
         requires few { length bytes.now ≤ MAX_DATA }
         ensures { IsDecisionOf self.old self.new request.now (Call.Write path.now off bytes.now) result }
     {
-        match self.target(request, path, off, bytes) {
-            Ok(target) => self.decide_put(request, path, off, bytes, target),
-            Err(reply) => Ok(Ready::answer(reply)),
-        }
+        let input = bytes.input();
+        let target = match self.target(request, path, off, input) {
+            Ok(target) => target,
+            Err(reply) => return Ok(Ready::answer(reply)),
+        };
+        let spare = match self.room_for_put(request, path, off, input, &target)? {
+            Ok(spare) => spare,
+            Err(refusal) => return Ok(Ready::refused(refusal)),
+        };
+        let (number, bytes) = (target.number, bytes.copy()?);
+        let change = TreeChange::Write {
+            number,
+            off,
+            bytes,
+            spare,
+        };
+        Ok(Ready::granted(number, &target.exchange, change))
     }
 
     /// Whether the end of N bytes at the offset is past the file limit.
@@ -51,12 +94,12 @@ impl Store {
 
     /// The file that the path leads to, if the write comes so far, or else its reply.
     #[inline(always)]
-    fn target(&self, request: &Request, path: &str, off: u64, bytes: &Data) -> Result<Target, Reply>
+    fn target(&self, request: &Request, path: &str, off: u64, bytes: Input) -> Result<Target, Reply>
         requires can { CanDecide self.now request.now }
-        requires few { length bytes.now ≤ MAX_DATA }
-        ensures granted { IfOk result (IsTarget self.now request.now.cred.now path.now off bytes.now) }
+        requires few { length (input_bytes bytes) ≤ MAX_DATA }
+        ensures granted { IfOk result (IsTarget self.now request.now.cred.now path.now off (input_bytes bytes.entry)) }
         ensures refused { IfErr result (λ reply. (moment : ℕ) → settle self.now.state request.now.cred.now moment
-            (attempt_of self.now.state request.now.cred.now (Call.Write path.now off bytes.now))
+            (attempt_of self.now.state request.now.cred.now (Call.Write path.now off (input_bytes bytes.entry)))
             ≡ (self.now.state, reply)) }
     {
         let Found { number, node } = match find(self.tree(), path) {
@@ -107,31 +150,44 @@ impl Store {
         }
     }
 
-    /// Makes room for a write that passed all tests but those of space and quota, if it is granted.
-    fn decide_put(
+    /// Makes room for a write that passed all tests but those of space and quota, or tells by which of them it is
+    /// refused.
+    fn room_for_put(
         &mut self,
         request: &Request,
         path: &str,
         off: u64,
-        bytes: &Data,
-        target: Target,
-    ) -> Decision
+        bytes: Input,
+        target: &Target,
+    ) -> Result<Result<Spare, Refusal>, NoMemory>
         requires can { CanDecide self.old request.now }
-        requires target { IsTarget self.old request.now.cred.now path.now off bytes.now target }
-        ensures { IsDecisionOf self.old self.new request.now (Call.Write path.now off bytes.now) result }
+        requires target { IsTarget self.old request.now.cred.now path.now off (input_bytes bytes) target.now }
+        ensures { IsDecisionOf self.old self.new request.now (Call.Write path.now off (input_bytes bytes.entry))
+            (put_decision target.now off (input_bytes bytes.entry) result) }
     {
-        let (number, exchange, missing) = (target.number, target.exchange, target.missing);
-        match self.admit(request, &exchange, 0) {
+        match self.admit(request, &target.exchange, 0) {
             Ok(()) => {}
-            Err(refusal) => return Ok(Ready::refused(refusal)),
+            Err(refusal) => return Ok(Err(refusal)),
         }
-        let spare = self.tree.ready_write(number, off, bytes.len(), missing)?;
-        let change = TreeChange::Write {
+        let spare = self
+            .tree
+            .ready_write(target.number, off, bytes.len(), target.missing)?;
+        Ok(Ok(spare))
+    }
+
+    /// Writes where room is made, and settles the store's bill. It takes no memory and always succeeds.
+    fn put(&mut self, target: &Target, off: u64, bytes: Input, spare: Spare) -> Reply
+        requires { IsReady self.old (put_ready target.now off (input_bytes bytes) spare) }
+        ensures { (self.new.state, result)
+            ≡ committed self.old (put_ready target.now off (input_bytes bytes.entry) spare) }
+    {
+        let Target {
             number,
-            off,
-            bytes: bytes.copy()?,
-            spare,
-        };
-        Ok(Ready::granted(number, &exchange, change))
+            exchange,
+            ..
+        } = *target;
+        write(&mut self.tree, number, off, bytes, spare);
+        self.accounts.settle(&self.bill);
+        Reply::Done(number, change_of(exchange.from, exchange.to))
     }
 }

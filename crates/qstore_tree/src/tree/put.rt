@@ -5,6 +5,7 @@ ghost use Rattle.std.specs.Ordering.{nat_cmp};
 ghost use Rattle.std.specs.BTreeMap.{insert_entry, is_at};
 ghost use Rattle.std.specs.Map.{lookup, remove_entry, set_value};
 ghost use Rattle.qblocks.specs.File.{Adds, MoreBlocks, after_write};
+ghost use Rattle.qblocks.specs.Input.{input_bytes};
 ghost use Rattle.qblocks.specs.WriteRoom.{IsReadyToPut};
 ghost use Rattle.qplain.specs.State.{Inode, is_dir, name_key_cmp, new_directory, new_file};
 ghost use Rattle.qstore_tree.specs.Nodes.{inode_of, names_in};
@@ -12,8 +13,8 @@ ghost use Rattle.qstore_tree.specs.Tree.{HasRoomFor, IsSameTree, file_room, name
 
 use crate::node::Node;
 use crate::tree::Tree;
-use qblocks::{MAX_SIZE, Spare};
-use qplain::{Data, NoMemory, Owners};
+use qblocks::{Input, MAX_SIZE, Spare};
+use qplain::{NoMemory, Owners};
 use std::alloc::Global;
 
 impl Tree {
@@ -154,21 +155,21 @@ impl Tree {
 
     /// Writes where room is made, and gives the number of blocks newly allocated. It takes no memory
     /// and always succeeds.
-    pub fn put(&mut self, number: u64, off: u64, bytes: &Data, spare: Spare) -> u64
-        requires bound { off + length bytes.now ≤ MAX_SIZE }
+    pub fn put(&mut self, number: u64, off: u64, input: Input, spare: Spare) -> u64
+        requires bound { off + length (input_bytes input) ≤ MAX_SIZE }
         requires there { is_some (file_room self.old.room number) ≡ true }
         requires ready { IfSome (file_room self.old.room number)
-            (λ f. IsReadyToPut f off (length bytes.now) spare) }
+            (λ f. IsReadyToPut f off (length (input_bytes input)) spare) }
         ensures inodes { (inode : Inode) → lookup (is_at (nat_cmp number)) self.old.inodes ≡ Some inode
             → self.new.inodes ≡ set_value (is_at (nat_cmp number)) self.old.inodes
-            (record inode { file = after_write inode.file off bytes.now }) }
+            (record inode { file = after_write inode.file off (input_bytes input.entry) }) }
         ensures count { (inode : Inode) → lookup (is_at (nat_cmp number)) self.old.inodes ≡ Some inode
-            → MoreBlocks inode.file (after_write inode.file off bytes.now) result }
+            → MoreBlocks inode.file (after_write inode.file off (input_bytes input.entry)) result }
         ensures names { self.new.names ≡ self.old.names }
         ensures links { self.new.links ≡ self.old.links }
     {
         match self.nodes.get_mut(&number) {
-            Some(node) => node.put(off, bytes, spare),
+            Some(node) => node.put(off, input, spare),
             None => unreachable!(),
         }
     }

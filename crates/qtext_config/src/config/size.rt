@@ -14,7 +14,7 @@ const BLOCK_BYTES: u64 = KIB_PER_BLOCK * 1024;
 /// The blocks that a size asks for, rounded up, or None where it is of another form.
 ///
 /// A size is 1 to 10 digits, the first not 0, and then nothing, `k`, `m` or `g`, for 2^10, 2^20 or 2^30 bytes.
-pub(super) fn blocks_of_size(text: &[u8]) -> Option<u64>
+pub fn blocks_of_size(text: &[u8]) -> Option<u64>
     ensures { result ≡ blocks_of_size text.now }
 {
     let (digits, letter) = text.split_at(digit_count(text));

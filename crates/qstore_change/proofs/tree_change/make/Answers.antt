@@ -1,13 +1,14 @@
-use Rattle.std.proofs.Common.{refl, string_bytes, subst, sym, ◌∙◌}
+use Rattle.std.proofs.Common.{ℕ, List, refl, string_bytes, subst, sym, ◌∙◌}
 use Rattle.std.specs.BTreeMap.{is_at}
 use Rattle.std.specs.Map.{lookup}
 use Rattle.std.specs.Ordering.{nat_cmp}
-use Rattle.qblocks.specs.File.{after_truncate, after_write}
+use Rattle.qblocks.specs.File.{after_truncate}
 use Rattle.qplain.specs.Owners.{with_owners}
 use Rattle.qplain_laws.proofs.Settling.{absent-next}
 use Rattle.qstore_tree.specs.TreeOf.{IsTreeOf}
 use Rattle.qstore_change.specs.declared.tree_change.TreeChange.{TreeChange}
-use Rattle.qstore_change.specs.Changes.{CanChange, changed}
+use Rattle.qstore_change.specs.declared.tree_change.TreeChange.TheVariants.{Write}
+use Rattle.qstore_change.specs.Changes.{CanChange, CanWrite, changed}
 use Rattle.qstore_change.proofs.Making.{tree-altered, tree-created}
 use Rattle.qstore_change.proofs.tree_change.make.Goals as goal
 
@@ -24,14 +25,20 @@ returns-in-Create-clause-tree c S is next lawful =
     subst (λ (change : TreeChange). CanChange S x.tree.now.room change → IsTreeOf (changed S change) c.add_file.new.self) (sym m.is)
     (λ can. tree-created S x.tree.now c.add_file.new.self m.owners m.dir x.next (string_bytes m.name) is next lawful can.absent e.inodes e.names e.links)
 
+pub write-requires : goal.write-requires
+write-requires c =
+    let can = c.requires.can in
+    let m = c.in-Write in
+    let here = subst (λ (change : TreeChange). CanChange can.0 c.args.tree.now.room change) m.is can.4 in
+    (can.0, can.1, subst (CanWrite can.0 c.args.tree.now.room m.number m.off m.spare) (sym c.input.ensures) here)
+
 pub returns-in-Write-clause-tree : goal.returns-in-Write-clause-tree
 returns-in-Write-clause-tree c S is next lawful =
     let x = c.args in
     let m = c.in-Write in
-    let e = c.put.ensures in
-    subst (λ (change : TreeChange). CanChange S x.tree.now.room change → IsTreeOf (changed S change) c.put.new.self) (sym m.is)
-    (λ can. tree-altered S x.tree.now c.put.new.self m.number can.inode (λ i. record i { file = after_write i.file m.off m.bytes })
-    is can.there refl e.inodes e.names e.links)
+    subst (λ (change : TreeChange). CanChange S x.tree.now.room change → IsTreeOf (changed S change) c.write.new.tree) (sym m.is)
+    (subst (λ (bytes : List ℕ). CanWrite S x.tree.now.room m.number m.off m.spare bytes
+    → IsTreeOf (changed S (Write m.number m.off bytes m.spare)) c.write.new.tree) c.input.ensures (c.write.ensures S is))
 
 pub returns-in-Truncate-clause-tree : goal.returns-in-Truncate-clause-tree
 returns-in-Truncate-clause-tree c S is next lawful =

@@ -3,4 +3,4 @@ use Rattle.qtext.proofs.printing.word_at.Goals as goal
 
 pub returns-clause-stops : goal.returns-clause-stops
 returns-clause-stops c = λ lt.
-    stops_at c.args.text.now c.args.start c.word_end-end.result c.requires c.word_end-end.ensures.end lt
+    stops_at c.args.text.now c.args.start c.printing_end-end.result c.requires c.printing_end-end.ensures.end lt

@@ -19,7 +19,7 @@ claim-requires-clause-declared c =
     (known-owners (state_of c.self.inside) x.number inode c.self.invariant.sound.lawful.parts there))
 
 pub returns-clause-claimed : goal.returns-clause-claimed
-returns-clause-claimed c = c.claim.ensures.claimed (inode_of c.args.node.now) refl (sym c.blocks_of.ensures)
+returns-clause-claimed c = c.claim.ensures.claimed (inode_of c.args.node.now) refl (sym c.blocks-2.ensures)
 
 pub returns-clause-few : goal.returns-clause-few
 returns-clause-few c =
@@ -28,5 +28,5 @@ returns-clause-few c =
     let there = subst (λ (v : Stored). inode_at v.state x.number ≡ Some (inode_of x.node.now)) (sym c.self.view_is) c.requires.there in
     let fits = weight-fits (state_of a) x.number (inode_of x.node.now) there c.self.invariant.sound.lawful in
     let low = c.self.invariant.in_range.size in
-    let weight = c.claim.ensures.blocks ∙ c.blocks_of.ensures in
+    let weight = c.claim.ensures.blocks ∙ c.blocks-2.ensures in
     omega (arith, fits, low, weight)

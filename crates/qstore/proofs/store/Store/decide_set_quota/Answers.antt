@@ -19,8 +19,8 @@ returns-in-Some c =
     let cred = q.cred.now in
     let super : (cred.uid == 0) ≡ true = let uid = c.uid.ensures in let same = c.if-uid-ne0.false in grind (arith, tests, uid, same) in
     let declared : is_declared (state_of a) x.kind x.id ≡ true = sym (c.slot.ensures.declared (state_of a) inv.books) ∙ ap (λ o. is_some o) c.in-Some.is in
-    let new = stored_of (record a { bill = c.bill_of_limits-self-inside.result }) in
-    let bill = c.bill_of_limits-self-inside.ensures in
+    let new = stored_of (record a { bill = c.bill_of_limits.new.bill }) in
+    let bill = c.bill_of_limits.ensures in
     let same : IsSameStore (stored_of a) new = record { state = refl; books = refl } in
     subst (λ (v : Stored). IsDecision v new q (set_quota v.state cred x.kind x.id x.limits)
     (Ok (record { reply = Done 0 no_change; plan = Limits }))) c.self.view_is

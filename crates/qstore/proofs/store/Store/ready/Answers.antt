@@ -1,25 +1,74 @@
-use Rattle.std.proofs.Common.{◌≡◌, ℕ, Result, Ok, Err, IfOk}
-use Rattle.qplain.specs.declared.call.Call.{Call}
-use Rattle.qplain.specs.Caller.{Caller}
-use Rattle.qplain.specs.State.{State}
-use Rattle.qplain.specs.Step.{step}
-use Rattle.qstore.specs.declared.ready.Ready.{Ready}
-use Rattle.qstore.specs.Ready.{CanCarryOut, IsReady, committed, effect}
-use Rattle.qstore.specs.Stored.{IsStorable, Stored}
-use Rattle.qstore.proofs.Steps.{IsStorable-from_step}
+use Rattle.std.proofs.Common.{◌≡◌, ap, refl, sym, ◌∙◌}
+use Rattle.qplain.specs.Arguments.{has_bad_number}
+use Rattle.qstore.specs.Requests.{IsWritten}
+use Rattle.qstore.specs.Stored.{Stored}
+use Rattle.qstore.proofs.Applied.{can-now, committed-step, decided-before, decided-ready, refused-committed, refused-ready, refused-step}
+use Rattle.qstore.proofs.Listed.{ok_weaker}
 use Rattle.qstore.proofs.store.Store.ready.Goals as goal
 
--- what is decided leaves a storable state, as a step of the plain machine does
-is-ready : {E : Type 0} (S : State) (s : Stored) (cred : Caller) (moment : ℕ) (call : Call) → IsStorable S → (result : Result Ready E)
-    → IfOk result (λ r. committed s r ≡ step S cred moment call) → IfOk result (λ r. CanCarryOut s r.plan) → IfOk result (IsReady s)
-is-ready S s cred moment call sound (Ok r) told can = record {
-  can = can;
-  sound = IsStorable-from_step S (effect s r.plan) cred moment call r.reply sound told;
-}
-is-ready S s cred moment call sound (Err fault) told can = tt
+pub returns-in-Err-clause-state : goal.returns-in-Err-clause-state
+returns-in-Err-clause-state c = ap (λ (v : Stored). v.state) c.check.ensures.same
+
+pub returns-in-Err-clause-step : goal.returns-in-Err-clause-step
+returns-in-Err-clause-step c =
+    let x = c.args in
+    let written : IsWritten x.self.now.state c.has_bad_number-has_bad_number.result c.paths_fault.result x.call.now =
+    record { numbers = sym c.has_bad_number-has_bad_number.ensures; paths = sym c.paths_fault.ensures } in
+    refused-committed x.self.now c.check.new.self c.check.ensures.same x.cred.now x.moment x.call.now c.in-Err.refusal c.refused.result
+    c.refused.ensures (c.in-Err.ensures.refused x.call.now written)
+
+pub returns-in-Err-clause-ready : goal.returns-in-Err-clause-ready
+returns-in-Err-clause-ready c =
+    refused-ready c.args.self.now c.check.new.self c.check.ensures.same c.check.ensures.whole c.in-Err.refusal c.refused.result c.refused.ensures
+
+pub decide_lawful-requires-clause-can : goal.decide_lawful-requires-clause-can
+decide_lawful-requires-clause-can c =
+    let x = c.args in
+    can-now x.self.now c.check.new.self c.check.ensures.same x.cred.now x.moment c.has_bad_number-has_bad_number.result c.paths_fault.result c.in-Ok.request
+    c.in-Ok.ensures.checked
+
+pub decide_lawful-requires-clause-numbers : goal.decide_lawful-requires-clause-numbers
+decide_lawful-requires-clause-numbers c =
+    let call = c.args.call.now in
+    ap (λ (v : Stored). has_bad_number v.state call) c.check.ensures.same ∙ sym c.has_bad_number-has_bad_number.ensures ∙ c.in-Ok.ensures.checked.numbers
+
+pub returns-clause-state : goal.returns-clause-state
+returns-clause-state c = c.decide_lawful.ensures.decided.same.state ∙ ap (λ (v : Stored). v.state) c.check.ensures.same
+
+pub returns-clause-step : goal.returns-clause-step
+returns-clause-step c =
+    let x = c.args in
+    let s = x.self.now in
+    let q = c.in-Ok.request in
+    let asked = c.in-Ok.ensures.checked in
+    let written : IsWritten s.state c.has_bad_number-has_bad_number.result c.paths_fault.result x.call.now =
+    record { numbers = sym c.has_bad_number-has_bad_number.ensures; paths = sym c.paths_fault.ensures } in
+    let d = decided-before s x.cred.now x.moment c.has_bad_number-has_bad_number.result c.paths_fault.result q asked x.call.now written c.check.new.self
+    c.decide_lawful.new.self c.check.ensures.same c.decide_lawful.result c.decide_lawful.ensures.decided in
+    ok_weaker c.decide_lawful.result _ _ d.decided (λ r is.
+    committed-step s x.cred.now x.moment c.has_bad_number-has_bad_number.result c.paths_fault.result q asked x.call.now written c.decide_lawful.new.self r is)
 
 pub returns-clause-ready : goal.returns-clause-ready
 returns-clause-ready c =
     let x = c.args in
-    is-ready x.self.now.state c.decide.new.self x.cred.now x.moment x.call.now c.decide.ensures.sound c.decide.result c.decide.ensures.step
-    c.decide.ensures.can
+    let s = x.self.now in
+    let q = c.in-Ok.request in
+    let asked = c.in-Ok.ensures.checked in
+    let written : IsWritten s.state c.has_bad_number-has_bad_number.result c.paths_fault.result x.call.now =
+    record { numbers = sym c.has_bad_number-has_bad_number.ensures; paths = sym c.paths_fault.ensures } in
+    let d = decided-before s x.cred.now x.moment c.has_bad_number-has_bad_number.result c.paths_fault.result q asked x.call.now written c.check.new.self
+    c.decide_lawful.new.self c.check.ensures.same c.decide_lawful.result c.decide_lawful.ensures.decided in
+    ok_weaker c.decide_lawful.result _ _ d.decided (λ r is.
+    decided-ready s x.cred.now x.moment c.has_bad_number-has_bad_number.result c.paths_fault.result q asked x.call.now written c.decide_lawful.new.self r is)
+
+pub returns-clause-refused_first : goal.returns-clause-refused_first
+returns-clause-refused_first c =
+    let x = c.args in
+    let s = x.self.now in
+    let q = c.in-Ok.request in
+    let asked = c.in-Ok.ensures.checked in
+    let written : IsWritten s.state c.has_bad_number-has_bad_number.result c.paths_fault.result x.call.now =
+    record { numbers = sym c.has_bad_number-has_bad_number.ensures; paths = sym c.paths_fault.ensures } in
+    let d = decided-before s x.cred.now x.moment c.has_bad_number-has_bad_number.result c.paths_fault.result q asked x.call.now written c.check.new.self
+    c.decide_lawful.new.self c.check.ensures.same c.decide_lawful.result c.decide_lawful.ensures.decided in
+    refused-step s x.cred.now x.moment c.has_bad_number-has_bad_number.result c.paths_fault.result q asked x.call.now written d.refused_first

@@ -1,4 +1,4 @@
-use Rattle.std.proofs.Common.{sym, ap, subst, ◌∙◌}
+use Rattle.std.proofs.Common.{sym, subst, ◌∙◌}
 use Rattle.qstore_accounts.specs.Books.{Books}
 use Rattle.qstore_accounts.specs.Callers.{IsKnownAt}
 use Rattle.qstore_accounts.specs.Kept.{books_of}

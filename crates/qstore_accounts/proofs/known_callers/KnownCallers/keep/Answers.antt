@@ -1,4 +1,4 @@
-use Rattle.std.proofs.Common.{◌≡◌, List, Option, Some, IfSome, set, sym, subst}
+use Rattle.std.proofs.Common.{Option, Some, IfSome, set, sym, subst}
 use Rattle.std.proofs.lemmas.List.Elements.{All-set}
 use Rattle.qplain.specs.Caller.{Caller}
 use Rattle.qstore_accounts.specs.declared.known_callers.KnownCaller.{KnownCaller}

@@ -5,6 +5,7 @@ use Rattle.std.specs.BTreeMap.{is_at}
 use Rattle.std.specs.Option.{option_map, unwrap_or}
 use Rattle.std.specs.Option.{IfSome, is_some}
 use Rattle.qblocks.specs.File.{MoreBlocks, after_write}
+use Rattle.qblocks.specs.Input.{input_bytes}
 use Rattle.qblocks.specs.WriteRoom.{IsReadyToPut, RoomyFile}
 use Rattle.qplain.specs.State.{Inode}
 use Rattle.qstore_tree.specs.Nodes.{inode_of, roomy_file_in}
@@ -24,7 +25,8 @@ put-requires-clause-there c = sym (ap is_some (file_before c)) ∙ c.requires.th
 
 pub put-requires-clause-ready : goal.put-requires-clause-ready
 put-requires-clause-ready c =
-    subst (λ (o : Option RoomyFile). IfSome o (λ f. IsReadyToPut f c.args.off (length c.args.bytes.now) c.args.spare)) (file_before c) c.requires.ready
+    subst (λ (o : Option RoomyFile). IfSome o (λ f. IsReadyToPut f c.args.off (length (input_bytes c.args.input)) c.args.spare)) (file_before c)
+    c.requires.ready
 
 pub unreachable-requires : goal.unreachable-requires
 unreachable-requires c =
@@ -40,13 +42,13 @@ changed c = record { seen = c.self.view_is; found = c.in-Some.ensures.value; wri
 
 pub returns-clause-inodes : goal.returns-clause-inodes
 returns-clause-inodes c = λ inode is.
-    let written : Inode → Inode = λ i. record i { file = after_write i.file c.args.off c.args.bytes.now } in
+    let written : Inode → Inode = λ i. record i { file = after_write i.file c.args.off (input_bytes c.args.input) } in
     inodes-set (changed c) ∙ ap (set_value (is_at (nat_cmp c.args.number)) c.args.self.now.inodes) (c.put.ensures.inode ∙ ap written
     (inode-changed (changed c) inode is))
 
 pub returns-clause-count : goal.returns-clause-count
 returns-clause-count c = λ inode is.
-    let MoreFor : Inode → Type 0 = λ i. MoreBlocks i.file (after_write i.file c.args.off c.args.bytes.now) c.put.result in
+    let MoreFor : Inode → Type 0 = λ i. MoreBlocks i.file (after_write i.file c.args.off (input_bytes c.args.input)) c.put.result in
     let More : Inode → Type 0 = λ i. MoreBlocks (inode_of c.in-Some.node.now).file i.file c.put.result in
     subst MoreFor
     (inode-changed (changed c) inode is) (subst More c.put.ensures.inode c.put.ensures.count)

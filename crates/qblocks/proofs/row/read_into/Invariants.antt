@@ -1,0 +1,13 @@
+use Rattle.std.proofs.Common.{◌≡◌, ◌-◌, ◌≤◌, length, map, take}
+use Rattle.std.specs.List.{range_with_len}
+use Rattle.qblocks.specs.Row.{row_byte}
+use Rattle.qblocks.proofs.row.read_into.Given as goal
+
+abbrev pub invariant-loop-done : goal.invariant-loop-done
+invariant-loop-done l = record {
+  reads : take l.done l.out ≡ map (row_byte l.row) (range_with_len l.from l.done);
+  within : l.done ≤ length l.out;
+}
+
+abbrev pub decreases-loop-done : goal.decreases-loop-done
+decreases-loop-done l = length l.out - l.done

@@ -1,0 +1,2 @@
+-- Which bytes go on.
+pub mod Bytes

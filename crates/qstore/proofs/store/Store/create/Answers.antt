@@ -1,0 +1,44 @@
+use Rattle.std.proofs.Common.{false, refl, sym}
+use Rattle.qplain.specs.declared.call.Call.{Call}
+use Rattle.qplain.specs.declared.call.Call.TheVariants.{Create}
+use Rattle.qstore.specs.Requests.{IsWritten}
+use Rattle.qstore.proofs.Applied.{applied-now, applied-refused, can-now, ready-now, unapplied-now}
+use Rattle.qstore.proofs.store.Store.create.Goals as goal
+
+pub returns-in-Err : goal.returns-in-Err
+returns-in-Err c =
+    let x = c.args in
+    let call = Create x.path.now in
+    let written : IsWritten x.self.now.state false c.path_fault.result call = record { numbers = refl; paths = sym c.path_fault.ensures } in
+    applied-refused x.self.now c.check.new.self c.check.ensures.same x.cred.now x.moment call c.in-Err.refusal
+    (c.in-Err.ensures.refused call written)
+
+pub decide_create-requires : goal.decide_create-requires
+decide_create-requires c =
+    let x = c.args in
+    can-now x.self.now c.check.new.self c.check.ensures.same x.cred.now x.moment false c.path_fault.result c.in-Ok.request c.in-Ok.ensures.checked
+
+pub returns-in_err-ready : goal.returns-in_err-ready
+returns-in_err-ready c =
+    let x = c.args in
+    let call = Create x.path.now in
+    let written : IsWritten x.self.now.state false c.path_fault.result call = record { numbers = refl; paths = sym c.path_fault.ensures } in
+    unapplied-now x.self.now x.cred.now x.moment false c.path_fault.result c.in-Ok.request c.in-Ok.ensures.checked call written
+    c.check.new.self c.decide_create.new.self c.check.ensures.same _ _ refl c.from_residual.ensures.0 c.in_err-ready.ensures
+
+pub commit-requires : goal.commit-requires
+commit-requires c =
+    let x = c.args in
+    let call = Create x.path.now in
+    let written : IsWritten x.self.now.state false c.path_fault.result call = record { numbers = refl; paths = sym c.path_fault.ensures } in
+    ready-now x.self.now x.cred.now x.moment false c.path_fault.result c.in-Ok.request c.in-Ok.ensures.checked call written
+    c.check.new.self c.decide_create.new.self c.check.ensures.same c.in_ok-ready.ready c.in_ok-ready.ensures
+
+pub returns : goal.returns
+returns c =
+    let x = c.args in
+    let call = Create x.path.now in
+    let written : IsWritten x.self.now.state false c.path_fault.result call = record { numbers = refl; paths = sym c.path_fault.ensures } in
+    applied-now x.self.now x.cred.now x.moment false c.path_fault.result c.in-Ok.request c.in-Ok.ensures.checked call written
+    c.check.new.self c.decide_create.new.self c.check.ensures.same c.commit.new.self.state c.in_ok-ready.ready c.commit.result c.in_ok-ready.ensures
+    c.commit.ensures

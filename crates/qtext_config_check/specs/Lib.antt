@@ -1,0 +1,2 @@
+-- What a check of a configuration tells.
+pub mod Verdicts
