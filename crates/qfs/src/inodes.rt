@@ -1,9 +1,10 @@
 //! The inodes of a session.
 ghost use Rattle.std.specs.Prelude.{◌≡◌, take};
 ghost use Rattle.qsession.specs.Holdings.{held_in};
-ghost use Rattle.qsession.specs.Inodes.{AreInodesOf};
+ghost use Rattle.qsession_list.specs.Inodes.{AreInodesOf};
 
-use qsession::{Fault, ListedInode, Session, list_inodes};
+use qsession::{Fault, Session};
+use qsession_list::{ListedInode, list_inodes};
 use std::alloc::Global;
 
 /// Lists the inodes by number, and tells how many there are.

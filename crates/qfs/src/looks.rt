@@ -7,7 +7,7 @@ ghost use Rattle.qsession.specs.Holdings.{held_in};
 ghost use Rattle.qsession.specs.Replies.{quota_in, stat_in};
 ghost use Rattle.qsession.specs.Requests.{kind_in, line_by};
 
-use qsession::{Caller, PathText, QuotaReply, Session, StatReply, kind_of, path_of};
+use qsession::{Caller, PathText, QuotaReply, Session, StatReply, kind_of};
 use std::alloc::Global;
 
 /// Reads as many bytes from the offset on as the buffer has, up to the end of the file.
@@ -28,7 +28,7 @@ pub extern "C" fn qfs_read(
     ensures bytes { result ≡ 0 → IsReplyTo (held_in session.old.slot.kept)
         (line_by caller.now moment (Read path.now off (length buffer.old))) (Bytes (take len.new buffer.new)) }
 {
-    let path = match path_of(alloc, path) {
+    let path = match PathText::new(path) {
         Ok(path) => path,
         Err(fault) => return fault.code(),
     };

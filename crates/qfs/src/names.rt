@@ -1,9 +1,10 @@
 //! The names of a session.
 ghost use Rattle.std.specs.Prelude.{◌≡◌, take};
 ghost use Rattle.qsession.specs.Holdings.{held_in};
-ghost use Rattle.qsession.specs.Names.{AreNamesOf};
+ghost use Rattle.qsession_list.specs.Names.{AreNamesOf};
 
-use qsession::{Fault, ListedName, Session, list_names};
+use qsession::{Fault, Session};
+use qsession_list::{ListedName, list_names};
 use std::alloc::Global;
 
 /// Lists the names by directory, then by name, beside a text of their bytes, and tells how many names and how many

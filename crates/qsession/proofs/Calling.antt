@@ -24,6 +24,8 @@ use Rattle.qsession.specs.Called.{IsCalled, IsCause, IsReplyTo, IsStepOf, IsTold
 use Rattle.qsession.specs.Codes.{FAULTS, over_code, refusal_code, reply_code}
 use Rattle.qsession.specs.Faults.{fault_code}
 use Rattle.qsession.specs.Holdings.{Holding}
+use Rattle.qsession.specs.declared.read_reply.ReadReply.{ReadReply}
+use Rattle.qsession.specs.ReadReplies.{answer_in, read_in}
 use Rattle.qsession.specs.Requests.{line_by}
 use Rattle.qsession.specs.Steps.{HasCause, IsFull, stepped}
 
@@ -194,6 +196,14 @@ module _ (old : Option Holding) (caller : BroughtCaller) (moment : ℕ) (call : 
       }
   called new (Err fault) is ok err cause full brought =
       subst (λ (n : Option Holding). IsCalled old n caller moment call number) (sym err) (faulted fault is cause)
+
+  -- so is what a read into a buffer came to
+  pub called-read : (new : Option Holding) (buffer : List ℕ) (answer : Result ReadReply Fault) → number ≡ code_of (answer_in buffer answer)
+      → IfOk (answer_in buffer answer) (IsStepOf old new (line_by caller moment call)) → OnErr answer (new ≡ old)
+      → IfErr answer (IsCause old caller call) → (IsFull old → IsErr answer)
+      → (HasTooManyGroups caller ⊎ HasBadPath call → IsErr answer) → IsCalled old new caller moment call number
+  called-read new buffer (Ok reply) is ok err cause full brought = called new (Ok (read_in buffer reply)) is ok tt tt full brought
+  called-read new buffer (Err fault) is ok err cause full brought = called new (Err fault) is tt err cause full brought
 
 -- and is not told as granted
 pub not_granted : (old : Option Holding) (line : Line) (reply : Reply) (fault : Fault) (number : ℕ) → number ≡ fault_code fault → number ≡ 0

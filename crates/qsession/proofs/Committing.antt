@@ -17,7 +17,7 @@ use Rattle.qsession.specs.declared.ready_call.ReadyCall.{ReadyCall}
 use Rattle.qsession.specs.declared.ready_call.ReadyCall.TheVariants.{Ready, Next}
 use Rattle.qsession.specs.Holdings.{Holding, holding_of}
 use Rattle.qsession.specs.Recorded.{CanRecord}
-use Rattle.qsession.specs.Steps.{CanCommit, IsReadyFor, IsStep, Leaves, holding_after, reply_to}
+use Rattle.qsession.specs.Steps.{CanCommit, IsReadyFor, IsStep, Leaves, holding_after, reply_to, stepped}
 
 -- the state is what the call that was ready leaves
 state_left : (old new : JournaledValue) (n : NextCall) → IsPlayed old → CanFollow old n → IsPlayed new → new.setting ≡ old.setting
@@ -52,6 +52,13 @@ made : (kept : Kept) (ready : ReadyCall) (h : Holding) (reply : Reply) → Leave
 made kept ready h reply is line for =
     let same = left_alone kept ready h (holding_after (holding_of kept) line) reply (reply_to (holding_of kept) line) is for.leaves in
     record { held = same.0; reply_is = same.1 }
+
+-- a step of the state that is kept without a journal is one of what is held
+pub stepped_plain : (kept : Kept) (old : Stored) (S : State) (line : Line) (reply : Reply) → kept ≡ Plain old → (S, reply) ≡ stepped old.state line
+    → IsStep (holding_of kept) (record { state = S; journal = None }) line reply
+stepped_plain kept old S line reply is_kept is =
+    subst (λ (k : Kept). IsStep (holding_of k) (record { state = S; journal = None }) line reply) (sym is_kept)
+    (record { held = λ i. record { state = (is i).0; journal = None }; reply_is = λ i. (is i).1 })
 
 -- so it is of what is kept without a journal
 pub made_plain : (kept : Kept) (ready : ReadyCall) (old new : Stored) (r : ReadyValue) (reply : Reply) → kept ≡ Plain old → ready ≡ Ready r

@@ -4,4 +4,3 @@ pub mod Fitting
 pub mod Replying
 pub mod Committing
 pub mod Calling
-pub mod Listed

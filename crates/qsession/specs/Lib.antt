@@ -11,7 +11,6 @@ pub mod Called
 pub mod Requests
 pub mod BorrowedCalls
 pub mod Replies
-pub mod Inodes
-pub mod Names
+pub mod ReadReplies
 pub mod Slots
 pub mod KeptRecorder

@@ -1,19 +1,24 @@
 //! What an open session keeps.
-ghost use Rattle.std.specs.Prelude.{◌≡◌, ◌↔◌, Some, None, Err, IsErr, IfSome, IfNone, IfOk, IfErr, OnErr};
+ghost use Rattle.std.specs.Prelude.{◌≡◌, ◌↔◌, Some, None, Err, IsErr, IfSome, IfNone, IfOk, IfErr, OnErr, length};
 ghost use Rattle.qplain.specs.declared.line.Line.{Line};
+ghost use Rattle.qplain.specs.declared.call.Call.TheVariants.{Read};
 ghost use Rattle.qplain.specs.declared.edition.Edition.TheVariants.{Two};
 ghost use Rattle.qstore_journaled.specs.Lines.{line_of};
 ghost use Rattle.qsession.specs.declared.kept.Kept.TheVariants.{Journaled as KeptJournaled};
 ghost use Rattle.qsession.specs.BorrowedCalls.{call_of};
 ghost use Rattle.qsession.specs.Faults.{fault_told};
 ghost use Rattle.qsession.specs.Holdings.{HoldsTrue, holding_of, new_journaled, new_plain};
+ghost use Rattle.qsession.specs.ReadReplies.{answer_in};
 ghost use Rattle.qsession.specs.Steps.{CanCommit, HasCause, IsFull, IsReadyFor, IsStep};
 
 use crate::borrowed_call::BorrowedCall;
 use crate::fault::Fault;
+use crate::laws::replies_are_of_their_kind;
+use crate::path_text::PathText;
+use crate::read_reply::{ReadReply, put_answer};
 use crate::ready_call::ReadyCall;
 use crate::recorder::Recorder;
-use qplain::{Call, CallFault, Cred, NoMemory, Reply, Setup};
+use qplain::{Call, CallFault, Cred, NoMemory, Path, Reply, Setup};
 use qstore::Store;
 use std::alloc::Global;
 
@@ -131,6 +136,58 @@ impl Kept {
             Err(fault) => return Err(fault),
         };
         self.call(cred, moment, &call)
+    }
+
+    /// A read by `ask` of as many bytes as the buffer has: they stand at its front, or the buffer is as it was.
+    #[inline(always)]
+    pub fn read(
+        &mut self,
+        alloc: Global,
+        cred: &Cred,
+        moment: u64,
+        path: PathText<'_>,
+        off: u64,
+        buffer: &mut [u8],
+    ) -> Result<ReadReply, Fault>
+        ensures ok { IfOk (answer_in buffer.new result) (IsStep (holding_of self.old) (holding_of self.new)
+            (line_of cred.now moment (Read path.entry.text.now off (length buffer.old)))) }
+        ensures err { OnErr result (holding_of self.new ≡ holding_of self.old) }
+        ensures cause { IfErr result (HasCause (holding_of self.old)) }
+        ensures full { IsFull (Some (holding_of self.old)) → IsErr result }
+    {
+        if let Kept::Plain(store) = self {
+            return match store.read_into(cred, moment, path.text, off, buffer) {
+                Ok(count) => Ok(ReadReply::Bytes(count)),
+                Err(refusal) => Ok(ReadReply::Refused(refusal)),
+            };
+        }
+        let path = match path.owned(alloc) {
+            Ok(path) => path,
+            Err(fault) => return Err(fault),
+        };
+        self.read_owned(cred, moment, path, off, buffer)
+    }
+
+    /// `read` of a path of its own, which a journal keeps.
+    #[inline(never)]
+    fn read_owned(
+        &mut self,
+        cred: &Cred,
+        moment: u64,
+        path: Path,
+        off: u64,
+        buffer: &mut [u8],
+    ) -> Result<ReadReply, Fault>
+        ensures ok { IfOk (answer_in buffer.new result) (IsStep (holding_of self.old) (holding_of self.new)
+            (line_of cred.now moment (Read path off (length buffer.old)))) }
+        ensures err { OnErr result (holding_of self.new ≡ holding_of self.old) }
+        ensures cause { IfErr result (HasCause (holding_of self.old)) }
+        ensures full { IsFull (Some (holding_of self.old)) → IsErr result }
+    {
+        replies_are_of_their_kind();
+        let len = buffer.len() as u64;
+        let answer = self.call(cred, moment, &Call::Read { path, off, len });
+        put_answer(answer, buffer)
     }
 
     /// Decides a call and makes every growth that it needs; what is held stays as it was. Faults are those of `call`.

@@ -1,14 +1,11 @@
 //! Sessions.
-ghost use Rattle.std.specs.Prelude.{◌≡◌, ◌⊎◌, Some, None, true, IsErr, IfSome, IfNone, IfOk, IfErr, OnErr, is_some};
-ghost use Rattle.std.specs.Prelude.{length, take};
-ghost use Rattle.qplain.specs.declared.call.Call.TheVariants.{Read, Stat as AskStat, Quota as AskQuota};
-ghost use Rattle.qplain.specs.declared.reply.Reply.TheVariants.{Bytes};
-ghost use Rattle.qsession.specs.Answers.{is_change};
+ghost use Rattle.std.specs.Prelude.{◌≡◌, ◌⊎◌, Some, None, IsErr, IfSome, IfNone, IfOk, IfErr, OnErr, is_some, length};
+ghost use Rattle.qplain.specs.declared.call.Call.TheVariants.{Read};
 ghost use Rattle.qsession.specs.BorrowedCalls.{call_of};
 ghost use Rattle.qsession.specs.Brought.{HasBadPath, HasTooManyGroups};
-ghost use Rattle.qsession.specs.Called.{IsCalled, IsCause, IsReplyTo, IsStepOf};
+ghost use Rattle.qsession.specs.Called.{IsCause, IsStepOf};
 ghost use Rattle.qsession.specs.Holdings.{HoldsTrue, held_in};
-ghost use Rattle.qsession.specs.Replies.{done_in, quota_in, stat_in};
+ghost use Rattle.qsession.specs.ReadReplies.{answer_in};
 ghost use Rattle.qsession.specs.Requests.{line_by};
 ghost use Rattle.qsession.specs.Steps.{IsFull};
 
@@ -16,16 +13,16 @@ use crate::borrowed_call::BorrowedCall;
 use crate::caller::Caller;
 use crate::fault::Fault;
 use crate::kept::Kept;
-use crate::laws::{borrowed_paths_are_good, paths_are_good, replies_are_of_their_kind};
+use crate::laws::{borrowed_paths_are_good, paths_are_good};
 use crate::loose::Loose;
 use crate::path_text::PathText;
-use crate::replies::{DoneReply, QuotaReply, StatReply};
+use crate::read_reply::ReadReply;
 use crate::slot::Slot;
-use crate::telling::{tell_bytes, tell_done, tell_quota, tell_stat};
-use qplain::{Call, Path, Reply};
-use qrules::Kind;
+use qplain::{Call, Reply};
 use std::alloc::Global;
 use std::mem::replace;
+
+mod told;
 
 /// A store that a caller of another language holds, without or with a journal, or none: a session that is closed.
 #[repr(C)]
@@ -161,110 +158,37 @@ impl Session {
         answer
     }
 
-    /// A borrowed call that changes something, as a caller of another language is told it.
+    /// `ask` of a read.
     #[inline(always)]
-    pub fn change_borrowed(
-        &mut self,
-        alloc: Global,
-        caller: &Caller,
-        moment: u64,
-        call: BorrowedCall<'_>,
-        done: &mut DoneReply,
-    ) -> u32
-        requires { is_change (call_of call) ≡ true }
-        ensures called { IsCalled (held_in self.old.slot.kept) (held_in self.new.slot.kept)
-            caller.now moment (call_of call.entry) result }
-        ensures done { result ≡ 0 → IsReplyTo (held_in self.old.slot.kept)
-            (line_by caller.now moment (call_of call.entry)) (done_in done.new) }
-    {
-        replies_are_of_their_kind();
-        tell_done(self.ask(alloc, caller, moment, call), done)
-    }
-
-    /// A call that changes something, as a caller of another language is told it.
-    pub fn change(
-        &mut self,
-        alloc: Global,
-        caller: &Caller,
-        moment: u64,
-        call: &Call,
-        done: &mut DoneReply,
-    ) -> u32
-        requires { is_change call.now ≡ true }
-        ensures called { IsCalled (held_in self.old.slot.kept) (held_in self.new.slot.kept)
-            caller.now moment call.now result }
-        ensures done { result ≡ 0
-            → IsReplyTo (held_in self.old.slot.kept) (line_by caller.now moment call.now) (done_in done.new) }
-    {
-        replies_are_of_their_kind();
-        tell_done(self.call(alloc, caller, moment, call), done)
-    }
-
-    /// A read of as many bytes as the buffer has, as a caller of another language is told it: the bytes stand at the
-    /// front of the buffer.
-    pub fn read(
-        &mut self,
-        alloc: Global,
-        caller: &Caller,
-        moment: u64,
-        path: Path,
-        off: u64,
-        buffer: &mut [u8],
-        len: &mut usize,
-    ) -> u32
-        ensures called { IsCalled (held_in self.old.slot.kept) (held_in self.new.slot.kept)
-            caller.now moment (Read path off (length buffer.old)) result }
-        ensures bytes { result ≡ 0
-            → IsReplyTo (held_in self.old.slot.kept) (line_by caller.now moment (Read path off (length buffer.old)))
-            (Bytes (take len.new buffer.new)) }
-    {
-        replies_are_of_their_kind();
-        let call = Call::Read {
-            path,
-            off,
-            len: buffer.len() as u64,
-        };
-        tell_bytes(self.call(alloc, caller, moment, &call), buffer, len)
-    }
-
-    /// A stat, as a caller of another language is told it.
-    #[inline(always)]
-    pub fn stat(
+    fn ask_bytes(
         &mut self,
         alloc: Global,
         caller: &Caller,
         moment: u64,
         path: PathText<'_>,
-        stat: &mut StatReply,
-    ) -> u32
-        ensures called { IsCalled (held_in self.old.slot.kept) (held_in self.new.slot.kept)
-            caller.now moment (AskStat path.entry.text.now) result }
-        ensures stat { result ≡ 0 → IsReplyTo (held_in self.old.slot.kept)
-            (line_by caller.now moment (AskStat path.entry.text.now)) (stat_in stat.new) }
+        off: u64,
+        buffer: &mut [u8],
+    ) -> Result<ReadReply, Fault>
+        ensures ok { IfOk (answer_in buffer.new result) (IsStepOf (held_in self.old.slot.kept)
+            (held_in self.new.slot.kept)
+            (line_by caller.now moment (Read path.entry.text.now off (length buffer.old)))) }
+        ensures err { OnErr result (held_in self.new.slot.kept ≡ held_in self.old.slot.kept) }
+        ensures cause { IfErr result (IsCause (held_in self.old.slot.kept) caller.now
+            (Read path.entry.text.now off (length buffer.old))) }
+        ensures full { IsFull (held_in self.old.slot.kept) → IsErr result }
+        ensures brought { HasTooManyGroups caller.now ⊎ HasBadPath (Read path.entry.text.now off (length buffer.old))
+            → IsErr result }
     {
-        replies_are_of_their_kind();
-        let call = BorrowedCall::Stat { path };
-        tell_stat(self.ask(alloc, caller, moment, call), stat)
-    }
-
-    /// A quota record, as a caller of another language is told it.
-    pub fn quota(
-        &mut self,
-        alloc: Global,
-        caller: &Caller,
-        moment: u64,
-        kind: Kind,
-        id: u32,
-        quota: &mut QuotaReply,
-    ) -> u32
-        ensures called { IsCalled (held_in self.old.slot.kept) (held_in self.new.slot.kept)
-            caller.now moment (AskQuota kind id) result }
-        ensures quota { result ≡ 0
-            → IsReplyTo (held_in self.old.slot.kept) (line_by caller.now moment (AskQuota kind id))
-            (quota_in quota.new) }
-    {
-        replies_are_of_their_kind();
-        let call = Call::Quota { kind, id };
-        tell_quota(self.call(alloc, caller, moment, &call), quota)
+        borrowed_paths_are_good(&BorrowedCall::Stat { path });
+        let cred = match caller.cred(alloc) {
+            Ok(cred) => cred,
+            Err(fault) => return Err(fault),
+        };
+        let Some(mut kept) = self.take(alloc) else {
+            return Err(Fault::Closed);
+        };
+        let answer = kept.read(alloc, &cred, moment, path, off, buffer);
+        *self = Session::of(kept);
+        answer
     }
 }

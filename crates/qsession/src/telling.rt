@@ -1,12 +1,14 @@
 //! Replies as a caller of another language is told them.
-ghost use Rattle.std.specs.Prelude.{◌≡◌, ◌≤◌, Ok, true, IfOk, length, take};
+ghost use Rattle.std.specs.Prelude.{◌≡◌, ℕ, List, Ok, true, IfOk, take};
 ghost use Rattle.qplain.specs.declared.reply.Reply.TheVariants.{Bytes};
-ghost use Rattle.qsession.specs.Answers.{tells_bytes, tells_done, tells_quota, tells_stat};
+ghost use Rattle.qsession.specs.Answers.{tells_done, tells_quota, tells_stat};
 ghost use Rattle.qsession.specs.Called.{code_of};
 ghost use Rattle.qsession.specs.Codes.{over_code, refusal_code};
+ghost use Rattle.qsession.specs.ReadReplies.{answer_in};
 ghost use Rattle.qsession.specs.Replies.{done_in, quota_in, stat_in};
 
 use crate::fault::Fault;
+use crate::read_reply::ReadReply;
 use crate::replies::{DoneReply, QuotaReply, StatReply};
 use qplain::{Refusal, Reply};
 use qrules::{Kind, Over};
@@ -91,29 +93,17 @@ pub(crate) fn tell_quota(answer: Result<Reply, Fault>, quota: &mut QuotaReply) -
     }
 }
 
-/// Puts the bytes at the front of the buffer, and tells how many there are.
-fn put_bytes(bytes: &[u8], buffer: &mut [u8], len: &mut usize)
-    requires room { length bytes.now ≤ length buffer.old }
-    ensures { bytes.now ≡ take len.new buffer.new }
-{
-    let count = bytes.len();
-    buffer[..count].copy_from_slice(bytes);
-    *len = count;
-}
-
-/// Tells the answer to a read: the bytes stand at the front of the buffer.
-pub(crate) fn tell_bytes(answer: Result<Reply, Fault>, buffer: &mut [u8], len: &mut usize) -> u32
-    requires { IfOk answer (λ reply. tells_bytes (length buffer.old) reply ≡ true) }
-    ensures code { result ≡ code_of answer }
-    ensures bytes { result ≡ 0 → answer ≡ Ok (Bytes (take len.new buffer.new)) }
+/// Tells the answer to a read, whose bytes stand at the front of a buffer.
+pub(crate) fn tell_read(answer: Result<ReadReply, Fault>, len: &mut usize) -> u32
+    ensures code { (buffer : List ℕ) → result ≡ code_of (answer_in buffer answer) }
+    ensures bytes { result ≡ 0 → (buffer : List ℕ) → answer_in buffer answer ≡ Ok (Bytes (take len.new buffer)) }
 {
     match answer {
-        Ok(Reply::Bytes(bytes)) => {
-            put_bytes(bytes.as_slice(), buffer, len);
+        Ok(ReadReply::Bytes(count)) => {
+            *len = count;
             0
         }
-        Ok(Reply::Refused(refusal)) => refusal_code(refusal),
-        Ok(_) => unreachable!(),
+        Ok(ReadReply::Refused(refusal)) => refusal_code(refusal),
         Err(fault) => fault.code(),
     }
 }

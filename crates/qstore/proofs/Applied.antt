@@ -1,5 +1,5 @@
 -- What is decided of a call that is written as it may be, and what comes of it when it is carried out.
-use Rattle.std.proofs.Common.{◌≡◌, ℕ, All, Bool, None, Some, Option, Result, Ok, Err, IfOk, refl, sym, ap, subst, ◌∙◌}
+use Rattle.std.proofs.Common.{◌≡◌, ℕ, All, Bool, Some, Option, Result, Ok, Err, refl, sym, ap, subst, ◌∙◌}
 use Rattle.std.specs.declared.alloc.AllocError.{AllocError}
 use Rattle.std.specs.Result.{IsErr}
 use Rattle.qplain.specs.declared.call.Call.{Call}

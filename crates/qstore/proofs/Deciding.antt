@@ -1,5 +1,5 @@
 -- What a decision comes to: once for all calls.
-use Rattle.std.proofs.Common.{◌≡◌, ℕ, ◌+◌, ◌-◌, ◌^◌, ◌≤◌, ◌==◌, true, not, cond, List, Option, None, Some, Result, Ok, Err, refl, sym, ap, subst, ◌∙◌, arith}
+use Rattle.std.proofs.Common.{◌≡◌, ℕ, ◌+◌, ◌-◌, ◌^◌, ◌≤◌, ◌==◌, true, not, cond, List, Option, Some, Result, Ok, Err, refl, sym, ap, subst, ◌∙◌, arith}
 use Rattle.std.specs.declared.alloc.AllocError.{AllocError}
 use Rattle.std.specs.Result.{IsErr}
 use Rattle.qrules.specs.declared.kind.Kind.TheVariants.{User}
@@ -26,7 +26,6 @@ use Rattle.qplain_laws.proofs.Replacing.{Replaces-changed, change-after}
 use Rattle.qplain_laws.proofs.Settling.{settle-granted, settle-refused, settle-with_limits_of}
 use Rattle.qstore_accounts.specs.declared.bill.Bill.{Bill}
 use Rattle.qstore_accounts.specs.declared.claim.Claim.{Claim}
-use Rattle.qstore_accounts.specs.declared.claim.Slots.{Slots}
 use Rattle.qstore_accounts.specs.Bills.{IsBillFor, settled}
 use Rattle.qstore_accounts.specs.Books.{AreBooksOf, Books, holders_of}
 use Rattle.qstore_accounts.specs.Replacements.{IsClaimed, IsReplacement}

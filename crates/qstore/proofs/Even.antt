@@ -1,6 +1,5 @@
 -- A change that takes as much as it gives needs no exchange.
 use Rattle.std.proofs.Common.{◌≡◌, ℕ, ◌+◌, cond, Some, None, refl, ap, ◌∙◌, arith}
-use Rattle.qrules.specs.declared.kind.Kind.{Kind}
 use Rattle.qrules.specs.Sort.{Sort, Blocks, Inodes}
 use Rattle.qrules.specs.Kinds.{is_id}
 use Rattle.qblocks.specs.File.{File, blocks_of}

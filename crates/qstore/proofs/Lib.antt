@@ -11,3 +11,4 @@ pub mod Calls
 pub mod Directories
 pub mod FurtherNames
 pub mod Replaced
+pub mod Reading

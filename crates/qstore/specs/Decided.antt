@@ -15,7 +15,7 @@ use Rattle.qplain.specs.Use.{weight}
 use Rattle.qstore_accounts.specs.declared.bill.Bill.{Bill}
 use Rattle.qstore_accounts.specs.declared.claim.Claim.{Claim}
 use Rattle.qstore_accounts.specs.Bills.{IsBillFor, settled}
-use Rattle.qstore_accounts.specs.Books.{AreBooksOf, Books}
+use Rattle.qstore_accounts.specs.Books.{AreBooksOf}
 use Rattle.qstore_accounts.specs.Replacements.{IsClaimed, IsReplacement}
 use Rattle.qstore.specs.declared.request.Exchange.{Exchange}
 use Rattle.qstore.specs.declared.ready.Ready.{Ready}

@@ -1,6 +1,5 @@
 -- Who asks, and what each decision rests on. No public clause cites this module.
-use Rattle.std.specs.Prelude.{◌≡◌, ℕ, ◌≤◌, true, false, List, [], ◌∷◌, Option, Some, None, Bool, ◌&&◌}
-use Rattle.qrules.specs.declared.graces.TheConstants.{MAX_MOMENT}
+use Rattle.std.specs.Prelude.{◌≡◌, ℕ, true, false, List, Option, Some, None, Bool, ◌&&◌}
 use Rattle.qrules.specs.declared.kind.Kind.TheVariants.{User, Group, Project}
 use Rattle.qplain.specs.declared.owners.Owners.{Owners}
 use Rattle.qplain.specs.declared.call.Call.{Call}

@@ -25,12 +25,10 @@ mod chown;
 mod claims;
 mod commit;
 mod create;
-mod link;
 mod look;
 mod quota;
 mod removal;
 mod rename;
-mod rows;
 mod set_grace;
 mod truncate;
 mod write;
@@ -161,7 +159,6 @@ impl Store {
         ensures state { self.new.state ≡ self.old.state }
         ensures step { IfOk result (λ r. committed self.new r ≡ step self.old.state cred.now moment call.now) }
         ensures ready { IfOk result (IsReady self.new) }
-
         ensures refused_first { IsRefused (step self.old.state cred.now moment call.now).1 → IsOk result }
         ensures answered { wants_no_memory call.now ≡ true → IsOk result }
     {
@@ -195,10 +192,8 @@ impl Store {
     pub fn apply(&mut self, cred: &Cred, moment: u64, call: &Call) -> Result<Reply, NoMemory>
         ensures ok { IfOk result (λ reply. (self.new.state, reply) ≡ step self.old.state cred.now moment call.now) }
         ensures err { OnErr result (self.new.state ≡ self.old.state) }
-
         ensures refused_first { IsRefused (step self.old.state cred.now moment call.now).1 → IsOk result }
         ensures answered { wants_no_memory call.now ≡ true → IsOk result }
-
         // In words: nobody but the superuser raises a use past a hard limit, or past a soft one whose grace has ended.
         ensures limits { OnOk result (is_superuser cred.now ≡ false
             → All (PassesNoLimit self.old.state self.new.state moment) self.old.state.holders) }

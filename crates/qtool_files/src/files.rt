@@ -2,7 +2,8 @@
 ghost use Rattle.std.specs.Prelude.{◌≡◌, ℕ, List, [], Option, None, Some, IfOk, IsSome, OnErr, OnOk};
 ghost use Rattle.qtool_files.specs.Held.{IsKept};
 
-use qplain::NoMemory;
+use qplain::{NoMemory, Script};
+use qrun::Gate;
 use qtext_client::Streams;
 use std::io::Write;
 
@@ -31,6 +32,9 @@ pub trait Files {
     ghost held: { Self → Option (List ℕ → Option (List ℕ)) } = { λ _. None };
 
     type Draft: Write + Drop + Send;
+
+    /// What tells how far a run is, while it goes on.
+    type Progress: Gate + Drop + Sync;
 
     /// The bytes of a file. An Err gives none of them.
     fn read(&mut self, name: &str) -> Result<Vec<u8>, FileFault>;
@@ -62,6 +66,12 @@ pub trait Files {
     /// Takes a draft away.
     fn give_up(&mut self, draft: Self::Draft)
         ensures same { held self.new ≡ held self.old };
+
+    /// What tells how far a run of these scripts is, which begins.
+    fn progress(&self, scripts: &[Script]) -> Self::Progress;
+
+    /// Ends it, when the run has ended.
+    fn ended(&self, progress: Self::Progress);
 }
 
 /// The streams of clients by name, each client's for a thread of its own.

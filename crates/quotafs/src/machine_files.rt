@@ -2,8 +2,9 @@
 
 use crate::client_streams::{ClientStreams, STANDARD};
 use crate::draft::Draft;
+use crate::progress::Progress;
 use qplain::NoMemory;
-use qtool::{FileFault, Files, NamedStreams};
+use qtool::{FileFault, Files, NamedStreams, Script};
 use std::fs;
 use std::io::{self, BufWriter, ErrorKind, Read, Stderr};
 use std::os::unix::fs::MetadataExt;
@@ -58,8 +59,10 @@ fn are_one_file(rt: &HostRuntime, name: &str, other: &str) -> bool {
     }
 }
 
-impl Files for MachineFiles<'_> {
+impl<'a> Files for MachineFiles<'a> {
     type Draft = Draft;
+
+    type Progress = Progress<'a>;
 
     fn read(&mut self, name: &str) -> Result<Vec<u8>, FileFault> {
         bytes_of(self.rt, name).map_err(|error| fault_of(&error))
@@ -87,6 +90,14 @@ impl Files for MachineFiles<'_> {
 
     fn give_up(&mut self, draft: Draft) {
         draft.give_up(self.rt);
+    }
+
+    fn progress(&self, scripts: &[Script]) -> Progress<'a> {
+        Progress::new(self.rt, scripts)
+    }
+
+    fn ended(&self, progress: Progress<'a>) {
+        progress.clear();
     }
 }
 

@@ -10,6 +10,7 @@ use std::random::RandomSource;
 mod client_streams;
 mod draft;
 mod machine_files;
+mod progress;
 
 /// As much of the output, and of a file, is gathered before it is written, in bytes.
 const OUTPUT_BUFFER: usize = 262_144;

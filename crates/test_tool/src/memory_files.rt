@@ -3,7 +3,7 @@
 use crate::memory_streams::MemoryStreams;
 use crate::short::Short;
 use qplain::NoMemory;
-use qtool::{FileFault, Files, NamedStreams, tool};
+use qtool::{FileFault, Files, NamedStreams, NoGate, Script, tool};
 use std::alloc::{AllocError, Global};
 use std::sync::Wait;
 use std::thread::Threads;
@@ -76,6 +76,8 @@ impl<'a> MemoryFiles<'a> {
 impl Files for MemoryFiles<'_> {
     type Draft = Short;
 
+    type Progress = NoGate;
+
     fn read(&mut self, name: &str) -> Result<Vec<u8>, FileFault> {
         if name == self.short {
             return Err(FileFault::Memory);
@@ -124,6 +126,12 @@ impl Files for MemoryFiles<'_> {
     fn give_up(&mut self, _draft: Short) {
         self.drafts = self.drafts.wrapping_sub(1);
     }
+
+    fn progress(&self, _scripts: &[Script]) -> NoGate {
+        NoGate
+    }
+
+    fn ended(&self, _progress: NoGate) {}
 }
 
 impl NamedStreams for MemoryFiles<'_> {

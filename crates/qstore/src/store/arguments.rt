@@ -38,15 +38,7 @@ impl Store {
             }
             Call::SetQuota { limits, .. } => !limits.are_in_range(),
             Call::SetGrace { graces } => !graces.are_in_range(),
-            Call::Create { .. }
-            | Call::Mkdir { .. }
-            | Call::Truncate { .. }
-            | Call::Stat { .. }
-            | Call::Link { .. }
-            | Call::Unlink { .. }
-            | Call::Rmdir { .. }
-            | Call::Rename { .. }
-            | Call::Quota { .. } => false,
+            _ => false,
         }
     }
 

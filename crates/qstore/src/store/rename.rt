@@ -1,22 +1,59 @@
-//! To give an inode another name, in place of what has that (rename(2)).
+//! To give a file a further name (link(2)), and an inode another one, in place of what has that (rename(2)).
 ghost use Rattle.std.specs.Prelude.{◌≡◌, ℕ, ◌<◌, false, true, not, List, Some};
 ghost use Rattle.qplain.specs.Attempt.{Becomes};
+ghost use Rattle.qplain.specs.Names.{with_name};
 ghost use Rattle.qplain.specs.Renames.{passes, rename_as};
 ghost use Rattle.qplain.specs.State.{Inode, inode_at, is_directory};
 ghost use Rattle.qplain.specs.Use.{is_empty};
 ghost use Rattle.qstore_tree.specs.Room.{Room, name_room};
+ghost use Rattle.qstore_tree.specs.TreeOf.{IsFile};
 ghost use Rattle.qstore_walk.specs.Paths.{name_in};
 ghost use Rattle.qstore_change.specs.Changes.{CanRename};
-ghost use Rattle.qstore.specs.Decided.{CanDecide, IsAsked, IsDecision, IsDecisionOf};
+ghost use Rattle.qstore.specs.Decided.{CanDecide, IsAsked, IsDecision, IsDecisionOf, IsFree};
 ghost use Rattle.qstore.specs.Renamings.{IsRenaming, with_new_name};
 
 use crate::{Call, Decision, Exchange, Path, Ready, Reply, Request, Store};
 use qplain::NO_CHANGE;
 use qstore_change::TreeChange;
 use qstore_tree::Content;
-use qstore_walk::{Renaming, find_renaming, inode, is_its_own, rename_fault};
+use qstore_walk::{
+    FurtherName, Renaming, find_renaming, further_name, inode, is_its_own, rename_fault,
+};
 
 impl Store {
+    /// Decides a further name of a file, and makes room for it.
+    pub(super) fn decide_link(&mut self, request: &Request, from: &str, to: &str) -> Decision
+        requires { CanDecide self.old request.now }
+        ensures { IsDecisionOf self.old self.new request.now (Call.Link from.now to.now) result }
+    {
+        match further_name(self.tree(), from, to) {
+            Ok(new) => self.name_file(request, &new),
+            Err(refusal) => Ok(Ready::refused(refusal)),
+        }
+    }
+
+    /// Decides a further name of a file that may have it, and makes room for it.
+    #[inline(never)]
+    fn name_file(&mut self, request: &Request, new: &FurtherName) -> Decision
+        requires can { CanDecide self.old request.now }
+        requires file { IsFile self.old.state new.now.number }
+        requires free { IsFree self.old.state new.now.dir new.now.name.now }
+        ensures { IsDecision self.old self.new request.now (Becomes
+            (with_name self.old.state new.now.dir new.now.name.now new.now.number) new.now.number) result }
+    {
+        let (from, to) = (None, None);
+        let exchange = Exchange { from, to };
+        match self.admit(request, &exchange, 0) {
+            Ok(()) => {}
+            Err(refusal) => return Ok(Ready::refused(refusal)),
+        }
+        let name = String::from_str(self.alloc, new.name)?;
+        self.tree.make_name_room(new.dir)?;
+        let FurtherName { number, dir, .. } = *new;
+        let change = TreeChange::Link { dir, name, number };
+        Ok(Ready::granted(number, &exchange, change))
+    }
+
     /// Decides another name of an inode, and makes room for it.
     pub(super) fn decide_rename(&mut self, request: &Request, from: &Path, to: &str) -> Decision
         requires { CanDecide self.old request.now }

@@ -1,11 +1,9 @@
-use Rattle.std.proofs.Common.{◌≡◌, ◌||◌, true, false, nat_lt, None, Some, refl, rules, tests, arith, sym, ap, subst, ◌∙◌}
-use Rattle.qrules.specs.declared.graces.TheConstants.{MAX_MOMENT}
+use Rattle.std.proofs.Common.{◌≡◌, false, Some, sym, subst}
 use Rattle.qplain.specs.declared.refusal.Refusal.TheVariants.{EINVAL}
-use Rattle.qplain.specs.Arguments.{has_bad_number, is_known, refusal_of_arguments}
+use Rattle.qplain.specs.Arguments.{is_known, refusal_of_arguments}
 use Rattle.qstore.specs.Kept.{state_of}
-use Rattle.qstore.specs.Requests.{CanDecide, IsWritten}
 use Rattle.qstore.specs.Stored.{Stored}
-use Rattle.qstore.proofs.Arguments.{caller-declared, refusal-faulty, refusal-paths, refusal-unknown}
+use Rattle.qstore.proofs.Arguments.{refusal-unknown}
 use Rattle.qstore.proofs.store.Store.check.Goals as goal
 
 pub returns-in_default-clause-refused : goal.returns-in_default-clause-refused

@@ -1,4 +1,4 @@
-use Rattle.std.proofs.Common.{◌≡◌, true, ◌&&◌, Some, refl, sym, subst, ◌∙◌, arith}
+use Rattle.std.proofs.Common.{◌≡◌, true, Some, refl, sym, subst, ◌∙◌, arith}
 use Rattle.qplain.specs.State.{inode_at}
 use Rattle.qstore_tree.specs.Nodes.{inode_of}
 use Rattle.qplain_laws.proofs.Fitting.{known-owners}

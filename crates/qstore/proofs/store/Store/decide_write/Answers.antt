@@ -1,15 +1,8 @@
-use Rattle.std.proofs.Common.{◌≡◌, ℕ, List, Result, Ok, Err, refl, sym, ap, subst, ◌∙◌}
-use Rattle.std.specs.Result.{IsErr}
-use Rattle.std.specs.declared.alloc.AllocError.{AllocError}
+use Rattle.std.proofs.Common.{ℕ, List, sym, ap, ◌∙◌}
 use Rattle.qplain.specs.declared.call.Call.TheVariants.{Write}
-use Rattle.qplain.specs.declared.refusal.Refusal.{Refusal}
 use Rattle.qplain.specs.Calls.{attempt_of}
 use Rattle.qplain.specs.Step.{settle}
-use Rattle.qstore.specs.declared.ready.Ready.{Ready}
-use Rattle.qstore.specs.declared.store.write.Target.{Target}
-use Rattle.qstore.specs.Decided.{IsDecision, IsDecisionOf}
-use Rattle.qstore.specs.Targets.{put_decision, put_ready}
-use Rattle.qstore.proofs.Deciding.{decision-answered, decision-lacking, same-store}
+use Rattle.qstore.proofs.Deciding.{decision-answered, same-store}
 use Rattle.qstore.proofs.store.Store.decide_write.Goals as goal
 
 pub returns-in-Err : goal.returns-in-Err

@@ -1,5 +1,4 @@
 use Rattle.std.proofs.Common.{false, refl, sym}
-use Rattle.qplain.specs.declared.call.Call.{Call}
 use Rattle.qplain.specs.declared.call.Call.TheVariants.{Mkdir}
 use Rattle.qstore.specs.Requests.{IsWritten}
 use Rattle.qstore.proofs.Applied.{applied-now, applied-refused, can-now, ready-now, unapplied-now}

@@ -1,4 +1,4 @@
-use Rattle.std.proofs.Common.{◌≡◌, ap, refl, sym, ◌∙◌}
+use Rattle.std.proofs.Common.{ap, sym, ◌∙◌}
 use Rattle.qplain.specs.Arguments.{has_bad_number}
 use Rattle.qstore.specs.Requests.{IsWritten}
 use Rattle.qstore.specs.Stored.{Stored}

@@ -1,4 +1,4 @@
-use Rattle.std.proofs.Common.{◌≡◌, None, Some, ap, refl, sym, ◌∙◌, arith}
+use Rattle.std.proofs.Common.{◌≡◌, None, Some, ap, refl, sym, ◌∙◌}
 use Rattle.qplain.specs.State.{inode_at}
 use Rattle.qplain_laws.proofs.Finding.{led-there}
 use Rattle.qstore_tree.specs.Nodes.{inode_of, is_dir_content}

@@ -1,6 +1,5 @@
-use Rattle.std.proofs.Common.{◌≡◌, false, refl, sym, ap, subst, ◌∙◌}
+use Rattle.std.proofs.Common.{◌≡◌, false, refl, sym, subst, ◌∙◌}
 use Rattle.qplain.specs.declared.call.Call.TheVariants.{Stat}
-use Rattle.qplain.specs.declared.reply.Reply.TheVariants.{Refused}
 use Rattle.qplain.specs.Attempt.{at_path}
 use Rattle.qplain.specs.Files.{stat_at}
 use Rattle.qplain.specs.Step.{settle}

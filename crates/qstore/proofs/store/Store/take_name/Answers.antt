@@ -1,4 +1,4 @@
-use Rattle.std.proofs.Common.{◌≡◌, true, Some, sym, ap, ◌∙◌, arith}
+use Rattle.std.proofs.Common.{◌≡◌, true, Some, sym, ap, ◌∙◌}
 use Rattle.qplain.specs.Rights.{may_remove}
 use Rattle.qplain.specs.State.{inode_at}
 use Rattle.qstore_tree.specs.Nodes.{inode_of, is_dir_content}

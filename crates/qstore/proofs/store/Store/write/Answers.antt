@@ -1,4 +1,4 @@
-use Rattle.std.proofs.Common.{◌≡◌, ◌≤◌, ℕ, nat_lt, length, Result, Ok, refl, sym, ap, subst, ◌∙◌, arith, tests}
+use Rattle.std.proofs.Common.{ℕ, nat_lt, Result, Ok, refl, sym, ap, subst, ◌∙◌, arith, tests}
 use Rattle.std.specs.declared.alloc.AllocError.{AllocError}
 use Rattle.qblocks.specs.Input.{input_bytes}
 use Rattle.qplain.specs.declared.bounds.TheConstants.{MAX_DATA}

@@ -1,7 +1,7 @@
 use Rattle.std.proofs.Common.{◌≤◌, ◌^◌, ℕ, IfNone, Option, flat_map, length, subst, sym}
-use Rattle.qsession.specs.Names.{bytes_of}
-use Rattle.qsession.proofs.Listed.{too_many}
-use Rattle.qsession.proofs.names.text_len.Goals as goal
+use Rattle.qsession_list.specs.Names.{bytes_of}
+use Rattle.qsession_list.proofs.Listed.{too_many}
+use Rattle.qsession_list.proofs.names.text_len.Goals as goal
 
 pub returns-in_err-len-clause-none : goal.returns-in_err-len-clause-none
 returns-in_err-len-clause-none c =

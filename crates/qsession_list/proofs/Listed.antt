@@ -7,8 +7,8 @@ use Rattle.std.proofs.lemmas.List.Folds.{length-flat_map-take}
 use Rattle.std.proofs.lemmas.Grind.{flat_map-append}
 use Rattle.qstore_tree.specs.declared.name.Name.{Name}
 use Rattle.qstore_tree.specs.Listed.{name_entry}
-use Rattle.qsession.specs.declared.names.ListedName.{ListedName}
-use Rattle.qsession.specs.Names.{bytes_of, name_in, row_at}
+use Rattle.qsession_list.specs.declared.names.ListedName.{ListedName}
+use Rattle.qsession_list.specs.Names.{bytes_of, name_in, row_at}
 
 -- the rows of names whose bytes begin at a place
 abbrev pub rows_at : ℕ → List Name → List ListedName

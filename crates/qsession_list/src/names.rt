@@ -1,9 +1,9 @@
 //! Names as structs that other languages know, and a text of their bytes.
 ghost use Rattle.std.specs.Prelude.{◌≡◌, ◌≤◌, ◌<◌, ◌+◌, ◌^◌, ◌++◌, IfSome, IfNone, flat_map, length, map, take};
 ghost use Rattle.qstore_tree.specs.Listed.{name_entry};
-ghost use Rattle.qsession.specs.Names.{bytes_of, name_in, row_at};
+ghost use Rattle.qsession_list.specs.Names.{bytes_of, name_in, row_at};
 
-use crate::fault::Fault;
+use qsession::Fault;
 use qstore::Name;
 
 /// One name: the directory that holds it, the inode that it leads to, and where its bytes stand in the text beside the

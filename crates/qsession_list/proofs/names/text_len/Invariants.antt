@@ -1,6 +1,6 @@
 use Rattle.std.proofs.Common.{◌≡◌, flat_map, length, take}
-use Rattle.qsession.specs.Names.{bytes_of}
-use Rattle.qsession.proofs.names.text_len.Given as goal
+use Rattle.qsession_list.specs.Names.{bytes_of}
+use Rattle.qsession_list.proofs.names.text_len.Given as goal
 
 -- the bytes so far are counted
 abbrev pub invariant-loop-name : goal.invariant-loop-name

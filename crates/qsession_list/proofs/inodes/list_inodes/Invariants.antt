@@ -1,6 +1,6 @@
 use Rattle.std.proofs.Common.{◌≡◌, map, take}
-use Rattle.qsession.specs.Inodes.{inode_in}
-use Rattle.qsession.proofs.inodes.list_inodes.Given as goal
+use Rattle.qsession_list.specs.Inodes.{inode_in}
+use Rattle.qsession_list.proofs.inodes.list_inodes.Given as goal
 
 -- the rows so far stand in the list
 abbrev pub invariant-loop-i : goal.invariant-loop-i

@@ -1,5 +1,5 @@
-use Rattle.qsession.proofs.Listed.{AreListed}
-use Rattle.qsession.proofs.names.list_names.Given as goal
+use Rattle.qsession_list.proofs.Listed.{AreListed}
+use Rattle.qsession_list.proofs.names.list_names.Given as goal
 
 -- the names so far stand in the list, and their bytes in the text
 abbrev pub invariant-loop-i : goal.invariant-loop-i

@@ -1,7 +1,7 @@
 use Rattle.std.proofs.Common.{◌≡◌, ◌≤◌, ◌+◌, ◌++◌, ◌∷◌, [], ap, arith, length, subst, sym, take, ◌∙◌}
 use Rattle.std.proofs.lemmas.List.{take_all, take_more_set}
-use Rattle.qsession.proofs.Listed.{AreListed, all-listed, listed-step, none-listed, room-listed}
-use Rattle.qsession.proofs.names.list_names.Goals as goal
+use Rattle.qsession_list.proofs.Listed.{AreListed, all-listed, listed-step, none-listed, room-listed}
+use Rattle.qsession_list.proofs.names.list_names.Goals as goal
 
 pub loop-i-init : goal.loop-i-init
 loop-i-init c = none-listed c.args.names.now _ _

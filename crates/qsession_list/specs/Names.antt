@@ -2,7 +2,7 @@
 use Rattle.std.specs.Prelude.{◌≡◌, ℕ, List, drop, length, map, take, Option, Some, None}
 use Rattle.qplain.specs.State.{NameKey}
 use Rattle.qstore_tree.specs.declared.name.Name.{Name}
-use Rattle.qsession.specs.declared.names.ListedName.{ListedName}
+use Rattle.qsession_list.specs.declared.names.ListedName.{ListedName}
 use Rattle.qsession.specs.Holdings.{Holding}
 
 -- the bytes of a name

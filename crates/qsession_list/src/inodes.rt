@@ -1,9 +1,9 @@
 //! Rows of inodes as structs that other languages know.
 ghost use Rattle.std.specs.Prelude.{◌≡◌, ◌≤◌, length, map, take};
-ghost use Rattle.qsession.specs.Inodes.{inode_in};
+ghost use Rattle.qsession_list.specs.Inodes.{inode_in};
 
-use crate::fault::Fault;
 use qrules::InodeRow;
+use qsession::Fault;
 
 /// One inode: whose it is, what it uses, and how many names lead to it. A project counts where it is said to be there.
 #[repr(C)]

@@ -2,7 +2,7 @@
 use Rattle.std.specs.Prelude.{◌≡◌, List, map, Option, Some, None}
 use Rattle.qrules.specs.declared.inode_row.InodeRow.{InodeRow}
 use Rattle.qstore.specs.Rows.{inode_row_of}
-use Rattle.qsession.specs.declared.inodes.ListedInode.{ListedInode}
+use Rattle.qsession_list.specs.declared.inodes.ListedInode.{ListedInode}
 use Rattle.qsession.specs.Holdings.{Holding}
 use Rattle.qsession.specs.Requests.{named}
 
