@@ -123,6 +123,26 @@ impl Bench {
         self.apply_all("writes of a byte", calls)
     }
 
+    /// Reads of the paths of writes, of as many bytes as the buffer has.
+    #[inline(never)]
+    pub(crate) fn read_block(&mut self, calls: &[Call], buffer: &mut [u8]) -> Tally {
+        let mut tally = Tally {
+            kind: "reads of 4 KiB",
+            granted: 0,
+            blocks: 0,
+        };
+        for call in calls {
+            let Call::Write { path, .. } = call else {
+                continue;
+            };
+            let read = self
+                .store
+                .read_into(&self.cred, MOMENT, path.text(), 0, buffer);
+            tally.granted = tally.granted.wrapping_add(u64::from(read.is_ok()));
+        }
+        tally
+    }
+
     #[inline(never)]
     pub(crate) fn truncate_block(&mut self, calls: &[Call]) -> Result<Tally, NoMemory> {
         self.apply_all("truncates of a block", calls)

@@ -83,7 +83,9 @@ fn use_files(rt: &impl Print, alloc: Global, bench: &mut Bench, files: u64) -> i
     say(rt, bench.stat(&stats)?)?;
     say(rt, bench.write_first(&writes_of_block)?)?;
     say(rt, bench.write_block(&writes_of_block)?)?;
-    say(rt, bench.write_byte(&writes_of_byte)?)
+    say(rt, bench.write_byte(&writes_of_byte)?)?;
+    let mut buffer = vec![in alloc; 0u8; 4096]?;
+    say(rt, bench.read_block(&writes_of_block, &mut buffer))
 }
 
 fn change_files(rt: &impl Print, alloc: Global, bench: &mut Bench, files: u64) -> io::Result<()>
