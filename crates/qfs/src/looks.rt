@@ -11,7 +11,7 @@ use qsession::{Caller, PathText, QuotaReply, Session, StatReply, kind_of};
 use std::alloc::Global;
 
 /// Reads as many bytes from the offset on as the buffer has, up to the end of the file.
-#[tactic(auto, using(qsession::proofs::Calling::path_faulted, qsession::proofs::Calling::not_granted))]
+#[tactic(auto, using(qsession::proofs::Calling::path_faulted, qsession::proofs::Calling::not_granted, qsession::proofs::Calling::no_bytes))]
 #[unsafe(no_mangle)]
 pub extern "C" fn qfs_read(
     alloc: Global,
@@ -27,6 +27,7 @@ pub extern "C" fn qfs_read(
         caller.now moment (Read path.now off (length buffer.old)) result }
     ensures bytes { result ≡ 0 → IsReplyTo (held_in session.old.slot.kept)
         (line_by caller.now moment (Read path.now off (length buffer.old))) (Bytes (take len.new buffer.new)) }
+    ensures room { result ≡ 0 → len.new ≤ length buffer.old }
 {
     let path = match PathText::new(path) {
         Ok(path) => path,

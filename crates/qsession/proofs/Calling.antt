@@ -210,3 +210,7 @@ pub not_granted : (old : Option Holding) (line : Line) (reply : Reply) (fault : 
     → IsReplyTo old line reply
 not_granted old line reply fault number is zero =
     absurd (low_fault fault number is (subst (λ (n : ℕ). n < FAULTS) (sym zero) (lit< tt)))
+
+-- nor with any bytes
+pub no_bytes : (fault : Fault) (number len room : ℕ) → number ≡ fault_code fault → number ≡ 0 → len ≤ room
+no_bytes fault number len room is zero = absurd (low_fault fault number is (subst (λ (n : ℕ). n < FAULTS) (sym zero) (lit< tt)))

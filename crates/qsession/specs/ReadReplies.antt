@@ -11,6 +11,11 @@ abbrev pub read_in : List ℕ → ReadReply → Reply
 read_in buffer (Bytes count) = BytesReply (take count buffer)
 read_in buffer (Refused refusal) = RefusedReply refusal
 
+-- how many bytes it tells of
+abbrev pub count_in : ReadReply → ℕ
+count_in (Bytes count) = count
+count_in (Refused refusal) = 0
+
 -- the answer with that reply
 abbrev pub answer_in : List ℕ → Result ReadReply Fault → Result Reply Fault
 answer_in buffer (Ok reply) = Ok (read_in buffer reply)

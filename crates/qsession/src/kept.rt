@@ -1,5 +1,5 @@
 //! What an open session keeps.
-ghost use Rattle.std.specs.Prelude.{◌≡◌, ◌↔◌, Some, None, Err, IsErr, IfSome, IfNone, IfOk, IfErr, OnErr, length};
+ghost use Rattle.std.specs.Prelude.{◌≡◌, ◌≤◌, ◌↔◌, Some, None, Err, IsErr, IfSome, IfNone, IfOk, IfErr, OnErr, length};
 ghost use Rattle.qplain.specs.declared.line.Line.{Line};
 ghost use Rattle.qplain.specs.declared.call.Call.TheVariants.{Read};
 ghost use Rattle.qplain.specs.declared.edition.Edition.TheVariants.{Two};
@@ -8,7 +8,7 @@ ghost use Rattle.qsession.specs.declared.kept.Kept.TheVariants.{Journaled as Kep
 ghost use Rattle.qsession.specs.BorrowedCalls.{call_of};
 ghost use Rattle.qsession.specs.Faults.{fault_told};
 ghost use Rattle.qsession.specs.Holdings.{HoldsTrue, holding_of, new_journaled, new_plain};
-ghost use Rattle.qsession.specs.ReadReplies.{answer_in};
+ghost use Rattle.qsession.specs.ReadReplies.{answer_in, count_in};
 ghost use Rattle.qsession.specs.Steps.{CanCommit, HasCause, IsFull, IsReadyFor, IsStep};
 
 use crate::borrowed_call::BorrowedCall;
@@ -151,6 +151,7 @@ impl Kept {
     ) -> Result<ReadReply, Fault>
         ensures ok { IfOk (answer_in buffer.new result) (IsStep (holding_of self.old) (holding_of self.new)
             (line_of cred.now moment (Read path.entry.text.now off (length buffer.old)))) }
+        ensures room { IfOk result (λ reply. count_in reply ≤ length buffer.old) }
         ensures err { OnErr result (holding_of self.new ≡ holding_of self.old) }
         ensures cause { IfErr result (HasCause (holding_of self.old)) }
         ensures full { IsFull (Some (holding_of self.old)) → IsErr result }
@@ -180,6 +181,7 @@ impl Kept {
     ) -> Result<ReadReply, Fault>
         ensures ok { IfOk (answer_in buffer.new result) (IsStep (holding_of self.old) (holding_of self.new)
             (line_of cred.now moment (Read path off (length buffer.old)))) }
+        ensures room { IfOk result (λ reply. count_in reply ≤ length buffer.old) }
         ensures err { OnErr result (holding_of self.new ≡ holding_of self.old) }
         ensures cause { IfErr result (HasCause (holding_of self.old)) }
         ensures full { IsFull (Some (holding_of self.old)) → IsErr result }

@@ -1,7 +1,7 @@
 //! What a read into a buffer comes to.
 ghost use Rattle.std.specs.Prelude.{◌≡◌, ◌≤◌, IfOk, length, take, true};
 ghost use Rattle.qsession.specs.Answers.{tells_bytes};
-ghost use Rattle.qsession.specs.ReadReplies.{answer_in};
+ghost use Rattle.qsession.specs.ReadReplies.{answer_in, count_in};
 
 use crate::fault::Fault;
 use qplain::{Refusal, Reply};
@@ -16,7 +16,8 @@ pub enum ReadReply {
 /// Puts bytes at the front of a buffer, and tells how many there are.
 fn put_bytes(bytes: &[u8], buffer: &mut [u8]) -> usize
     requires room { length bytes.now ≤ length buffer.old }
-    ensures { bytes.now ≡ take result buffer.new }
+    ensures bytes { bytes.now ≡ take result buffer.new }
+    ensures count { result ≡ length bytes.now }
 {
     let count = bytes.len();
     buffer[..count].copy_from_slice(bytes);
@@ -29,7 +30,8 @@ pub(crate) fn put_answer(
     buffer: &mut [u8],
 ) -> Result<ReadReply, Fault>
     requires { IfOk answer (λ reply. tells_bytes (length buffer.old) reply ≡ true) }
-    ensures { answer ≡ answer_in buffer.new result }
+    ensures answer { answer ≡ answer_in buffer.new result }
+    ensures room { IfOk result (λ reply. count_in reply ≤ length buffer.old) }
 {
     match answer {
         Ok(Reply::Bytes(bytes)) => Ok(ReadReply::Bytes(put_bytes(bytes.as_slice(), buffer))),

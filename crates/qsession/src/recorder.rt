@@ -78,6 +78,7 @@ impl Recorder {
 
     /// Decides a call as the journal's next entry, and makes every growth that it needs; setup, state and journal stay
     /// as they were. Err is JournalFull, reported first, or OutOfMemory.
+    #[inline(always)]
     pub fn ready(&mut self, cred: &Cred, moment: u64, call: &Call) -> Result<Next, CallFault>
         ensures same { IsSameJournaled self.old self.new }
         ensures next { IfOk result (CanRecord self.new) }
@@ -88,6 +89,7 @@ impl Recorder {
     }
 
     /// Makes the call that is ready, and journals it. It takes no memory and always succeeds.
+    #[inline(always)]
     pub fn commit(&mut self, next: Next) -> Reply
         requires { CanRecord self.old next }
         ensures setting { self.new.setting ≡ self.old.setting }

@@ -1,11 +1,11 @@
 //! Sessions.
-ghost use Rattle.std.specs.Prelude.{◌≡◌, ◌⊎◌, Some, None, IsErr, IfSome, IfNone, IfOk, IfErr, OnErr, is_some, length};
+ghost use Rattle.std.specs.Prelude.{◌≡◌, ◌≤◌, ◌⊎◌, Some, None, IsErr, IfSome, IfNone, IfOk, IfErr, OnErr, is_some, length};
 ghost use Rattle.qplain.specs.declared.call.Call.TheVariants.{Read};
 ghost use Rattle.qsession.specs.BorrowedCalls.{call_of};
 ghost use Rattle.qsession.specs.Brought.{HasBadPath, HasTooManyGroups};
 ghost use Rattle.qsession.specs.Called.{IsCause, IsStepOf};
 ghost use Rattle.qsession.specs.Holdings.{HoldsTrue, held_in};
-ghost use Rattle.qsession.specs.ReadReplies.{answer_in};
+ghost use Rattle.qsession.specs.ReadReplies.{answer_in, count_in};
 ghost use Rattle.qsession.specs.Requests.{line_by};
 ghost use Rattle.qsession.specs.Steps.{IsFull};
 
@@ -172,6 +172,7 @@ impl Session {
         ensures ok { IfOk (answer_in buffer.new result) (IsStepOf (held_in self.old.slot.kept)
             (held_in self.new.slot.kept)
             (line_by caller.now moment (Read path.entry.text.now off (length buffer.old)))) }
+        ensures room { IfOk result (λ reply. count_in reply ≤ length buffer.old) }
         ensures err { OnErr result (held_in self.new.slot.kept ≡ held_in self.old.slot.kept) }
         ensures cause { IfErr result (IsCause (held_in self.old.slot.kept) caller.now
             (Read path.entry.text.now off (length buffer.old))) }

@@ -1,5 +1,5 @@
 //! The calls of a session, as a caller of another language is told them.
-ghost use Rattle.std.specs.Prelude.{◌≡◌, true, length, take};
+ghost use Rattle.std.specs.Prelude.{◌≡◌, ◌≤◌, true, length, take};
 ghost use Rattle.qplain.specs.declared.call.Call.TheVariants.{Read, Stat as AskStat, Quota as AskQuota};
 ghost use Rattle.qplain.specs.declared.reply.Reply.TheVariants.{Bytes};
 ghost use Rattle.qsession.specs.Answers.{is_change};
@@ -78,6 +78,7 @@ impl Session {
         ensures bytes { result ≡ 0 → IsReplyTo (held_in self.old.slot.kept)
             (line_by caller.now moment (Read path.entry.text.now off (length buffer.old)))
             (Bytes (take len.new buffer.new)) }
+        ensures room { result ≡ 0 → len.new ≤ length buffer.old }
     {
         tell_read(
             self.ask_bytes(alloc, caller, moment, path, off, buffer),
