@@ -42,6 +42,19 @@ impl<'a> Progress<'a> {
         }
     }
 
+    /// Counts a worker's line, and tells where it has made so many more.
+    #[inline(never)]
+    fn count(&self, worker: u64, line: u64) {
+        let Some(told) = self.told_of.get(worker as usize) else {
+            return;
+        };
+        let more = line.saturating_sub(told.load(Ordering::SeqCst));
+        if more >= STEP {
+            told.store(line, Ordering::SeqCst);
+            self.tell(more);
+        }
+    }
+
     /// Takes the line away, once all workers have ended.
     pub(crate) fn clear(&self) {
         if self.told.load(Ordering::SeqCst) > 0 {
@@ -51,19 +64,14 @@ impl<'a> Progress<'a> {
 }
 
 impl Gate for Progress<'_> {
+    #[inline(always)]
     fn before(&self, _worker: u64, _line: usize) {}
 
+    // In line, so that a line takes a test more where nothing is told.
+    #[inline(always)]
     fn after(&self, worker: u64, line: usize) {
-        if !self.is_terminal {
-            return;
-        }
-        let Some(told) = self.told_of.get(worker as usize) else {
-            return;
-        };
-        let more = (line as u64).saturating_sub(told.load(Ordering::SeqCst));
-        if more >= STEP {
-            told.store(line as u64, Ordering::SeqCst);
-            self.tell(more);
+        if self.is_terminal {
+            self.count(worker, line as u64);
         }
     }
 }
