@@ -131,16 +131,15 @@ where
 
 /// The whole program: reads the words of the command line, its own name the first of them, reads the files that they
 /// name, runs the scripts or plays the journal, writes what came of it to the output and then, where it is asked for,
-/// the journal of the run to a file, and answers the exit status. How far a run is, its files may tell meanwhile.
-/// Where it is to be told strictly, lines that were refused or failed are counted on the error output after all that, a
-/// line for each kind, and it ends with 1. The first fault ends it with one line on the error output: 2 for the command
+/// the journal of the run to a file, and answers the exit status. How far a run is, its files may tell meanwhile. Where
+/// it is to be told strictly, lines that were refused or failed are counted on the error output after all that, a line
+/// for each kind, and it ends with 1. The first fault ends it with one line on the error output: 2 for the command
 /// line, also where the journal would be written over the configuration, a script or the output, for the configuration,
 /// a script or a journal, 3 out of memory and for a journal that does not fit, 4 for an output or a file for the
 /// journal that refuses, also when it is flushed. Help and the version go to the output, with 0. The line is flushed,
 /// so that a buffered error output gets it by one write.
-/// The program ends after it, so the memory of a run is not given back. `seed` is any number, best one that nobody knows
-/// beforehand: where it is known, names can be searched that collide, and then calls take long. Neither the output nor
-/// the status depends on it.
+/// The memory of a run is not given back. `seed` is any number, best one that nobody knows beforehand: where it is known,
+/// names can be searched that collide, and then calls take long. Neither the output nor the status depends on it.
 pub fn tool<F, O, E, R>(
     rt: &R,
     alloc: Global,

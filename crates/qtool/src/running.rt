@@ -9,7 +9,7 @@ use crate::ending::Ending;
 use crate::reading::{configuration, read_scripts};
 use crate::standard::test_scripts;
 use crate::telling::finish;
-use crate::{Files, Options, Outcome, RunFault, Telling, run_with};
+use crate::{Files, NoGate, Options, Outcome, RunFault, Telling, run_with};
 use qplain::MAX_WORKERS;
 use qtool_files::test_journal;
 use std::alloc::Global;
@@ -58,7 +58,9 @@ fn run_of<F: Files, R: Threads + Wait + Sync>(
     let config = configuration(alloc, files, config)?;
     test_seats(names.len() as u64, options.boards)?;
     let scripts = read_scripts(alloc, files, names)?;
-    let progress = files.progress(&scripts);
+    let Some(progress) = files.progress(&scripts) else {
+        return run_with(rt, alloc, config, scripts, options, seed, &NoGate).map_err(ending_of_run);
+    };
     let outcome = run_with(rt, alloc, config, scripts, options, seed, &progress);
     files.ended(progress);
     outcome.map_err(ending_of_run)

@@ -67,8 +67,8 @@ pub trait Files {
     fn give_up(&mut self, draft: Self::Draft)
         ensures same { held self.new ≡ held self.old };
 
-    /// What tells how far a run of these scripts is, which begins.
-    fn progress(&self, scripts: &[Script]) -> Self::Progress;
+    /// What tells how far a run of these scripts is, which begins, or None where nothing is to be told.
+    fn progress(&self, scripts: &[Script]) -> Option<Self::Progress>;
 
     /// Ends it, when the run has ended.
     fn ended(&self, progress: Self::Progress);

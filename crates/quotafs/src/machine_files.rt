@@ -92,7 +92,7 @@ impl<'a> Files for MachineFiles<'a> {
         draft.give_up(self.rt);
     }
 
-    fn progress(&self, scripts: &[Script]) -> Progress<'a> {
+    fn progress(&self, scripts: &[Script]) -> Option<Progress<'a>> {
         Progress::new(self.rt, scripts)
     }
 

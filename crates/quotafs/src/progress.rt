@@ -11,26 +11,27 @@ const STEP: u64 = 4096;
 #[derive(Drop)]
 pub(crate) struct Progress<'a> {
     rt: &'a HostRuntime,
-    is_terminal: bool,
     lines: u64,
     told: AtomicU64,
     told_of: [AtomicU64; 17],
 }
 
 impl<'a> Progress<'a> {
-    /// Of a run of these scripts, none of whose lines is made yet.
-    pub(crate) fn new(rt: &'a HostRuntime, scripts: &[Script]) -> Progress<'a> {
+    /// Of a run of these scripts, none of whose lines is made yet, or None where standard error is no terminal.
+    pub(crate) fn new(rt: &'a HostRuntime, scripts: &[Script]) -> Option<Progress<'a>> {
+        if !rt.stderr().is_terminal() {
+            return None;
+        }
         let mut lines = 0u64;
         for script in scripts {
             lines = lines.saturating_add(script.lines().len() as u64);
         }
-        Progress {
+        Some(Progress {
             rt,
-            is_terminal: rt.stderr().is_terminal(),
             lines,
             told: AtomicU64::new(0),
             told_of: std::array::from_fn(|_| AtomicU64::new(0)),
-        }
+        })
     }
 
     /// Writes the line over with so many lines more. Where memory is wanting it stays as it is.
@@ -39,19 +40,6 @@ impl<'a> Progress<'a> {
         let made = told.saturating_add(more);
         if let Ok(text) = format!(in self.rt.alloc(); "\r{made} of {} lines", self.lines) {
             let _ = self.rt.stderr().write_all(text.as_bytes());
-        }
-    }
-
-    /// Counts a worker's line, and tells where it has made so many more.
-    #[inline(never)]
-    fn count(&self, worker: u64, line: u64) {
-        let Some(told) = self.told_of.get(worker as usize) else {
-            return;
-        };
-        let more = line.saturating_sub(told.load(Ordering::SeqCst));
-        if more >= STEP {
-            told.store(line, Ordering::SeqCst);
-            self.tell(more);
         }
     }
 
@@ -64,14 +52,16 @@ impl<'a> Progress<'a> {
 }
 
 impl Gate for Progress<'_> {
-    #[inline(always)]
     fn before(&self, _worker: u64, _line: usize) {}
 
-    // In line, so that a line takes a test more where nothing is told.
-    #[inline(always)]
     fn after(&self, worker: u64, line: usize) {
-        if self.is_terminal {
-            self.count(worker, line as u64);
+        let Some(told) = self.told_of.get(worker as usize) else {
+            return;
+        };
+        let more = (line as u64).saturating_sub(told.load(Ordering::SeqCst));
+        if more >= STEP {
+            told.store(line as u64, Ordering::SeqCst);
+            self.tell(more);
         }
     }
 }

@@ -127,8 +127,8 @@ impl Files for MemoryFiles<'_> {
         self.drafts = self.drafts.wrapping_sub(1);
     }
 
-    fn progress(&self, _scripts: &[Script]) -> NoGate {
-        NoGate
+    fn progress(&self, _scripts: &[Script]) -> Option<NoGate> {
+        Some(NoGate)
     }
 
     fn ended(&self, _progress: NoGate) {}
