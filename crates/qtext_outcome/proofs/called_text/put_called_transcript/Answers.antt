@@ -11,4 +11,4 @@ returns-in_err-put_worker g c =
 pub returns : goal.returns
 returns g c = writes_then _ _ _ _ (worker_text c.args.transcript.now.worker)
     (called_lines 1 c.args.transcript.now.lines c.args.transcript.now.answers) c.in_ok-put_worker.ensures
-    (rw (c.as_slice.ensures, c.as_slice-2.ensures) at c.put_called_lines.ensures)
+    c.put_called_lines.ensures

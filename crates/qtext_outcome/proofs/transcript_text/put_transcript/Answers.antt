@@ -12,4 +12,4 @@ returns-in_err-put_worker g c =
 pub returns : goal.returns
 returns g c = writes_then _ _ _ _ (worker_text c.args.transcript.now.worker)
     (flat_map answer_text c.args.transcript.now.answers) c.in_ok-put_worker.ensures
-    (rw c.as_slice.ensures at c.put_lines.ensures)
+    c.put_lines.ensures
