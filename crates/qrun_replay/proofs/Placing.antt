@@ -9,8 +9,8 @@ use Rattle.qplain.specs.declared.entry.Entry.{Entry}
 use Rattle.qplain.specs.declared.receipt.Receipt.{Receipt}
 use Rattle.qplain.specs.Journal.{entries_of}
 use Rattle.qrun_replay.specs.declared.answered.Answered.{Answered}
-use Rattle.qrun_replay.specs.Placed.{answer_at, answer_in, answered_in, HoldsPlace, HoldsPlaces, transcript_from}
-use Rattle.qrun_replay.specs.Replays.{answer_of, transcript_in}
+use Rattle.qrun_replay.specs.Placed.{answer_at, answer_in, HoldsPlace, HoldsPlaces, transcript_from}
+use Rattle.qrun_replay.specs.Replays.{answer_of, answered_in, transcript_in}
 
 -- an entry stands at its place
 abbrev pub Stands : List Entry → ℕ × Entry → Type 0

@@ -5,9 +5,7 @@ use Rattle.qplain.specs.declared.call_fault.CallFault.TheVariants.{OutOfMemory}
 use Rattle.qplain.specs.declared.entry.Entry.{Entry}
 use Rattle.qplain.specs.declared.receipt.Receipt.{Receipt}
 use Rattle.qplain.specs.declared.transcript.Transcript.{Transcript}
-use Rattle.qplain.specs.Journal.{entries_of}
 use Rattle.qrun_replay.specs.declared.answered.Answered.{Answered}
-use Rattle.qrun_replay.specs.Replays.{line_of_entry}
 
 -- the answer with the reply of the entry that stands there, where there is one
 abbrev pub answer_at : ℕ → Option Entry → Result Receipt CallFault
@@ -31,11 +29,3 @@ HoldsPlaces journal a = All (HoldsPlace journal) a.places
 -- a worker's transcript, with the replies that the journal has
 abbrev pub transcript_from : List Entry → Answered → Transcript
 transcript_from journal a = record { worker = a.worker; lines = a.lines; answers = map (answer_in journal) a.places }
-
--- what a worker was answered: its own entries, each with its line and its place
-abbrev pub answered_in : List Entry → ℕ → Answered
-answered_in journal worker = record {
-  worker = worker;
-  lines = map (λ x. line_of_entry x.1) (entries_of journal worker);
-  places = map (λ x. Ok x.0) (entries_of journal worker);
-}

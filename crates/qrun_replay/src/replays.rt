@@ -9,8 +9,8 @@ ghost use Rattle.qplain.specs.State.{start};
 ghost use Rattle.qrun_replay.specs.declared.outcome.Outcome.{Outcome};
 ghost use Rattle.qrun_replay.specs.declared.replay_fault.ReplayFault.TheVariants.{Mismatch};
 ghost use Rattle.qrun_replay.specs.Runs.{IsLeftByWorkers};
-ghost use Rattle.qrun_replay.specs.Placed.{answered_in};
-ghost use Rattle.qrun_replay.specs.Replays.{GivesBack, IsFirstMismatch, IsMismatchAfter, IsReplayOf, line_of_entry};
+ghost use Rattle.qrun_replay.specs.Replays.{GivesBack, IsFirstMismatch, IsMismatchAfter, IsReplayOf, answered_in};
+ghost use Rattle.qrun_replay.specs.Replays.{line_of_entry};
 
 use crate::outcome::outcome_of;
 use crate::{Answered, Outcome, ReplayFault};

@@ -34,7 +34,7 @@ returns c =
       store = ended.store;
       transcripts_are = c.in_ok-transcripts.ensures ∙ ap (λ j. map (transcript_from j.entries) c.args.answered.items) written;
       boards_are = refl;
-      records = c.new-2.ensures ∙ c.in_ok-records.ensures.rows ∙ ap (λ (S : State). map (record_row_of S) S.holders) same;
-      differences = c.new-3.ensures ∙ c.in_ok-differences.ensures.differences ∙ ap differences_in same;
-      agree = c.new-3.ensures ∙ c.in_ok-differences.ensures.none;
+      records = c.new-3.ensures ∙ c.in_ok-records.ensures.rows ∙ ap (λ (S : State). map (record_row_of S) S.holders) same;
+      differences = c.new-4.ensures ∙ c.in_ok-differences.ensures.differences ∙ ap differences_in same;
+      agree = c.new-4.ensures ∙ c.in_ok-differences.ensures.none;
     }

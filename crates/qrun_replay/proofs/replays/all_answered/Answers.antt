@@ -1,7 +1,7 @@
 use Rattle.std.proofs.Common.{◌+◌, ◌++◌, ◌∷◌, [], map, ap, sym, ◌∙◌, arith}
 use Rattle.std.specs.List.{range_with_len}
 use Rattle.std.proofs.lemmas.List.FromFn.{map-range_with_len_more}
-use Rattle.qrun_replay.specs.Placed.{answered_in}
+use Rattle.qrun_replay.specs.Replays.{answered_in}
 use Rattle.qrun_replay.proofs.replays.all_answered.Goals as goal
 
 pub loop-before-preserved : goal.loop-before-preserved
