@@ -184,7 +184,7 @@ none_placed_yet lines seat places new none = record {
 -- there are as many answers as places
 as_many : (worker : ℕ) (lines : List Line) (seen : List Entry) (calls : ℕ) (places : List (Result ℕ CallFault))
     (are : ArePlaces worker lines seen calls places) → length places ≡ length are.answers
-as_many worker lines seen calls places are = ap length are.placed ∙ length-map place_of are.answers
+as_many worker lines seen calls places are = ap length are.placed ∙ length-map are.answers place_of
 
 -- one more of them
 one_more_place : (places after : List (Result ℕ CallFault)) (answers : List (Result Receipt CallFault)) (answer : Result Receipt CallFault)
