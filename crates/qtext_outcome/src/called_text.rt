@@ -101,7 +101,7 @@ fn put_called<W: Write>(
     line: &Line,
     answer: Result<PlacedReply<'_>, CallFault>,
 ) -> Result<(), RefusedWrite>
-    ensures { Writes (W.contents out.old) (W.contents out.new) result (called_text place line.now answer) }
+    ensures { Writes (W.contents out.old) (W.contents out.new) result (called_text place line.now answer.entry) }
 {
     text.clear();
     text.number(place);

@@ -28,7 +28,7 @@ fn refused_number(reply: &Reply) -> u32
 
 /// The number of an answer's refusal or fault, and 0 where the call was done.
 fn denial_number(answer: Result<PlacedReply<'_>, CallFault>) -> u32
-    ensures { result ≡ denial_number answer }
+    ensures { result ≡ denial_number answer.entry }
 {
     match answer {
         Ok(receipt) => refused_number(receipt.reply()),

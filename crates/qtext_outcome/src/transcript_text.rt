@@ -16,7 +16,7 @@ fn put_receipt<W: Write>(
     line: &mut TextLine,
     receipt: PlacedReply<'_>,
 ) -> Result<(), RefusedWrite>
-    ensures { Writes (W.contents out.old) (W.contents out.new) result (answer_text (Ok receipt)) }
+    ensures { Writes (W.contents out.old) (W.contents out.new) result (answer_text (Ok receipt.entry)) }
 {
     line.clear();
     line.number(receipt.place());
@@ -30,7 +30,7 @@ pub(crate) fn put_answer<W: Write>(
     line: &mut TextLine,
     answer: Result<PlacedReply<'_>, CallFault>,
 ) -> Result<(), RefusedWrite>
-    ensures { Writes (W.contents out.old) (W.contents out.new) result (answer_text answer) }
+    ensures { Writes (W.contents out.old) (W.contents out.new) result (answer_text answer.entry) }
 {
     match answer {
         Ok(receipt) => put_receipt(out, line, receipt),

@@ -56,7 +56,7 @@ fn put_answer<W: Write>(
     out: &mut W,
     answer: Result<PlacedReply<'_>, CallFault>,
 ) -> Result<(), RefusedWrite>
-    ensures { Writes (W.contents out.old) (W.contents out.new) result (answer_members answer) }
+    ensures { Writes (W.contents out.old) (W.contents out.new) result (answer_members answer.entry) }
 {
     match answer {
         Ok(receipt) => put_receipt(out, receipt.place(), receipt.reply()),
@@ -72,7 +72,7 @@ fn put_rest<W: Write>(
     answer: Result<PlacedReply<'_>, CallFault>,
 ) -> Result<(), RefusedWrite>
     ensures { Writes (W.contents out.old) (W.contents out.new) result
-        ((if calls then asked_members line.now else []) ++ answer_members answer) }
+        ((if calls then asked_members line.now else []) ++ answer_members answer.entry) }
 {
     put_shown(out, calls, line)?;
     put_answer(out, answer)
@@ -89,7 +89,7 @@ fn put_line<W: Write>(
     answer: Result<PlacedReply<'_>, CallFault>,
 ) -> Result<(), RefusedWrite>
     ensures { Writes (W.contents out.old) (W.contents out.new) result
-        (line_object calls worker place line.now answer) }
+        (line_object calls worker place line.now answer.entry) }
 {
     put_start(out, worker, place)?;
     put_rest(out, calls, line, answer)
