@@ -24,7 +24,7 @@ pub returns-in_err-put_all : goal.returns-in_err-put_all
 returns-in_err-put_all g c =
     let head : List ℕ = line_head c.args.place c.args.line.now in
     let call : List ℕ = shown_call c.args.line.now.call in
-    let answer : List ℕ = answer_text c.args.answer.entry in
+    let answer : List ℕ = answer_text c.args.answer in
     let passes = rw (
       c.byte-2.ensures.byte,
       c.put_caller.ensures.text,
@@ -43,7 +43,7 @@ pub returns : goal.returns
 returns g c =
     let head : List ℕ = line_head c.args.place c.args.line.now in
     let call : List ℕ = shown_call c.args.line.now.call in
-    let answer : List ℕ = answer_text c.args.answer.entry in
+    let answer : List ℕ = answer_text c.args.answer in
     let passes = rw (
       c.byte-2.ensures.byte,
       c.put_caller.ensures.text,
