@@ -116,7 +116,10 @@ fn put_called<W: Write>(
 }
 
 /// Writes each line with what it was answered.
-fn put_called_lines<W: Write>(out: &mut W, transcript: &PlacedTranscript) -> Result<(), RefusedWrite>
+fn put_called_lines<W: Write>(
+    out: &mut W,
+    transcript: &PlacedTranscript,
+) -> Result<(), RefusedWrite>
     ensures { Writes (W.contents out.old) (W.contents out.new) result
         (called_lines 1 transcript.now.lines transcript.now.answers) }
 {

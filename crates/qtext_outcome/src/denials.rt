@@ -111,7 +111,10 @@ fn put_kinds<W: Write>(
 
 /// Writes how many lines were refused or failed, a line for each kind that there is, in the order of their numbers. It
 /// takes no memory. After an Err some beginning of the text went out.
-pub fn put_denials<W: Write>(out: &mut W, transcripts: &[PlacedTranscript]) -> Result<(), RefusedWrite>
+pub fn put_denials<W: Write>(
+    out: &mut W,
+    transcripts: &[PlacedTranscript],
+) -> Result<(), RefusedWrite>
     ensures { Writes (W.contents out.old) (W.contents out.new) result (denials_text transcripts.now) }
 {
     let kinds: [(u32, &[u8]); 17] = [

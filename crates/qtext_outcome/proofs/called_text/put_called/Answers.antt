@@ -1,5 +1,4 @@
-use Rattle.std.proofs.Common.{◌++◌, List, ℕ, append_assoc, codes, refl, sym}
-use Rattle.qtext.specs.Written.{Partly}
+use Rattle.std.proofs.Common.{◌++◌, List, ℕ, codes, refl}
 use Rattle.qtext.proofs.Fronts.{ends_refused, partly_done, partly_on, partly_then, writes_then}
 use Rattle.qtext_write.proofs.Behind.{behind, refused_whole}
 use Rattle.qtext_write.specs.Answers.{answer_text}
