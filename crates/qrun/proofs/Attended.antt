@@ -1,5 +1,5 @@
 -- What workers have done for their clients, by their places, and told as transcripts.
-use Rattle.std.proofs.Common.{◌≡◌, ℕ, zero, suc, ◌+◌, ◌<◌, ◌≤◌, ◌==◌, if◌then◌else◌, Bool, true, false, List, [], ◌∷◌, ◌++◌, length, map, sum_by, slice_index_or, All, Option, None, Some, IfSome, Result, refl, sym, ap, subst, ◌∙◌, arith}
+use Rattle.std.proofs.Common.{◌≡◌, ℕ, suc, ◌+◌, ◌<◌, ◌≤◌, ◌==◌, if◌then◌else◌, Bool, true, false, List, [], ◌∷◌, ◌++◌, length, map, sum_by, slice_index_or, All, Option, None, Some, IfSome, Result, refl, sym, ap, subst, ◌∙◌, arith}
 use Rattle.std.proofs.lemmas.List.{get_or-map, length-map, nil_from_length}
 use Rattle.std.proofs.lemmas.List.Sums.{sum_by-append}
 use mathlib.Core.List.{IsPrefix, map-map}

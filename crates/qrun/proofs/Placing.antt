@@ -24,7 +24,7 @@ among_all P (x ∷ xs) [] among all = absurd among
 among_all P (x ∷ xs) (y ∷ ys) among all =
     ⊎_elim
     (λ (t : (x ≡ y) × IsSubsequence xs ys).
-      All-cons P x xs (subst P (sym t.0) (All-head P y ys all)) (among_all P xs ys t.1 (All-tail P y ys all)))
+    All-cons P x xs (subst P (sym t.0) (All-head P y ys all)) (among_all P xs ys t.1 (All-tail P y ys all)))
     (λ (t : IsSubsequence (x ∷ xs) ys). among_all P (x ∷ xs) ys t (All-tail P y ys all)) among
 
 -- who is there stays there as a list goes on

@@ -7,7 +7,7 @@ use Rattle.qplain.specs.declared.line.Line.{Line}
 use Rattle.qplain.specs.declared.transcript.Transcript.{Transcript}
 use Rattle.qshare_history.specs.Shares.{HandedIn}
 use Rattle.qrun_replay.specs.declared.answered.Answered.{Answered}
-use Rattle.qrun.specs.Told.{ArePlaced, AreShort, AreTold, placed_of}
+use Rattle.qrun.specs.Told.{ArePlaced, AreShort, placed_of}
 use Rattle.qrun_worker.specs.Work.{AreWorks, IsPlaced, Placed}
 use Rattle.qrun.proofs.Told.{none_told, one_more_told}
 

@@ -1,5 +1,5 @@
 -- What a journal has at the places of its own entries.
-use Rattle.std.proofs.Common.{◌≡◌, ℕ, zero, suc, ◌+◌, ◌-◌, ◌<◌, ◌≤◌, ◌==◌, List, [], ◌∷◌, length, map, filter, All, get_or, slice_get, Some, Result, Ok, refl, sym, ap, subst, ◌∙◌, arith}
+use Rattle.std.proofs.Common.{◌≡◌, ℕ, zero, suc, ◌+◌, ◌-◌, ◌<◌, ◌≤◌, ◌==◌, List, [], ◌∷◌, length, map, All, get_or, slice_get, Some, Result, Ok, refl, sym, ap, subst, ◌∙◌, arith}
 use Rattle.std.proofs.lemmas.List.{get_or-map}
 use Rattle.std.proofs.lemmas.List.Elements.{All-cons, All-filter, All-head, All-map, All-nil, All-tail, All-weaker}
 use Rattle.std.proofs.lemmas.Option.{slice_get-get_or, slice_get_within}
@@ -8,7 +8,6 @@ use Rattle.qplain.specs.declared.call_fault.CallFault.{CallFault}
 use Rattle.qplain.specs.declared.entry.Entry.{Entry}
 use Rattle.qplain.specs.declared.receipt.Receipt.{Receipt}
 use Rattle.qplain.specs.Journal.{entries_of}
-use Rattle.qrun_replay.specs.declared.answered.Answered.{Answered}
 use Rattle.qrun_replay.specs.Placed.{answer_at, answer_in, HoldsPlace, HoldsPlaces, transcript_from}
 use Rattle.qrun_replay.specs.Replays.{answer_of, answered_in, transcript_in}
 
@@ -33,8 +32,8 @@ own_stand journal worker =
     All-filter (λ (e : ℕ × Entry). e.1.worker == worker) (Stands journal) (enumerate_from 1 journal)
     (All-weaker (StandsFrom 1 journal) (Stands journal)
     (λ x at.
-      let place : at.0 ≡ x.0 - 1 = omega (arith, at.1) in
-      (omega (arith, at.1), subst (λ k. slice_get journal k ≡ Some x.1) place at.2))
+    let place : at.0 ≡ x.0 - 1 = omega (arith, at.1) in
+    (omega (arith, at.1), subst (λ k. slice_get journal k ≡ Some x.1) place at.2))
     (enumerate_from 1 journal) (each_numbered 1 journal))
 
 -- where an entry stands there is one

@@ -1,16 +1,15 @@
 -- One more line of a worker's script.
-use Rattle.std.proofs.Common.{◌≡◌, ◌↔◌, ℕ, zero, suc, ◌+◌, ◌<◌, ◌≤◌, List, [], ◌∷◌, ◌++◌, length, map, All, get_or, slice_get, Some, Result, Ok, Err, IfOk, IfErr, OnErr, refl, sym, ap, subst, append-nil, ◌∙◌, arith, le_trans}
+use Rattle.std.proofs.Common.{◌≡◌, ◌↔◌, ℕ, zero, suc, ◌+◌, ◌<◌, ◌≤◌, List, [], ◌∷◌, ◌++◌, length, map, get_or, slice_get, Some, Result, Ok, Err, IfOk, IfErr, OnErr, refl, sym, ap, subst, append-nil, ◌∙◌, arith, le_trans}
 use Rattle.std.proofs.lemmas.List.{length-append, length-map, map_push, nil_from_length}
 use Rattle.std.proofs.lemmas.Option.{slice_get-get_or}
-use Rattle.std.proofs.lemmas.List.Elements.{All-head, All-nil, All-push, All-tail}
+use Rattle.std.proofs.lemmas.List.Elements.{All-nil, All-push}
 use mathlib.Core.List.{IsPrefix}
 use Rattle.qplain.specs.declared.call_fault.CallFault.{CallFault}
 use Rattle.qplain.specs.declared.call_fault.CallFault.TheVariants.{JournalFull, OutOfMemory}
 use Rattle.qplain.specs.declared.entry.Entry.{Entry}
 use Rattle.qplain.specs.declared.line.Line.{Line}
 use Rattle.qplain.specs.declared.receipt.Receipt.{Receipt}
-use Rattle.qplain.specs.declared.tallies.Tallies.{Tallies}
-use Rattle.qplain.specs.Journal.{change_of, counted, entries_of, entry_of, no_tally}
+use Rattle.qplain.specs.Journal.{entries_of, entry_of, no_tally}
 use Rattle.qplain.specs.Transcripts.{journaled_line, journaled_lines}
 use Rattle.qplain.specs.declared.bounds.TheConstants.{MAX_ENTRIES}
 use Rattle.qshare_history.proofs.Prefixes.{prefix_length}

@@ -8,7 +8,9 @@ ghost use Rattle.qtext_json.specs.Replies.{answer_members};
 use qplain::{Call, CallFault, Line};
 use qrun_replay::{PlacedReply, PlacedTranscript};
 use qtext::RefusedWrite;
-use qtext_json::{Part, Value, put_call, put_caller_members, put_failed, put_fill, put_parts, put_receipt};
+use qtext_json::{
+    Part, Value, put_call, put_caller_members, put_failed, put_fill, put_parts, put_receipt,
+};
 use qtext_outcome::repeated;
 use std::io::Write;
 

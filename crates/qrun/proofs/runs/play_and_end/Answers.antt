@@ -1,11 +1,11 @@
-use Rattle.std.proofs.Common.{◌≡◌, ◌++◌, true, false, All, IfOk, ◌<◌, ◌≤◌, length, sum_by, ap, subst, sym, ◌∙◌}
+use Rattle.std.proofs.Common.{◌≡◌, ◌++◌, true, false, All, IfOk, length, sum_by, ap, subst, sym, ◌∙◌}
 use mathlib.Core.List.{IsPrefix}
 use Rattle.qshare_history.specs.Shares.{AreThere, HandedIn}
 use Rattle.qplain.specs.State.{start}
 use Rattle.qaudit_checks.specs.LawfulBoards.{AreLawful, boards_in}
 use Rattle.qrun_replay.specs.Runs.{IsServiceOf}
 use Rattle.qrun.specs.Told.{AreShort}
-use Rattle.qrun.specs.Watching.{IsWatchOf, seats_for, shares_in, watcher_for}
+use Rattle.qrun.specs.Watching.{seats_for, shares_in}
 use Rattle.qrun.proofs.NeverFull.{never_full}
 use Rattle.qrun.proofs.Placing.{all_placed}
 use Rattle.qrun.proofs.Running.{is_run, played_of}

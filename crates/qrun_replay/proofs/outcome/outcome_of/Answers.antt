@@ -1,10 +1,8 @@
-use Rattle.std.proofs.Common.{◌≡◌, List, All, ap, map, refl, subst, sym, ◌∙◌}
-use Rattle.qplain.specs.declared.entry.Entry.{Entry}
+use Rattle.std.proofs.Common.{◌≡◌, ap, map, refl, sym, ◌∙◌}
 use Rattle.qplain.specs.State.{State}
-use Rattle.qplain.specs.Journals.{Written}
 use Rattle.qstore.specs.Rows.{record_row_of}
 use Rattle.qaudit_checks.specs.OwnRows.{differences_in}
-use Rattle.qrun_replay.specs.Placed.{HoldsPlaces, transcript_from}
+use Rattle.qrun_replay.specs.Placed.{transcript_from}
 use Rattle.qrun_replay.proofs.Coming.{journal_left}
 use Rattle.qrun_replay.proofs.outcome.outcome_of.Goals as goal
 

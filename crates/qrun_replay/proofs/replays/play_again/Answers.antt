@@ -1,8 +1,6 @@
-use Rattle.std.proofs.Common.{All, map, subst, sym}
 use Rattle.std.specs.List.{range_with_len}
 use Rattle.qrun_replay.proofs.Coming.{again}
 use Rattle.qrun_replay.proofs.Placing.{all_places, transcripts_seen}
-use Rattle.qrun_replay.specs.Placed.{HoldsPlaces}
 use Rattle.qrun_replay.proofs.replays.play_again.Goals as goal
 
 pub outcome_of-requires-clause-of_edition : goal.outcome_of-requires-clause-of_edition

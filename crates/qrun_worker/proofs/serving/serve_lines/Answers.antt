@@ -1,4 +1,4 @@
-use Rattle.std.proofs.Common.{◌∷◌, ◌++◌, [], length, arith, refl, sym, ap, subst, length-append, ◌∙◌}
+use Rattle.std.proofs.Common.{◌∷◌, [], length, arith, refl, sym, ap, subst, length-append, ◌∙◌}
 use Rattle.qrun_worker.proofs.Clients.{one_line_more}
 use Rattle.qrun_worker.proofs.Working.{none_answered_yet, one_more_called}
 use Rattle.qrun_worker.specs.Work.{AreAnswers}
