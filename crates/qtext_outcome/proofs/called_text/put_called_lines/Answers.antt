@@ -9,7 +9,8 @@ loop-at-preserved g c =
     let told = c.args.transcript.now in
     partly_next _ _ _ _ _ _ _ c.loop-at.invariant c.in_ok-put_called.ensures
     (called_next (at + 1) at told.lines told.answers c.index-lines-at.result c.answer-answer.result
-    (rw c.lines-lines.ensures at c.index-lines-at.is) (c.answer-answer.ensures c.answer-answer.result) (omega (arith, ap length c.lines-lines.ensures)) (omega (arith, c.len.ensures)))
+    (rw c.lines-lines.ensures at c.index-lines-at.is) (c.answer-answer.ensures c.answer-answer.result)
+    (omega (arith, ap length c.lines-lines.ensures)) (omega (arith, c.len.ensures)))
 
 pub returns-in_err-put_called : goal.returns-in_err-put_called
 returns-in_err-put_called g c =
@@ -17,9 +18,12 @@ returns-in_err-put_called g c =
     let told = c.args.transcript.now in
     ends_refused _ _ _ _ _ _ _ _ c.from_residual.ensures.0 c.loop-at.invariant c.in_err-put_called.ensures
     (called_next (at + 1) at told.lines told.answers c.index-lines-at.result c.answer-answer.result
-    (rw c.lines-lines.ensures at c.index-lines-at.is) (c.answer-answer.ensures c.answer-answer.result) (omega (arith, ap length c.lines-lines.ensures)) (omega (arith, c.len.ensures)))
+    (rw c.lines-lines.ensures at c.index-lines-at.is) (c.answer-answer.ensures c.answer-answer.result)
+    (omega (arith, ap length c.lines-lines.ensures)) (omega (arith, c.len.ensures)))
 
 pub returns : goal.returns
 returns g c =
     let told = c.args.transcript.now in
-    partly_done _ _ _ (rw (over (c.loop-at.at + 1) c.loop-at.at told.lines told.answers (omega (arith, c.len.ensures, ap length c.lines-lines.ensures))) at c.loop-at.invariant)
+    partly_done _ _ _
+    (rw (over (c.loop-at.at + 1) c.loop-at.at told.lines told.answers (omega (arith, c.len.ensures, ap length c.lines-lines.ensures)))
+    at c.loop-at.invariant)
