@@ -1,8 +1,8 @@
 -- What workers have done for their clients, by their places, and told as transcripts.
-use Rattle.std.proofs.Common.{◌≡◌, ℕ, zero, suc, ◌+◌, ◌<◌, ◌≤◌, ◌==◌, if◌then◌else◌, Bool, true, false, List, [], ◌∷◌, ◌++◌, length, map, sum_by, slice_index_or, All, Option, None, Some, IfSome, Result, refl, sym, ap, subst, ◌∙◌, arith}
+use Rattle.std.proofs.Common.{◌≡◌, ℕ, suc, ◌+◌, ◌<◌, ◌≤◌, ◌==◌, if◌then◌else◌, Bool, true, false, List, [], ◌∷◌, ◌++◌, length, map, sum_by, slice_index_or, All, Option, None, Some, IfSome, Result, refl, sym, ap, subst, ◌∙◌, arith}
 use Rattle.std.proofs.lemmas.List.{get_or-map, length-map, nil_from_length}
 use Rattle.std.proofs.lemmas.List.Sums.{sum_by-append}
-use mathlib.Core.List.{IsPrefix}
+use mathlib.Core.List.{IsPrefix, map-map}
 use Rattle.qplain.specs.declared.bounds.TheConstants.{MAX_ENTRIES}
 use Rattle.qplain.specs.declared.board.Board.{Board}
 use Rattle.qplain.specs.declared.entry.Entry.{Entry}
@@ -16,13 +16,16 @@ use Rattle.qaudit_checks.specs.LawfulBoards.{AreLawful, boards_in}
 use Rattle.qshare_history.specs.Shares.{AreThere, HandedIn}
 use Rattle.qshare.specs.Seats.{Seated, new_seat}
 use Rattle.qrun_replay.specs.declared.outcome.Outcome.{Outcome}
+use Rattle.qrun_replay.specs.declared.answered.Answered.{Answered}
+use Rattle.qrun_replay.specs.Placed.{transcript_from}
 use Rattle.qrun_replay.specs.Runs.{lines_of}
 use Rattle.qrun_worker.specs.Work.{Attending, IsServed, Serving}
 use Rattle.qrun.specs.Serving.{AreServed, CanServe, HasSeatIn, IsOfClients, IsStaff}
-use Rattle.qrun.specs.Told.{AreAllTold, AreTold, AreToldFrom}
+use Rattle.qrun.specs.Told.{AreAllPlaced, AreAllTold, AreTold, AreToldFrom, placed_of}
 use Rattle.qrun.specs.Watching.{IsWatchOf, Watched, looks_in, seats_for, shares_in, watcher_for}
 use Rattle.qrun.proofs.Attending.{clients_in}
 use Rattle.qrun.proofs.Naming.{scripts_fit, watcher_fits}
+use Rattle.qrun.proofs.Placing.{all_placed}
 use Rattle.qrun.proofs.Told.{all_there, all_told}
 use Rattle.qrun.proofs.Watched.{all_behind, all_front, idle_by, lawful_by, there_by}
 
@@ -189,15 +192,27 @@ module _ (setting : Setting) (seats : ℕ) (scripts : List (Option (List Line)))
     abbrev Seen : HandedIn → Type 0
     Seen s = IsPrefix s.seen journal
 
+    own_seen : All Seen own
+    own_seen = all_front Seen own (shares_in watch) (subst (All Seen) at.parts seen)
+
     -- the workers have told of this journal, each of whose entries was counted
-    pub all_served_told : sum_by (λ s. s.tally.calls) shares ≡ length journal → length journal ≤ MAX_ENTRIES → AreAllTold journal ts
+    all_served_told : sum_by (λ s. s.tally.calls) shares ≡ length journal → length journal ≤ MAX_ENTRIES → AreAllTold journal ts
     all_served_told counted few =
         let calls : HandedIn → ℕ = λ s. s.tally.calls in
         let fits = scripts_fit clients at.monitors in
         let idle = idle_by S clients 0 watch (at.monitors == 0) at.looked in
         all_told (lines_of ts) own ts journal (omega (arith, many, at.can.some), omega (arith, many, at.can.few, fits)) told
-        (all_front Seen own (shares_in watch) (subst (All Seen) at.parts seen))
+        own_seen
         (omega (arith, counted, ap (sum_by calls) at.parts, sum_by-append calls own (shares_in watch), idle)) few
+
+    -- and so they have by the places of their answers
+    pub served_placed : (answered : List Answered) → answered ≡ map (λ s. placed_of s.transcript) all
+        → sum_by (λ s. s.tally.calls) shares ≡ length journal → length journal ≤ MAX_ENTRIES
+        → AreAllPlaced journal answered × (map (transcript_from journal) answered ≡ ts)
+    served_placed answered is counted few =
+        let placed : answered ≡ map placed_of ts =
+        is ∙ sym (map-map placed_of (λ (s : Serving). s.transcript) all) ∙ ap (map placed_of) (sym at.ts_are) in
+        all_placed (lines_of ts) own answered ts journal placed told own_seen (all_served_told counted few)
 
     -- and no board was looked at that is not the journal's
     pub shown_lawful : (looks : List (Result Board LookFault)) → looks ≡ looks_in watch → AreLawful S journal (boards_in looks)

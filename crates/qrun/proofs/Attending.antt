@@ -1,5 +1,5 @@
 -- Workers that are ready to serve, by their places.
-use Rattle.std.proofs.Common.{◌≡◌, ℕ, ◌+◌, ◌<◌, List, [], ◌∷◌, ◌++◌, length, map, slice_index_or, below_more, refl, sym, ap, ◌∙◌, append-nil, append_assoc, length-append, arith}
+use Rattle.std.proofs.Common.{◌≡◌, ◌+◌, ◌<◌, List, [], ◌∷◌, ◌++◌, length, map, slice_index_or, below_more, refl, sym, ap, ◌∙◌, append-nil, append_assoc, length-append, arith}
 use Rattle.std.proofs.lemmas.List.{get_or_append_left, get_or_at, get_or_push, map-append, nil_from_length}
 use Rattle.qrun.specs.Serving.{AreNumbered}
 use Rattle.qrun_worker.specs.Work.{Attending}

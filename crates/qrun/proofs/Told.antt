@@ -4,11 +4,9 @@ use Rattle.std.proofs.lemmas.List.Elements.{All-cons, All-contains, All-head, Al
 use Rattle.std.specs.List.{list_any, AllByRecursion, IsDistinct}
 use mathlib.Core.List.{IsPrefix}
 use Rattle.qplain.specs.declared.board.Board.{Board}
-use Rattle.qplain.specs.declared.call_fault.CallFault.{CallFault}
 use Rattle.qplain.specs.declared.entry.Entry.{Entry}
 use Rattle.qplain.specs.declared.line.Line.{Line}
 use Rattle.qplain.specs.declared.look_fault.LookFault.{LookFault}
-use Rattle.qplain.specs.declared.receipt.Receipt.{Receipt}
 use Rattle.qplain.specs.declared.transcript.Transcript.{Transcript}
 use Rattle.qplain.specs.Journal.{entries_of}
 use Rattle.qplain.specs.Transcripts.{Belongs, journaled_lines}
@@ -18,7 +16,6 @@ use Rattle.qrun_replay.specs.Runs.{AreTranscriptsOf, FailsOnlyAtFull, IsLeftByWo
 use Rattle.qplain.specs.Setups.{Setting}
 use Rattle.qplain.specs.State.{start}
 use Rattle.qaudit_checks.specs.LawfulBoards.{AreLawful, boards_in}
-use Rattle.qaudit_checks.specs.Gathered.{IsGathered}
 use Rattle.qrun_replay.specs.declared.outcome.Outcome.{Outcome}
 use Rattle.qrun_replay.specs.Left.{IsLeftOf, IsOneOf}
 use Rattle.qrun_replay.proofs.Coming.{left_by_workers}

@@ -1,5 +1,5 @@
 -- Shares with that of the watcher after them, and what its looks were given: lawful boards, whose history grows.
-use Rattle.std.proofs.Common.{◌≡◌, ℕ, ◌+◌, ◌<◌, ◌≤◌, ◌==◌, ◌||◌, if◌then◌else◌, Bool, true, false, List, [], ◌∷◌, ◌++◌, length, take, sum_by, All, Option, Some, None, Result, Ok, Err, IfOk, refl, sym, ap, subst, ◌∙◌, append-nil, length-append, le_trans, arith, tests}
+use Rattle.std.proofs.Common.{◌≡◌, ℕ, ◌+◌, ◌<◌, ◌≤◌, ◌==◌, ◌||◌, if◌then◌else◌, Bool, true, false, List, [], ◌∷◌, ◌++◌, length, take, sum_by, All, Option, Some, None, Result, Ok, Err, refl, sym, ap, subst, ◌∙◌, append-nil, length-append, le_trans, arith, tests}
 use Rattle.std.proofs.Math.Bool.{or-true}
 use Rattle.std.proofs.Math.Seq.{take-length}
 use Rattle.std.proofs.lemmas.List.{get_or_append_left, take-append-le}
@@ -17,7 +17,6 @@ use Rattle.qshare_history.specs.Shares.{AreThere, HandedIn}
 use Rattle.qshare_history.proofs.Prefixes.{prefix_length}
 use Rattle.qaudit_checks.specs.LawfulBoards.{AreLawful, IsBoardOf, NeverFall, boards_in}
 use Rattle.qaudit_checks.proofs.SeenBoards.{boards_in-append}
-use Rattle.qrun_replay.specs.declared.outcome.Outcome.{Outcome}
 use Rattle.qshare_boards.specs.Looks.{IsBoardAnswer}
 use Rattle.qshare.specs.Seats.{Seated, new_seat}
 use Rattle.qrun.specs.Watching.{IsWatchOf, Watched, looks_in, seats_for, shares_in, watcher_for}

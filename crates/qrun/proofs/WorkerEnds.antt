@@ -1,5 +1,5 @@
 -- Ends of workers, and the faults that name them.
-use Rattle.std.proofs.Common.{◌≡◌, ◌≤◌, ℕ, [], ◌∷◌, ◌++◌, List, length, slice_index_or, refl, sym, subst, ◌∙◌, length-append, arith}
+use Rattle.std.proofs.Common.{◌≡◌, ◌≤◌, ℕ, [], ◌∷◌, ◌++◌, List, length, refl, sym, subst, ◌∙◌, length-append, arith}
 use Rattle.std.proofs.lemmas.List.{get_or_push}
 use Rattle.qrun.specs.declared.run_fault.RunFault.{RunFault}
 use Rattle.qrun.specs.declared.run_fault.RunFault.TheVariants.{Memory, Mismatch, NoReader, NotStarted as TellsNotStarted}

@@ -12,7 +12,7 @@ use Rattle.qrun.specs.declared.options.Options.{Options}
 use Rattle.qrun.specs.declared.run_fault.RunFault.{RunFault}
 use Rattle.qrun.specs.RunFaults.{IsFaultOf}
 use Rattle.qrun.specs.Watching.{IsWatchOf, Watched, seats_for, watcher_for}
-use Rattle.qrun_worker.specs.Work.{ArePrepared, AreWorks, Done, Prepared}
+use Rattle.qrun_worker.specs.Work.{ArePrepared, AreWorks, Placed, Prepared}
 
 -- a new seat for each of N scripts, and the next for who looks at the boards, where somebody does; and for how
 -- many lines at a time the lock is taken
@@ -31,7 +31,7 @@ pub record AreReady (scripts : List (List Line)) (boards : ℕ) (workers : List 
 
 -- what each worker has done, and who looks
 pub record Performed : Type 0 where
-  pub works : List Done
+  pub works : List Placed
   pub watch : Option Watched
 
 -- each script was played by its worker, and the boards were looked at N times; or one of so many threads was not

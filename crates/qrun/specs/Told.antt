@@ -1,5 +1,5 @@
 -- What workers have done, told as transcripts. No public clause cites this module.
-use Rattle.std.specs.Prelude.{◌≡◌, ℕ, ◌+◌, ◌<◌, ◌≤◌, List, [], ◌∷◌, length, sum_by, All}
+use Rattle.std.specs.Prelude.{◌≡◌, ℕ, ◌+◌, ◌<◌, ◌≤◌, List, [], ◌∷◌, length, map, sum_by, All}
 use mathlib.Core.List.{IsPrefix}
 use Rattle.qplain.specs.declared.bounds.TheConstants.{MAX_ENTRIES, MAX_LINES}
 use Rattle.qplain.specs.declared.entry.Entry.{Entry}
@@ -8,8 +8,10 @@ use Rattle.qplain.specs.declared.transcript.Transcript.{Transcript}
 use Rattle.qshare_history.specs.Shares.{HandedIn}
 use Rattle.qaudit_checks.specs.Gathered.{IsGathered}
 use Rattle.qshare.specs.declared.opening.TheConstants.{MAX_SEATS}
+use Rattle.qrun_replay.specs.declared.answered.Answered.{Answered}
+use Rattle.qrun_replay.specs.Placed.{HoldsPlaces, transcript_from}
 use Rattle.qrun_replay.specs.Runs.{lines_of}
-use Rattle.qrun_worker.specs.Work.{IsWork}
+use Rattle.qrun_worker.specs.Work.{IsWork, place_of}
 
 -- a worker's transcript: its lines, and the answers that its share stands beside
 pub record IsTold (worker : ℕ) (lines : List Line) (share : HandedIn) (t : Transcript) : Type 0 where
@@ -49,3 +51,20 @@ pub record AreAllTold (journal : List Entry) (ts : List Transcript) : Type 0 whe
   pub told : AreToldOf journal ts
   pub few : length journal ≤ MAX_ENTRIES
   pub gathered : IsGathered journal ts
+
+-- ---- by their places
+
+-- a transcript, where its replies stand in the journal alone
+abbrev pub placed_of : Transcript → Answered
+placed_of t = record { worker = t.worker; lines = t.lines; places = map place_of t.answers }
+
+-- so these are the transcripts of all workers
+pub record ArePlaced (scripts : List (List Line)) (shares : List HandedIn) (all : List Answered) : Type 0 where
+  pub ts : List Transcript
+  pub placed : all ≡ map placed_of ts
+  pub told : AreTold scripts shares ts
+
+-- the journal has what stands at these places, and the transcripts tell of all its entries
+pub record AreAllPlaced (journal : List Entry) (all : List Answered) : Type 0 where
+  pub places : All (HoldsPlaces journal) all
+  pub told : AreAllTold journal (map (transcript_from journal) all)

@@ -1,18 +1,18 @@
 //! The outcome of a run or a service whose threads have done their work.
-ghost use Rattle.std.specs.Prelude.{◌≡◌, IfErr, IfOk};
+ghost use Rattle.std.specs.Prelude.{◌≡◌, map, IfErr, IfOk};
 ghost use Rattle.qplain.specs.declared.edition.Edition.TheVariants.{Two};
 ghost use Rattle.qplain.specs.State.{start};
 ghost use Rattle.qaudit_checks.specs.LawfulBoards.{AreLawful, boards_in};
+ghost use Rattle.qrun_replay.specs.Placed.{transcript_from};
 ghost use Rattle.qrun_replay.specs.Runs.{IsServiceOf};
 ghost use Rattle.qrun.specs.RunFaults.{IsFaultOf};
-ghost use Rattle.qrun.specs.Told.{AreAllTold};
+ghost use Rattle.qrun.specs.Told.{AreAllPlaced};
 
 use crate::run_fault::RunFault;
 use crate::watcher::Look;
 use qaudit_checks::{BoardFault, check_looks};
-use qplain::Transcript;
 use qrules::Items;
-use qrun_replay::{Outcome, outcome_of};
+use qrun_replay::{Answered, Outcome, outcome_of};
 use qshare::JournaledStore;
 use std::alloc::Global;
 
@@ -37,29 +37,24 @@ fn check_own(
     }
 }
 
-/// Checks the looks against the journal, and makes the outcome with these transcripts.
+/// Checks the looks against the journal, and makes the outcome of those who were answered so.
 pub(crate) fn make_outcome(
     alloc: Global,
     store: JournaledStore,
-    transcripts: Vec<Transcript>,
+    answered: Vec<Answered>,
     looks: Vec<Look>,
     seed: u64,
 ) -> Result<Outcome, RunFault>
     requires edition { store.setting.edition ≡ Two }
-    requires told { AreAllTold store.journal transcripts.items }
+    requires told { AreAllPlaced store.journal answered.items }
     requires lawful { AreLawful (start store.setting) store.journal (boards_in looks.items) }
     ensures outcome { IfOk result (IsServiceOf store.setting) }
-    ensures told { IfOk result (λ o. (o.transcripts ≡ transcripts.items) × (o.boards ≡ looks.items)) }
+    ensures told { IfOk result (λ o. (o.transcripts ≡ map (transcript_from store.journal) answered.items)
+        × (o.boards ≡ looks.items)) }
     ensures fault { IfErr result (IsFaultOf 0) }
 {
     check_own(alloc, &store, &looks, seed)?;
-    let workers = transcripts.len() as u64;
-    let outcome = outcome_of(
-        alloc,
-        store,
-        workers,
-        Items::new(transcripts),
-        Items::new(looks),
-    )?;
+    let workers = answered.len() as u64;
+    let outcome = outcome_of(alloc, store, workers, answered, Items::new(looks))?;
     Ok(outcome)
 }

@@ -62,10 +62,10 @@ where
     let Played { works, watch } = play_all(
         rt, alloc, &shared, gate, options, seats, watcher, &scripts,
     )?;
-    let (own, transcripts) = tell_all(alloc, scripts, works)?;
+    let (own, answered) = tell_all(alloc, scripts, works)?;
     let (shares, looks) = hand_in(alloc, own, watch)?;
     match shared.end(rt, shares) {
-        Ok(store) => make_outcome(alloc, store, transcripts, looks, seed),
+        Ok(store) => make_outcome(alloc, store, answered, looks, seed),
         Err(_) => unreachable!(),
     }
 }

@@ -56,11 +56,11 @@ where
     let showing = showing_of(rt, alloc, &shared, observer, ended);
     let attendants = attendants_of(alloc, rt, &shared, seats, clients)?;
     let (served, watch) = attend_all(rt, alloc, attendants, showing, ended)?;
-    let (own, transcripts, ends) = part_served(alloc, served)?;
+    let (own, answered, ends) = part_served(alloc, served)?;
     let (shares, looks) = hand_in(alloc, own, watch)?;
     match shared.end(rt, shares) {
         Ok(store) => {
-            let outcome = make_outcome(alloc, store, transcripts, looks, seed)?;
+            let outcome = make_outcome(alloc, store, answered, looks, seed)?;
             Ok(Service { outcome, ends })
         }
         Err(_) => unreachable!(),

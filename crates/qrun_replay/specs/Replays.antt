@@ -13,6 +13,7 @@ use Rattle.qplain.specs.Journal.{IsLegal, entries_of, play, played, tally_of}
 use Rattle.qstore.specs.Rows.{record_row_of}
 use Rattle.qaudit_checks.specs.OwnRows.{differences_in}
 use Rattle.qplain.specs.Journals.{Written}
+use Rattle.qrun_replay.specs.declared.answered.Answered.{Answered}
 use Rattle.qrun_replay.specs.declared.outcome.Outcome.{Outcome}
 use Rattle.qrun_replay.specs.declared.replay_fault.ReplayFault.{ReplayFault}
 use Rattle.qrun_replay.specs.declared.replay_fault.ReplayFault.TheVariants.{Memory, Mismatch}
@@ -20,6 +21,14 @@ use Rattle.qrun_replay.specs.declared.replay_fault.ReplayFault.TheVariants.{Memo
 -- the line of an entry
 abbrev pub line_of_entry : Entry → Line
 line_of_entry e = record { cred = e.cred; moment = e.moment; call = e.call }
+
+-- what a worker was answered: its own entries, each with its line and its place
+abbrev pub answered_in : List Entry → ℕ → Answered
+answered_in journal worker = record {
+  worker = worker;
+  lines = map (λ x. line_of_entry x.1) (entries_of journal worker);
+  places = map (λ x. Ok x.0) (entries_of journal worker);
+}
 
 -- the answer to an entry with its place
 abbrev pub answer_of : ℕ × Entry → Result Receipt CallFault

@@ -1,5 +1,6 @@
 //! Replays: journals played again on a store of their own.
-ghost use Rattle.std.specs.Prelude.{◌≡◌, ◌<◌, ◌≤◌, ◌++◌, ◌∷◌, [], ℕ, List, Err, IfOk, OnOk, length};
+ghost use Rattle.std.specs.Prelude.{◌≡◌, ◌<◌, ◌≤◌, ◌++◌, ◌∷◌, [], ℕ, List, Err, IfOk, OnOk, length, map};
+ghost use Rattle.std.specs.List.{range_with_len};
 ghost use Rattle.std.specs.Bool.{Decides};
 ghost use Rattle.qplain.specs.declared.bounds.TheConstants.{MAX_ENTRIES};
 ghost use Rattle.qplain.specs.declared.line.Line.{Line};
@@ -8,12 +9,12 @@ ghost use Rattle.qplain.specs.State.{start};
 ghost use Rattle.qrun_replay.specs.declared.outcome.Outcome.{Outcome};
 ghost use Rattle.qrun_replay.specs.declared.replay_fault.ReplayFault.TheVariants.{Mismatch};
 ghost use Rattle.qrun_replay.specs.Runs.{IsLeftByWorkers};
-ghost use Rattle.qrun_replay.specs.Replays.{GivesBack, IsFirstMismatch, IsMismatchAfter, IsReplayOf, line_of_entry};
-ghost use Rattle.qrun_replay.specs.Replays.{transcript_in, transcripts_in};
+ghost use Rattle.qrun_replay.specs.Replays.{GivesBack, IsFirstMismatch, IsMismatchAfter, IsReplayOf, answered_in};
+ghost use Rattle.qrun_replay.specs.Replays.{line_of_entry};
 
 use crate::outcome::outcome_of;
-use crate::{Outcome, ReplayFault};
-use qplain::{Entry, Journal, Line, NoMemory, Receipt, Reply, Setup, Transcript};
+use crate::{Answered, Outcome, ReplayFault};
+use qplain::{Entry, Journal, Line, NoMemory, Reply, Setup};
 use qrules::Items;
 use qstore_journaled::JournaledStore;
 use std::alloc::Global;
@@ -72,40 +73,40 @@ fn line_of_entry(entry: &Entry) -> Result<Line, NoMemory>
     })
 }
 
-/// The transcript of a worker: its own entries, of which nothing is copied, and no others.
-fn transcript_of(alloc: Global, worker: u64, entries: &[Entry]) -> Result<Transcript, NoMemory>
+/// What a worker was answered: its own entries, of which nothing is copied, and no others.
+fn answered_of(alloc: Global, worker: u64, entries: &[Entry]) -> Result<Answered, NoMemory>
     requires few { length entries.now ≤ MAX_ENTRIES }
-    ensures { IfOk result (λ transcript. transcript ≡ transcript_in entries.now worker) }
+    ensures { IfOk result (λ answered. answered ≡ answered_in entries.now worker) }
 {
     let mut lines = Vec::new(alloc);
-    let mut answers = Vec::new(alloc);
+    let mut places = Vec::new(alloc);
     let mut place = 0u64;
     for entry in entries {
         place += 1;
         if entry.worker == worker {
-            let reply = entry.reply.copy()?;
             lines.push(line_of_entry(entry)?)?;
-            answers.push(Ok(Receipt { place, reply }))?;
+            places.push(Ok(place))?;
         }
     }
-    Ok(Transcript {
+    Ok(Answered {
         worker,
         lines: Items::new(lines),
-        answers: Items::new(answers),
+        places: Items::new(places),
     })
 }
 
-/// The transcripts of all workers, from worker 1 on.
-fn transcripts_of(alloc: Global, journal: &Journal) -> Result<Items<Transcript>, NoMemory>
-    ensures { IfOk result (λ transcripts. transcripts ≡ transcripts_in journal.now) }
+/// What all workers were answered, from worker 1 on.
+fn all_answered(alloc: Global, journal: &Journal) -> Result<Vec<Answered>, NoMemory>
+    ensures { IfOk result (λ all. all.items
+        ≡ map (answered_in journal.now.entries) (range_with_len 1 journal.now.workers)) }
 {
     let workers = journal.workers();
     let entries = journal.entries();
-    let mut transcripts = Vec::new(alloc);
+    let mut all = Vec::new(alloc);
     for before in 0..workers {
-        transcripts.push(transcript_of(alloc, before + 1, entries)?)?;
+        all.push(answered_of(alloc, before + 1, entries)?)?;
     }
-    Ok(Items::new(transcripts))
+    Ok(all)
 }
 
 /// Plays a journal again on a new store of the setup, which is of its edition.
@@ -122,9 +123,9 @@ fn play_again(
 {
     let mut store = JournaledStore::new(alloc, setup, seed)?;
     replay_all(&mut store, journal.entries())?;
-    let transcripts = transcripts_of(alloc, journal)?;
+    let answered = all_answered(alloc, journal)?;
     let no_boards = Items::new(Vec::new(alloc));
-    Ok(outcome_of(alloc, store, journal.workers(), transcripts, no_boards)?)
+    Ok(outcome_of(alloc, store, journal.workers(), answered, no_boards)?)
 }
 
 /// Plays a journal again on a new store of the setup in the journal's edition, one entry after the other, whoever's

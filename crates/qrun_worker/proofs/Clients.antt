@@ -1,6 +1,5 @@
 -- One more line of a client, which is not answered yet, and then its answer.
-use Rattle.std.proofs.Common.{◌≡◌, ℕ, suc, ◌+◌, ◌<◌, ◌≤◌, List, [], ◌∷◌, ◌++◌, length, slice_get, get_or, take, add-one, Some, Result, refl, sym, ap, subst, ◌∙◌, length-append, arith}
-use Rattle.std.proofs.Math.Seq.{take-suc}
+use Rattle.std.proofs.Common.{◌≡◌, ℕ, ◌≤◌, List, [], ◌∷◌, ◌++◌, length, Result, refl, sym, ap, subst, ◌∙◌, length-append, arith}
 use Rattle.qplain.specs.declared.call_fault.CallFault.{CallFault}
 use Rattle.qplain.specs.declared.entry.Entry.{Entry}
 use Rattle.qplain.specs.declared.line.Line.{Line}
@@ -33,10 +32,3 @@ one_line_more worker lines after line seen calls answers is so_far =
       own = subst (λ told. IsSubsequence told (entries_of seen worker)) (sym same) so_far.own;
       counted = so_far.counted ∙ ap length (sym same);
     })
-
--- one line more of a script
-pub takes_one : (lines : List Line) (at next : ℕ) → at < length lines → next ≡ at + 1
-    → (line : Line) × (take next lines ≡ take at lines ++ line ∷ [])
-takes_one [] at next less is = absurd (omega (arith, less))
-takes_one (l ∷ ls) at next less is =
-    (get_or (l ∷ ls) at l, ap (λ k. take k (l ∷ ls)) (is ∙ add-one at) ∙ take-suc (l ∷ ls) at l less)

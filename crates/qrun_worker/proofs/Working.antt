@@ -1,24 +1,24 @@
 -- One more line of a worker's script.
-use Rattle.std.proofs.Common.{◌≡◌, ◌↔◌, ℕ, zero, suc, ◌+◌, ◌<◌, ◌≤◌, List, [], ◌∷◌, ◌++◌, length, All, get_or, slice_get, Some, Result, Ok, Err, IfOk, IfErr, OnErr, refl, sym, ap, subst, append-nil, ◌∙◌, arith, le_trans}
-use Rattle.std.proofs.lemmas.List.{length-append, nil_from_length}
+use Rattle.std.proofs.Common.{◌≡◌, ◌↔◌, ℕ, zero, suc, ◌+◌, ◌<◌, ◌≤◌, List, [], ◌∷◌, ◌++◌, length, map, get_or, slice_get, Some, Result, Ok, Err, IfOk, IfErr, OnErr, refl, sym, ap, subst, append-nil, ◌∙◌, arith, le_trans}
+use Rattle.std.proofs.lemmas.List.{length-append, length-map, map_push, nil_from_length}
 use Rattle.std.proofs.lemmas.Option.{slice_get-get_or}
-use Rattle.std.proofs.lemmas.List.Elements.{All-head, All-nil, All-push, All-tail}
+use Rattle.std.proofs.lemmas.List.Elements.{All-nil, All-push}
 use mathlib.Core.List.{IsPrefix}
 use Rattle.qplain.specs.declared.call_fault.CallFault.{CallFault}
 use Rattle.qplain.specs.declared.call_fault.CallFault.TheVariants.{JournalFull, OutOfMemory}
 use Rattle.qplain.specs.declared.entry.Entry.{Entry}
 use Rattle.qplain.specs.declared.line.Line.{Line}
 use Rattle.qplain.specs.declared.receipt.Receipt.{Receipt}
-use Rattle.qplain.specs.declared.tallies.Tallies.{Tallies}
-use Rattle.qplain.specs.Journal.{change_of, counted, entries_of, entry_of, no_tally}
+use Rattle.qplain.specs.Journal.{entries_of, entry_of, no_tally}
 use Rattle.qplain.specs.Transcripts.{journaled_line, journaled_lines}
 use Rattle.qplain.specs.declared.bounds.TheConstants.{MAX_ENTRIES}
 use Rattle.qshare_history.proofs.Prefixes.{prefix_length}
 use Rattle.qplain.specs.Setups.{Setting}
+use Rattle.qshare_history.specs.Shares.{HandedIn}
 use Rattle.qshare.specs.Calls.{IsAt, IsCalled, IsHeldCall, StaysHeld}
 use Rattle.qshare.specs.Holds.{Holding}
 use Rattle.qshare.specs.Seats.{HasSeenOn, Seated}
-use Rattle.qrun_worker.specs.Work.{AreAnswers, HasAnswers, HasSeenFull, IsSubsequence}
+use Rattle.qrun_worker.specs.Work.{AreAnswers, ArePlaces, HasAnswers, HasPlaces, HasSeenFull, IsPlaced, IsSubsequence, place_of}
 use Rattle.qrun_worker.proofs.Owning.{none_answered, one_more_answered, own_grown, own_told}
 use Rattle.qrun_worker.proofs.Subsequences.{none_among}
 
@@ -161,3 +161,81 @@ seen_more worker lines calls old new answers so_far more = record {
   own = own_grown worker old new (journaled_lines worker lines answers) more so_far.own;
   counted = so_far.counted;
 }
+
+-- so it has who sees more of where answers stand
+pub placed_more : (worker : ℕ) (lines : List Line) (calls : ℕ) (old new : List Entry) (places : List (Result ℕ CallFault))
+    → ArePlaces worker lines old calls places → IsPrefix old new → ArePlaces worker lines new calls places
+placed_more worker lines calls old new places so_far more = record {
+  answers = so_far.answers;
+  placed = so_far.placed;
+  are = seen_more worker lines calls old new so_far.answers so_far.are more;
+}
+
+-- a new seat has no answer that stands anywhere
+pub none_placed_yet : (lines : List Line) (seat : Seated) (places : List (Result ℕ CallFault)) → seat.tally ≡ no_tally
+    → length places ≡ 0 → HasPlaces lines seat places
+none_placed_yet lines seat places new none = record {
+  answers = [];
+  placed = nil_from_length places none;
+  are = none_answered_yet lines seat [] new refl;
+}
+
+-- there are as many answers as places
+as_many : (worker : ℕ) (lines : List Line) (seen : List Entry) (calls : ℕ) (places : List (Result ℕ CallFault))
+    (are : ArePlaces worker lines seen calls places) → length places ≡ length are.answers
+as_many worker lines seen calls places are = ap length are.placed ∙ length-map are.answers place_of
+
+-- one more of them
+one_more_place : (places after : List (Result ℕ CallFault)) (answers : List (Result Receipt CallFault)) (answer : Result Receipt CallFault)
+    (place : Result ℕ CallFault) → places ≡ map place_of answers → place ≡ place_of answer → after ≡ places ++ place ∷ []
+    → after ≡ map place_of (answers ++ answer ∷ [])
+one_more_place places after answers answer place so_far same is =
+    is ∙ ap (λ ps. ps ++ place ∷ []) so_far ∙ ap (λ p. map place_of answers ++ p ∷ []) same ∙ sym (map_push place_of answers answer)
+
+-- where one more answer stands, to a call that waits for the lock
+pub one_more_called_place : (setting : Setting) (lines : List Line) (old new : Seated) (places after : List (Result ℕ CallFault))
+    (line : Line) (answer : Result Receipt CallFault) (place : Result ℕ CallFault) → HasPlaces lines old places
+    → slice_get lines (length places) ≡ Some line → HasSeenOn setting old new → IfOk answer (IsCalled line old new)
+    → OnErr answer (new.tally ≡ old.tally) → IfErr answer (λ f. (f ≡ JournalFull) ↔ (length new.seen ≡ MAX_ENTRIES))
+    → place ≡ place_of answer → after ≡ places ++ place ∷ [] → HasPlaces lines new after
+one_more_called_place setting lines old new places after line answer place so_far there seen called kept full same is =
+    let answers = so_far.answers in
+    let many = as_many old.worker lines old.seen old.tally.calls places so_far in
+    let at : slice_get lines (length answers) ≡ Some line = subst (λ n. slice_get lines n ≡ Some line) many there in
+    record {
+      answers = answers ++ answer ∷ [];
+      placed = one_more_place places after answers answer place so_far.placed same is;
+      are = one_more_called setting lines old new answers (answers ++ answer ∷ []) line answer so_far.are at seen called kept full refl;
+    }
+
+-- and under a lock that is held
+pub one_more_held_place : (setting : Setting) (lines : List Line) (old new : Holding) (before behind : Seated)
+    (places after : List (Result ℕ CallFault)) (line : Line) (answer : Result Receipt CallFault) (place : Result ℕ CallFault)
+    → ArePlaces before.worker lines old.journal before.tally.calls places → slice_get lines (length places) ≡ Some line
+    → IfOk answer (IsHeldCall line old new before behind) → StaysHeld setting old new
+    → OnErr answer ((new ≡ old) × (behind ≡ before))
+    → ((answer ≡ Err JournalFull) ↔ (length old.journal ≡ MAX_ENTRIES)) → place ≡ place_of answer → after ≡ places ++ place ∷ []
+    → ArePlaces behind.worker lines new.journal behind.tally.calls after
+one_more_held_place setting lines old new before behind places after line answer place so_far there called held stays full same is =
+    let answers = so_far.answers in
+    let many = as_many before.worker lines old.journal before.tally.calls places so_far in
+    let at : slice_get lines (length answers) ≡ Some line = subst (λ n. slice_get lines n ≡ Some line) many there in
+    record {
+      answers = answers ++ answer ∷ [];
+      placed = one_more_place places after answers answer place so_far.placed same is;
+      are = one_more_held setting lines old new before behind answers (answers ++ answer ∷ []) line answer so_far.are at called held stays
+          full refl;
+    }
+
+-- who has an answer to each line has played them
+pub played_whole : (lines : List Line) (seat : Seated) (places : List (Result ℕ CallFault)) (worker : ℕ) (share : HandedIn)
+    → HasPlaces lines seat places → length lines ≤ length places → seat.worker ≡ worker
+    → share ≡ record { worker = seat.worker; seen = seat.seen; tally = seat.tally }
+    → IsPlaced worker lines (record { share = share; places = places })
+played_whole lines seat places worker share so_far all own is =
+    let many = as_many seat.worker lines seat.seen seat.tally.calls places so_far in
+    rw (is, sym own) (record {
+      answers = so_far.answers;
+      placed = so_far.placed;
+      work = record { worker_is = refl; each = omega (arith, many, all, so_far.are.few); are = so_far.are };
+    })

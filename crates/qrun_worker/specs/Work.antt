@@ -1,6 +1,6 @@
 -- What workers have done, of whom each plays a script or serves a client.
-use Rattle.std.specs.Prelude.{◌≡◌, ℕ, ◌+◌, ◌<◌, ◌≤◌, ◌⊎◌, List, [], ◌∷◌, length, All, slice_index_or}
-use Rattle.std.specs.Prelude.{Option, IfSome, Result, Err}
+use Rattle.std.specs.Prelude.{◌≡◌, ℕ, ◌+◌, ◌<◌, ◌≤◌, ◌⊎◌, List, [], ◌∷◌, length, map, All, slice_index_or}
+use Rattle.std.specs.Prelude.{Option, IfSome, Result, Ok, Err}
 use Rattle.qplain.specs.declared.call_fault.CallFault.{CallFault}
 use Rattle.qplain.specs.declared.call_fault.CallFault.TheVariants.{JournalFull}
 use Rattle.qplain.specs.declared.entry.Entry.{Entry}
@@ -59,6 +59,22 @@ pub record AreAnswers (worker : ℕ) (lines : List Line) (seen : List Entry) (ca
 abbrev pub HasAnswers : List Line → Seated → List (Result Receipt CallFault) → Type 0
 HasAnswers lines seat answers = AreAnswers seat.worker lines seat.seen seat.tally.calls answers
 
+-- where an answer stands: its place in the journal, or why it is in none
+abbrev pub place_of : Result Receipt CallFault → Result ℕ CallFault
+place_of (Ok receipt) = Ok receipt.place
+place_of (Err fault) = Err fault
+
+-- these are where the answers to the first lines of a worker stand, who has seen this much
+pub record ArePlaces (worker : ℕ) (lines : List Line) (seen : List Entry) (calls : ℕ)
+    (places : List (Result ℕ CallFault)) : Type 0 where
+  pub answers : List (Result Receipt CallFault)
+  pub placed : places ≡ map place_of answers
+  pub are : AreAnswers worker lines seen calls answers
+
+-- so they are of the worker who has this seat
+abbrev pub HasPlaces : List Line → Seated → List (Result ℕ CallFault) → Type 0
+HasPlaces lines seat places = ArePlaces seat.worker lines seat.seen seat.tally.calls places
+
 -- the worker who has this seat holds the lock, may make N calls under it, and has seen a prefix of the journal
 pub record MayMake (many : ℕ) (held : Holding) (seat : Seated) : Type 0 where
   pub by : seat.worker ≡ held.by
@@ -71,11 +87,22 @@ pub record IsWork (worker : ℕ) (lines : List Line) (d : Done) : Type 0 where
   pub each : length d.answers ≡ length lines
   pub are : AreAnswers worker lines d.share.seen d.share.tally.calls d.answers
 
+-- a worker's share, and the places of its answers
+pub record Placed : Type 0 where
+  pub share : HandedIn
+  pub places : List (Result ℕ CallFault)
+
+-- the share of the worker who has played this script, and the place of an answer to each line
+pub record IsPlaced (worker : ℕ) (lines : List Line) (p : Placed) : Type 0 where
+  pub answers : List (Result Receipt CallFault)
+  pub placed : p.places ≡ map place_of answers
+  pub work : IsWork worker lines (record { share = p.share; answers = answers })
+
 -- each worker, from 1, has played its script
-pub record AreWorks (scripts : List (List Line)) (works : List Done) : Type 0 where
+pub record AreWorks (scripts : List (List Line)) (works : List Placed) : Type 0 where
   pub many : length works ≡ length scripts
-  pub each : (k : ℕ) (d : Done) (lines : List Line) → k < length scripts
-      → IsWork (k + 1) (slice_index_or scripts k lines) (slice_index_or works k d)
+  pub each : (k : ℕ) (p : Placed) (lines : List Line) → k < length scripts
+      → IsPlaced (k + 1) (slice_index_or scripts k lines) (slice_index_or works k p)
 
 -- a worker that is ready to serve: its number, and its client
 pub record Attending (C : Type 0) : Type 0 where

@@ -3,8 +3,7 @@ ghost use Rattle.std.specs.Prelude.{◌≡◌, []};
 ghost use Rattle.qplain.specs.Journal.{no_tally};
 ghost use Rattle.qrun_worker.specs.Work.{IsServed};
 
-use crate::gate::NoGate;
-use crate::worker::play_each;
+use crate::serving::serve_lines;
 use qplain::Transcript;
 use qrun_client::{ClientEnd, KeepsLines};
 use qshare::{Boards, Seat, Shared};
@@ -118,7 +117,7 @@ pub fn attend<S: StoreId, B: Boards<S>, V: Drop, C: KeepsLines + Drop, R: Wait>(
         mut client,
     } = attendant;
     let worker = seat.worker();
-    let share = play_each(rt, shared, &NoGate, &mut client, seat);
+    let share = serve_lines(rt, shared, &mut client, seat);
     let (transcript, end) = client.into_parts(worker);
     Served {
         share,

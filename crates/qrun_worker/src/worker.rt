@@ -1,13 +1,12 @@
 //! One worker: a seat, a script, and the thread in which it is played.
-ghost use Rattle.std.specs.Prelude.{◌≡◌, ◌+◌, ◌<◌, ◌≤◌, [], length, vec_len, vec_capacity, IfOk, IfSome};
+ghost use Rattle.std.specs.Prelude.{◌≡◌, ◌+◌, ◌<◌, ◌≤◌, length, vec_len, vec_capacity, IfOk};
 ghost use Rattle.qplain.specs.Journal.{no_tally};
 ghost use Rattle.qshare.specs.declared.held.TheConstants.{MAX_BATCH};
-ghost use Rattle.qrun_worker.specs.Work.{HasAnswers, IsPrepared, IsWork, MayMake};
+ghost use Rattle.qrun_worker.specs.Work.{HasPlaces, IsPlaced, IsPrepared, MayMake};
 
 use crate::gate::Gate;
-use crate::script_client::ScriptClient;
+use crate::place::{Place, place_of};
 use qplain::{Line, NoMemory};
-use qrun_client::{Answer, Client};
 use qshare::{Boards, Held, Seat, Shared};
 use qshare_history::{Share, StoreId};
 use std::alloc::Global;
@@ -15,19 +14,19 @@ use std::marker::Model;
 use std::sync::Wait;
 use std::thread::Promise;
 
-/// What a worker has done: its share, and an answer to each of its lines.
+/// What a worker has done: its share, and for each of its lines the place of the answer.
 #[derive(Drop)]
 pub struct Work<S: StoreId> {
     pub share: Share<S>,
-    pub answers: Vec<Answer>,
+    pub places: Vec<Place>,
 }
 
 impl<S: StoreId> Model for Work<S> {
-    ghost use Rattle.qrun_worker.specs.Work.{Done};
+    ghost use Rattle.qrun_worker.specs.Work.{Placed};
 
-    ghost Value = { Done };
+    ghost Value = { Placed };
 
-    ghost view = { λ w. record { share = w.share; answers = w.answers.items } };
+    ghost view = { λ w. record { share = w.share; places = w.places.items } };
 }
 
 /// That this worker plays these lines.
@@ -38,13 +37,13 @@ pub struct Plays<'a> {
 }
 
 impl<'a, S: StoreId> Promise<Work<S>> for Plays<'a> {
-    ghost use Rattle.qrun_worker.specs.Work.{IsWork};
+    ghost use Rattle.qrun_worker.specs.Work.{IsPlaced};
 
-    ghost kept_by = { λ p w. IsWork p.worker p.lines.now w };
+    ghost kept_by = { λ p w. IsPlaced p.worker p.lines.now w };
 }
 
 /// A worker that is ready to start, with all that it takes along: its seat, which is new, its script, which is the
-/// caller's, for how many lines at a time it takes the lock, and room for an answer to each. Contracts see its number
+/// caller's, for how many lines at a time it takes the lock, and room for the place of each. Contracts see its number
 /// and its script.
 #[derive(Drop)]
 pub struct Worker<'a, 'b, 'c, 'd, S: StoreId, B: Boards<S>, V: Drop, G: Gate, R: Wait> {
@@ -54,7 +53,7 @@ pub struct Worker<'a, 'b, 'c, 'd, S: StoreId, B: Boards<S>, V: Drop, G: Gate, R:
     lines: &'d [Line],
     batch: usize,
     seat: Seat<S, V>,
-    answers: Vec<Answer>,
+    places: Vec<Place>,
 }
 
 impl<'a, 'b, 'c, 'd, S: StoreId, B: Boards<S>, V: Drop, G: Gate, R: Wait> Model
@@ -69,7 +68,7 @@ impl<'a, 'b, 'c, 'd, S: StoreId, B: Boards<S>, V: Drop, G: Gate, R: Wait> Model
     ghost view = { λ w. record { worker = w.seat.worker; lines = w.lines.now } };
 
     ghost invariant = { λ w. (0 < w.batch) × (w.batch ≤ MAX_BATCH) × (w.seat.tally ≡ no_tally)
-        × (vec_len w.answers ≡ 0) × (length w.lines.now ≤ vec_capacity w.answers) };
+        × (vec_len w.places ≡ 0) × (length w.lines.now ≤ vec_capacity w.places) };
 }
 
 impl<'a, 'b, 'c, 'd, S: StoreId, B: Boards<S>, V: Drop, G: Gate, R: Wait> Worker<
@@ -94,7 +93,7 @@ impl<'a, 'b, 'c, 'd, S: StoreId, B: Boards<S>, V: Drop, G: Gate, R: Wait> Worker
     }
 }
 
-/// A worker with a new seat, and with room for an answer to each of its lines.
+/// A worker with a new seat, and with room for the place of each of its lines.
 pub fn worker_of<'a, 'b, 'c, 'd, S: StoreId, B: Boards<S>, V: Drop, G: Gate, R: Wait>(
     alloc: Global,
     rt: &'a R,
@@ -115,58 +114,34 @@ pub fn worker_of<'a, 'b, 'c, 'd, S: StoreId, B: Boards<S>, V: Drop, G: Gate, R: 
         lines,
         batch: batch as usize,
         seat,
-        answers: Vec::with_capacity(alloc, lines.len())?,
+        places: Vec::with_capacity(alloc, lines.len())?,
     })
 }
 
-/// Makes a client's calls one after the other, and goes on after any answer, until it has no more lines.
-pub(crate) fn play_each<S: StoreId, B: Boards<S>, V: Drop, G: Gate, R: Wait, C: Client>(
-    rt: &R,
-    shared: &Shared<S, B>,
-    gate: &G,
-    client: &mut C,
-    mut seat: Seat<S, V>,
-) -> Share<S>
-    requires seat { seat.tally ≡ no_tally }
-    requires new { (C.given client.old ≡ []) × (C.told client.old ≡ []) }
-    ensures work { IsWork seat.worker (C.given client.new)
-        (record { share = result; answers = C.told client.new }) }
-    ensures end { IfSome (C.script client.old) (λ lines. C.given client.new ≡ lines) }
-{
-    let worker = seat.worker();
-    let mut number = 0usize;
-    for _ in rt.forever() {
-        if !client.next() {
-            return seat.finish();
-        }
-        number = number.saturating_add(1);
-        gate.before(worker, number);
-        let line = client.line();
-        let answer = shared.call(rt, &mut seat, &line.cred, line.moment, &line.call);
-        gate.after(worker, number);
-        client.tell(answer);
-    }
-    unreachable!()
-}
-
 /// Makes the calls of a script one after the other, and goes on after any answer.
-fn play_script<S: StoreId, B: Boards<S>, V: Drop, G: Gate, R: Wait>(
+fn play_lines<S: StoreId, B: Boards<S>, V: Drop, G: Gate, R: Wait>(
     rt: &R,
     shared: &Shared<S, B>,
     gate: &G,
     lines: &[Line],
-    seat: Seat<S, V>,
-    answers: Vec<Answer>,
+    mut seat: Seat<S, V>,
+    mut places: Vec<Place>,
 ) -> Work<S>
     requires seat { seat.tally ≡ no_tally }
-    requires room { (vec_len answers ≡ 0) × (length lines.now ≤ vec_capacity answers) }
-    ensures { IsWork seat.worker lines.now result }
+    requires room { (vec_len places ≡ 0) × (length lines.now ≤ vec_capacity places) }
+    ensures { IsPlaced seat.worker lines.now result }
 {
-    let mut client = ScriptClient::new(lines, answers);
-    let share = play_each(rt, shared, gate, &mut client, seat);
+    let worker = seat.worker();
+    for line in lines {
+        let number = places.len() + 1;
+        gate.before(worker, number);
+        let answer = shared.call(rt, &mut seat, &line.cred, line.moment, &line.call);
+        gate.after(worker, number);
+        places.push_reserved(place_of(answer));
+    }
     Work {
-        share,
-        answers: client.into_answers(),
+        share: seat.finish(),
+        places,
     }
 }
 
@@ -177,21 +152,21 @@ fn play_held<S: StoreId, B: Boards<S>, V: Drop, R: Wait>(
     lines: &[Line],
     many: usize,
     seat: &mut Seat<S, V>,
-    answers: &mut Vec<Answer>,
+    places: &mut Vec<Place>,
 )
     requires held { MayMake many held seat.old }
-    requires room { (vec_len answers.old + many ≤ length lines.now) × (length lines.now ≤ vec_capacity answers.old) }
-    requires answered { HasAnswers lines.now seat.old answers.old.items }
-    ensures answered { HasAnswers lines.now seat.new answers.new.items }
-    ensures many { (vec_len answers.new ≡ vec_len answers.old + many)
-        × (vec_capacity answers.new ≡ vec_capacity answers.old) }
+    requires room { (vec_len places.old + many ≤ length lines.now) × (length lines.now ≤ vec_capacity places.old) }
+    requires placed { HasPlaces lines.now seat.old places.old.items }
+    ensures placed { HasPlaces lines.now seat.new places.new.items }
+    ensures many { (vec_len places.new ≡ vec_len places.old + many)
+        × (vec_capacity places.new ≡ vec_capacity places.old) }
     ensures worker { seat.new.worker ≡ seat.old.worker }
 {
     let mut held = held;
     for _ in 0..many {
-        let line = &lines[answers.len()];
+        let line = &lines[places.len()];
         let answer = held.apply(rt, seat, &line.cred, line.moment, &line.call);
-        answers.push_reserved(answer);
+        places.push_reserved(place_of(answer));
     }
     held.release(rt, seat);
 }
@@ -205,22 +180,22 @@ fn play_batch<S: StoreId, B: Boards<S>, V: Drop, G: Gate, R: Wait>(
     lines: &[Line],
     many: usize,
     seat: &mut Seat<S, V>,
-    answers: &mut Vec<Answer>,
+    places: &mut Vec<Place>,
 )
-    requires room { (many ≤ MAX_BATCH) × (vec_len answers.old + many ≤ length lines.now)
-        × (length lines.now ≤ vec_capacity answers.old) }
-    requires answered { HasAnswers lines.now seat.old answers.old.items }
-    ensures answered { HasAnswers lines.now seat.new answers.new.items }
-    ensures many { (vec_len answers.new ≡ vec_len answers.old + many)
-        × (vec_capacity answers.new ≡ vec_capacity answers.old) }
+    requires room { (many ≤ MAX_BATCH) × (vec_len places.old + many ≤ length lines.now)
+        × (length lines.now ≤ vec_capacity places.old) }
+    requires placed { HasPlaces lines.now seat.old places.old.items }
+    ensures placed { HasPlaces lines.now seat.new places.new.items }
+    ensures many { (vec_len places.new ≡ vec_len places.old + many)
+        × (vec_capacity places.new ≡ vec_capacity places.old) }
     ensures worker { seat.new.worker ≡ seat.old.worker }
 {
     let worker = seat.worker();
-    let first = answers.len() + 1;
+    let first = places.len() + 1;
     gate.before(worker, first);
     let held = shared.hold(rt, seat);
-    play_held(rt, held, lines, many, seat, answers);
-    gate.after(worker, answers.len());
+    play_held(rt, held, lines, many, seat, places);
+    gate.after(worker, places.len());
 }
 
 /// Makes the calls of a script, so many at a time under one taking of the lock.
@@ -231,20 +206,20 @@ fn play_batches<S: StoreId, B: Boards<S>, V: Drop, G: Gate, R: Wait>(
     lines: &[Line],
     batch: usize,
     mut seat: Seat<S, V>,
-    mut answers: Vec<Answer>,
+    mut places: Vec<Place>,
 ) -> Work<S>
     requires batch { (0 < batch) × (batch ≤ MAX_BATCH) }
     requires seat { seat.tally ≡ no_tally }
-    requires room { (vec_len answers ≡ 0) × (length lines.now ≤ vec_capacity answers) }
-    ensures { IsWork seat.worker lines.now result }
+    requires room { (vec_len places ≡ 0) × (length lines.now ≤ vec_capacity places) }
+    ensures { IsPlaced seat.worker lines.now result }
 {
-    while answers.len() < lines.len() {
-        let many = (lines.len() - answers.len()).min(batch);
-        play_batch(rt, shared, gate, lines, many, &mut seat, &mut answers);
+    while places.len() < lines.len() {
+        let many = (lines.len() - places.len()).min(batch);
+        play_batch(rt, shared, gate, lines, many, &mut seat, &mut places);
     }
     Work {
         share: seat.finish(),
-        answers,
+        places,
     }
 }
 
@@ -252,7 +227,7 @@ fn play_batches<S: StoreId, B: Boards<S>, V: Drop, G: Gate, R: Wait>(
 pub fn play<S: StoreId, B: Boards<S>, V: Drop, G: Gate, R: Wait>(
     worker: Worker<'_, '_, '_, '_, S, B, V, G, R>,
 ) -> Work<S>
-    ensures { IsWork worker.entry.worker worker.entry.lines result }
+    ensures { IsPlaced worker.entry.worker worker.entry.lines result }
 {
     let Worker {
         rt,
@@ -261,11 +236,11 @@ pub fn play<S: StoreId, B: Boards<S>, V: Drop, G: Gate, R: Wait>(
         lines,
         batch,
         seat,
-        answers,
+        places,
     } = worker;
     if batch == 1 {
-        play_script(rt, shared, gate, lines, seat, answers)
+        play_lines(rt, shared, gate, lines, seat, places)
     } else {
-        play_batches(rt, shared, gate, lines, batch, seat, answers)
+        play_batches(rt, shared, gate, lines, batch, seat, places)
     }
 }

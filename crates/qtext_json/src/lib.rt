@@ -3,7 +3,7 @@
 
 pub use call_members::{put_call, put_caller_members, put_fill};
 pub use part::{Part, put_parts};
-pub use reply_members::put_answer;
+pub use reply_members::{put_failed, put_receipt};
 pub use value::{Value, or_null};
 
 mod call_members;

@@ -1,8 +1,8 @@
 //! Answers as members of an object.
-ghost use Rattle.std.specs.Prelude.{◌≡◌, ◌++◌, codes, decimal};
+ghost use Rattle.std.specs.Prelude.{◌≡◌, Ok, Err, codes, decimal};
 ghost use Rattle.qtext.specs.Written.{Writes};
 ghost use Rattle.qtext_write.specs.Answers.{call_fault_text};
-ghost use Rattle.qtext_json.specs.Replies.{answer_members, bytes_members, done_members, failed_members};
+ghost use Rattle.qtext_json.specs.Replies.{answer_members, bytes_members, done_members};
 ghost use Rattle.qtext_json.specs.Replies.{quota_members, refusal_name, refused_members, reply_members, stat_members};
 ghost use Rattle.qtext_json.specs.Values.{member};
 ghost use Rattle.qplain.specs.declared.refusal.Refusal.TheVariants.{EDQUOT};
@@ -10,7 +10,7 @@ ghost use Rattle.qplain.specs.declared.refusal.Refusal.TheVariants.{EDQUOT};
 use crate::part::{Part, put_parts};
 use crate::value::{Value, or_null};
 use qblocks::Input;
-use qplain::{CallFault, Change, Quota, Receipt, Refusal, Reply, Stat};
+use qplain::{CallFault, Change, Quota, Refusal, Reply, Stat};
 use qrules::{Kind, Over};
 use qtext::{RefusedWrite, kind_word, over_word};
 use std::io::Write;
@@ -153,8 +153,9 @@ fn call_fault_word(fault: CallFault) -> &'static [u8]
     }
 }
 
-fn put_failed<W: Write>(out: &mut W, fault: CallFault) -> Result<(), RefusedWrite>
-    ensures { Writes (W.contents out.old) (W.contents out.new) result (failed_members fault) }
+/// Writes why a call was not journaled, and the object's end.
+pub fn put_failed<W: Write>(out: &mut W, fault: CallFault) -> Result<(), RefusedWrite>
+    ensures { Writes (W.contents out.old) (W.contents out.new) result (answer_members (Err fault)) }
 {
     let parts = [
         Part::Member(b"place", Value::Null),
@@ -165,25 +166,12 @@ fn put_failed<W: Write>(out: &mut W, fault: CallFault) -> Result<(), RefusedWrit
     put_parts(out, &parts)
 }
 
-/// Writes a receipt, and the object's end.
+/// Writes what a journaled call was answered, and the object's end.
 #[tactic(auto, using(qtext::proofs::Fronts::front_of_first, qtext::proofs::Fronts::writes_then))]
-fn put_receipt<W: Write>(out: &mut W, receipt: &Receipt) -> Result<(), RefusedWrite>
+pub fn put_receipt<W: Write>(out: &mut W, place: u64, reply: &Reply) -> Result<(), RefusedWrite>
     ensures { Writes (W.contents out.old) (W.contents out.new) result
-        (member (codes "place") (decimal receipt.now.place) ++ reply_members receipt.now.reply) }
+        (answer_members (Ok (record { place = place; reply = reply.now }))) }
 {
-    put_place(out, receipt.place)?;
-    put_reply(out, &receipt.reply)
-}
-
-/// Writes an answer, and the object's end.
-pub fn put_answer<W: Write>(
-    out: &mut W,
-    answer: &Result<Receipt, CallFault>,
-) -> Result<(), RefusedWrite>
-    ensures { Writes (W.contents out.old) (W.contents out.new) result (answer_members answer.now) }
-{
-    match answer {
-        Ok(receipt) => put_receipt(out, receipt),
-        Err(fault) => put_failed(out, *fault),
-    }
+    put_place(out, place)?;
+    put_reply(out, reply)
 }

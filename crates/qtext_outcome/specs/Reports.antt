@@ -1,5 +1,5 @@
 -- The report as a view shows it (profile, after repquota(8)).
-use Rattle.std.specs.Prelude.{ℕ, ◌||◌, ◌&&◌, Bool, not, List, [], ◌∷◌, ◌++◌, codes, decimal, if◌then◌else◌}
+use Rattle.std.specs.Prelude.{ℕ, ◌||◌, ◌&&◌, Bool, not, List, [], ◌∷◌, ◌++◌, codes, if◌then◌else◌}
 use Rattle.std.specs.List.{concat, flat_map}
 use Rattle.qrules.specs.Sort.{Inodes, Blocks, amount_of, is_over}
 use Rattle.qrules.specs.declared.record_row.RecordRow.{RecordRow}

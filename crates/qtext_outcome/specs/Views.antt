@@ -1,6 +1,6 @@
 -- Outcomes as a view shows them (profile, after repquota(8)).
-use Rattle.std.specs.Prelude.{ℕ, false, List, [], ◌∷◌, ◌++◌, codes, if◌then◌else◌}
-use Rattle.std.specs.List.{concat, flat_map}
+use Rattle.std.specs.Prelude.{ℕ, false, List, ◌++◌, if◌then◌else◌}
+use Rattle.std.specs.List.{flat_map}
 use Rattle.qtext_view.specs.declared.format.Format.TheVariants.{Text}
 use Rattle.qtext_view.specs.declared.view.View.{View}
 use Rattle.qrun_replay.specs.declared.outcome.Outcome.{Outcome}

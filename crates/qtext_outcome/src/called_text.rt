@@ -7,11 +7,12 @@ ghost use Rattle.qtext_write.specs.declared.call_text.TheConstants.{CALL_PLACE, 
 ghost use Rattle.qtext_outcome.specs.Calls.{called_lines, called_text, called_transcript, fill_text, repeated};
 ghost use Rattle.qtext_outcome.specs.Calls.{shown_call};
 
-use crate::transcript_text::put_worker;
+use crate::transcript_text::{put_answer, put_worker};
 use qblocks::Input;
-use qplain::{Call, CallFault, Line, Path, Receipt, Transcript};
+use qplain::{Call, CallFault, Line, Path};
+use qrun_replay::{PlacedReply, PlacedTranscript};
 use qtext::{RefusedWrite, TextLine};
-use qtext_write::{CALL_PLACE, CALL_ROOM, put_answer, put_call, put_caller};
+use qtext_write::{CALL_PLACE, CALL_ROOM, put_call, put_caller};
 use std::io::Write;
 
 /// As many bytes at most are told as they are, though all are equal.
@@ -98,9 +99,9 @@ fn put_called<W: Write>(
     text: &mut TextLine,
     place: u64,
     line: &Line,
-    answer: &Result<Receipt, CallFault>,
+    answer: Result<PlacedReply<'_>, CallFault>,
 ) -> Result<(), RefusedWrite>
-    ensures { Writes (W.contents out.old) (W.contents out.new) result (called_text place line.now answer.now) }
+    ensures { Writes (W.contents out.old) (W.contents out.new) result (called_text place line.now answer.entry) }
 {
     text.clear();
     text.number(place);
@@ -117,34 +118,35 @@ fn put_called<W: Write>(
 /// Writes each line with what it was answered.
 fn put_called_lines<W: Write>(
     out: &mut W,
-    lines: &[Line],
-    answers: &[Result<Receipt, CallFault>],
+    transcript: &PlacedTranscript,
 ) -> Result<(), RefusedWrite>
-    ensures { Writes (W.contents out.old) (W.contents out.new) result (called_lines 1 lines.now answers.now) }
+    ensures { Writes (W.contents out.old) (W.contents out.new) result
+        (called_lines 1 transcript.now.lines transcript.now.answers) }
 {
+    let lines = transcript.lines();
     let mut text = TextLine::new();
-    for at in 0..lines.len().min(answers.len()) {
-        put_called(out, &mut text, at as u64 + 1, &lines[at], &answers[at])?;
+    for at in 0..lines.len().min(transcript.len()) {
+        let answer = transcript.answer(at);
+        put_called(out, &mut text, at as u64 + 1, &lines[at], answer)?;
     }
     Ok(())
 }
 
 #[tactic(auto, using(qtext::proofs::Fronts::front_of_first, qtext::proofs::Fronts::writes_then))]
-fn put_called_transcript<W: Write>(out: &mut W, transcript: &Transcript) -> Result<(), RefusedWrite>
+fn put_called_transcript<W: Write>(
+    out: &mut W,
+    transcript: &PlacedTranscript,
+) -> Result<(), RefusedWrite>
     ensures { Writes (W.contents out.old) (W.contents out.new) result (called_transcript transcript.now) }
 {
-    put_worker(out, transcript.worker)?;
-    put_called_lines(
-        out,
-        transcript.lines.as_slice(),
-        transcript.answers.as_slice(),
-    )
+    put_worker(out, transcript.worker())?;
+    put_called_lines(out, transcript)
 }
 
 /// Writes the transcripts with the lines of the scripts, one after the other.
 pub(crate) fn put_called_transcripts<W: Write>(
     out: &mut W,
-    transcripts: &[Transcript],
+    transcripts: &[PlacedTranscript],
 ) -> Result<(), RefusedWrite>
     ensures { Writes (W.contents out.old) (W.contents out.new) result (flat_map called_transcript transcripts.now) }
 {

@@ -12,7 +12,8 @@ ghost use Rattle.qtext_outcome.specs.Denials.{
   refused_number,
 };
 
-use qplain::{CallFault, Receipt, Reply, Transcript};
+use qplain::{CallFault, Reply};
+use qrun_replay::{PlacedReply, PlacedTranscript};
 use qtext::{Piece, RefusedWrite, put_pieces};
 use std::io::Write;
 
@@ -26,46 +27,48 @@ fn refused_number(reply: &Reply) -> u32
 }
 
 /// The number of an answer's refusal or fault, and 0 where the call was done.
-fn denial_number(answer: &Result<Receipt, CallFault>) -> u32
-    ensures { result ≡ denial_number answer.now }
+fn denial_number(answer: Result<PlacedReply<'_>, CallFault>) -> u32
+    ensures { result ≡ denial_number answer.entry }
 {
     match answer {
-        Ok(receipt) => refused_number(&receipt.reply),
+        Ok(receipt) => refused_number(receipt.reply()),
         Err(fault) => fault.number(),
     }
 }
 
-fn is_done(transcript: &Transcript) -> bool
+fn is_done(transcript: &PlacedTranscript) -> bool
     ensures { IsTrue result ↔ IsDone transcript.now }
 {
-    transcript
-        .answers
-        .as_slice()
-        .iter()
-        .all(|answer| denial_number(answer) == 0)
+    for at in 0..transcript.len() {
+        if denial_number(transcript.answer(at)) != 0 {
+            return false;
+        }
+    }
+    true
 }
 
 /// Whether no line was refused or failed.
-pub fn are_all_done(transcripts: &[Transcript]) -> bool
+pub fn are_all_done(transcripts: &[PlacedTranscript]) -> bool
     ensures { IsTrue result ↔ All IsDone transcripts.now }
 {
     transcripts.iter().all(is_done)
 }
 
 /// How many lines of a transcript were answered with this number.
-fn denied_in(number: u32, transcript: &Transcript) -> usize
+fn denied_in(number: u32, transcript: &PlacedTranscript) -> usize
     ensures { result ≡ denied_in number transcript.now }
 {
-    transcript
-        .answers
-        .as_slice()
-        .iter()
-        .filter(|answer| denial_number(answer) == number)
-        .count()
+    let mut count = 0usize;
+    for at in 0..transcript.len() {
+        if denial_number(transcript.answer(at)) == number {
+            count += 1;
+        }
+    }
+    count
 }
 
 /// How many lines of all transcripts were.
-fn denied(number: u32, transcripts: &[Transcript]) -> u128
+fn denied(number: u32, transcripts: &[PlacedTranscript]) -> u128
     ensures { result ≡ denied number transcripts.now }
 {
     let mut count = 0;
@@ -94,7 +97,7 @@ fn put_denial<W: Write>(out: &mut W, count: u128, words: &[u8]) -> Result<(), Re
 /// Writes how many lines there are of these kinds, a line for each that there is.
 fn put_kinds<W: Write>(
     out: &mut W,
-    transcripts: &[Transcript],
+    transcripts: &[PlacedTranscript],
     kinds: &[(u32, &[u8])],
 ) -> Result<(), RefusedWrite>
     ensures { Writes (W.contents out.old) (W.contents out.new) result
@@ -108,7 +111,10 @@ fn put_kinds<W: Write>(
 
 /// Writes how many lines were refused or failed, a line for each kind that there is, in the order of their numbers. It
 /// takes no memory. After an Err some beginning of the text went out.
-pub fn put_denials<W: Write>(out: &mut W, transcripts: &[Transcript]) -> Result<(), RefusedWrite>
+pub fn put_denials<W: Write>(
+    out: &mut W,
+    transcripts: &[PlacedTranscript],
+) -> Result<(), RefusedWrite>
     ensures { Writes (W.contents out.old) (W.contents out.new) result (denials_text transcripts.now) }
 {
     let kinds: [(u32, &[u8]); 17] = [

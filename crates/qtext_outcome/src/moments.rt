@@ -2,7 +2,8 @@
 ghost use Rattle.std.specs.Prelude.{◌≡◌, fold, map, max};
 ghost use Rattle.qtext_outcome.specs.Moments.{moment_of, moments_in};
 
-use qplain::{Line, Transcript};
+use qplain::Line;
+use qrun_replay::PlacedTranscript;
 use qtext_view::ReportMoment;
 
 /// The greatest of a moment and those of the lines.
@@ -17,18 +18,18 @@ fn last_of(lines: &[Line], least: u64) -> u64
 }
 
 /// The greatest moment of any line, and 0 where there is none.
-fn last_moment(transcripts: &[Transcript]) -> u64
+fn last_moment(transcripts: &[PlacedTranscript]) -> u64
     ensures { result ≡ fold max 0 (moments_in transcripts.now) }
 {
     let mut last = 0;
     for transcript in transcripts {
-        last = last_of(transcript.lines.as_slice(), last);
+        last = last_of(transcript.lines(), last);
     }
     last
 }
 
 /// The moment that is asked for of the lines of these transcripts.
-pub fn report_moment(at: ReportMoment, transcripts: &[Transcript]) -> u64
+pub fn report_moment(at: ReportMoment, transcripts: &[PlacedTranscript]) -> u64
     ensures { result ≡ moment_of at transcripts.now }
 {
     match at {

@@ -1,13 +1,16 @@
 //! The lines of transcripts as objects.
 ghost use Rattle.std.specs.Prelude.{◌++◌, [], if◌then◌else◌};
 ghost use Rattle.qtext.specs.Written.{Writes};
-ghost use Rattle.qtext_rows.specs.Lines.{asked_members, line_object, line_objects, line_start, shown_call};
+ghost use Rattle.qtext_rows.specs.Lines.{asked_members, line_object, line_start, shown_call};
 ghost use Rattle.qtext_rows.specs.Lines.{transcript_objects, transcripts_objects};
 ghost use Rattle.qtext_json.specs.Replies.{answer_members};
 
-use qplain::{Call, CallFault, Line, Receipt, Transcript};
+use qplain::{Call, CallFault, Line};
+use qrun_replay::{PlacedReply, PlacedTranscript};
 use qtext::RefusedWrite;
-use qtext_json::{Part, Value, put_answer, put_call, put_caller_members, put_fill, put_parts};
+use qtext_json::{
+    Part, Value, put_call, put_caller_members, put_failed, put_fill, put_parts, put_receipt,
+};
 use qtext_outcome::repeated;
 use std::io::Write;
 
@@ -50,15 +53,28 @@ fn put_shown<W: Write>(out: &mut W, calls: bool, line: &Line) -> Result<(), Refu
     if calls { put_asked(out, line) } else { Ok(()) }
 }
 
+/// Writes what a line was answered.
+fn put_answer<W: Write>(
+    out: &mut W,
+    answer: Result<PlacedReply<'_>, CallFault>,
+) -> Result<(), RefusedWrite>
+    ensures { Writes (W.contents out.old) (W.contents out.new) result (answer_members answer.entry) }
+{
+    match answer {
+        Ok(receipt) => put_receipt(out, receipt.place(), receipt.reply()),
+        Err(fault) => put_failed(out, fault),
+    }
+}
+
 #[tactic(auto, using(qtext::proofs::Fronts::front_of_first, qtext::proofs::Fronts::writes_then))]
 fn put_rest<W: Write>(
     out: &mut W,
     calls: bool,
     line: &Line,
-    answer: &Result<Receipt, CallFault>,
+    answer: Result<PlacedReply<'_>, CallFault>,
 ) -> Result<(), RefusedWrite>
     ensures { Writes (W.contents out.old) (W.contents out.new) result
-        ((if calls then asked_members line.now else []) ++ answer_members answer.now) }
+        ((if calls then asked_members line.now else []) ++ answer_members answer.entry) }
 {
     put_shown(out, calls, line)?;
     put_answer(out, answer)
@@ -72,54 +88,37 @@ fn put_line<W: Write>(
     worker: u64,
     place: u64,
     line: &Line,
-    answer: &Result<Receipt, CallFault>,
+    answer: Result<PlacedReply<'_>, CallFault>,
 ) -> Result<(), RefusedWrite>
     ensures { Writes (W.contents out.old) (W.contents out.new) result
-        (line_object calls worker place line.now answer.now) }
+        (line_object calls worker place line.now answer.entry) }
 {
     put_start(out, worker, place)?;
     put_rest(out, calls, line, answer)
 }
 
-/// Writes an object for each line with what it was answered.
-fn put_lines<W: Write>(
-    out: &mut W,
-    calls: bool,
-    worker: u64,
-    lines: &[Line],
-    answers: &[Result<Receipt, CallFault>],
-) -> Result<(), RefusedWrite>
-    ensures { Writes (W.contents out.old) (W.contents out.new) result
-        (line_objects calls worker 1 lines.now answers.now) }
-{
-    for at in 0..lines.len().min(answers.len()) {
-        put_line(out, calls, worker, at as u64 + 1, &lines[at], &answers[at])?;
-    }
-    Ok(())
-}
-
+/// Writes an object for each line of a transcript with what it was answered.
 fn put_transcript<W: Write>(
     out: &mut W,
     calls: bool,
-    transcript: &Transcript,
+    transcript: &PlacedTranscript,
 ) -> Result<(), RefusedWrite>
     ensures { Writes (W.contents out.old) (W.contents out.new) result (transcript_objects calls transcript.now) }
 {
-    let (lines, answers) = (&transcript.lines, &transcript.answers);
-    put_lines(
-        out,
-        calls,
-        transcript.worker,
-        lines.as_slice(),
-        answers.as_slice(),
-    )
+    let worker = transcript.worker();
+    let lines = transcript.lines();
+    for at in 0..lines.len().min(transcript.len()) {
+        let answer = transcript.answer(at);
+        put_line(out, calls, worker, at as u64 + 1, &lines[at], answer)?;
+    }
+    Ok(())
 }
 
 /// Writes the objects of all lines, one transcript after the other.
 pub(crate) fn put_transcripts<W: Write>(
     out: &mut W,
     calls: bool,
-    transcripts: &[Transcript],
+    transcripts: &[PlacedTranscript],
 ) -> Result<(), RefusedWrite>
     ensures { Writes (W.contents out.old) (W.contents out.new) result (transcripts_objects calls transcripts.now) }
 {

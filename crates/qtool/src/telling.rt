@@ -5,14 +5,14 @@ ghost use Rattle.qtool.specs.Endings.{IsLate};
 
 use crate::ending::Ending;
 use crate::{Files, Outcome, write_run};
-use qplain::Transcript;
+use qrun_replay::PlacedTranscript;
 use qtext_outcome::{are_all_done, put_denials, report_moment};
 use qtext_view::Telling;
 use std::io::Write;
 use std::mem;
 
 /// Tells a strict caller by kinds how many lines were refused or failed, whatever becomes of the error output.
-fn tell_denials<E: Write>(transcripts: &[Transcript], err: &mut E) -> Ending
+fn tell_denials<E: Write>(transcripts: &[PlacedTranscript], err: &mut E) -> Ending
     ensures { IsLate result }
 {
     let _ = put_denials(err, transcripts);

@@ -95,7 +95,7 @@ fn keep_asked<F: Files>(
     ensures err { OnErr result (F.held files.new ≡ F.held files.old) }
 {
     match journal {
-        Some(name) => keep_journal(&outcome.journal, files, name),
+        Some(name) => keep_journal(outcome.journal.get(), files, name),
         None => Ok(()),
     }
 }

@@ -1,18 +1,13 @@
 //! Runs scripts of calls on a shared store of files in memory, with disk quotas for users, groups and projects.
 #![tactic(auto)]
 
-use machine_files::MachineFiles;
 use qtool::tool;
+use qtool_machine::MachineFiles;
 use std::io::{self, BufWriter, ErrorKind};
 use std::process::ExitCode;
 use std::random::RandomSource;
 
-mod client_streams;
-mod draft;
-mod machine_files;
-mod progress;
-
-/// As much of the output, and of a file, is gathered before it is written, in bytes.
+/// As much of the output is gathered before it is written, in bytes.
 const OUTPUT_BUFFER: usize = 262_144;
 
 /// As long a fault line goes out by one write, in bytes, so that lines of runs beside each other do not mix.

@@ -177,7 +177,7 @@ fn are_whole(looks: &[Result<Board, LookFault>]) -> bool {
 /// Whether the boards of an outcome are whole, and the journal's.
 fn are_right(alloc: Global, outcome: &Outcome) -> bool {
     let looks = outcome.boards.as_slice();
-    let entries = outcome.journal.entries();
+    let entries = outcome.journal.get().entries();
     looks.len() == 1000
         && entries.len() == 15_000
         && are_whole(looks)

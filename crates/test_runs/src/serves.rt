@@ -122,11 +122,8 @@ fn the_last_board_of_a_service_is_shown(rt: HostRuntime) -> Result<(), Fail> {
     let Ok(service) = serve(&rt, alloc, setup, clients, Some(monitor), 0) else {
         return Err(Fail::from("an outcome"));
     };
-    let entries = service.outcome.journal.entries().len();
-    let lines = service.outcome.transcripts.as_slice()[0]
-        .lines
-        .as_slice()
-        .len();
+    let entries = service.outcome.journal.get().entries().len();
+    let lines = service.outcome.transcripts.as_slice()[0].lines().len();
     assert_eq!(rt; (entries, lines, service.ends.len()), (6, 3, 2));
     assert_eq!(rt; version.load(SeqCst), 6);
     assert!(rt; boards.load(SeqCst) > 0);

@@ -2,9 +2,9 @@
 ghost use Rattle.std.specs.Prelude.{◌<◌, ◌≤◌};
 
 use crate::given::{FIRST_FILES, OTHER_FILES, script, setup};
-use qplain::{CallFault, Edition, Receipt, Refusal, Reply};
+use qplain::{CallFault, Edition, Refusal, Reply};
 use qrun::{Gate, Options, run_scripts};
-use qrun_replay::Outcome;
+use qrun_replay::{Outcome, PlacedReply};
 use std::alloc::Global;
 use std::hint::spin_loop;
 use std::sync::Wait;
@@ -58,11 +58,11 @@ impl Gate for Turns {
 }
 
 /// The place and the inode of an answer, or no inode where space was wanting.
-fn told(answer: &Result<Receipt, CallFault>) -> Option<(u64, Option<u64>)> {
+fn told(answer: Result<PlacedReply<'_>, CallFault>) -> Option<(u64, Option<u64>)> {
     match answer {
-        Ok(Receipt { place, reply }) => match reply {
-            Reply::Done(inode, _) => Some((*place, Some(*inode))),
-            Reply::Refused(Refusal::ENOSPC) => Some((*place, None)),
+        Ok(receipt) => match receipt.reply() {
+            Reply::Done(inode, _) => Some((receipt.place(), Some(*inode))),
+            Reply::Refused(Refusal::ENOSPC) => Some((receipt.place(), None)),
             _ => None,
         },
         Err(_) => None,
@@ -74,12 +74,11 @@ fn tells(outcome: &Outcome, worker: usize, expected: &[(u64, Option<u64>)]) -> b
     let Some(transcript) = outcome.transcripts.as_slice().get(worker) else {
         return false;
     };
-    let answers = transcript.answers.as_slice();
-    if answers.len() != expected.len() {
+    if transcript.len() != expected.len() {
         return false;
     }
     for line in 0..expected.len() {
-        if told(&answers[line]) != Some(expected[line]) {
+        if told(transcript.answer(line)) != Some(expected[line]) {
             return false;
         }
     }

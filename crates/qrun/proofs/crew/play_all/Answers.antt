@@ -1,4 +1,4 @@
-use Rattle.std.proofs.Common.{◌≤◌, arith, rules}
+use Rattle.std.proofs.Common.{◌≤◌, arith}
 use Rattle.std.proofs.iter.Serving.{serving}
 use Rattle.std.specs.Vec.{vec_capacity, vec_len}
 use Rattle.qrun.specs.Crews.{AreReady}

@@ -1,12 +1,13 @@
-use Rattle.std.proofs.Common.{◌≡◌, ◌++◌, true, false, All, IfOk, ◌<◌, ◌≤◌, length, sum_by, ap, subst, sym, ◌∙◌}
+use Rattle.std.proofs.Common.{◌≡◌, ◌++◌, true, false, All, IfOk, length, sum_by, ap, subst, sym, ◌∙◌}
 use mathlib.Core.List.{IsPrefix}
 use Rattle.qshare_history.specs.Shares.{AreThere, HandedIn}
 use Rattle.qplain.specs.State.{start}
 use Rattle.qaudit_checks.specs.LawfulBoards.{AreLawful, boards_in}
 use Rattle.qrun_replay.specs.Runs.{IsServiceOf}
 use Rattle.qrun.specs.Told.{AreShort}
-use Rattle.qrun.specs.Watching.{IsWatchOf, seats_for, shares_in, watcher_for}
+use Rattle.qrun.specs.Watching.{seats_for, shares_in}
 use Rattle.qrun.proofs.NeverFull.{never_full}
+use Rattle.qrun.proofs.Placing.{all_placed}
 use Rattle.qrun.proofs.Running.{is_run, played_of}
 use Rattle.qrun.proofs.Told.{all_there, all_told, lines_told}
 use Rattle.qrun.proofs.Watched.{all_front, all_seats_there, as_many_looks, calls_counted, looks_lawful}
@@ -18,7 +19,8 @@ make_outcome-requires-clause-told g c =
     played_of g.S.StoreId.id.setting c.deref.result.now c.args.scripts.items c.args.options.boards c.in_ok-works.field-0
     (record { works = c.works.inside.works.items; watch = c.works.inside.watch }) c.deref.ensures.value c.works.view_is c.in_ok-works.ensures in
     let own = c.in_ok-own.own.items in
-    let ts = c.in_ok-own.transcripts.items in
+    let all = c.in_ok-own.answered.items in
+    let placed = c.in_ok-own.ensures.told in
     let scripts = c.args.scripts.items in
     let journal = c.in-Ok.store.journal in
     let watch = c.works.inside.watch in
@@ -29,7 +31,8 @@ make_outcome-requires-clause-told g c =
     let calls : sum_by (λ s. s.tally.calls) c.in_ok-shares.shares.items ≡ length journal = ap (λ t. t.calls) c.in-Ok.ensures.end.tally in
     let counted = calls_counted S (length scripts) boards own c.in_ok-shares.shares.items watch (length journal) played.1
     c.in_ok-shares.ensures.shares calls in
-    all_told scripts own ts journal c.requires.few c.in_ok-own.ensures.told seen counted c.in-Ok.ensures.end.played.few
+    let whole = all_told scripts own placed.ts journal c.requires.few placed.told seen counted c.in-Ok.ensures.end.played.few in
+    (all_placed scripts own all placed.ts journal placed.placed placed.told seen whole).0
 
 pub make_outcome-requires-clause-lawful : goal.make_outcome-requires-clause-lawful
 make_outcome-requires-clause-lawful g c =
@@ -54,7 +57,7 @@ unreachable-requires g c =
     let watch = c.works.inside.watch in
     let there : AreThere (own ++ shares_in watch) (seats_for (length scripts) boards) =
     all_seats_there (start g.S.StoreId.id.setting) (length scripts) boards own watch
-    (all_there scripts own c.in_ok-own.transcripts.items c.in_ok-own.ensures.told) played.1 in
+    (all_there scripts own c.in_ok-own.ensures.told.ts c.in_ok-own.ensures.told.told) played.1 in
     let all : AreThere c.in_ok-shares.shares.items g.S.StoreId.id.counters.parts =
     subst (AreThere c.in_ok-shares.shares.items) (sym c.requires.seats)
     (subst (λ xs. AreThere xs (seats_for (length scripts) boards)) (sym c.in_ok-shares.ensures.shares) there) in
@@ -71,18 +74,21 @@ returns g c =
     let scripts = c.args.scripts.items in
     let boards = c.args.options.boards in
     let own = c.in_ok-own.own.items in
-    let ts = c.in_ok-own.transcripts.items in
+    let placed = c.in_ok-own.ensures.told in
+    let ts = placed.ts in
     let looks = c.in_ok-shares.looks.items in
     let journal = c.in-Ok.store.journal in
     let watch = c.works.inside.watch in
     let Seen : HandedIn → Type 0 = λ s. IsPrefix s.seen journal in
-    let lines = lines_told 1 scripts own ts c.in_ok-own.ensures.told in
+    let lines = lines_told 1 scripts own ts placed.told in
     let many : length looks ≡ boards = ap length c.in_ok-shares.ensures.looks ∙ as_many_looks S (length scripts) boards watch played.1 in
     let seen = all_front Seen own (shares_in watch) (subst (All Seen) c.in_ok-shares.ensures.shares c.in-Ok.ensures.end.seen) in
     let counted = calls_counted S (length scripts) boards own c.in_ok-shares.shares.items watch (length journal) played.1
     c.in_ok-shares.ensures.shares (ap (λ t. t.calls) c.in-Ok.ensures.end.tally) in
-    let all = all_told scripts own ts journal c.requires.few c.in_ok-own.ensures.told seen counted c.in-Ok.ensures.end.played.few in
+    let whole = all_told scripts own ts journal c.requires.few placed.told seen counted c.in-Ok.ensures.end.played.few in
+    let same = (all_placed scripts own c.in_ok-own.answered.items ts journal placed.placed placed.told seen whole).1 in
     is_run setting scripts boards ts looks c.make_outcome.result lines
-    (never_full journal ts all (subst AreShort (sym lines) c.in_ok-own.ensures.short)) many
+    (never_full journal ts whole (subst AreShort (sym lines) c.in_ok-own.ensures.short)) many
     (subst (λ s. IfOk c.make_outcome.result (IsServiceOf s)) c.in-Ok.ensures.setting c.make_outcome.ensures.outcome)
-    c.make_outcome.ensures.told c.make_outcome.ensures.fault
+    (subst (λ xs. IfOk c.make_outcome.result (λ o. (o.transcripts ≡ xs) × (o.boards ≡ looks))) same c.make_outcome.ensures.told)
+    c.make_outcome.ensures.fault

@@ -1,35 +1,32 @@
-use Rattle.std.proofs.Common.{◌≡◌, true, false, map, length, ap, subst, sym, ◌∙◌, arith}
+use Rattle.std.proofs.Common.{◌≡◌, true, false, length, ap, refl, subst, sym, ◌∙◌, arith}
 use Rattle.std.proofs.lemmas.List.{length-map}
 use Rattle.qplain.specs.State.{start}
 use Rattle.qaudit_checks.specs.LawfulBoards.{AreLawful, boards_in}
 use Rattle.qrun.specs.Serving.{HasSeatIn}
-use Rattle.qrun.proofs.Attended.{all_served_told, all_shares_there, attended_by, no_looks, of_clients, shown_lawful, staff_fits}
+use Rattle.qrun.proofs.Attended.{all_shares_there, attended_by, no_looks, of_clients, served_placed, shown_lawful, staff_fits}
 use Rattle.qrun.proofs.Naming.{names_on}
 use Rattle.qrun.proofs.service.serve_and_end.Goals as goal
 
 pub make_outcome-requires-clause-told : goal.make_outcome-requires-clause-told
 make_outcome-requires-clause-told g c =
     let at = attended_by g.C.Client.script _ _ _ _ _ _ _ _ _ _ _ _ c.requires.staff c.showing_of-showing.ensures
-    c.in_ok-attendants.ensures.clients_are c.in_ok-served.ensures c.in_ok-own.ensures.shares c.in_ok-own.ensures.transcripts
-    c.in_ok-shares.ensures.shares in
-    all_served_told _ _ _ _ _ _ _ _ at c.in-Ok.store.journal c.in-Ok.ensures.end.seen
-    (ap (λ t. t.calls) c.in-Ok.ensures.end.tally) c.in-Ok.ensures.end.played.few
+    c.in_ok-attendants.ensures.clients_are c.in_ok-served.ensures c.in_ok-own.ensures.shares refl c.in_ok-shares.ensures.shares in
+    (served_placed _ _ _ _ _ _ _ _ at c.in-Ok.store.journal c.in-Ok.ensures.end.seen c.in_ok-own.answered.items c.in_ok-own.ensures.answered
+    (ap (λ t. t.calls) c.in-Ok.ensures.end.tally) c.in-Ok.ensures.end.played.few).0
 
 pub make_outcome-requires-clause-lawful : goal.make_outcome-requires-clause-lawful
 make_outcome-requires-clause-lawful g c =
     let looks = c.in_ok-shares.looks.items in
     let journal = c.in-Ok.store.journal in
     let at = attended_by g.C.Client.script _ _ _ _ _ _ _ _ _ _ _ _ c.requires.staff c.showing_of-showing.ensures
-    c.in_ok-attendants.ensures.clients_are c.in_ok-served.ensures c.in_ok-own.ensures.shares c.in_ok-own.ensures.transcripts
-    c.in_ok-shares.ensures.shares in
+    c.in_ok-attendants.ensures.clients_are c.in_ok-served.ensures c.in_ok-own.ensures.shares refl c.in_ok-shares.ensures.shares in
     subst (λ s. AreLawful (start s) journal (boards_in looks)) (sym c.in-Ok.ensures.setting)
     (shown_lawful _ _ _ _ _ _ _ _ at journal c.in-Ok.ensures.end.seen looks c.in_ok-shares.ensures.looks)
 
 pub unreachable-requires : goal.unreachable-requires
 unreachable-requires g c =
     let at = attended_by g.C.Client.script _ _ _ _ _ _ _ _ _ _ _ _ c.requires.staff c.showing_of-showing.ensures
-    c.in_ok-attendants.ensures.clients_are c.in_ok-served.ensures c.in_ok-own.ensures.shares c.in_ok-own.ensures.transcripts
-    c.in_ok-shares.ensures.shares in
+    c.in_ok-attendants.ensures.clients_are c.in_ok-served.ensures c.in_ok-own.ensures.shares refl c.in_ok-shares.ensures.shares in
     let wrong : false ≡ true = c.in-Err.ensures.all (all_shares_there _ _ _ _ _ _ _ _ at) in
     absurd cc
 
@@ -46,9 +43,10 @@ returns-in_err-served-clause-fault g c =
 pub returns-clause-clients : goal.returns-clause-clients
 returns-clause-clients g c =
     let at = attended_by g.C.Client.script _ _ _ _ _ _ _ _ _ _ _ _ c.requires.staff c.showing_of-showing.ensures
-    c.in_ok-attendants.ensures.clients_are c.in_ok-served.ensures c.in_ok-own.ensures.shares c.in_ok-own.ensures.transcripts
-    c.in_ok-shares.ensures.shares in
+    c.in_ok-attendants.ensures.clients_are c.in_ok-served.ensures c.in_ok-own.ensures.shares refl c.in_ok-shares.ensures.shares in
     of_clients _ c.in_ok-served.served.items _ c.in_ok-outcome-in-Ok.outcome at.served
-    (c.in_ok-outcome-in-Ok.ensures.told.0 ∙ c.in_ok-own.ensures.transcripts)
+    (c.in_ok-outcome-in-Ok.ensures.told.0
+    ∙ (served_placed _ _ _ _ _ _ _ _ at c.in-Ok.store.journal c.in-Ok.ensures.end.seen c.in_ok-own.answered.items c.in_ok-own.ensures.answered
+    (ap (λ t. t.calls) c.in-Ok.ensures.end.tally) c.in-Ok.ensures.end.played.few).1)
     (c.in_ok-outcome-in-Ok.ensures.told.1 ∙ c.in_ok-shares.ensures.looks ∙ no_looks _ _ _ _ _ _ _ _ at)
     (c.in_ok-own.ensures.ends ∙ c.in_ok-served.served.ok.0)

@@ -1,4 +1,3 @@
-use Rattle.std.proofs.Common.{arith, rules}
 use Rattle.std.proofs.iter.Serving.{serving}
 use Rattle.qrun.specs.Serving.{AreNumbered}
 use Rattle.qrun.proofs.serving.attend_all.Goals as goal

@@ -2,13 +2,14 @@ use Rattle.std.proofs.Common.{◌≡◌, ◌+◌, ◌≤◌, List, ◌++◌, len
 use Rattle.std.specs.Vec.{vec_capacity, vec_len}
 use Rattle.std.specs.Vec.Iter.{into_iter_items, into_iter_len}
 use Rattle.qrun_worker.specs.Work.{Serving}
+use Rattle.qrun.specs.Told.{placed_of}
 use Rattle.qrun.proofs.telling.part_served.Given as goal
 
 abbrev pub invariant-loop-one : goal.invariant-loop-one
 invariant-loop-one g l =
     ((done : List Serving) × (done ++ into_iter_items l.one-iterator ≡ l.fn.served.items)
-    × (l.shares.items ≡ map (λ s. s.share) done) × (l.transcripts.items ≡ map (λ s. s.transcript) done)
+    × (l.shares.items ≡ map (λ s. s.share) done) × (l.all.items ≡ map (λ s. placed_of s.transcript) done)
     × (vec_len l.ends ≡ length done))
     × (vec_len l.shares + into_iter_len l.one-iterator ≤ vec_capacity l.shares)
-    × (vec_len l.transcripts + into_iter_len l.one-iterator ≤ vec_capacity l.transcripts)
+    × (vec_len l.all + into_iter_len l.one-iterator ≤ vec_capacity l.all)
     × (vec_len l.ends + into_iter_len l.one-iterator ≤ vec_capacity l.ends)

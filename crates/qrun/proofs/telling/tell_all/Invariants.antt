@@ -6,6 +6,6 @@ use Rattle.qrun.proofs.telling.tell_all.Given as goal
 
 abbrev pub invariant-loop-work : goal.invariant-loop-work
 invariant-loop-work g l =
-    IsToldSoFar l.fn.scripts.items l.shares.items l.transcripts.items (into_iter_items l.rest) (into_iter_items l.work-iterator)
+    IsToldSoFar l.fn.scripts.items l.shares.items l.all.items (into_iter_items l.rest) (into_iter_items l.work-iterator)
     × (vec_len l.shares + into_iter_len l.work-iterator ≤ vec_capacity l.shares)
-    × (vec_len l.transcripts + into_iter_len l.work-iterator ≤ vec_capacity l.transcripts)
+    × (vec_len l.all + into_iter_len l.work-iterator ≤ vec_capacity l.all)

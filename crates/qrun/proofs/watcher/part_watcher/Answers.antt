@@ -1,5 +1,5 @@
-use Rattle.std.proofs.Common.{◌≡◌, ◌+◌, ◌<◌, Some, length, ap, arith, ◌∙◌}
-use Rattle.qshare.specs.Seats.{new_seat, seats_of}
+use Rattle.std.proofs.Common.{◌+◌, ◌<◌, Some, length, ap, arith, ◌∙◌}
+use Rattle.qshare.specs.Seats.{new_seat}
 use Rattle.qrun.proofs.Seating.{last_seat, seats_many}
 use Rattle.qrun.proofs.watcher.part_watcher.Goals as goal
 

@@ -1,4 +1,6 @@
+use Rattle.std.specs.List.{range_with_len}
 use Rattle.qrun_replay.proofs.Coming.{again}
+use Rattle.qrun_replay.proofs.Placing.{all_places, transcripts_seen}
 use Rattle.qrun_replay.proofs.replays.play_again.Goals as goal
 
 pub outcome_of-requires-clause-of_edition : goal.outcome_of-requires-clause-of_edition
@@ -11,6 +13,14 @@ outcome_of-requires-clause-of_edition c =
       c.requires.edition,
     ) (λ k d less. (c.entries.ensures.lawful.each k d less).3)
 
+pub outcome_of-requires-clause-places : goal.outcome_of-requires-clause-places
+outcome_of-requires-clause-places c =
+    rw (
+      c.in_ok-replay_all.ensures.ok,
+      c.entries.ensures.entries,
+      c.in_ok-answered.ensures,
+    ) (all_places c.args.journal.now.entries (range_with_len 1 c.args.journal.now.workers))
+
 pub returns-clause-replay : goal.returns-clause-replay
 returns-clause-replay c =
     again c.args.setup c.args.journal.now c.in_ok-outcome_of.field-0 c.requires.edition
@@ -19,7 +29,8 @@ returns-clause-replay c =
       c.in_ok-store.ensures.setting,
       c.in_ok-replay_all.ensures.ok,
       c.entries.ensures.entries,
-      c.in_ok-transcripts.ensures,
+      c.in_ok-answered.ensures,
+      transcripts_seen c.args.journal.now.entries (range_with_len 1 c.args.journal.now.workers),
       c.workers.ensures,
       c.new-no_boards.ensures,
       c.new-2.ensures.items,

@@ -1,11 +1,11 @@
 use Rattle.std.proofs.Common.{length, arith, refl, sym, ◌∙◌}
-use Rattle.qrun_worker.proofs.Working.{next_line, one_more_held, room_left, same_worker, seen_more}
+use Rattle.qrun_worker.proofs.Working.{next_line, one_more_held_place, placed_more, room_left, same_worker}
 use Rattle.qrun_worker.proofs.worker.play_held.Goals as goal
 
 pub loop-init : goal.loop-init
 loop-init g c = (
-  seen_more c.args.seat.now.worker c.args.lines.now c.args.seat.now.tally.calls c.args.seat.now.seen c.args.held.journal c.args.answers.now.items
-      c.requires.answered c.requires.held.begins,
+  placed_more c.args.seat.now.worker c.args.lines.now c.args.seat.now.tally.calls c.args.seat.now.seen c.args.held.journal c.args.places.now.items
+      c.requires.placed c.requires.held.begins,
   omega arith,
   refl,
   omega (arith, c.requires.held.room),
@@ -24,11 +24,12 @@ loop-preserved g c =
     let old = c.loop.held in
     let new = c.apply-answer.new.self in
     let seat = c.apply-answer.new.seat in
-    let answers = c.loop.answers in (
-      one_more_held g.S.StoreId.id.setting lines old new c.loop.seat seat answers.items c.push_reserved.new.self.items line answer so_far.0
-          (next_line lines c.len.result (length answers.items) line line c.index-lines-len.is
-          (omega (arith, c.len.ensures, so_far.1, c.loop-test.true, c.requires.room.0)) (sym (c.len.ensures ∙ answers.ok.0)))
-          applied.ok applied.stays applied.err applied.full pushed.items,
+    let places = c.loop.places in (
+      one_more_held_place g.S.StoreId.id.setting lines old new c.loop.seat seat places.items c.push_reserved.new.self.items line answer
+          c.place_of.result so_far.0
+          (next_line lines c.len.result (length places.items) line line c.index-lines-len.is
+          (omega (arith, c.len.ensures, so_far.1, c.loop-test.true, c.requires.room.0)) (sym (c.len.ensures ∙ places.ok.0)))
+          applied.ok applied.stays applied.err applied.full c.place_of.ensures pushed.items,
       omega (arith, pushed.len, so_far.1),
       pushed.capacity ∙ so_far.2,
       room_left old new c.loop.seat seat line answer c.args.many c.loop.counter applied.ok applied.err so_far.3,

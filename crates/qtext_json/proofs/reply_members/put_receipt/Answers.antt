@@ -5,5 +5,5 @@ use Rattle.qtext.proofs.Fronts.{refused_first}
 use Rattle.qtext_json.proofs.reply_members.put_receipt.Goals as goal
 
 pub returns-in_err-put_place : goal.returns-in_err-put_place
-returns-in_err-put_place g c = refused_first _ _ _ (member (codes "place") (decimal c.args.receipt.now.place))
-    (reply_members c.args.receipt.now.reply) c.from_residual.ensures.0 c.in_err-put_place.ensures
+returns-in_err-put_place g c = refused_first _ _ _ (member (codes "place") (decimal c.args.place))
+    (reply_members c.args.reply.now) c.from_residual.ensures.0 c.in_err-put_place.ensures

@@ -1,5 +1,4 @@
-use Rattle.std.proofs.Common.{◌++◌, List, ℕ, append_assoc, codes, refl, sym}
-use Rattle.qtext.specs.Written.{Partly}
+use Rattle.std.proofs.Common.{◌++◌, List, ℕ, codes, refl}
 use Rattle.qtext.proofs.Fronts.{ends_refused, partly_done, partly_on, partly_then, writes_then}
 use Rattle.qtext_write.proofs.Behind.{behind, refused_whole}
 use Rattle.qtext_write.specs.Answers.{answer_text}
@@ -24,7 +23,7 @@ pub returns-in_err-put_all : goal.returns-in_err-put_all
 returns-in_err-put_all g c =
     let head : List ℕ = line_head c.args.place c.args.line.now in
     let call : List ℕ = shown_call c.args.line.now.call in
-    let answer : List ℕ = answer_text c.args.answer.now in
+    let answer : List ℕ = answer_text c.args.answer in
     let passes = rw (
       c.byte-2.ensures.byte,
       c.put_caller.ensures.text,
@@ -43,7 +42,7 @@ pub returns : goal.returns
 returns g c =
     let head : List ℕ = line_head c.args.place c.args.line.now in
     let call : List ℕ = shown_call c.args.line.now.call in
-    let answer : List ℕ = answer_text c.args.answer.now in
+    let answer : List ℕ = answer_text c.args.answer in
     let passes = rw (
       c.byte-2.ensures.byte,
       c.put_caller.ensures.text,

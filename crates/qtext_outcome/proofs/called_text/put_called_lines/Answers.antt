@@ -1,17 +1,29 @@
-use Rattle.std.proofs.Common.{◌+◌, arith}
+use Rattle.std.proofs.Common.{◌+◌, ap, arith, length}
 use Rattle.qtext.proofs.Fronts.{ends_refused, partly_done, partly_next}
 use Rattle.qtext_outcome.proofs.CalledLines.{called_next, over}
 use Rattle.qtext_outcome.proofs.called_text.put_called_lines.Goals as goal
 
 pub loop-at-preserved : goal.loop-at-preserved
-loop-at-preserved g c = partly_next _ _ _ _ _ _ _ c.loop-at.invariant c.in_ok-put_called.ensures
-    (called_next (c.loop-at.at + 1) c.loop-at.at c.args.lines.now c.args.answers.now _ _ c.index-lines-at.is c.index-answers-at.is
-    (omega arith) (omega arith))
+loop-at-preserved g c =
+    let at = c.loop-at.at in
+    let told = c.args.transcript.now in
+    partly_next _ _ _ _ _ _ _ c.loop-at.invariant c.in_ok-put_called.ensures
+    (called_next (at + 1) at told.lines told.answers c.index-lines-at.result c.answer-answer.result
+    (rw c.lines-lines.ensures at c.index-lines-at.is) (c.answer-answer.ensures c.answer-answer.result)
+    (omega (arith, ap length c.lines-lines.ensures)) (omega (arith, c.len.ensures)))
 
 pub returns-in_err-put_called : goal.returns-in_err-put_called
-returns-in_err-put_called g c = ends_refused _ _ _ _ _ _ _ _ c.from_residual.ensures.0 c.loop-at.invariant c.in_err-put_called.ensures
-    (called_next (c.loop-at.at + 1) c.loop-at.at c.args.lines.now c.args.answers.now _ _ c.index-lines-at.is c.index-answers-at.is
-    (omega arith) (omega arith))
+returns-in_err-put_called g c =
+    let at = c.loop-at.at in
+    let told = c.args.transcript.now in
+    ends_refused _ _ _ _ _ _ _ _ c.from_residual.ensures.0 c.loop-at.invariant c.in_err-put_called.ensures
+    (called_next (at + 1) at told.lines told.answers c.index-lines-at.result c.answer-answer.result
+    (rw c.lines-lines.ensures at c.index-lines-at.is) (c.answer-answer.ensures c.answer-answer.result)
+    (omega (arith, ap length c.lines-lines.ensures)) (omega (arith, c.len.ensures)))
 
 pub returns : goal.returns
-returns g c = partly_done _ _ _ (rw (over (c.loop-at.at + 1) c.loop-at.at c.args.lines.now c.args.answers.now (omega arith)) at c.loop-at.invariant)
+returns g c =
+    let told = c.args.transcript.now in
+    partly_done _ _ _
+    (rw (over (c.loop-at.at + 1) c.loop-at.at told.lines told.answers (omega (arith, c.len.ensures, ap length c.lines-lines.ensures)))
+    at c.loop-at.invariant)

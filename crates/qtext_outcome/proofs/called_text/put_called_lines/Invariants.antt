@@ -5,4 +5,5 @@ use Rattle.qtext_outcome.proofs.called_text.put_called_lines.Given as goal
 
 abbrev pub invariant-loop-at : goal.invariant-loop-at
 invariant-loop-at g l = Partly (g.W.Write.contents l.fn.out) (g.W.Write.contents l.out)
-    (called_lines 1 l.lines l.answers) (called_lines (l.at + 1) (drop l.at l.lines) (drop l.at l.answers))
+    (called_lines 1 l.transcript.lines l.transcript.answers)
+    (called_lines (l.at + 1) (drop l.at l.transcript.lines) (drop l.at l.transcript.answers))

@@ -6,9 +6,10 @@ use Rattle.qtext_outcome.proofs.called_text.put_called_transcript.Goals as goal
 pub returns-in_err-put_worker : goal.returns-in_err-put_worker
 returns-in_err-put_worker g c =
     refused_first _ _ _ (worker_text c.args.transcript.now.worker)
-    (called_lines 1 c.args.transcript.now.lines c.args.transcript.now.answers) c.from_residual.ensures.0 c.in_err-put_worker.ensures
+    (called_lines 1 c.args.transcript.now.lines c.args.transcript.now.answers) c.from_residual.ensures.0
+    (rw c.worker.ensures at c.in_err-put_worker.ensures)
 
 pub returns : goal.returns
 returns g c = writes_then _ _ _ _ (worker_text c.args.transcript.now.worker)
-    (called_lines 1 c.args.transcript.now.lines c.args.transcript.now.answers) c.in_ok-put_worker.ensures
-    (rw (c.as_slice.ensures, c.as_slice-2.ensures) at c.put_called_lines.ensures)
+    (called_lines 1 c.args.transcript.now.lines c.args.transcript.now.answers) (rw c.worker.ensures at c.in_ok-put_worker.ensures)
+    c.put_called_lines.ensures

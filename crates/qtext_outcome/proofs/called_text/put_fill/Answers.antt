@@ -1,4 +1,3 @@
-use Rattle.std.proofs.Common.{◌++◌, ◌∷◌, [], append_assoc, codes, decimal, sym}
 use Rattle.qtext.proofs.Fronts.{partly_on, passes_front}
 use Rattle.qtext_outcome.proofs.CalledLines.{fill_joined, fill_rest, rest_joined}
 use Rattle.qtext_outcome.proofs.called_text.put_fill.Goals as goal

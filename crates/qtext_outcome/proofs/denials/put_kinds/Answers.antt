@@ -1,6 +1,5 @@
-use Rattle.std.proofs.Common.{◌≡◌, ℕ, List, map, refl, sym}
+use Rattle.std.proofs.Common.{ℕ, List, refl}
 use Rattle.std.specs.Borrow.{Bor}
-use Rattle.std.specs.List.{flat_map}
 use Rattle.std.proofs.lemmas.List.Folds.{flat_map-map}
 use Rattle.qtext.proofs.Fronts.{rows_end, rows_go_on, rows_refused}
 use Rattle.qtext_outcome.specs.Denials.{denial_line, denied}

@@ -1,4 +1,3 @@
-use Rattle.std.proofs.Common.{◌++◌}
 use Rattle.qaudit.specs.Reports.{report_text}
 use Rattle.qtext.proofs.Fronts.{appends_then, front_of_first, front_of_second, refused_first, writes_then}
 use Rattle.qtext_outcome.specs.Outcomes.{moment_text, rest_text}

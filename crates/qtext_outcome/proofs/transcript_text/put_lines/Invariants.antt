@@ -4,7 +4,7 @@ use Rattle.qtext.specs.Written.{Partly}
 use Rattle.qtext_write.specs.Answers.{answer_text}
 use Rattle.qtext_outcome.proofs.transcript_text.put_lines.Given as goal
 
-abbrev pub invariant-loop-answer : goal.invariant-loop-answer
-invariant-loop-answer g l =
-    Partly (g.W.Write.contents l.fn.out) (g.W.Write.contents l.out) (flat_map answer_text l.answers)
-    (flat_map answer_text (drop l.answer-index l.answers))
+abbrev pub invariant-loop-at : goal.invariant-loop-at
+invariant-loop-at g l =
+    Partly (g.W.Write.contents l.fn.out) (g.W.Write.contents l.out) (flat_map answer_text l.transcript.answers)
+    (flat_map answer_text (drop l.at l.transcript.answers))

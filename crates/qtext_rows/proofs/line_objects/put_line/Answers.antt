@@ -7,4 +7,4 @@ use Rattle.qtext_rows.proofs.line_objects.put_line.Goals as goal
 
 pub returns-in_err-put_start : goal.returns-in_err-put_start
 returns-in_err-put_start g c = refused_first _ _ _ (line_start c.args.worker c.args.place)
-    ((if c.args.calls then asked_members c.args.line.now else []) ++ answer_members c.args.answer.now) c.from_residual.ensures.0 c.in_err-put_start.ensures
+    ((if c.args.calls then asked_members c.args.line.now else []) ++ answer_members c.args.answer) c.from_residual.ensures.0 c.in_err-put_start.ensures

@@ -1,4 +1,3 @@
-use Rattle.std.proofs.Common.{◌≡◌}
 use Rattle.qrun.specs.Watching.{HasWaited}
 use Rattle.qrun.proofs.pace.Pace.waits_for_more.Given as goal
 

@@ -1,9 +1,9 @@
-use Rattle.std.proofs.Common.{◌≡◌, ◌+◌, ◌<◌, ◌≤◌, IfSome, [], ◌∷◌, ◌++◌, length, slice_index_or, below_more, refl, sym, ap, subst, ◌∙◌, append_assoc, length-append, arith}
+use Rattle.std.proofs.Common.{◌≡◌, ◌+◌, ◌<◌, ◌≤◌, IfSome, [], ◌∷◌, ◌++◌, length, slice_index_or, below_more, refl, sym, ap, subst, ◌∙◌, arith}
 use Rattle.std.proofs.lemmas.List.{get_or_append_left, get_or_push}
 use Rattle.std.specs.Vec.Iter.{into_iter_items}
 use Rattle.qplain.specs.State.{start}
 use Rattle.qrun.specs.Watching.{IsWatchOf, seats_for}
-use Rattle.qrun_worker.specs.Work.{IsWork}
+use Rattle.qrun_worker.specs.Work.{IsPlaced}
 use Rattle.qplain.specs.Journal.{no_tally}
 use Rattle.qrun.specs.WorkerEnds.{AreDone}
 use Rattle.qrun.proofs.Naming.{scripts_fit, watcher_fits, watcher_idle}
@@ -78,8 +78,8 @@ returns-in-Ok-join_promised g c =
             let inv = c.loop-worker.invariant.2 k h lines low in
             let worker : h.promise.worker ≡ k + 1 = ap (λ x. x.promise.worker) at.1.handle_is ∙ inv.0 in
             let script : h.promise.lines.now ≡ slice_index_or scripts k lines = ap (λ x. x.promise.lines.now) at.1.handle_is ∙ inv.1 in
-            subst (λ ls. IsWork (k + 1) ls (slice_index_or works.items k d)) script
-            (subst (λ m. IsWork m h.promise.lines.now (slice_index_or works.items k d)) worker at.1.kept);
+            subst (λ ls. IsPlaced (k + 1) ls (slice_index_or works.items k d)) script
+            (subst (λ m. IsPlaced m h.promise.lines.now (slice_index_or works.items k d)) worker at.1.kept);
       },
       subst (λ w. IsWatchOf (start g.S.StoreId.id.setting) boards w c.in_ok-watch.watch) c.requires.ready.watcher_is looked,
     )

@@ -1,6 +1,7 @@
 //! How far a run is, told while it goes on where standard error is a terminal.
 
-use qtool::{Gate, Script};
+use qplain::Script;
+use qrun::Gate;
 use std::io::{IsTerminal, Write};
 use std::sync::atomic::{AtomicU64, Ordering};
 
@@ -9,7 +10,7 @@ const STEP: u64 = 4096;
 
 /// The lines of a run that are made, of all its lines: one line of the terminal, which is written over.
 #[derive(Drop)]
-pub(crate) struct Progress<'a> {
+pub struct Progress<'a> {
     rt: &'a HostRuntime,
     lines: u64,
     told: AtomicU64,

@@ -18,7 +18,7 @@ pub(crate) const STANDARD: &str = "-";
 
 /// Where a client's lines come from.
 #[derive(Drop)]
-pub(crate) enum Source {
+pub enum Source {
     Input(io::Stdin),
     File(File),
 }
@@ -34,7 +34,7 @@ impl Read for Source {
 
 /// Where a client's replies go.
 #[derive(Drop)]
-pub(crate) enum Sink {
+pub enum Sink {
     Output(io::Stdout),
     File(File),
 }
@@ -57,7 +57,7 @@ impl Write for Sink {
 
 /// The streams of a client by name. They are opened in the client's own thread, since that waits for the other side.
 #[derive(Drop)]
-pub(crate) struct ClientStreams<'a> {
+pub struct ClientStreams<'a> {
     pub(crate) rt: &'a HostRuntime,
     pub(crate) input: String,
     pub(crate) output: String,

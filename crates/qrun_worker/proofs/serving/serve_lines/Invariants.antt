@@ -1,6 +1,6 @@
 use Rattle.std.proofs.Common.{◌≡◌, length}
 use Rattle.qrun_worker.specs.Work.{AreAnswers}
-use Rattle.qrun_worker.proofs.worker.play_each.Given as goal
+use Rattle.qrun_worker.proofs.serving.serve_lines.Given as goal
 
 abbrev pub invariant-loop : goal.invariant-loop
 invariant-loop g l = AreAnswers l.seat.worker (g.C.Client.given l.client) l.seat.seen l.seat.tally.calls (g.C.Client.told l.client)

@@ -1,8 +1,8 @@
-use Rattle.std.proofs.Common.{◌∷◌, ◌++◌, [], length, arith, refl, sym, ap, subst, length-append, ◌∙◌}
+use Rattle.std.proofs.Common.{◌∷◌, [], length, arith, refl, sym, ap, subst, length-append, ◌∙◌}
 use Rattle.qrun_worker.proofs.Clients.{one_line_more}
 use Rattle.qrun_worker.proofs.Working.{none_answered_yet, one_more_called}
 use Rattle.qrun_worker.specs.Work.{AreAnswers}
-use Rattle.qrun_worker.proofs.worker.play_each.Goals as goal
+use Rattle.qrun_worker.proofs.serving.serve_lines.Goals as goal
 
 pub loop-init : goal.loop-init
 loop-init g c = (

@@ -1,10 +1,13 @@
 //! A file that is written beside its place, and takes it when it is whole.
 
 use crate::client_streams::{STANDARD, Sink};
-use crate::{OUTPUT_BUFFER, seed};
 use std::fs::{self, File, OpenOptions, Permissions};
 use std::io::{self, BufWriter, ErrorKind, Write};
 use std::os::unix::fs::{MetadataExt, PermissionsExt};
+use std::random::RandomSource;
+
+/// As much of a file is gathered before it is written, in bytes.
+const FILE_BUFFER: usize = 262_144;
 
 /// So many numbers are there for the names of drafts.
 const NUMBERS: u64 = 1_000_000_000;
@@ -14,7 +17,7 @@ const TRIES: u64 = 64;
 
 /// A file that is written. What has a place of its own in the folder, as a regular file, is written beside it.
 #[derive(Drop)]
-pub(crate) struct Draft {
+pub struct Draft {
     out: BufWriter<Sink>,
     beside: Option<Beside>,
 }
@@ -56,9 +59,18 @@ fn place_of(rt: &HostRuntime, name: &str) -> io::Result<Option<String>> {
     }
 }
 
+/// A number by chance, or 0 where the machine has no source of it.
+fn chance(rt: &HostRuntime) -> u64 {
+    let mut bytes = [0; 8];
+    match rt.fill_bytes(&mut bytes) {
+        Ok(()) => u64::from_le_bytes(bytes),
+        Err(_) => 0,
+    }
+}
+
 /// A new file beside a place, under a name that no other run has: where one is taken, the next is tried.
 fn new_beside(rt: &HostRuntime, place: &str) -> io::Result<(String, File)> {
-    let first = seed(rt) % NUMBERS;
+    let first = chance(rt) % NUMBERS;
     for further in 0..TRIES {
         let own = format!(in rt.alloc(); "{place}.{}.part", first + further)?;
         match File::create_new(rt, own.as_str()) {
@@ -80,7 +92,7 @@ fn inherit(rt: &HostRuntime, place: &str, file: &File) -> io::Result<()> {
 }
 
 fn buffered(rt: &HostRuntime, sink: Sink) -> io::Result<BufWriter<Sink>> {
-    Ok(BufWriter::with_capacity(rt.alloc(), OUTPUT_BUFFER, sink)?)
+    Ok(BufWriter::with_capacity(rt.alloc(), FILE_BUFFER, sink)?)
 }
 
 /// What is written to a new file, ready for its place.

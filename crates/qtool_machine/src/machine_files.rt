@@ -3,8 +3,8 @@
 use crate::client_streams::{ClientStreams, STANDARD};
 use crate::draft::Draft;
 use crate::progress::Progress;
-use qplain::NoMemory;
-use qtool::{FileFault, Files, NamedStreams, Script};
+use qplain::{NoMemory, Script};
+use qtool_files::{FileFault, Files, NamedStreams};
 use std::fs;
 use std::io::{self, BufWriter, ErrorKind, Read, Stderr};
 use std::os::unix::fs::MetadataExt;
@@ -18,10 +18,11 @@ const OUTPUT: &str = "/proc/self/fd/1";
 /// As long a fault line of a client goes out by one write, in bytes.
 const FAULT_BUFFER: usize = 4096;
 
-/// The machine's files.
+/// The machine's files, as the runtime of the program's `main` reaches them.
 #[derive(Drop)]
-pub(crate) struct MachineFiles<'a> {
-    pub(crate) rt: &'a HostRuntime,
+pub struct MachineFiles<'a> {
+    /// What `main` is given.
+    pub rt: &'a HostRuntime,
 }
 
 fn fault_of(error: &io::Error) -> FileFault {

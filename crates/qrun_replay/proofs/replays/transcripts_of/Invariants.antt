@@ -1,7 +1,0 @@
-use Rattle.std.proofs.Common.{◌≡◌, map}
-use Rattle.std.specs.List.{range_with_len}
-use Rattle.qrun_replay.specs.Replays.{transcript_in}
-use Rattle.qrun_replay.proofs.replays.transcripts_of.Given as goal
-
-abbrev pub invariant-loop-before : goal.invariant-loop-before
-invariant-loop-before l = l.transcripts.items ≡ map (transcript_in l.entries) (range_with_len 1 l.before)
