@@ -10,10 +10,4 @@ told None over h = cc
 told (Some x) over h = cc
 
 pub returns-in-Err : goal.returns-in-Err
-returns-in-Err c =
-    let x = c.args in
-    let uses : first_fault x.self.now.account x.moment c.blocks-2.result c.inodes.result
-    ≡ first_fault x.self.now.account x.moment x.after.now.blocks x.after.now.inodes =
-    λ i. first_fault x.self.now.account x.moment (c.blocks-2.ensures.blocks i) (c.inodes.ensures.inodes i) in
-    let fault = told (first_fault x.self.now.account x.moment c.blocks-2.result c.inodes.result) c.in-Err.over (sym c.test_uses.ensures ∙ c.in-Err.is) in
-    sym (ap (option_map (λ over. EDQUOT x.kind over)) (sym uses ∙ fault))
+returns-in-Err c = ?
