@@ -97,7 +97,7 @@ module _ (b : Books) (from to : Option Claim) (S S1 : State) (f t : Option Inode
     kind-posted : (kind : Kind)
         → map (posted b.graces bill.moment (postings_in kind bill)) (ledger_in kind b) ≡ map (holder_after S1 moment kind) (ledger_in kind b)
     kind-posted kind =
-        (λ i. map (posted (graces-then i) (is.moment i) (postings_in kind bill)) (ledger_in kind b))
+        (λ i. map (posted (graces-then i) (is.time i) (postings_in kind bill)) (ledger_in kind b))
         ∙ posted-all (ledger_in kind b) kind (option_and_then (share_in kind) from) (option_and_then (share_in kind) to) S S1 f t
         (by_id-in b in_range kind) (replaced kind) moment (postings_in kind bill) (is.posted kind)
 
@@ -157,7 +157,7 @@ placed-both os kind S1 from to p done = record {
 pub bill-placed : (b : Books) (from to : Option Claim) (S S1 : State) (moment : ℕ) (bill : Bill) → moment ≤ MAX_MOMENT
     → IsBillOf b from to S S1 moment bill → IsBillFor b bill
 bill-placed b from to S S1 moment bill time is =
-    record { users = kind User; groups = kind Group; projects = kind Project; moment = subst (λ n. n ≤ MAX_MOMENT) (sym is.moment) time }
+    record { users = kind User; groups = kind Group; projects = kind Project; moment = subst (λ n. n ≤ MAX_MOMENT) (sym is.time) time }
   where
     kind : (k : Kind) → ArePlaced (ledger_in k b) (postings_in k bill)
     kind k = placed-both (ledger_in k b) k S1 (option_and_then (share_in k) from) (option_and_then (share_in k) to) (postings_in k bill) (is.posted k)

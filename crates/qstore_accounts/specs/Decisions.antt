@@ -23,7 +23,7 @@ pub record IsBillOf (b : Books) (from to : Option Claim) (S S1 : State) (moment 
       (option_and_then (share_in kind) from) (option_and_then (share_in kind) to) (postings_in kind bill)
   pub blocks : bill.blocks ≡ total_of S1 Blocks
   pub inodes : bill.inodes ≡ total_of S1 Inodes
-  pub moment : bill.moment ≡ moment
+  pub time : bill.moment ≡ moment
 
 -- why a bill is refused, if it is: space comes before quota, and the superuser passes every quota
 abbrev pub bill_refusal : Books → Caller → ℕ → ℕ → Bill → Option Refusal

@@ -24,6 +24,7 @@ use crate::claim::{Claim, share_of, weight_of};
 use crate::kept_holder::KeptHolder;
 use crate::known_callers::KnownCallers;
 use crate::ledger::Ledger;
+use crate::times::Times;
 use qplain::{Cred, MAX_NUMBER, NoMemory, Refusal, Setup};
 use qrules::{Graces, Kind, Limits, MAX_MOMENT, RecordRow};
 use std::alloc::Global;
@@ -292,10 +293,13 @@ impl Accounts {
         requires { IsBillFor self.old bill.now }
         ensures { self.new ≡ settled bill.now self.old }
     {
-        let (graces, moment) = (self.graces, bill.moment);
-        self.users.settle(&bill.users, graces, moment);
-        self.groups.settle(&bill.groups, graces, moment);
-        self.projects.settle(&bill.projects, graces, moment);
+        let times = Times {
+            graces: self.graces,
+            moment: bill.moment,
+        };
+        self.users.settle(&bill.users, times);
+        self.groups.settle(&bill.groups, times);
+        self.projects.settle(&bill.projects, times);
         self.blocks = bill.blocks;
         self.inodes = bill.inodes;
     }

@@ -16,6 +16,7 @@ use crate::bill::{Posting, Postings, clear};
 use crate::change::Change;
 use crate::claim::{OwnerClaim, apart, weight_at};
 use crate::kept_holder::{KeptHolder, board_row, new_holder};
+use crate::times::Times;
 use qplain::{NoMemory, Principal, Refusal};
 use qrules::{BoardRow, Graces, Kind, Limits, MAX_GRACE, RecordRow};
 use std::alloc::Global;
@@ -188,15 +189,15 @@ impl Ledger {
 
     /// Changes a record where it stands.
     #[inline(always)]
-    fn post(&mut self, posting: &Option<Posting>, graces: Graces, moment: u64)
+    fn post(&mut self, posting: &Option<Posting>, times: Times)
         requires placed { IsPlaced self.old posting.now }
-        requires times { AreTimesInRange graces moment }
-        ensures { self.new ≡ map (post graces moment posting.now) self.old }
+        requires times { AreTimesInRange times.graces times.moment }
+        ensures { self.new ≡ map (post times.graces times.moment posting.now) self.old }
     {
         match posting {
             Some(posting) => {
                 let account = &mut self.holders[posting.slot].account;
-                posting.change.make(account, graces, moment);
+                posting.change.make(account, times);
             }
             None => {}
         }
@@ -204,13 +205,13 @@ impl Ledger {
 
     /// Changes both records of the postings where they stand.
     #[inline(always)]
-    pub(crate) fn settle(&mut self, postings: &Postings, graces: Graces, moment: u64)
+    pub(crate) fn settle(&mut self, postings: &Postings, times: Times)
         requires placed { ArePlaced self.old postings.now }
-        requires times { AreTimesInRange graces moment }
-        ensures { self.new ≡ map (posted graces moment postings.now) self.old }
+        requires times { AreTimesInRange times.graces times.moment }
+        ensures { self.new ≡ map (posted times.graces times.moment postings.now) self.old }
     {
-        self.post(&postings.from, graces, moment);
-        self.post(&postings.to, graces, moment);
+        self.post(&postings.from, times);
+        self.post(&postings.to, times);
     }
 
     /// Appends the rows of these records.

@@ -15,3 +15,4 @@ mod claim;
 mod kept_holder;
 mod known_callers;
 mod ledger;
+mod times;

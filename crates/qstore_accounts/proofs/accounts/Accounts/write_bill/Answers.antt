@@ -85,8 +85,8 @@ returns-clause-bill c = rw (← c.self.view_is) (λ S S1 f t r.
           (posted-shares b.groups Group S1 c.write_postings-2.new.postings c.share_of-group.ensures c.share_of-next_group.ensures
           (c.write_postings-2.ensures Group S S1 f t (rw (c.share_of-group.ensures, c.share_of-next_group.ensures) (of_kind Group))))
           (posted-shares b.projects Project S1 c.write_postings-3.new.postings c.share_of-project.ensures c.share_of-next_project.ensures
-          (c.write_postings-3.ensures Project S S1 f t (rw (c.share_of-project.ensures, c.share_of-next_project.ensures) (of_kind Project)))));
+          (c.write_postings-3.ensures Project S S1 f t (rw (c.share_of-project.ensures, c.share_of-next_project.ensures) (of_kind Project))));
       blocks = (λ i. r.books.blocks i + (gained i).blocks - (lost i).blocks) ∙ total-then b x.from x.to S S1 f t r Blocks;
       inodes = (λ i. r.books.inodes i + (gained i).inodes - (lost i).inodes) ∙ total-then b x.from x.to S S1 f t r Inodes;
-      moment = refl;
+      time = refl;
     })
