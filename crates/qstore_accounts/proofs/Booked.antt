@@ -181,6 +181,15 @@ total-then b from to S S1 f t r sort =
     let lost = claim-weight b.users from f sort (r.lost User) in
     omega (arith, sum, gained, lost)
 
+-- and no more is taken from the total than is there
+pub lost-total : (b : Books) (from to : Option Claim) (S S1 : State) (f t : Option Inode) → IsReplacement b from to S S1 f t → (sort : Sort)
+    → part sort (weight_in from) ≤ total_of S sort + part sort (weight_in to)
+lost-total b from to S S1 f t r sort =
+    let sum = r.replaces.totals sort in
+    let gained = claim-weight b.users to t sort (r.gained User) in
+    let lost = claim-weight b.users from f sort (r.lost User) in
+    omega (arith, sum, gained, lost)
+
 -- the books stay in their ranges after a bill
 pub in_range-settled : (b : Books) (bill : Bill) → AreInRange b → AreInRange (settled bill b)
 in_range-settled b bill is = record {

@@ -1,5 +1,5 @@
 -- A posting puts its row in its place: what that makes of the rows of a board.
-use Rattle.std.proofs.Common.{◌≡◌, ◌≢◌, ℕ, zero, suc, ◌+◌, ◌-◌, ◌≤◌, ◌==◌, Bool, true, false, List, [], ◌∷◌, ◌++◌, length, map, set, All, Option, Some, None, inl, inr, option_map, slice_get, refl, sym, ap, subst, ◌∙◌, ◌⊎◌, IfSome, tests, arith}
+use Rattle.std.proofs.Common.{◌≡◌, ◌≢◌, ℕ, zero, suc, ◌+◌, ◌-◌, ◌≤◌, ◌==◌, Bool, true, false, List, [], ◌∷◌, ◌++◌, length, map, set, All, Option, Some, None, inl, inr, option_map, slice_get, refl, sym, ap, subst, ◌∙◌, IfSome, tests, arith}
 use Rattle.std.proofs.lemmas.Bool.{cond-false, cond-true}
 use Rattle.std.proofs.lemmas.List.{length-append, length-map, set-append_left, set-append_right, set-get_or}
 use Rattle.std.proofs.lemmas.List.Elements.{All-append, All-cons, All-nil}

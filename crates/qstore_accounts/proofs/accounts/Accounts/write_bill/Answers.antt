@@ -1,4 +1,4 @@
-use Rattle.std.proofs.Common.{◌≡◌, ℕ, ◌+◌, ◌-◌, List, Option, refl, sym, subst, ◌∙◌}
+use Rattle.std.proofs.Common.{◌≡◌, ◌+◌, ◌-◌, List, Option, refl, sym, ap, subst, ◌∙◌, arith}
 use Rattle.qrules.specs.declared.kind.Kind.{Kind}
 use Rattle.qrules.specs.declared.kind.Kind.TheVariants.{User, Group, Project}
 use Rattle.qrules.specs.Sort.{Inodes, Blocks}
@@ -10,11 +10,11 @@ use Rattle.qstore_accounts.specs.declared.kept_holder.KeptHolder.{KeptHolder}
 use Rattle.std.specs.Option.{option_and_then}
 use Rattle.qrules.specs.Kinds.{by_kind}
 use Rattle.qstore_accounts.specs.Books.{Books, ledger_in}
-use Rattle.qstore_accounts.specs.Claims.{share_in}
+use Rattle.qstore_accounts.specs.Claims.{share_in, weight_in}
 use Rattle.qstore_accounts.specs.Kept.{books_of}
 use Rattle.qstore_accounts.specs.Replacements.{IsReplacement}
 use Rattle.qstore_accounts.specs.Ledgers.{ArePosted}
-use Rattle.qstore_accounts.proofs.Booked.{replaced, total-then}
+use Rattle.qstore_accounts.proofs.Booked.{lost-total, replaced, total-then}
 use Rattle.qstore_accounts.proofs.accounts.Accounts.write_bill.Goals as goal
 
 pub write_postings-requires : goal.write_postings-requires
@@ -58,6 +58,16 @@ write_postings-requires-3 c =
       rw (c.share_of-project.ensures, c.share_of-next_project.ensures)
           (replaced (books_of c.self.inside) x.from x.to r.0 r.1 r.2 r.3 c.self.invariant.0 inside Project),
     )
+
+pub overflow_sub-bill : goal.overflow_sub-bill
+overflow_sub-bill c =
+    let x = c.args in
+    let r = c.requires in
+    let inside = subst (λ (b : Books). IsReplacement b x.from x.to r.0 r.1 r.2 r.3) (sym c.self.view_is) r.4 in
+    let le = lost-total (books_of c.self.inside) x.from x.to r.0 r.1 r.2 r.3 inside Blocks in
+    let gained : c.weight_of-gained.result.blocks ≡ (weight_in x.to).blocks = ap (λ w. w.blocks) c.weight_of-gained.ensures in
+    let lost : c.weight_of-lost.result.blocks ≡ (weight_in x.from).blocks = ap (λ w. w.blocks) c.weight_of-lost.ensures in
+    omega (arith, le, inside.books.blocks, gained, lost)
 
 pub returns-clause-in_range : goal.returns-clause-in_range
 returns-clause-in_range c = rw (← c.self.view_is) c.self.invariant.0

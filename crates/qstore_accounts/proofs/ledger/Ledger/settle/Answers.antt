@@ -1,7 +1,6 @@
-use Rattle.std.proofs.Common.{List, map, sym, ap, subst, ◌∙◌}
-use Rattle.qstore_accounts.specs.declared.kept_holder.KeptHolder.{KeptHolder}
-use Rattle.qstore_accounts.specs.Bills.{IsPlaced, post}
-use Rattle.qstore_accounts.proofs.ById.{placed-then, posted-both}
+use Rattle.std.proofs.Common.{map, sym, ap, ◌∙◌}
+use Rattle.qstore_accounts.specs.Bills.{post}
+use Rattle.qstore_accounts.proofs.ById.{posted-both}
 use Rattle.qstore_accounts.proofs.ledger.Ledger.settle.Goals as goal
 
 pub returns : goal.returns
