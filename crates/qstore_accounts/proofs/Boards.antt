@@ -74,8 +74,8 @@ module _ (b : Books) (bill : Bill) (there : IsBillFor b bill) (us gs ps : List P
       ∙ ap (λ rows. with_rows rows ps)
       (put-both Group (after User) (before Project) (length b.users) long b.graces bill.moment b.groups bill.groups gs in_range.groups there.groups groups)
       ∙ ap (λ rows. with_rows rows ps) (three (after User) (after Group) (before Project))
-      ∙ put-both Project (after User ++ after Group) [] (length b.users + length b.groups) both b.graces bill.moment b.projects bill.projects ps in_range.projects
-      there.projects projects
+      ∙ put-both Project (after User ++ after Group) [] (length b.users + length b.groups) both b.graces bill.moment b.projects bill.projects ps
+      in_range.projects there.projects projects
       ∙ sym (three (after User) (after Group) (after Project))
 
   -- each row that is put is another than the one before
