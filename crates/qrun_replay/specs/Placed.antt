@@ -7,7 +7,7 @@ use Rattle.qplain.specs.declared.receipt.Receipt.{Receipt}
 use Rattle.qplain.specs.declared.transcript.Transcript.{Transcript}
 use Rattle.qrun_replay.specs.declared.answered.Answered.{Answered}
 
--- the answer with the reply of the entry that stands there, where there is one
+-- the answer with the reply of the entry that stands there; where none does, which is so of no transcript, a fault
 abbrev pub answer_at : ℕ → Option Entry → Result Receipt CallFault
 answer_at place (Some e) = Ok (record { place = place; reply = e.reply })
 answer_at place None = Err OutOfMemory
