@@ -44,6 +44,16 @@ pub(crate) fn next_end(is_over_soft: bool, end: Option<u64>, new: u64) -> Option
     }
 }
 
+/// Makes a grace end the one after a change that may begin a grace. It writes nothing where none stands and none begins.
+#[inline(always)]
+pub(crate) fn renew_end(end: &mut Option<u64>, is_over_soft: bool, new: u64)
+    ensures { end.new ≡ next_end is_over_soft end.old new }
+{
+    if is_over_soft || end.is_some() {
+        *end = next_end(is_over_soft, *end, new);
+    }
+}
+
 /// The grace end after a change that begins none.
 pub(crate) fn kept_end(is_over_soft: bool, end: Option<u64>) -> Option<u64>
     ensures { result ≡ kept_end is_over_soft end }

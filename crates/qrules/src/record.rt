@@ -6,7 +6,7 @@ ghost use Rattle.qrules.specs.Account.{HasEnds};
 ghost use Rattle.qrules.specs.Charge.{answer_to, charge_fault, charge_fault_in, fault_of, first_fault};
 ghost use Rattle.qrules.specs.Grace.{charged, less_used, released, unused, with_ends, with_limits};
 
-use crate::graces::{Graces, MAX_GRACE, MAX_MOMENT, has_ended, kept_end, next_end};
+use crate::graces::{Graces, MAX_GRACE, MAX_MOMENT, has_ended, kept_end, next_end, renew_end};
 use crate::limits::{KIB_PER_BLOCK, Limits, is_over};
 use crate::over::Over;
 use std::marker::Model;
@@ -146,27 +146,25 @@ impl Record {
         Ok(())
     }
 
-    /// The record with these uses, and with the grace ends that then stand: none where use is not over the soft limit,
-    /// else the one that stood, else this moment plus the grace.
+    /// Sets the uses, and the grace ends that then stand: none where use is not over the soft limit, else the one that
+    /// stood, else this moment plus the grace. The limits stay.
     ///
-    /// It tests nothing.
-    pub fn with_uses(&self, blocks: u64, inodes: u64, graces: Graces, moment: u64) -> Record
+    /// It tests nothing. Where no end stands and none begins, it writes the two numbers alone.
+    #[inline(always)]
+    pub fn set_uses(&mut self, blocks: u64, inodes: u64, graces: Graces, moment: u64)
         requires blocks { blocks ≤ MAX_USE }
         requires inodes { inodes ≤ MAX_USE }
         requires moment { moment ≤ MAX_MOMENT }
         requires block_grace { graces.block ≤ MAX_GRACE }
         requires inode_grace { graces.inode ≤ MAX_GRACE }
-        ensures { result ≡ with_ends (record self.now { blocks = blocks; inodes = inodes }) graces moment }
+        ensures { self.new ≡ with_ends (record self.old { blocks = blocks; inodes = inodes }) graces moment }
     {
         let blocks_over = is_over(kib_of(blocks), self.limits.block_soft);
         let inodes_over = is_over(inodes, self.limits.inode_soft);
-        Record {
-            blocks,
-            inodes,
-            limits: self.limits,
-            block_end: next_end(blocks_over, self.block_end, moment + graces.block),
-            inode_end: next_end(inodes_over, self.inode_end, moment + graces.inode),
-        }
+        self.blocks = blocks;
+        self.inodes = inodes;
+        renew_end(&mut self.block_end, blocks_over, moment + graces.block);
+        renew_end(&mut self.inode_end, inodes_over, moment + graces.inode);
     }
 
     fn test_inodes(&self, moment: u64, inodes: u64) -> Result<(), Over>
@@ -210,7 +208,7 @@ impl Record {
         ensures charged { self.new ≡ charged self.old graces moment blocks inodes }
         ensures nothing { blocks ≡ 0 → inodes ≡ 0 → self.new ≡ self.old }
     {
-        *self = self.with_uses(self.blocks + blocks, self.inodes + inodes, graces, moment);
+        self.set_uses(self.blocks + blocks, self.inodes + inodes, graces, moment);
     }
 
     /// Takes from the use. A grace end goes where use is no longer over its soft limit, and else stays.

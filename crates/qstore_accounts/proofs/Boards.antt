@@ -46,9 +46,10 @@ rows-of-books S b books =
 three : (us gs ps : List BoardRow) → us ++ (gs ++ ps) ≡ (us ++ gs) ++ (ps ++ [])
 three us gs ps = sym (append_assoc us gs ps) ∙ ap (λ rows. (us ++ gs) ++ rows) (sym (append-nil ps))
 
-module _ (b : Books) (bill : Bill) (there : IsBillFor b bill) (us gs ps : List PlacedRow) (users : ArePut b.users User 0 bill.users us)
-    (groups : ArePut b.groups Group (length b.users) bill.groups gs)
-    (projects : ArePut b.projects Project (length b.users + length b.groups) bill.projects ps) where
+module _ (b : Books) (bill : Bill) (there : IsBillFor b bill) (us gs ps : List PlacedRow)
+    (users : ArePut b.users User 0 b.graces bill.moment bill.users us)
+    (groups : ArePut b.groups Group (length b.users) b.graces bill.moment bill.groups gs)
+    (projects : ArePut b.projects Project (length b.users + length b.groups) b.graces bill.moment bill.projects ps) where
   -- the rows of a kind before a bill and after it
   abbrev before : Kind → List BoardRow
   before kind = map (board_row_of kind) (ledger_in kind b)
@@ -57,8 +58,8 @@ module _ (b : Books) (bill : Bill) (there : IsBillFor b bill) (us gs ps : List P
   after kind = map (board_row_of kind) (ledger_in kind (settled bill b))
 
   -- there are as many after it
-  as_many : (kind : Kind) (os : List KeptHolder) (p : Postings) → length (map (board_row_of kind) (map (posted p) os)) ≡ length os
-  as_many kind os p = length-map (map (posted p) os) (board_row_of kind) ∙ length-map os (posted p)
+  as_many : (kind : Kind) (os : List KeptHolder) (p : Postings) → length (map (board_row_of kind) (map (posted b.graces bill.moment p) os)) ≡ length os
+  as_many kind os p = length-map (map (posted b.graces bill.moment p) os) (board_row_of kind) ∙ length-map os (posted b.graces bill.moment p)
 
   -- the rows after a bill
   rows-billed : AreInRange b → with_rows (rows_in (λ kind. ledger_in kind b)) (us ++ (gs ++ ps)) ≡ rows_in (λ kind. ledger_in kind (settled bill b))
@@ -68,13 +69,13 @@ module _ (b : Books) (bill : Bill) (there : IsBillFor b bill) (us gs ps : List P
       length-append (after User) (after Group) ∙ (λ i. long i + as_many Group b.groups bill.groups i) in
       fold-append with_row (before User ++ (before Group ++ before Project)) us (gs ++ ps)
       ∙ ap (λ rows. with_rows rows (gs ++ ps))
-      (put-both User [] (before Group ++ before Project) 0 refl b.users bill.users us in_range.users there.users users)
+      (put-both User [] (before Group ++ before Project) 0 refl b.graces bill.moment b.users bill.users us in_range.users there.users users)
       ∙ fold-append with_row (after User ++ (before Group ++ before Project)) gs ps
       ∙ ap (λ rows. with_rows rows ps)
-      (put-both Group (after User) (before Project) (length b.users) long b.groups bill.groups gs in_range.groups there.groups groups)
+      (put-both Group (after User) (before Project) (length b.users) long b.graces bill.moment b.groups bill.groups gs in_range.groups there.groups groups)
       ∙ ap (λ rows. with_rows rows ps) (three (after User) (after Group) (before Project))
-      ∙ put-both Project (after User ++ after Group) [] (length b.users + length b.groups) both b.projects bill.projects ps in_range.projects
-      there.projects projects
+      ∙ put-both Project (after User ++ after Group) [] (length b.users + length b.groups) both b.graces bill.moment b.projects bill.projects ps
+      in_range.projects there.projects projects
       ∙ sym (three (after User) (after Group) (after Project))
 
   -- each row that is put is another than the one before
@@ -85,12 +86,12 @@ module _ (b : Books) (bill : Bill) (there : IsBillFor b bill) (us gs ps : List P
       length-append (before User) (before Group)
       ∙ (λ i. length-map b.users (board_row_of User) i + length-map b.groups (board_row_of Group) i) in
       All-append (IsOther old) us (gs ++ ps)
-      (others-both User [] (before Group ++ before Project) 0 refl b.users bill.users us there.users users)
+      (others-both User [] (before Group ++ before Project) 0 refl b.graces bill.moment b.users bill.users us users)
       (All-append (IsOther old) gs ps
-      (others-both Group (before User) (before Project) (length b.users) (length-map b.users (board_row_of User)) b.groups bill.groups gs there.groups
+      (others-both Group (before User) (before Project) (length b.users) (length-map b.users (board_row_of User)) b.graces bill.moment b.groups bill.groups gs
       groups)
       (subst (λ rows. All (IsOther rows) ps) (sym (three (before User) (before Group) (before Project)))
-      (others-both Project (before User ++ before Group) [] (length b.users + length b.groups) wide b.projects bill.projects ps there.projects
+      (others-both Project (before User ++ before Group) [] (length b.users + length b.groups) wide b.graces bill.moment b.projects bill.projects ps
       projects)))
 
   -- so what is put are the rows that change
@@ -105,9 +106,9 @@ module _ (b : Books) (bill : Bill) (there : IsBillFor b bill) (us gs ps : List P
         few = omega (
           arith,
           sum,
-          few-both User b.users 0 bill.users us users,
-          few-both Group b.groups (length b.users) bill.groups gs groups,
-          few-both Project b.projects (length b.users + length b.groups) bill.projects ps projects,
+          few-both User b.users 0 b.graces bill.moment bill.users us users,
+          few-both Group b.groups (length b.users) b.graces bill.moment bill.groups gs groups,
+          few-both Project b.projects (length b.users + length b.groups) b.graces bill.moment bill.projects ps projects,
         );
         others = subst (λ rs. All (IsOther rs) (us ++ (gs ++ ps))) rows others-billed;
       }

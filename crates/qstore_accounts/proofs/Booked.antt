@@ -5,6 +5,7 @@ use Rattle.std.proofs.lemmas.Option.{same_Some}
 use Rattle.qrules.specs.declared.kind.Kind.{Kind}
 use Rattle.qrules.specs.declared.kind.Kind.TheVariants.{User, Group, Project}
 use Rattle.qrules.proofs.Ranks.{each_kind}
+use Rattle.qrules.specs.declared.graces.TheConstants.{MAX_MOMENT}
 use Rattle.qrules.specs.declared.record.TheConstants.{MAX_USE}
 use Rattle.qrules.specs.Sort.{Sort, Inodes, Blocks}
 use Rattle.qrules.specs.Account.{HasEnds}
@@ -47,8 +48,10 @@ pub by_id-in : (b : Books) → AreInRange b → (kind : Kind) → AreById (ledge
 by_id-in b is = each_kind (λ kind. AreById (ledger_in kind b)) is.users is.groups is.projects
 
 -- the records of a kind after a bill
-pub settled-in : (bill : Bill) (b : Books) (kind : Kind) → ledger_in kind (settled bill b) ≡ map (posted (postings_in kind bill)) (ledger_in kind b)
-settled-in bill b = each_kind (λ kind. ledger_in kind (settled bill b) ≡ map (posted (postings_in kind bill)) (ledger_in kind b)) refl refl refl
+pub settled-in : (bill : Bill) (b : Books) (kind : Kind)
+    → ledger_in kind (settled bill b) ≡ map (posted b.graces bill.moment (postings_in kind bill)) (ledger_in kind b)
+settled-in bill b =
+    each_kind (λ kind. ledger_in kind (settled bill b) ≡ map (posted b.graces bill.moment (postings_in kind bill)) (ledger_in kind b)) refl refl refl
 
 -- an inode counts as one at most
 one-inode : (o : Option Inode) → weight_of Inodes o ≤ 1
@@ -87,9 +90,15 @@ module _ (b : Books) (from to : Option Claim) (S S1 : State) (f t : Option Inode
   }
 
   module _ (moment : ℕ) (bill : Bill) (is : IsBillOf b from to S S1 moment bill) where
-    kind-posted : (kind : Kind) → map (posted (postings_in kind bill)) (ledger_in kind b) ≡ map (holder_after S1 moment kind) (ledger_in kind b)
+    -- the graces of the bill are those of the new state
+    graces-then : b.graces ≡ S1.graces
+    graces-then = r.books.graces ∙ sym r.replaces.graces
+
+    kind-posted : (kind : Kind)
+        → map (posted b.graces bill.moment (postings_in kind bill)) (ledger_in kind b) ≡ map (holder_after S1 moment kind) (ledger_in kind b)
     kind-posted kind =
-        posted-all (ledger_in kind b) kind (option_and_then (share_in kind) from) (option_and_then (share_in kind) to) S S1 f t
+        (λ i. map (posted (graces-then i) (is.time i) (postings_in kind bill)) (ledger_in kind b))
+        ∙ posted-all (ledger_in kind b) kind (option_and_then (share_in kind) from) (option_and_then (share_in kind) to) S S1 f t
         (by_id-in b in_range kind) (replaced kind) moment (postings_in kind bill) (is.posted kind)
 
     -- the holders of the posted records are those of the new state
@@ -107,7 +116,7 @@ module _ (b : Books) (from to : Option Claim) (S S1 : State) (f t : Option Inode
     books-settled = record {
       size = r.books.size ∙ sym r.replaces.size;
       most_inodes = r.books.most_inodes ∙ sym r.replaces.most_inodes;
-      graces = r.books.graces ∙ sym r.replaces.graces;
+      graces = graces-then;
       holders = holders-then;
       counted = λ kind. subst (All (IsCountedIn (ends_after S1 moment) kind)) (sym (kind-posted kind) ∙ sym (settled-in bill b kind))
           (counted-after S1 moment kind (ledger_in kind b));
@@ -116,9 +125,9 @@ module _ (b : Books) (from to : Option Claim) (S S1 : State) (f t : Option Inode
     }
 
 -- final postings stand where they should
-placed-final : (os : List KeptHolder) (kind : Kind) (S1 : State) (moment : ℕ) (q : Option Posting) → IfSome q (IsFinal os kind S1 moment) → IsPlaced os q
-placed-final os kind S1 moment None final = tt
-placed-final os kind S1 moment (Some q) final = final.slot
+placed-final : (os : List KeptHolder) (kind : Kind) (S1 : State) (q : Option Posting) → IfSome q (IsFinal os kind S1) → IsPlaced os q
+placed-final os kind S1 None final = tt
+placed-final os kind S1 (Some q) final = final.placed
 
 -- and so do both of a kind, at two slots
 slots-apart : (from to : Option OwnerClaim) (p q : Option Posting) → option_map (λ r. r.slot) p ≡ option_map (λ s. s.slot) (apart from to)
@@ -136,21 +145,22 @@ slots-apart (Some lost) (Some gained) (Some f) (Some t) first second = by (lost.
         let gained_is : t.slot ≡ gained.slot = same_Some t.slot gained.slot second in
         grind (arith, tests, e, lost_is, gained_is, same)
 
-placed-both : (os : List KeptHolder) (kind : Kind) (S1 : State) (moment : ℕ) (from to : Option OwnerClaim) (p : Postings)
-    → ArePosted os kind S1 moment from to p → ArePlaced os p
-placed-both os kind S1 moment from to p done = record {
-  from = placed-final os kind S1 moment p.from done.from_final;
-  to = placed-final os kind S1 moment p.to done.to_final;
+placed-both : (os : List KeptHolder) (kind : Kind) (S1 : State) (from to : Option OwnerClaim) (p : Postings)
+    → ArePosted os kind S1 from to p → ArePlaced os p
+placed-both os kind S1 from to p done = record {
+  from = placed-final os kind S1 p.from done.from_final;
+  to = placed-final os kind S1 p.to done.to_final;
   apart = slots-apart from to p.from p.to done.from_there done.to_there;
 }
 
 -- so a bill is for its books
-pub bill-placed : (b : Books) (from to : Option Claim) (S S1 : State) (moment : ℕ) (bill : Bill) → IsBillOf b from to S S1 moment bill → IsBillFor b bill
-bill-placed b from to S S1 moment bill is = record { users = kind User; groups = kind Group; projects = kind Project }
+pub bill-placed : (b : Books) (from to : Option Claim) (S S1 : State) (moment : ℕ) (bill : Bill) → moment ≤ MAX_MOMENT
+    → IsBillOf b from to S S1 moment bill → IsBillFor b bill
+bill-placed b from to S S1 moment bill time is =
+    record { users = kind User; groups = kind Group; projects = kind Project; moment = subst (λ n. n ≤ MAX_MOMENT) (sym is.time) time }
   where
     kind : (k : Kind) → ArePlaced (ledger_in k b) (postings_in k bill)
-    kind k =
-        placed-both (ledger_in k b) k S1 moment (option_and_then (share_in k) from) (option_and_then (share_in k) to) (postings_in k bill) (is.posted k)
+    kind k = placed-both (ledger_in k b) k S1 (option_and_then (share_in k) from) (option_and_then (share_in k) to) (postings_in k bill) (is.posted k)
 
 -- what is counted of a claim is what its inode weighs
 pub claim-weight : (us : List KeptHolder) (claim : Option Claim) (inode : Option Inode) (sort : Sort)
@@ -171,16 +181,25 @@ total-then b from to S S1 f t r sort =
     let lost = claim-weight b.users from f sort (r.lost User) in
     omega (arith, sum, gained, lost)
 
+-- and no more is taken from the total than is there
+pub lost-total : (b : Books) (from to : Option Claim) (S S1 : State) (f t : Option Inode) → IsReplacement b from to S S1 f t → (sort : Sort)
+    → part sort (weight_in from) ≤ total_of S sort + part sort (weight_in to)
+lost-total b from to S S1 f t r sort =
+    let sum = r.replaces.totals sort in
+    let gained = claim-weight b.users to t sort (r.gained User) in
+    let lost = claim-weight b.users from f sort (r.lost User) in
+    omega (arith, sum, gained, lost)
+
 -- the books stay in their ranges after a bill
 pub in_range-settled : (b : Books) (bill : Bill) → AreInRange b → AreInRange (settled bill b)
 in_range-settled b bill is = record {
   size = is.size;
   most_inodes = is.most_inodes;
   graces = is.graces;
-  users = by_id-posted bill.users b.users is.users;
-  groups = by_id-posted bill.groups b.groups is.groups;
-  projects = by_id-posted bill.projects b.projects is.projects;
-  few_users = subst (λ n. n ≤ MAX_PRINCIPALS) (sym (length-map b.users (posted bill.users))) is.few_users;
-  few_groups = subst (λ n. n ≤ MAX_PRINCIPALS) (sym (length-map b.groups (posted bill.groups))) is.few_groups;
-  few_projects = subst (λ n. n ≤ MAX_PRINCIPALS) (sym (length-map b.projects (posted bill.projects))) is.few_projects;
+  users = by_id-posted b.graces bill.moment bill.users b.users is.users;
+  groups = by_id-posted b.graces bill.moment bill.groups b.groups is.groups;
+  projects = by_id-posted b.graces bill.moment bill.projects b.projects is.projects;
+  few_users = subst (λ n. n ≤ MAX_PRINCIPALS) (sym (length-map b.users (posted b.graces bill.moment bill.users))) is.few_users;
+  few_groups = subst (λ n. n ≤ MAX_PRINCIPALS) (sym (length-map b.groups (posted b.graces bill.moment bill.groups))) is.few_groups;
+  few_projects = subst (λ n. n ≤ MAX_PRINCIPALS) (sym (length-map b.projects (posted b.graces bill.moment bill.projects))) is.few_projects;
 }

@@ -12,7 +12,7 @@ use Rattle.qstore_accounts.specs.KeptHolders.{AreById, IsSlotOf}
 use Rattle.qstore_accounts.specs.Ledgers.{new_holder}
 use Rattle.qstore_accounts.specs.declared.bill.Posting.{Posting}
 use Rattle.qstore_accounts.specs.declared.bill.Postings.{Postings}
-use Rattle.qstore_accounts.specs.Bills.{post, posted}
+use Rattle.qstore_accounts.specs.Bills.{IsPlaced, account_after, post, posted}
 
 -- all these kept holders have greater ids
 abbrev pub AreAbove : ℕ → List KeptHolder → Type 0
@@ -119,39 +119,53 @@ by_id-changed id f keeps os by_id = subst (λ ids. (k : ℕ) → k + 1 < length 
     ids [] = refl
     ids (p ∷ ps) = λ i. kept (id == p.id) p i ∷ ids ps i
 
--- no posting changes none
-pub post-none : (os : List KeptHolder) → map (post None) os ≡ os
-post-none [] = refl
-post-none (o ∷ os) = λ i. o ∷ post-none os i
+module _ (graces : Graces) (moment : ℕ) where
+  -- no posting changes none
+  pub post-none : (os : List KeptHolder) → map (post graces moment None) os ≡ os
+  post-none [] = refl
+  post-none (o ∷ os) = λ i. o ∷ post-none os i
 
--- both postings of a kind are one after the other
-pub posted-both : (p : Postings) (os : List KeptHolder) → map (posted p) os ≡ map (post p.to) (map (post p.from) os)
-posted-both p [] = refl
-posted-both p (o ∷ os) = λ i. posted p o ∷ posted-both p os i
+  -- both postings of a kind are one after the other
+  pub posted-both : (p : Postings) (os : List KeptHolder)
+      → map (posted graces moment p) os ≡ map (post graces moment p.to) (map (post graces moment p.from) os)
+  posted-both p [] = refl
+  posted-both p (o ∷ os) = λ i. posted graces moment p o ∷ posted-both p os i
 
--- a posting keeps ids
-pub post-id : (posting : Option Posting) (o : KeptHolder) → (post posting o).id ≡ o.id
-post-id None o = refl
-post-id (Some p) o = by (p.id == o.id)
-  where
-    by : (b : Bool) → (cond b (record o { account = p.account }) o).id ≡ o.id
-    by true = refl
-    by false = refl
+  -- what a posting makes of the kept holder of its id
+  abbrev pub changed_by : Posting → KeptHolder → KeptHolder
+  changed_by p o = record o { account = account_after p.change o.account graces moment }
 
--- so what stood at the slot of an id does so still
-pub placed-after : (posting : Option Posting) (os : List KeptHolder) (slot id : ℕ) → IsSlotOf os slot id → IsSlotOf (map (post posting) os) slot id
-placed-after posting [] slot id there = cc
-placed-after posting (o ∷ os) zero id there = ap Some (post-id posting o) ∙ there
-placed-after posting (o ∷ os) (suc slot) id there = placed-after posting os slot id there
+  -- a posting keeps ids
+  pub post-id : (posting : Option Posting) (o : KeptHolder) → (post graces moment posting o).id ≡ o.id
+  post-id None o = refl
+  post-id (Some p) o = by (p.id == o.id)
+    where
+      by : (b : Bool) → (cond b (changed_by p o) o).id ≡ o.id
+      by true = refl
+      by false = refl
 
--- a posting is a change of the kept holder of its id
-pub by_id-post : (posting : Option Posting) (os : List KeptHolder) → AreById os → AreById (map (post posting) os)
-by_id-post None os by_id = subst AreById (sym (post-none os)) by_id
-by_id-post (Some p) os by_id = by_id-changed p.id (λ o. record o { account = p.account }) (λ o. refl) os by_id
+  -- so what stood at the slot of an id does so still
+  pub placed-after : (posting : Option Posting) (os : List KeptHolder) (slot id : ℕ) → IsSlotOf os slot id
+      → IsSlotOf (map (post graces moment posting) os) slot id
+  placed-after posting [] slot id there = cc
+  placed-after posting (o ∷ os) zero id there = ap Some (post-id posting o) ∙ there
+  placed-after posting (o ∷ os) (suc slot) id there = placed-after posting os slot id there
 
--- both postings keep the order
-pub by_id-posted : (p : Postings) (os : List KeptHolder) → AreById os → AreById (map (posted p) os)
-by_id-posted p os by_id = subst AreById (sym (posted-both p os)) (by_id-post p.to (map (post p.from) os) (by_id-post p.from os by_id))
+  -- and so does another posting
+  pub placed-then : (os : List KeptHolder) (first second : Option Posting) → IsPlaced os second
+      → IsPlaced (map (post graces moment first) os) second
+  placed-then os first None placed = placed
+  placed-then os first (Some q) placed = record { slot = placed-after first os q.slot q.id placed.slot; countable = placed.countable }
+
+  -- a posting is a change of the kept holder of its id
+  pub by_id-post : (posting : Option Posting) (os : List KeptHolder) → AreById os → AreById (map (post graces moment posting) os)
+  by_id-post None os by_id = subst AreById (sym (post-none os)) by_id
+  by_id-post (Some p) os by_id = by_id-changed p.id (changed_by p) (λ o. refl) os by_id
+
+  -- both postings keep the order
+  pub by_id-posted : (p : Postings) (os : List KeptHolder) → AreById os → AreById (map (posted graces moment p) os)
+  by_id-posted p os by_id =
+      subst AreById (sym (posted-both p os)) (by_id-post p.to (map (post graces moment p.from) os) (by_id-post p.from os by_id))
 
 -- ---- new kept holders
 

@@ -2,6 +2,7 @@
 use Rattle.std.proofs.Common.{◌≡◌, ℕ, ◌==◌, ◌&&◌, ◌||◌, List, [], ◌∷◌, map, Option, None, Some, IfSome, refl, sym, ap, subst, ◌∙◌}
 use Rattle.std.specs.List.{list_all, list_any}
 use Rattle.std.proofs.lemmas.List.Elements.{All-weaker}
+use Rattle.qrules.specs.declared.graces.Graces.{Graces}
 use Rattle.qrules.specs.declared.kind.Kind.{Kind}
 use Rattle.qrules.specs.declared.kind.Kind.TheVariants.{User, Group}
 use Rattle.qplain.specs.Arguments.{is_declared, is_holder, is_known}
@@ -37,27 +38,28 @@ module _ (S : State) (b : Books) (books : AreBooksOf S b) where
 
 -- ---- a bill leaves all ids where they are
 
-posted-id : (p : Postings) (o : KeptHolder) → (posted p o).id ≡ o.id
-posted-id p o = post-id p.to (post p.from o) ∙ post-id p.from o
+module _ (graces : Graces) (moment : ℕ) (p : Postings) where
+  posted-id : (o : KeptHolder) → (posted graces moment p o).id ≡ o.id
+  posted-id o = post-id graces moment p.to (post graces moment p.from o) ∙ post-id graces moment p.from o
 
-ids-posted : (p : Postings) (id : ℕ) (os : List KeptHolder) → has_id (map (posted p) os) id ≡ has_id os id
-ids-posted p id [] = refl
-ids-posted p id (o ∷ os) = λ i. (id == posted-id p o i) || ids-posted p id os i
+  ids-posted : (id : ℕ) (os : List KeptHolder) → has_id (map (posted graces moment p) os) id ≡ has_id os id
+  ids-posted id [] = refl
+  ids-posted id (o ∷ os) = λ i. (id == posted-id o i) || ids-posted id os i
 
-slot-posted : (p : Postings) (os : List KeptHolder) (slot id : ℕ) → IsSlotOf os slot id → IsSlotOf (map (posted p) os) slot id
-slot-posted p os slot id there = subst (λ (l : List KeptHolder). IsSlotOf l slot id) (sym (posted-both p os))
-    (placed-after p.to (map (post p.from) os) slot id (placed-after p.from os slot id there))
+  slot-posted : (os : List KeptHolder) (slot id : ℕ) → IsSlotOf os slot id → IsSlotOf (map (posted graces moment p) os) slot id
+  slot-posted os slot id there = subst (λ (l : List KeptHolder). IsSlotOf l slot id) (sym (posted-both graces moment p os))
+      (placed-after graces moment p.to (map (post graces moment p.from) os) slot id (placed-after graces moment p.from os slot id there))
 
-slot-for-posted : (p : Postings) (os : List KeptHolder) (slot id : Option ℕ) → IsSlotFor os slot id → IsSlotFor (map (posted p) os) slot id
-slot-for-posted p os None None there = tt
-slot-for-posted p os None (Some id) there = cc
-slot-for-posted p os (Some slot) None there = cc
-slot-for-posted p os (Some slot) (Some id) there = slot-posted p os slot id there
+  slot-for-posted : (os : List KeptHolder) (slot id : Option ℕ) → IsSlotFor os slot id → IsSlotFor (map (posted graces moment p) os) slot id
+  slot-for-posted os None None there = tt
+  slot-for-posted os None (Some id) there = cc
+  slot-for-posted os (Some slot) None there = cc
+  slot-for-posted os (Some slot) (Some id) there = slot-posted os slot id there
 
 module _ (bill : Bill) (b : Books) where
   has_id-settled : (kind : Kind) (id : ℕ) → has_id (ledger_in kind (settled bill b)) id ≡ has_id (ledger_in kind b) id
   has_id-settled kind id =
-      ap (λ os. has_id os id) (settled-in bill b kind) ∙ ids-posted (postings_in kind bill) id (ledger_in kind b)
+      ap (λ os. has_id os id) (settled-in bill b kind) ∙ ids-posted b.graces bill.moment (postings_in kind bill) id (ledger_in kind b)
 
   all-settled : (ids : List ℕ) → list_all (has_id (settled bill b).groups) ids ≡ list_all (has_id b.groups) ids
   all-settled [] = refl
@@ -67,7 +69,7 @@ module _ (bill : Bill) (b : Books) where
   at-settled cred slots k = record {
     known = (λ i. has_id-settled User cred.uid i && all-settled (cred.gid ∷ cred.more) i) ∙ k.known;
     own = λ kind. subst (λ (os : List KeptHolder). IsSlotFor os (slot_in kind slots) (owner kind (callers_own cred))) (sym (settled-in bill b kind))
-        (slot-for-posted (postings_in kind bill) (ledger_in kind b) (slot_in kind slots) (owner kind (callers_own cred)) (k.own kind));
+        (slot-for-posted b.graces bill.moment (postings_in kind bill) (ledger_in kind b) (slot_in kind slots) (owner kind (callers_own cred)) (k.own kind));
   }
 
   kept-settled : (kept : Option KnownCaller) → IfSome kept (λ k. IsKnownAt b k.cred k.slots)

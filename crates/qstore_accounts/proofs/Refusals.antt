@@ -5,7 +5,6 @@ use Rattle.std.proofs.lemmas.Option.{same_Some}
 use Rattle.qrules.specs.declared.kind.Kind.{Kind}
 use Rattle.qrules.specs.declared.kind.Kind.TheVariants.{User, Group, Project}
 use Rattle.qrules.specs.Kinds.{is_same_kind}
-use Rattle.qrules.specs.Charge.{first_fault}
 use Rattle.qplain.specs.declared.bounds.TheConstants.{MAX_NUMBER}
 use Rattle.qplain.specs.declared.refusal.Refusal.{Refusal}
 use Rattle.qplain.specs.declared.refusal.Refusal.TheVariants.{EDQUOT, ENOSPC}
@@ -27,7 +26,7 @@ use Rattle.qstore_accounts.specs.Claims.{IsShareOf, share_in}
 use Rattle.qstore_accounts.specs.KeptHolders.{AreById, IsSlotFor, IsSlotOf, holder_in}
 use Rattle.qstore_accounts.specs.Bills.{postings_in}
 use Rattle.qstore_accounts.specs.Replacements.{IsReplacement}
-use Rattle.qstore_accounts.specs.Ledgers.{IsFinal, refusal_of}
+use Rattle.qstore_accounts.specs.Ledgers.{IsFinal, fault_of_change, refusal_of}
 use Rattle.qstore_accounts.specs.Decisions.{bill_refusal, IsBillOf}
 use Rattle.qstore_accounts.proofs.Booked.{by_id-in}
 use Rattle.qstore_accounts.proofs.Counted.{account_of-counted}
@@ -46,7 +45,7 @@ find-unheld kind (h ∷ hs) = ap (λ b. cond b (Some h) (find (is_held kind None
 module _ (S S1 : State) (b : Books) (books : AreBooksOf S b) (moment : ℕ) (kind : Kind) (by_id : AreById (ledger_in kind b)) where
   -- the refusal of a final posting is that of its owner's holder
   posting-refused : (share : OwnerClaim) (w : Option ℕ) (q : Posting) → IsSlotFor (ledger_in kind b) (Some share.slot) w
-      → q.slot ≡ share.slot → IsFinal (ledger_in kind b) kind S1 moment q
+      → q.slot ≡ share.slot → IsFinal (ledger_in kind b) kind S1 q
       → refusal_of (ledger_in kind b) kind moment (Some q) ≡ refusal_at (fault_of_holder S S1 moment) (find (is_held kind w) S.holders)
   posting-refused share None q is slot final = cc
   posting-refused share (Some id) q is slot final = by (slice_get (ledger_in kind b) q.slot) refl
@@ -55,7 +54,7 @@ module _ (S S1 : State) (b : Books) (books : AreBooksOf S b) (moment : ℕ) (kin
       own = subst (λ n. IsSlotOf (ledger_in kind b) n id) (sym slot) is
 
       by : (x : Option KeptHolder) → slice_get (ledger_in kind b) q.slot ≡ x
-          → option_and_then (λ o. option_map (λ over. EDQUOT kind over) (first_fault o.account moment q.account.blocks q.account.inodes)) x
+          → option_and_then (λ o. option_map (λ over. EDQUOT kind over) (fault_of_change o.account moment q.change)) x
           ≡ refusal_at (fault_of_holder S S1 moment) (find (is_holder kind id) S.holders)
       by None none = let missing = sym (ap (option_map (λ p. p.id)) none) ∙ own in cc
       by (Some o) there =
@@ -63,14 +62,14 @@ module _ (S S1 : State) (b : Books) (books : AreBooksOf S b) (moment : ℕ) (kin
           let found : find (is_holder kind id) S.holders ≡ Some (holder_in kind o) =
           ap (find (is_holder kind id)) books.holders ∙ find-kept kind id (λ k. ledger_in k b)
           ∙ ap (option_map (holder_in kind)) (find-slot id (ledger_in kind b) q.slot o by_id there same) in
-          let account = final.account o there in
+          let uses = final.uses o there in
           let counted = account_of-counted S kind o (counted-there S kind (ledger_in kind b) q.slot o (books.counted kind) there) in
-          (λ i. option_map (λ over. EDQUOT kind over) (first_fault (sym counted i) moment (account i).blocks (account i).inodes))
+          (λ i. option_map (λ over. EDQUOT kind over) (fault_of_change (sym counted i) moment (uses i)))
           ∙ sym (ap (refusal_at (fault_of_holder S S1 moment)) found)
 
   -- the same where there may be none
   pub kind-refused : (share : Option OwnerClaim) (inode : Inode) (q : Option Posting) → IsShareOf (ledger_in kind b) kind share (Some inode)
-      → option_map (λ p. p.slot) q ≡ option_map (λ s. s.slot) share → IfSome q (IsFinal (ledger_in kind b) kind S1 moment)
+      → option_map (λ p. p.slot) q ≡ option_map (λ s. s.slot) share → IfSome q (IsFinal (ledger_in kind b) kind S1)
       → refusal_of (ledger_in kind b) kind moment q
       ≡ refusal_at (fault_of_holder S S1 moment) (find (is_held kind (owner kind inode.owners)) S.holders)
   kind-refused None inode None is slots final = by (owner kind inode.owners) is

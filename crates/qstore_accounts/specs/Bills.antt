@@ -1,10 +1,17 @@
 -- What a bill makes of the books.
-use Rattle.std.specs.Prelude.{◌≢◌, ◌==◌, if◌then◌else◌, List, map, Option, Some, None, IfSome}
+use Rattle.std.specs.Prelude.{ℕ, ◌≢◌, ◌≤◌, ◌==◌, if◌then◌else◌, List, map, Option, Some, None, IfSome}
 use Rattle.qrules.specs.declared.kind.Kind.{Kind}
+use Rattle.qrules.specs.declared.graces.Graces.{Graces}
+use Rattle.qrules.specs.declared.graces.TheConstants.{MAX_MOMENT}
+use Rattle.qrules.specs.declared.record.TheConstants.{MAX_USE}
+use Rattle.qrules.specs.Account.{Account}
+use Rattle.qrules.specs.Grace.{with_ends, with_limits}
 use Rattle.qrules.specs.Kinds.{by_kind, is_same_kind}
 use Rattle.qstore_accounts.specs.declared.bill.Bill.{Bill}
 use Rattle.qstore_accounts.specs.declared.bill.Posting.{Posting}
 use Rattle.qstore_accounts.specs.declared.bill.Postings.{Postings}
+use Rattle.qstore_accounts.specs.declared.change.Change.{Change}
+use Rattle.qstore_accounts.specs.declared.change.Change.TheVariants.{Uses, Limits}
 use Rattle.qstore_accounts.specs.declared.kept_holder.KeptHolder.{KeptHolder}
 use Rattle.qstore_accounts.specs.Books.{Books}
 use Rattle.qstore_accounts.specs.KeptHolders.{IsSlotOf}
@@ -17,16 +24,24 @@ no_bill = record {
   projects = record { from = None; to = None };
   blocks = 0;
   inodes = 0;
+  moment = 0;
 }
 
--- the kept holder after a posting, which has the record of one id as it will be
-abbrev pub post : Option Posting → KeptHolder → KeptHolder
-post None o = o
-post (Some p) o = if p.id == o.id then record o { account = p.account } else o
+-- the record after a change at this moment: it has other uses, or other limits, and the grace ends that then stand
+abbrev pub account_after : Change → Account → Graces → ℕ → Account
+account_after (Uses blocks inodes) account graces moment =
+    with_ends (record account { blocks = blocks; inodes = inodes }) graces moment
+account_after (Limits limits) account graces moment = with_limits account limits graces moment
+
+-- the kept holder after a posting at this moment, which changes the record of one id
+abbrev pub post : Graces → ℕ → Option Posting → KeptHolder → KeptHolder
+post graces moment None o = o
+post graces moment (Some p) o =
+    if p.id == o.id then record o { account = account_after p.change o.account graces moment } else o
 
 -- the kept holder after the postings of its kind
-abbrev pub posted : Postings → KeptHolder → KeptHolder
-posted p o = post p.to (post p.from o)
+abbrev pub posted : Graces → ℕ → Postings → KeptHolder → KeptHolder
+posted graces moment p o = post graces moment p.to (post graces moment p.from o)
 
 -- the postings of a kind
 abbrev pub postings_in : Kind → Bill → Postings
@@ -39,16 +54,26 @@ only_in kind posting other = record { from = None; to = if is_same_kind kind oth
 -- the books after a bill
 abbrev pub settled : Bill → Books → Books
 settled bill b = record b {
-  users = map (posted bill.users) b.users;
-  groups = map (posted bill.groups) b.groups;
-  projects = map (posted bill.projects) b.projects;
+  users = map (posted b.graces bill.moment bill.users) b.users;
+  groups = map (posted b.graces bill.moment bill.groups) b.groups;
+  projects = map (posted b.graces bill.moment bill.projects) b.projects;
   blocks = bill.blocks;
   inodes = bill.inodes;
 }
 
--- a posting stands at the slot of its id
+-- the uses that a change sets, if it sets any, are no more than a record may count
+abbrev pub IsCountable : Change → Type 0
+IsCountable (Uses blocks inodes) = (blocks ≤ MAX_USE) × (inodes ≤ MAX_USE)
+IsCountable (Limits limits) = Unit {0}
+
+-- the posting stands at the slot of its id, and its change can be made
+pub record IsPostingFor (holders : List KeptHolder) (p : Posting) : Type 0 where
+  pub slot : IsSlotOf holders p.slot p.id
+  pub countable : IsCountable p.change
+
+-- so does a posting, if there is one
 abbrev pub IsPlaced : List KeptHolder → Option Posting → Type 0
-IsPlaced holders posting = IfSome posting (λ p. IsSlotOf holders p.slot p.id)
+IsPlaced holders posting = IfSome posting (IsPostingFor holders)
 
 -- both postings of a kind do, and they are of two records
 pub record ArePlaced (holders : List KeptHolder) (p : Postings) : Type 0 where
@@ -56,8 +81,9 @@ pub record ArePlaced (holders : List KeptHolder) (p : Postings) : Type 0 where
   pub to : IsPlaced holders p.to
   pub apart : IfSome p.from (λ f. IfSome p.to (λ t. f.slot ≢ t.slot))
 
--- the bill is for these books
+-- the bill is for these books, and its moment is one that a call may have
 pub record IsBillFor (b : Books) (bill : Bill) : Type 0 where
   pub users : ArePlaced b.users bill.users
   pub groups : ArePlaced b.groups bill.groups
   pub projects : ArePlaced b.projects bill.projects
+  pub moment : bill.moment ≤ MAX_MOMENT

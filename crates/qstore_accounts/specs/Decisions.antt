@@ -17,12 +17,13 @@ use Rattle.qstore_accounts.specs.Bills.{postings_in}
 use Rattle.qstore_accounts.specs.Claims.{share_in}
 use Rattle.qstore_accounts.specs.Ledgers.{ArePosted, refusal_of}
 
--- the records and the totals of the bill are those of the new state, with the ends that then stand
+-- the bill sets the uses of the owners to those that the new state counts, has its totals, and is of this moment
 pub record IsBillOf (b : Books) (from to : Option Claim) (S S1 : State) (moment : ℕ) (bill : Bill) : Type 0 where
-  pub posted : (kind : Kind) → ArePosted (ledger_in kind b) kind S1 moment
+  pub posted : (kind : Kind) → ArePosted (ledger_in kind b) kind S1
       (option_and_then (share_in kind) from) (option_and_then (share_in kind) to) (postings_in kind bill)
   pub blocks : bill.blocks ≡ total_of S1 Blocks
   pub inodes : bill.inodes ≡ total_of S1 Inodes
+  pub time : bill.moment ≡ moment
 
 -- why a bill is refused, if it is: space comes before quota, and the superuser passes every quota
 abbrev pub bill_refusal : Books → Caller → ℕ → ℕ → Bill → Option Refusal

@@ -6,8 +6,9 @@ use Rattle.qrules.specs.declared.kind.Kind.{Kind}
 use Rattle.qrules.specs.declared.graces.Graces.{Graces}
 use Rattle.qrules.specs.declared.graces.TheConstants.{MAX_GRACE, MAX_MOMENT}
 use Rattle.qrules.specs.declared.record.TheConstants.{MAX_USE}
+use Rattle.qrules.specs.declared.over.Over.{Over}
 use Rattle.qrules.specs.declared.record_row.RecordRow.{RecordRow}
-use Rattle.qrules.specs.Sort.{Sort}
+use Rattle.qrules.specs.Sort.{Sort, Inodes, Blocks}
 use Rattle.qrules.specs.Account.{Account, HasEnds}
 use Rattle.qrules.specs.Charge.{first_fault}
 use Rattle.qrules.specs.Grace.{unused, with_ends}
@@ -15,14 +16,17 @@ use Rattle.qplain.specs.declared.principal.Principal.{Principal}
 use Rattle.qplain.specs.declared.refusal.Refusal.{Refusal}
 use Rattle.qplain.specs.declared.refusal.Refusal.TheVariants.{EDQUOT}
 use Rattle.qplain.specs.State.{Inode, State}
-use Rattle.qplain.specs.Use.{account_of, total_of}
+use Rattle.qplain.specs.Use.{account_of, total_of, use_of}
 use Rattle.qplain_laws.specs.Replaces.{Replaces, weight_of}
 use Rattle.qstore_accounts.specs.declared.bill.Posting.{Posting}
 use Rattle.qstore_accounts.specs.declared.bill.Postings.{Postings}
+use Rattle.qstore_accounts.specs.declared.change.Change.{Change}
+use Rattle.qstore_accounts.specs.declared.change.Change.TheVariants.{Uses, Limits}
 use Rattle.qstore_accounts.specs.declared.claim.OwnerClaim.{OwnerClaim}
 use Rattle.qstore_accounts.specs.declared.kept_holder.KeptHolder.{KeptHolder}
+use Rattle.qstore_accounts.specs.Bills.{IsPostingFor}
 use Rattle.qstore_accounts.specs.Claims.{IsShareOf}
-use Rattle.qstore_accounts.specs.KeptHolders.{IsCountedIn, IsSlotOf, holder_in}
+use Rattle.qstore_accounts.specs.KeptHolders.{IsCountedIn, holder_in}
 
 -- the moment and the graces by which ends are made are in their ranges
 pub record AreTimesInRange (graces : Graces) (moment : ℕ) : Type 0 where
@@ -59,10 +63,14 @@ pub record IsLedgerReplacement (holders : List KeptHolder) (kind : Kind) (from t
 abbrev pub record_after : State → ℕ → Kind → KeptHolder → Account
 record_after S1 moment kind o = with_ends (account_of S1 (holder_in kind o)) S1.graces moment
 
--- the posting has the record of its principal as the new state has it
-pub record IsFinal (holders : List KeptHolder) (kind : Kind) (S1 : State) (moment : ℕ) (p : Posting) : Type 0 where
-  pub slot : IsSlotOf holders p.slot p.id
-  pub account : (o : KeptHolder) → slice_get holders p.slot ≡ Some o → p.account ≡ record_after S1 moment kind o
+-- the uses that the new state counts of a kept holder's principal
+abbrev pub uses_after : State → Kind → KeptHolder → Change
+uses_after S1 kind o = Uses (use_of S1 kind o.id Blocks) (use_of S1 kind o.id Inodes)
+
+-- the posting sets the uses of its principal to those that the new state counts
+pub record IsFinal (holders : List KeptHolder) (kind : Kind) (S1 : State) (p : Posting) : Type 0 where
+  pub placed : IsPostingFor holders p
+  pub uses : (o : KeptHolder) → slice_get holders p.slot ≡ Some o → p.change ≡ uses_after S1 kind o
 
 -- the share that is given up, unless the other is taken of the same record
 abbrev pub apart : Option OwnerClaim → Option OwnerClaim → Option OwnerClaim
@@ -71,20 +79,24 @@ apart (Some lost) None = Some lost
 apart (Some lost) (Some gained) = if lost.slot == gained.slot then None else Some lost
 
 -- the postings of one kind are final, one for each record that a share is of
-pub record ArePosted (holders : List KeptHolder) (kind : Kind) (S1 : State) (moment : ℕ)
-    (from to : Option OwnerClaim) (p : Postings) : Type 0 where
+pub record ArePosted (holders : List KeptHolder) (kind : Kind) (S1 : State) (from to : Option OwnerClaim) (p : Postings)
+    : Type 0 where
   pub from_there : option_map (λ q. q.slot) p.from ≡ option_map (λ share. share.slot) (apart from to)
   pub to_there : option_map (λ q. q.slot) p.to ≡ option_map (λ share. share.slot) to
-  pub from_final : IfSome p.from (IsFinal holders kind S1 moment)
-  pub to_final : IfSome p.to (IsFinal holders kind S1 moment)
+  pub from_final : IfSome p.from (IsFinal holders kind S1)
+  pub to_final : IfSome p.to (IsFinal holders kind S1)
 
--- why the record at a posting's slot may not become the posted one
+-- the first limit in the way of a change: of other uses, and none of new limits
+abbrev pub fault_of_change : Account → ℕ → Change → Option Over
+fault_of_change account moment (Uses blocks inodes) = first_fault account moment blocks inodes
+fault_of_change account moment (Limits limits) = None
+
+-- why the record at a posting's slot may not change so
 abbrev pub refusal_of : List KeptHolder → Kind → ℕ → Option Posting → Option Refusal
 refusal_of holders kind moment None = None
 refusal_of holders kind moment (Some p) =
     option_and_then
-    (λ o. option_map (λ over. EDQUOT kind over) (first_fault o.account moment p.account.blocks p.account.inodes))
-    (slice_get holders p.slot)
+    (λ o. option_map (λ over. EDQUOT kind over) (fault_of_change o.account moment p.change)) (slice_get holders p.slot)
 
 -- the row of a kept holder's record
 abbrev pub holder_row : Kind → KeptHolder → RecordRow

@@ -24,6 +24,7 @@ use crate::claim::{Claim, share_of, weight_of};
 use crate::kept_holder::KeptHolder;
 use crate::known_callers::KnownCallers;
 use crate::ledger::Ledger;
+use crate::times::Times;
 use qplain::{Cred, MAX_NUMBER, NoMemory, Refusal, Setup};
 use qrules::{Graces, Kind, Limits, MAX_MOMENT, RecordRow};
 use std::alloc::Global;
@@ -170,29 +171,27 @@ impl Accounts {
         }
     }
 
-    /// Writes the records and totals as they will be. It tests nothing.
+    /// Writes how the records change, and the totals as they will be. It tests nothing.
     #[inline(always)]
     fn write_bill(&self, moment: u64, from: Option<Claim>, to: Option<Claim>, bill: &mut Bill)
-        requires moment { moment ≤ MAX_MOMENT }
-        requires replacement { (S : State) × (S1 : State) × (f : Option Inode) × (t : Option Inode)
+        requires { (S : State) × (S1 : State) × (f : Option Inode) × (t : Option Inode)
             × IsReplacement self.now from to S S1 f t }
         ensures bill { (S S1 : State) (f t : Option Inode)
             → IsReplacement self.now from to S S1 f t → IsBillOf self.now from to S S1 moment bill.new }
         ensures in_range { AreInRange self.now }
     {
         let (lost, gained) = (weight_of(from), weight_of(to));
-        let graces = self.graces;
         let (user, next_user) = (share_of(Kind::User, from), share_of(Kind::User, to));
         let (group, next_group) = (share_of(Kind::Group, from), share_of(Kind::Group, to));
         let (project, next_project) = (share_of(Kind::Project, from), share_of(Kind::Project, to));
-        self.users
-            .write_postings(user, next_user, graces, moment, &mut bill.users);
+        self.users.write_postings(user, next_user, &mut bill.users);
         self.groups
-            .write_postings(group, next_group, graces, moment, &mut bill.groups);
+            .write_postings(group, next_group, &mut bill.groups);
         self.projects
-            .write_postings(project, next_project, graces, moment, &mut bill.projects);
+            .write_postings(project, next_project, &mut bill.projects);
         bill.blocks = self.blocks + gained.blocks - lost.blocks;
         bill.inodes = self.inodes + gained.inodes - lost.inodes;
+        bill.moment = moment;
     }
 
     /// Whether the bill is past the bounds, or past the last number.
@@ -212,7 +211,7 @@ impl Accounts {
             (option_or (refusal_of self.now.groups Group moment bill.now.groups.to)
             (refusal_of self.now.projects Project moment bill.now.projects.to)) }
     {
-        match self.users.refusal(Kind::User, moment, bill.users.to) {
+        match self.users.refusal(Kind::User, moment, &bill.users.to) {
             Some(refusal) => Some(refusal),
             None => self.later_fault(moment, bill),
         }
@@ -225,7 +224,7 @@ impl Accounts {
         ensures { result ≡ option_or (refusal_of self.now.groups Group moment bill.now.groups.to)
             (refusal_of self.now.projects Project moment bill.now.projects.to) }
     {
-        let (group, project) = (bill.groups.to, bill.projects.to);
+        let (group, project) = (&bill.groups.to, &bill.projects.to);
         match self.groups.refusal(Kind::Group, moment, group) {
             Some(refusal) => Some(refusal),
             None => self.projects.refusal(Kind::Project, moment, project),
@@ -263,24 +262,24 @@ impl Accounts {
             → AreBooksOf (ends_after (with_limits_of S kind id limits) moment) (settled bill.new self.now) }
         ensures placed { IsBillFor self.now bill.new }
     {
-        let posting = self
-            .ledger(kind)
-            .relimited(slot, limits, self.graces, moment);
-        self.write_only(kind, posting, bill);
+        let posting = self.ledger(kind).relimited(slot, limits);
+        self.write_only(kind, posting, moment, bill);
     }
 
     /// Writes a bill that leaves the totals and all records but one.
     #[inline(always)]
-    fn write_only(&self, kind: Kind, posting: Posting, bill: &mut Bill)
+    fn write_only(&self, kind: Kind, posting: Posting, moment: u64, bill: &mut Bill)
         ensures postings { (other : Kind) → postings_in other bill.new ≡ only_in kind posting other }
         ensures blocks { bill.new.blocks ≡ self.now.blocks }
         ensures inodes { bill.new.inodes ≡ self.now.inodes }
+        ensures moment { bill.new.moment ≡ moment }
     {
         bill.users.clear();
         bill.groups.clear();
         bill.projects.clear();
         bill.blocks = self.blocks;
         bill.inodes = self.inodes;
+        bill.moment = moment;
         match kind {
             Kind::User => bill.users.to = Some(posting),
             Kind::Group => bill.groups.to = Some(posting),
@@ -288,14 +287,19 @@ impl Accounts {
         }
     }
 
-    /// Puts the records and totals of a bill in their places. It takes no memory and always succeeds.
+    /// Makes the changes of a bill where the records stand, and puts its totals in their places. It takes no memory and
+    /// always succeeds.
     pub fn settle(&mut self, bill: &Bill)
         requires { IsBillFor self.old bill.now }
         ensures { self.new ≡ settled bill.now self.old }
     {
-        self.users.settle(&bill.users);
-        self.groups.settle(&bill.groups);
-        self.projects.settle(&bill.projects);
+        let times = Times {
+            graces: self.graces,
+            moment: bill.moment,
+        };
+        self.users.settle(&bill.users, times);
+        self.groups.settle(&bill.groups, times);
+        self.projects.settle(&bill.projects, times);
         self.blocks = bill.blocks;
         self.inodes = bill.inodes;
     }

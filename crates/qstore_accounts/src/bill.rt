@@ -2,14 +2,14 @@
 ghost use Rattle.std.specs.Prelude.{◌≡◌, None};
 ghost use Rattle.qstore_accounts.specs.Bills.{no_bill};
 
-use qrules::Record;
+use crate::change::Change;
 
-/// A record as it will be, and where it stands.
+/// How a record changes, and where it stands.
 #[derive(Clone, Copy)]
 pub struct Posting {
     pub(crate) slot: usize,
     pub(crate) id: u32,
-    pub(crate) account: Record,
+    pub(crate) change: Change,
 }
 
 /// Leaves no posting. It writes nothing where there is none.
@@ -30,8 +30,8 @@ pub struct Postings {
     pub(crate) to: Option<Posting>,
 }
 
-/// The records and the totals as a granted call will leave them. It is for `settle` of the accounts that granted it,
-/// before any other change of them.
+/// How a granted call changes the records, at its moment, and the totals as it will leave them. It is for `settle` of
+/// the accounts that granted it, before any other change of them.
 #[derive(Clone, Copy)]
 pub struct Bill {
     pub(crate) users: Postings,
@@ -39,6 +39,7 @@ pub struct Bill {
     pub(crate) projects: Postings,
     pub(crate) blocks: u64,
     pub(crate) inodes: u64,
+    pub(crate) moment: u64,
 }
 
 impl Bill {
@@ -52,6 +53,7 @@ impl Bill {
             projects: Postings::none(),
             blocks: 0,
             inodes: 0,
+            moment: 0,
         }
     }
 }

@@ -2,10 +2,11 @@
 ghost use Rattle.std.specs.Prelude.{◌≡◌, ◌==◌, ◌≤◌, if◌then◌else◌, IfOk};
 ghost use Rattle.qrules.specs.Grace.{unused, with_ends};
 ghost use Rattle.std.specs.Option.{option_map};
-ghost use Rattle.qrules.specs.Charge.{first_fault};
+ghost use Rattle.qstore_accounts.specs.Bills.{IsCountable};
 ghost use Rattle.qstore_accounts.specs.Boards.{board_row};
-ghost use Rattle.qstore_accounts.specs.Ledgers.{holder_row, new_holder};
+ghost use Rattle.qstore_accounts.specs.Ledgers.{fault_of_change, holder_row, new_holder};
 
+use crate::change::Change;
 use qplain::{NoMemory, Principal, Quota, Refusal};
 use qrules::{BoardRow, Graces, Kind, Limits, MAX_GRACE, PrincipalName, Record, RecordRow};
 use std::alloc::Global;
@@ -24,9 +25,9 @@ fn new_account(id: u32, limits: Limits, graces: Graces) -> Record
     requires inode_grace { graces.inode ≤ MAX_GRACE }
     ensures { result ≡ (if 0 == id then with_ends (record (unused limits) { inodes = 1 }) graces 0 else unused limits) }
 {
-    let record = Record::new(limits);
+    let mut record = Record::new(limits);
     if 0 == id {
-        return record.with_uses(0, 1, graces, 0);
+        record.set_uses(0, 1, graces, 0);
     }
     record
 }
@@ -103,15 +104,17 @@ impl KeptHolder {
         })
     }
 
-    /// Why the record may not become this one, if it may not: the first limit in the way of its uses.
-    pub(crate) fn refusal(&self, kind: Kind, moment: u64, after: &Record) -> Option<Refusal>
+    /// Why the record may not change so, if it may not: the first limit in the way of its uses. None is in the way of
+    /// new limits.
+    pub(crate) fn refusal(&self, kind: Kind, moment: u64, change: &Change) -> Option<Refusal>
+        requires { IsCountable change.now }
         ensures { result ≡ option_map (λ over. Refusal.EDQUOT kind over)
-            (first_fault self.now.account moment after.now.blocks after.now.inodes) }
+            (fault_of_change self.now.account moment change.now) }
     {
-        match self
-            .account
-            .test_uses(moment, after.blocks(), after.inodes())
-        {
+        let Change::Uses { blocks, inodes } = *change else {
+            return None;
+        };
+        match self.account.test_uses(moment, blocks, inodes) {
             Ok(()) => None,
             Err(over) => Some(Refusal::EDQUOT(kind, over)),
         }

@@ -4,18 +4,19 @@ ghost use Rattle.std.specs.Prelude.{is_some, Option, None, Some};
 ghost use Rattle.std.specs.Option.{option_map};
 ghost use Rattle.std.specs.List.{list_any, slice_get};
 ghost use Rattle.std.specs.List.Sorted.{IsStrictlyIncreasing};
-ghost use Rattle.qrules.specs.Grace.{with_limits};
 ghost use Rattle.qrules.specs.declared.kind.Kind.{Kind};
 ghost use Rattle.qplain.specs.State.{Inode, State};
 ghost use Rattle.qstore_accounts.specs.KeptHolders.{AreById, IsSlotOf};
-ghost use Rattle.qstore_accounts.specs.Bills.{ArePlaced, post, posted};
+ghost use Rattle.qstore_accounts.specs.Bills.{ArePlaced, IsPlaced, post, posted};
 ghost use Rattle.qstore_accounts.specs.Boards.{board_row_of};
 ghost use Rattle.qstore_accounts.specs.Ledgers.{ArePosted, AreTimesInRange, holder_row, IsFinal, IsHolderAt};
 ghost use Rattle.qstore_accounts.specs.Ledgers.{IsLedgerReplacement, new_holder, refusal_of};
 
 use crate::bill::{Posting, Postings, clear};
+use crate::change::Change;
 use crate::claim::{OwnerClaim, apart, weight_at};
 use crate::kept_holder::{KeptHolder, board_row, new_holder};
+use crate::times::Times;
 use qplain::{NoMemory, Principal, Refusal};
 use qrules::{BoardRow, Graces, Kind, Limits, MAX_GRACE, RecordRow};
 use std::alloc::Global;
@@ -89,23 +90,14 @@ impl Ledger {
         &self.holders[slot]
     }
 
-    /// The record at this slot as it will be where one inode comes to stand in the place of another.
+    /// The change of the record at this slot where one inode comes to stand in the place of another.
     #[inline(always)]
-    fn posting(
-        &self,
-        slot: usize,
-        from: Option<OwnerClaim>,
-        to: Option<OwnerClaim>,
-        graces: Graces,
-        moment: u64,
-    ) -> Posting
+    fn posting(&self, slot: usize, from: Option<OwnerClaim>, to: Option<OwnerClaim>) -> Posting
         requires slot { slot < length self.now }
-        requires times { AreTimesInRange graces moment }
         requires replacement { (kind : Kind) × (S : State) × (S1 : State) × (f : Option Inode) × (t : Option Inode)
             × IsLedgerReplacement self.now kind from to S S1 f t }
         ensures posting { (kind : Kind) (S S1 : State) (f t : Option Inode)
-            → IsLedgerReplacement self.now kind from to S S1 f t → S.graces ≡ graces
-            → IsFinal self.now kind S1 moment result }
+            → IsLedgerReplacement self.now kind from to S S1 f t → IsFinal self.now kind S1 result }
         ensures slot { result.slot ≡ slot }
     {
         let holder = self.at(slot);
@@ -116,7 +108,7 @@ impl Ledger {
         Posting {
             slot,
             id: holder.id,
-            account: holder.account.with_uses(blocks, inodes, graces, moment),
+            change: Change::Uses { blocks, inodes },
         }
     }
 
@@ -127,114 +119,99 @@ impl Ledger {
         share: Option<OwnerClaim>,
         from: Option<OwnerClaim>,
         to: Option<OwnerClaim>,
-        graces: Graces,
-        moment: u64,
         posting: &mut Option<Posting>,
     )
         requires slot { IfSome share (λ s. s.slot < length self.now) }
-        requires times { AreTimesInRange graces moment }
         requires replacement { (kind : Kind) × (S : State) × (S1 : State) × (f : Option Inode) × (t : Option Inode)
             × IsLedgerReplacement self.now kind from to S S1 f t }
         ensures posting { (kind : Kind) (S S1 : State) (f t : Option Inode)
-            → IsLedgerReplacement self.now kind from to S S1 f t → S.graces ≡ graces
-            → IfSome posting.new (IsFinal self.now kind S1 moment) }
+            → IsLedgerReplacement self.now kind from to S S1 f t → IfSome posting.new (IsFinal self.now kind S1) }
         ensures slot { option_map (λ p. p.slot) posting.new ≡ option_map (λ s. s.slot) share }
     {
         match share {
-            Some(share) => *posting = Some(self.posting(share.slot, from, to, graces, moment)),
+            Some(share) => *posting = Some(self.posting(share.slot, from, to)),
             None => clear(posting),
         }
     }
 
-    /// Writes the records of both owners as they will be where one inode comes to stand in the place of another; one
-    /// record where both have the same, and none where names alone change.
+    /// Writes the changes of both owners' records where one inode comes to stand in the place of another; one change
+    /// where both have the same record, and none where names alone change.
     #[inline(always)]
     pub(crate) fn write_postings(
         &self,
         from: Option<OwnerClaim>,
         to: Option<OwnerClaim>,
-        graces: Graces,
-        moment: u64,
         postings: &mut Postings,
     )
-        requires times { AreTimesInRange graces moment }
-        requires replacement { (kind : Kind) × (S : State) × (S1 : State) × (f : Option Inode) × (t : Option Inode)
+        requires { (kind : Kind) × (S : State) × (S1 : State) × (f : Option Inode) × (t : Option Inode)
             × IsLedgerReplacement self.now kind from to S S1 f t }
         ensures { (kind : Kind) (S S1 : State) (f t : Option Inode)
-            → IsLedgerReplacement self.now kind from to S S1 f t → S.graces ≡ graces
-            → ArePosted self.now kind S1 moment from to postings.new }
+            → IsLedgerReplacement self.now kind from to S S1 f t → ArePosted self.now kind S1 from to postings.new }
     {
         if from.is_none() && to.is_none() {
             postings.clear();
             return;
         }
         let lost = apart(from, to);
-        self.write_posting(lost, from, to, graces, moment, &mut postings.from);
-        self.write_posting(to, from, to, graces, moment, &mut postings.to);
+        self.write_posting(lost, from, to, &mut postings.from);
+        self.write_posting(to, from, to, &mut postings.to);
     }
 
-    /// The record at this slot with new limits.
-    pub(crate) fn relimited(
-        &self,
-        slot: usize,
-        limits: Limits,
-        graces: Graces,
-        moment: u64,
-    ) -> Posting
-        requires slot { slot < length self.now }
-        requires times { AreTimesInRange graces moment }
-        ensures posting { IfSome (slice_get self.now slot) (λ o. result
-            ≡ record { slot = slot; id = o.id; account = with_limits o.account limits graces moment }) }
+    /// New limits for the record at this slot.
+    pub(crate) fn relimited(&self, slot: usize, limits: Limits) -> Posting
+        requires { slot < length self.now }
+        ensures { IfSome (slice_get self.now slot) (λ o. result
+            ≡ record { slot = slot; id = o.id; change = Change.Limits limits }) }
     {
-        let holder = self.at(slot);
-        let mut account = holder.account;
-        account.set_limits(limits, graces, moment);
         Posting {
             slot,
-            id: holder.id,
-            account,
+            id: self.at(slot).id,
+            change: Change::Limits(limits),
         }
     }
 
-    /// Why the record may not become that of this posting, if it may not.
+    /// Why the record may not change as this posting says, if it may not.
     #[inline(always)]
     pub(crate) fn refusal(
         &self,
         kind: Kind,
         moment: u64,
-        posting: Option<Posting>,
+        posting: &Option<Posting>,
     ) -> Option<Refusal>
-        requires { IfSome posting (λ p. p.slot < length self.now) }
-        ensures { result ≡ refusal_of self.now kind moment posting }
+        requires { IsPlaced self.now posting.now }
+        ensures { result ≡ refusal_of self.now kind moment posting.now }
     {
         match posting {
-            Some(posting) => self
-                .at(posting.slot)
-                .refusal(kind, moment, &posting.account),
+            Some(posting) => self.at(posting.slot).refusal(kind, moment, &posting.change),
             None => None,
         }
     }
 
-    /// Puts a record where it stands.
+    /// Changes a record where it stands.
     #[inline(always)]
-    fn post(&mut self, posting: &Option<Posting>)
-        requires { IfSome posting.now (λ p. IsSlotOf self.old p.slot p.id) }
-        ensures { self.new ≡ map (post posting.now) self.old }
+    fn post(&mut self, posting: &Option<Posting>, times: Times)
+        requires placed { IsPlaced self.old posting.now }
+        requires times { AreTimesInRange times.graces times.moment }
+        ensures { self.new ≡ map (post times.graces times.moment posting.now) self.old }
     {
         match posting {
-            Some(posting) => self.holders[posting.slot].account = posting.account,
+            Some(posting) => {
+                let account = &mut self.holders[posting.slot].account;
+                posting.change.make(account, times);
+            }
             None => {}
         }
     }
 
-    /// Puts both records of the postings where they stand.
+    /// Changes both records of the postings where they stand.
     #[inline(always)]
-    pub(crate) fn settle(&mut self, postings: &Postings)
-        requires { ArePlaced self.old postings.now }
-        ensures { self.new ≡ map (posted postings.now) self.old }
+    pub(crate) fn settle(&mut self, postings: &Postings, times: Times)
+        requires placed { ArePlaced self.old postings.now }
+        requires times { AreTimesInRange times.graces times.moment }
+        ensures { self.new ≡ map (posted times.graces times.moment postings.now) self.old }
     {
-        self.post(&postings.from);
-        self.post(&postings.to);
+        self.post(&postings.from, times);
+        self.post(&postings.to, times);
     }
 
     /// Appends the rows of these records.

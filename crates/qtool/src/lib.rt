@@ -10,7 +10,7 @@ pub use qplain::{
 };
 pub use qrun::{Gate, Monitor, NoGate, Options, RunFault, Service, WorkerEnd, conclude};
 pub use qrun_client::{Answer, Client, ClientEnd, KeepsLines};
-pub use qrun_replay::{Outcome, ReplayFault};
+pub use qrun_replay::{Outcome, PlacedReply, PlacedTranscript, ReplayFault};
 pub use qstore::Store;
 pub use qtext::{TextFault, TextKind};
 pub use qtext_config::{Config, ConfigFault};

@@ -8,7 +8,7 @@ refusal-requires c =
     let x = c.args in
     let r = c.requires.replacement in
     record {
-      placed = bill-placed x.self.now x.from x.to r.0 r.1 x.moment c.write_bill.new.bill (c.write_bill.ensures.bill r.0 r.1 r.2 r.3 r.4);
+      placed = bill-placed x.self.now x.from x.to r.0 r.1 x.moment c.write_bill.new.bill c.requires.moment (c.write_bill.ensures.bill r.0 r.1 r.2 r.3 r.4);
     }
 
 pub returns-in-Some-clause-refused : goal.returns-in-Some-clause-refused
@@ -31,4 +31,5 @@ pub returns-in-None-clause-placed : goal.returns-in-None-clause-placed
 returns-in-None-clause-placed c =
     let x = c.args in
     let r = c.requires.replacement in
-    bill-placed x.self.now x.from x.to r.0 r.1 x.moment c.write_bill.new.bill (c.write_bill.ensures.bill r.0 r.1 r.2 r.3 r.4)
+    bill-placed x.self.now x.from x.to r.0 r.1 x.moment c.write_bill.new.bill c.requires.moment
+    (c.write_bill.ensures.bill r.0 r.1 r.2 r.3 r.4)

@@ -23,6 +23,6 @@ returns c =
       placed = us.0 ++ (gs.0 ++ ps.0);
       behind = after _ _ _ us.0 (gs.0 ++ ps.0) us.1 (after _ _ _ gs.0 ps.0 gs.1 ps.1);
       are = changed-billed b x.bill.now (rw c.self.view_is c.requires.placed) us.0 gs.0 ps.0 us.2
-          (subst (λ n. ArePut b.groups Group n x.bill.now.groups gs.0) users gs.2)
-          (subst (λ n. ArePut b.projects Project n x.bill.now.projects ps.0) groups ps.2) S S1 c.self.invariant.0 old new;
+          (subst (λ n. ArePut b.groups Group n b.graces x.bill.now.moment x.bill.now.groups gs.0) users gs.2)
+          (subst (λ n. ArePut b.projects Project n b.graces x.bill.now.moment x.bill.now.projects ps.0) groups ps.2) S S1 c.self.invariant.0 old new;
     })

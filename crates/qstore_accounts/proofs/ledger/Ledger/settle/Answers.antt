@@ -5,4 +5,6 @@ use Rattle.qstore_accounts.proofs.ledger.Ledger.settle.Goals as goal
 
 pub returns : goal.returns
 returns c =
-    c.post-2.ensures ∙ ap (map (post c.args.postings.now.to)) c.post.ensures ∙ sym (posted-both c.args.postings.now c.args.self.now)
+    let x = c.args in
+    c.post-2.ensures ∙ ap (map (post x.times.graces x.times.moment x.postings.now.to)) c.post.ensures
+    ∙ sym (posted-both x.times.graces x.times.moment x.postings.now x.self.now)
