@@ -1,11 +1,10 @@
 -- What a call that was ready leaves of what is kept.
-use Rattle.std.proofs.Common.{◌≡◌, [], ◌∷◌, ◌++◌, None, Some, sym, ap, subst, ◌∙◌}
+use Rattle.std.proofs.Common.{◌≡◌, [], ◌∷◌, ◌++◌, None, Some, refl, sym, ap, subst, ◌∙◌}
 use Rattle.qplain.specs.declared.line.Line.{Line}
 use Rattle.qplain.specs.declared.reply.Reply.{Reply}
 use Rattle.qplain.specs.State.{State, start}
 use Rattle.qplain.specs.Journal.{play, played}
 use Rattle.qplain_laws.proofs.Playing.{play-one_more}
-use Rattle.qstore.specs.declared.ready.Ready.{Ready as ReadyValue}
 use Rattle.qstore.specs.Ready.{committed}
 use Rattle.qstore.specs.Stored.{Stored}
 use Rattle.qstore_journaled.specs.declared.next.Next.{Next as NextCall}
@@ -21,7 +20,7 @@ use Rattle.qsession.specs.Steps.{CanCommit, IsReadyFor, IsStep, Leaves, holding_
 
 -- the state is what the call that was ready leaves
 state_left : (old new : JournaledValue) (n : NextCall) → IsPlayed old → CanFollow old n → IsPlayed new → new.setting ≡ old.setting
-    → new.journal ≡ old.journal ++ n.entry ∷ [] → new.stored.state ≡ (committed old.stored n.ready).0
+    → new.journal ≡ old.journal ++ n.entry ∷ [] → new.stored.state ≡ committed old.stored
 state_left old new n before can after setting journal =
     let S : State = start old.setting in
     let begun : start new.setting ≡ S = ap start setting in
@@ -36,7 +35,7 @@ left : (old new : JournaledValue) (n : NextCall) (reply : Reply) → CanRecord o
     → new.journal ≡ old.journal ++ n.entry ∷ [] → reply ≡ n.entry.reply → IsPlayed new
     → Leaves (Journaled old) (Next n) (holding_of (Journaled new)) reply
 left old new n reply can setting journal is after =
-    let state : new.stored.state ≡ (committed old.stored n.ready).0 = state_left old new n can.played can.follow after setting journal in
+    let state : new.stored.state ≡ committed old.stored = state_left old new n can.played can.follow after setting journal in
     (λ i. record { state = state i; journal = Some (record { setting = setting i; entries = journal i }) }, is)
 
 -- what was ready for a line's call has left what that leaves
@@ -61,12 +60,11 @@ stepped_plain kept old S line reply is_kept is =
     (record { held = λ i. record { state = (is i).0; journal = None }; reply_is = λ i. (is i).1 })
 
 -- so it is of what is kept without a journal
-pub made_plain : (kept : Kept) (ready : ReadyCall) (old new : Stored) (r : ReadyValue) (reply : Reply) → kept ≡ Plain old → ready ≡ Ready r
-    → (new.state, reply) ≡ committed old r → (line : Line) → IsReadyFor kept line ready → IsStep (holding_of kept) (holding_of (Plain new)) line reply
-made_plain kept ready old new r reply is_kept is_ready is =
+pub made_plain : (kept : Kept) (ready : ReadyCall) (old new : Stored) (reply : Reply) → kept ≡ Plain old → ready ≡ Ready reply
+    → new.state ≡ committed old → (line : Line) → IsReadyFor kept line ready → IsStep (holding_of kept) (holding_of (Plain new)) line reply
+made_plain kept ready old new reply is_kept is_ready is =
     let held : Holding = holding_of (Plain new) in
-    let left : Leaves (Plain old) (Ready r) held reply =
-    (ap (λ S. record { state = S; journal = None }) (ap (λ p. p.0) is), ap (λ p. p.1) is) in
+    let left : Leaves (Plain old) (Ready reply) held reply = (ap (λ S. record { state = S; journal = None }) is, refl) in
     made kept ready held reply (subst (λ k. Leaves k ready held reply) (sym is_kept)
     (subst (λ x. Leaves (Plain old) x held reply) (sym is_ready) left))
 

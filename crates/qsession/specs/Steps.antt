@@ -60,21 +60,21 @@ HasCause h fault = ⊥
 
 -- what is kept is as the call that is ready needs it
 abbrev pub CanCommit : Kept → ReadyCall → Type 0
-CanCommit (Plain s) (Ready r) = IsReady s r
+CanCommit (Plain s) (Ready reply) = IsReady s
 CanCommit (Journaled j) (Next n) = CanRecord j n
 CanCommit kept ready = ⊥
 
 -- the reply of a call that is ready
 abbrev pub reply_ready : ReadyCall → Reply
-reply_ready (Ready r) = r.reply
+reply_ready (Ready reply) = reply
 reply_ready (Next n) = n.entry.reply
 
 -- what is kept will hold this, with this reply, when the call that is ready is carried out
 abbrev pub Leaves : Kept → ReadyCall → Holding → Reply → Type 0
-Leaves (Plain s) (Ready r) h reply = (h ≡ record { state = (committed s r).0; journal = None }) × (reply ≡ r.reply)
+Leaves (Plain s) (Ready told) h reply = (h ≡ record { state = committed s; journal = None }) × (reply ≡ told)
 Leaves (Journaled j) (Next n) h reply =
     (h ≡ record {
-      state = (committed j.stored n.ready).0;
+      state = committed j.stored;
       journal = Some (record { setting = j.setting; entries = j.journal ++ n.entry ∷ [] });
     }) × (reply ≡ n.entry.reply)
 Leaves kept ready h reply = ⊥

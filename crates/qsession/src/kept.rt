@@ -201,7 +201,7 @@ impl Kept {
     {
         match self {
             Kept::Plain(store) => match store.ready(cred, moment, call) {
-                Ok(ready) => Ok(ReadyCall::Ready(ready)),
+                Ok(reply) => Ok(ReadyCall::Ready(reply)),
                 Err(_) => Err(Fault::Memory),
             },
             Kept::Journaled(store) => match store.ready(cred, moment, call) {
@@ -219,10 +219,11 @@ impl Kept {
     {
         match self {
             Kept::Plain(store) => {
-                let ReadyCall::Ready(ready) = ready else {
+                let ReadyCall::Ready(reply) = ready else {
                     unreachable!()
                 };
-                store.commit(ready)
+                store.commit();
+                reply
             }
             Kept::Journaled(store) => {
                 let ReadyCall::Next(next) = ready else {

@@ -3,14 +3,13 @@ ghost use Rattle.std.specs.Prelude.{◌≡◌};
 ghost use Rattle.qsession.specs.Steps.{reply_ready};
 
 use qplain::Reply;
-use qstore::Ready;
 use qstore_journaled::Next;
 
-/// A call that is decided, with the growth that it needs: of a store without or with a journal. It borrows nothing and
-/// may be dropped.
+/// A call that is decided, with the growth that it needs: of a store without a journal its reply, and of one with a
+/// journal its entry. It borrows nothing and may be dropped.
 #[derive(Drop)]
 pub enum ReadyCall {
-    Ready(Ready),
+    Ready(Reply),
     Next(Next),
 }
 
@@ -20,7 +19,7 @@ impl ReadyCall {
         ensures { result.now ≡ reply_ready self.now }
     {
         match self {
-            ReadyCall::Ready(ready) => ready.reply(),
+            ReadyCall::Ready(reply) => reply,
             ReadyCall::Next(next) => &next.entry().reply,
         }
     }

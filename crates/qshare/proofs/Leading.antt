@@ -29,20 +29,20 @@ state_is setting j of = of.played.state ∙ ap (λ s. play (start s) j.journal) 
 -- with the rows of one call more what waits leads to the journal's next board
 pub waits_on : (setting : Setting) (j : Journaled) (n : Next) (shown published : List Entry) (waiting longer : List PlacedRow)
     → IsStoreOf setting j → CanFollow j n → Waits setting shown waiting published j.journal
-    → LeadsOn waiting j.stored.state longer (committed j.stored n.ready).0
+    → LeadsOn waiting j.stored.state longer (committed j.stored)
     → Waits setting shown longer published (j.journal ++ n.entry ∷ [])
 waits_on setting j n shown published waiting longer of can w led =
     let S : State = start setting in
     let state : j.stored.state ≡ play S j.journal = state_is setting j of in
     let before : with_rows (shown_of S published).rows waiting ≡ rows_of j.stored.state = w.leads ∙ ap rows_of (sym state) in
-    let after : (committed j.stored n.ready).0 ≡ play S (j.journal ++ n.entry ∷ []) =
+    let after : committed j.stored ≡ play S (j.journal ++ n.entry ∷ []) =
     ap (λ p. p.0) can.step ∙ ap (λ T. (played T n.entry).0) state ∙ sym (play-one_more S j.journal n.entry) in
     record { shown_is = w.shown_is; leads = led.leads (shown_of S published).rows before ∙ ap rows_of after }
 
 -- where there was room for them
 pub noted : {T E : Type 0} (setting : Setting) (j : Journaled) (n : Next) (shown published : List Entry) (waiting longer : List PlacedRow)
     (r : Result T E) → IsStoreOf setting j → CanFollow j n → Waits setting shown waiting published j.journal
-    → IfOk r (λ x. LeadsOn waiting j.stored.state longer (committed j.stored n.ready).0)
+    → IfOk r (λ x. LeadsOn waiting j.stored.state longer (committed j.stored))
     → IfOk r (λ x. Waits setting shown longer published (j.journal ++ n.entry ∷ []))
 noted setting j n shown published waiting longer (Ok x) of can w led = waits_on setting j n shown published waiting longer of can w led
 noted setting j n shown published waiting longer (Err e) of can w led = tt

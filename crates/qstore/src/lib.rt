@@ -4,12 +4,11 @@
 pub use qplain::{
     Call, Change, Cred, Edition, Line, NoMemory, Path, Refusal, Reply, Setup, SetupFault,
 };
+pub(crate) use plan::{Decision, Plan};
 pub use qstore_tree::Name;
-pub use ready::Ready;
-pub(crate) use ready::{Decision, Plan};
 pub(crate) use request::{Exchange, Request};
 pub use store::Store;
 
-mod ready;
+mod plan;
 mod request;
 mod store;

@@ -13,9 +13,6 @@ use Rattle.qplain.specs.Step.{step}
 use Rattle.qplain_laws.proofs.Playing.{legal-one_more, play-one_more}
 use Rattle.qplain_laws.proofs.Start.{start_is_lawful}
 use Rattle.qplain_laws.proofs.Tallying.{tallies_have_room, tally-one_more}
-use Rattle.qstore.specs.declared.ready.Ready.{Ready}
-use Rattle.qstore.specs.Ready.{committed}
-use Rattle.qstore.specs.Stored.{Stored}
 use Rattle.qstore_journaled.specs.Journaled.{IsPlayed, IsSameJournaled, Journaled}
 
 -- a new store is what the empty journal leaves

@@ -18,8 +18,8 @@ IsEntryFor worker line e = e ≡ entry_of worker line e.reply
 pub record CanFollow (j : Journaled) (n : Next) : Type 0 where
   pub few : length j.journal < MAX_ENTRIES
   pub room : 0 < j.room
-  pub ready : IsReady j.stored n.ready
-  pub step : committed j.stored n.ready ≡ played j.stored.state n.entry
+  pub ready : IsReady j.stored
+  pub step : (committed j.stored, n.reply) ≡ played j.stored.state n.entry
   pub reply : n.entry.reply ≡ (played j.stored.state n.entry).1
   pub tallies : n.tallies ≡ counted (tally_of j.journal) (change_of n.entry.reply)
 

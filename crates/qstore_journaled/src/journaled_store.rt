@@ -1,11 +1,8 @@
 //! A store with the journal of its calls.
-ghost use Rattle.std.specs.Prelude.{◌≡◌, ◌<◌, ◌≤◌, ◌+◌, ◌↔◌, [], length, vec_len, vec_capacity, Err, IfOk};
+ghost use Rattle.std.specs.Prelude.{◌≡◌, ◌<◌, ◌≤◌, ◌↔◌, [], length, Err, IfOk};
 ghost use Rattle.std.specs.Bool.{Decides};
 ghost use Rattle.qplain.specs.declared.bounds.TheConstants.{MAX_ENTRIES};
-ghost use Rattle.qplain.specs.declared.placed_row.TheConstants.{MAX_CHANGED_ROWS};
 ghost use Rattle.qplain.specs.declared.call_fault.CallFault.TheVariants.{JournalFull};
-ghost use Rattle.qstore_accounts.specs.Pushed.{IsPushed};
-ghost use Rattle.qstore.specs.Ready.{committed};
 ghost use Rattle.qstore_journaled.specs.Journaled.{IsPlayed, IsSameJournaled};
 ghost use Rattle.qstore_journaled.specs.Lines.{line_of};
 ghost use Rattle.qstore_journaled.specs.Next.{CanFollow, IsEntryFor, IsReceiptOf};
@@ -14,7 +11,7 @@ ghost use Rattle.qstore_journaled.specs.Taken.{AreItsParts};
 use crate::ended::Ended;
 use crate::next::{Next, entry_for};
 use qplain::{
-    Call, CallFault, Cred, Entry, MAX_ENTRIES, NoMemory, PlacedRow, Receipt, Setup, Tallies,
+    Call, CallFault, Cred, Entry, MAX_ENTRIES, NoMemory, Receipt, Setup, Tallies,
 };
 use qstore::Store;
 use std::alloc::Global;
@@ -113,34 +110,21 @@ impl JournaledStore {
         let Ok(()) = self.journal.reserve(1) else {
             return Err(CallFault::OutOfMemory);
         };
-        let Ok(ready) = self.store.ready(cred, moment, call) else {
+        let Ok(reply) = self.store.ready(cred, moment, call) else {
             return Err(CallFault::OutOfMemory);
         };
-        let Ok(reply) = ready.reply().copy() else {
+        let Ok(told) = reply.copy() else {
             return Err(CallFault::OutOfMemory);
         };
-        let Ok(entry) = entry_for(worker, cred, moment, call, reply) else {
+        let Ok(entry) = entry_for(worker, cred, moment, call, told) else {
             return Err(CallFault::OutOfMemory);
         };
         let tallies = self.tallies.with_call(entry.reply.change());
         Ok(Next {
-            ready,
+            reply,
             entry,
             tallies,
         })
-    }
-
-    /// Puts the rows that `commit` of what is ready will change on a board after others, of which there is room for
-    /// `MAX_CHANGED_ROWS`. O(1).
-    ///
-    /// The caller owes that this store had no other `ready` or `commit` since.
-    pub fn push_changed_rows(&self, next: &Next, rows: &mut Vec<PlacedRow>)
-        requires next { CanFollow self.now next.now }
-        requires room { vec_len rows.old + MAX_CHANGED_ROWS ≤ vec_capacity rows.old }
-        ensures { IsPushed self.now.stored.state rows.old.items rows.new.items
-            (committed self.now.stored next.now.ready).0 }
-    {
-        self.store.push_changed_rows(&next.ready, rows);
     }
 
     /// Makes the call that is ready, and journals it. It takes no memory and always succeeds.
@@ -154,11 +138,11 @@ impl JournaledStore {
         ensures played { IsPlayed self.new }
     {
         let Next {
-            ready,
+            reply,
             entry,
             tallies,
         } = next;
-        let reply = self.store.commit(ready);
+        self.store.commit();
         self.tallies = tallies;
         self.journal.push_reserved(entry);
         Receipt {

@@ -1,18 +1,15 @@
 //! A call that is ready to be the next entry of a journal.
-ghost use Rattle.std.specs.Prelude.{◌≡◌, false, IfOk};
-ghost use Rattle.qplain.specs.Journal.{board_of, change_of, entry_of};
-ghost use Rattle.qstore.specs.Ready.{committed};
-ghost use Rattle.qstore.specs.Stored.{Stored};
+ghost use Rattle.std.specs.Prelude.{◌≡◌, IfOk};
+ghost use Rattle.qplain.specs.Journal.{change_of, entry_of};
 ghost use Rattle.qstore_journaled.specs.Lines.{line_of};
 
 use qplain::{Call, Change, Cred, Entry, NoMemory, Reply, Tallies};
-use qstore::Ready;
 
-/// A call that `JournaledStore::ready` has decided and made room for, as the journal's next entry, beside the journal's
+/// What `JournaledStore::ready` has decided and made room for: the reply, the journal's next entry, and the journal's
 /// tally with it. It borrows nothing and may be dropped.
 #[derive(Drop)]
 pub struct Next {
-    pub(crate) ready: Ready,
+    pub(crate) reply: Reply,
     pub(crate) entry: Entry,
     pub(crate) tallies: Tallies,
 }
@@ -57,13 +54,5 @@ impl Next {
         ensures { result ≡ self.now.tallies }
     {
         self.tallies
-    }
-
-    /// Whether `commit` may change a row of a board. O(1).
-    pub fn may_change_rows(&self) -> bool
-        ensures { result ≡ false → (s : Stored)
-            → (board_of (committed s self.now.ready).0 0).rows ≡ (board_of s.state 0).rows }
-    {
-        self.ready.may_change_rows()
     }
 }

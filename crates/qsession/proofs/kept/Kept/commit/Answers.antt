@@ -3,8 +3,7 @@ use Rattle.qsession.proofs.kept.Kept.commit.Goals as goal
 
 pub returns-in-Ready : goal.returns-in-Ready
 returns-in-Ready c =
-    made_plain c.args.self.now c.args.ready c.in-Plain.store c.commit.new.self c.in-Ready.ready c.commit.result c.in-Plain.is c.in-Ready.is
-    c.commit.ensures
+    made_plain c.args.self.now c.args.ready c.in-Plain.store c.commit.new.self c.in-Ready.reply c.in-Plain.is c.in-Ready.is c.commit.ensures
 
 pub returns-in-Next : goal.returns-in-Next
 returns-in-Next c =

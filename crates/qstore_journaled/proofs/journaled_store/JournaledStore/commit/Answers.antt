@@ -12,7 +12,7 @@ invariant_of-self c =
     let entries = c.push_reserved.ensures.items in
     record {
       played = played_on (journaled_of c.self.inside) _ c.args.next.entry c.self.invariant.played can.few refl entries
-          (ap (λ p. p.0) (c.commit-reply.ensures ∙ can.step)) can.reply;
+          (c.commit.ensures ∙ ap (λ p. p.0) can.step) can.reply;
       tallies = can.tallies ∙ sym (tally-one_more c.self.inside.journal.items c.args.next.entry) ∙ ap tally_of (sym entries);
     }
 
@@ -20,4 +20,4 @@ pub returns-clause-played : goal.returns-clause-played
 returns-clause-played c =
     let can = subst (λ j. CanFollow j c.args.next) (sym c.self.view_is) c.requires in
     played_on (journaled_of c.self.inside) _ c.args.next.entry c.self.invariant.played can.few refl c.push_reserved.ensures.items
-    (ap (λ p. p.0) (c.commit-reply.ensures ∙ can.step)) can.reply
+    (c.commit.ensures ∙ ap (λ p. p.0) can.step) can.reply
