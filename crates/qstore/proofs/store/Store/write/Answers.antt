@@ -1,18 +1,31 @@
-use Rattle.std.proofs.Common.{ℕ, nat_lt, Result, Ok, refl, sym, ap, subst, ◌∙◌, arith, tests}
+use Rattle.std.proofs.Common.{◌≡◌, ℕ, nat_lt, List, Result, Ok, refl, sym, ap, subst, ◌∙◌, arith, tests}
 use Rattle.std.specs.declared.alloc.AllocError.{AllocError}
 use Rattle.qblocks.specs.Input.{input_bytes}
 use Rattle.qplain.specs.declared.bounds.TheConstants.{MAX_DATA}
+use Rattle.qplain.specs.declared.call.Call.{Call}
 use Rattle.qplain.specs.declared.call.Call.TheVariants.{Write}
 use Rattle.qplain.specs.declared.refusal.Refusal.{Refusal}
 use Rattle.qplain.specs.declared.reply.Reply.{Reply}
 use Rattle.qplain.specs.declared.reply.Reply.TheVariants.{Refused}
 use Rattle.qplain.specs.Calls.{attempt_of}
 use Rattle.qstore.specs.declared.plan.Plan.TheVariants.{Nothing}
+use Rattle.qstore.specs.declared.request.Request.{Request}
+use Rattle.qstore.specs.declared.store.write.Target.{Target}
 use Rattle.qstore.specs.Decided.{IsPlanned}
 use Rattle.qstore.specs.Requests.{IsWritten}
+use Rattle.qstore.specs.Stored.{Stored}
 use Rattle.qstore.specs.Targets.{put_plan, put_planned, put_reply}
 use Rattle.qstore.proofs.Applied.{answered-now, applied-now, applied-refused, can-now, sound-now, unapplied-now}
 use Rattle.qstore.proofs.store.Store.write.Goals as goal
+
+-- what is planned where room was to be made, of an equal answer to that
+planned-as : (now new : Stored) (q : Request) (call : Call) (target : Target) (off : ℕ) (bytes : List ℕ)
+    (made other : Result (Result ℕ Refusal) AllocError) → made ≡ other
+    → IsPlanned now new q (attempt_of now.state q.cred.now call) (put_planned target off bytes made) (put_reply target made)
+    → IsPlanned now new q (attempt_of now.state q.cred.now call) (put_planned target off bytes other) (put_reply target other)
+planned-as now new q call target off bytes made other same =
+    subst (λ (r : Result (Result ℕ Refusal) AllocError).
+    IsPlanned now new q (attempt_of now.state q.cred.now call) (put_planned target off bytes r) (put_reply target r)) same
 
 pub returns-in-Err : goal.returns-in-Err
 returns-in-Err c =
@@ -60,10 +73,7 @@ returns-in_err-spare c =
     let now = c.check.new.self in
     let new = c.room_for_put.new.self in
     let target = c.in-Ok-target.target in
-    let decision = subst
-    (λ (r : Result (Result ℕ Refusal) AllocError).
-    IsPlanned now new q (attempt_of now.state q.cred.now call) (put_planned target x.off bytes r) (put_reply target r))
-    c.in_err-spare.was c.room_for_put.ensures in
+    let decision = planned-as now new q call target x.off bytes _ _ c.in_err-spare.was c.room_for_put.ensures in
     unapplied-now x.self.now x.cred.now x.moment bad c.path_fault.result q c.in-Ok.ensures.checked call written c.check.new.self
     new c.check.ensures.same _ _ _ refl c.from_residual.ensures.0 decision
 
@@ -79,10 +89,7 @@ put-requires-clause-can c =
     let now = c.check.new.self in
     let new = c.room_for_put.new.self in
     let target = c.in-Ok-target.target in
-    let decision = subst
-    (λ (r : Result (Result ℕ Refusal) AllocError).
-    IsPlanned now new q (attempt_of now.state q.cred.now call) (put_planned target x.off bytes r) (put_reply target r))
-    (c.in_ok-spare.was ∙ ap Ok c.in-Ok-2.is) c.room_for_put.ensures in
+    let decision = planned-as now new q call target x.off bytes _ _ (c.in_ok-spare.was ∙ ap Ok c.in-Ok-2.is) c.room_for_put.ensures in
     decision.decided.can
 
 pub put-requires-clause-sound : goal.put-requires-clause-sound
@@ -97,10 +104,7 @@ put-requires-clause-sound c =
     let now = c.check.new.self in
     let new = c.room_for_put.new.self in
     let target = c.in-Ok-target.target in
-    let decision = subst
-    (λ (r : Result (Result ℕ Refusal) AllocError).
-    IsPlanned now new q (attempt_of now.state q.cred.now call) (put_planned target x.off bytes r) (put_reply target r))
-    (c.in_ok-spare.was ∙ ap Ok c.in-Ok-2.is) c.room_for_put.ensures in
+    let decision = planned-as now new q call target x.off bytes _ _ (c.in_ok-spare.was ∙ ap Ok c.in-Ok-2.is) c.room_for_put.ensures in
     sound-now x.self.now x.cred.now x.moment bad c.path_fault.result q c.in-Ok.ensures.checked call written c.check.new.self
     new c.check.ensures.same (put_plan target x.off bytes c.in-Ok-2.spare) _ decision
 
@@ -116,10 +120,7 @@ returns-in-Ok-2 c =
     let now = c.check.new.self in
     let new = c.room_for_put.new.self in
     let target = c.in-Ok-target.target in
-    let decision = subst
-    (λ (r : Result (Result ℕ Refusal) AllocError).
-    IsPlanned now new q (attempt_of now.state q.cred.now call) (put_planned target x.off bytes r) (put_reply target r))
-    (c.in_ok-spare.was ∙ ap Ok c.in-Ok-2.is) c.room_for_put.ensures in
+    let decision = planned-as now new q call target x.off bytes _ _ (c.in_ok-spare.was ∙ ap Ok c.in-Ok-2.is) c.room_for_put.ensures in
     applied-now x.self.now x.cred.now x.moment bad c.path_fault.result q c.in-Ok.ensures.checked call written c.check.new.self
     new c.check.ensures.same (put_plan target x.off bytes c.in-Ok-2.spare) c.put.result
     (subst (λ (r : Reply). IsPlanned now new q (attempt_of now.state q.cred.now call) (put_plan target x.off bytes c.in-Ok-2.spare) (Ok r))
@@ -138,9 +139,6 @@ returns-in-Err-2 c =
     let now = c.check.new.self in
     let new = c.room_for_put.new.self in
     let target = c.in-Ok-target.target in
-    let decision = subst
-    (λ (r : Result (Result ℕ Refusal) AllocError).
-    IsPlanned now new q (attempt_of now.state q.cred.now call) (put_planned target x.off bytes r) (put_reply target r))
-    (c.in_ok-spare.was ∙ ap Ok c.in-Err-2.is) c.room_for_put.ensures in
+    let decision = planned-as now new q call target x.off bytes _ _ (c.in_ok-spare.was ∙ ap Ok c.in-Err-2.is) c.room_for_put.ensures in
     applied-now x.self.now x.cred.now x.moment bad c.path_fault.result q c.in-Ok.ensures.checked call written c.check.new.self
     new c.check.ensures.same Nothing (Refused c.in-Err-2.refusal) decision new.state refl
