@@ -1,5 +1,4 @@
 pub mod Bytes
-pub mod Dense
 mod Examples
 pub mod Fields
 pub mod Fills
