@@ -1,4 +1,5 @@
 pub mod Bytes
+pub mod Dense
 mod Examples
 pub mod Fields
 pub mod Fills

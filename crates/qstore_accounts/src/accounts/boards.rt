@@ -34,8 +34,7 @@ fn push_changed(
     requires room { vec_len rows.old < vec_capacity rows.old }
     ensures rows { (placed : List PlacedRow) × (rows.new.items ≡ rows.old.items ++ placed)
         × IsPut ledger.now kind before times.graces times.moment posting.now placed }
-    ensures few { vec_len rows.new ≤ vec_len rows.old + 1 }
-    ensures room { vec_capacity rows.new ≡ vec_capacity rows.old }
+    ensures room { (vec_len rows.new ≤ vec_len rows.old + 1) × (vec_capacity rows.new ≡ vec_capacity rows.old) }
 {
     if let Some(posting) = posting {
         let old = ledger.at(posting.slot).account;
@@ -65,8 +64,7 @@ fn push_changes(
     requires room { vec_len rows.old + 2 ≤ vec_capacity rows.old }
     ensures rows { (placed : List PlacedRow) × (rows.new.items ≡ rows.old.items ++ placed)
         × ArePut ledger.now kind before times.graces times.moment postings.now placed }
-    ensures few { vec_len rows.new ≤ vec_len rows.old + 2 }
-    ensures room { vec_capacity rows.new ≡ vec_capacity rows.old }
+    ensures room { (vec_len rows.new ≤ vec_len rows.old + 2) × (vec_capacity rows.new ≡ vec_capacity rows.old) }
 {
     push_changed(ledger, kind, before, &postings.from, times, rows);
     push_changed(ledger, kind, before, &postings.to, times, rows);
