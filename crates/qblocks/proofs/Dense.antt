@@ -1,6 +1,6 @@
 -- Where no block below the size is missing, those that a write adds are the ones past all that are there.
-use Rattle.std.proofs.Common.{◌≡◌, ℕ, ◌+◌, ◌-◌, ◌*◌, ◌/◌, ◌<◌, ◌≤◌, zero, suc, Bool, true, false, cond, min, max, length, refl, ap, ◌∙◌, arith, ⊎_elim}
-use Rattle.std.proofs.lemmas.Bool.{both_ways, cases_Bool}
+use Rattle.std.proofs.Common.{◌≡◌, ℕ, ◌+◌, ◌-◌, ◌*◌, ◌/◌, ◌<◌, ◌≤◌, zero, suc, Bool, true, false, cond, min, max, length, refl, ap, arith, ⊎_elim}
+use Rattle.std.proofs.lemmas.Bool.{cases_Bool}
 use Rattle.qblocks.specs.declared.block.TheConstants.{BLOCK_SIZE}
 use Rattle.qblocks.specs.Row.{gaps, gaps_in, span_end}
 use Rattle.qblocks.specs.Rows.{Table, allocated_of, filled}

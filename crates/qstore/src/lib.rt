@@ -1,10 +1,10 @@
 //! The store: inodes, names and quota records in memory, proved to be the plain machine of `qplain`.
 #![tactic(auto)]
 
+pub(crate) use plan::{Decision, Plan};
 pub use qplain::{
     Call, Change, Cred, Edition, Line, NoMemory, Path, Refusal, Reply, Setup, SetupFault,
 };
-pub(crate) use plan::{Decision, Plan};
 pub use qstore_tree::Name;
 pub(crate) use request::{Exchange, Request};
 pub use store::Store;

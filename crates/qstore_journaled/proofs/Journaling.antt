@@ -1,18 +1,17 @@
 -- A journaled store that makes one call more is again what its journal leaves.
-use Rattle.std.proofs.Common.{◌≡◌, ℕ, ◌+◌, ◌<◌, [], ◌∷◌, ◌++◌, length, refl, sym, ap, ◌∙◌, arith}
+use Rattle.std.proofs.Common.{◌≡◌, ◌+◌, ◌<◌, [], ◌∷◌, ◌++◌, length, sym, ap, ◌∙◌, arith}
 use Rattle.std.proofs.lemmas.List.{length-append}
 use Rattle.qplain.specs.declared.bounds.TheConstants.{MAX_ENTRIES}
-use Rattle.qplain.specs.declared.change.Change.{Change}
 use Rattle.qplain.specs.declared.entry.Entry.{Entry}
 use Rattle.qplain.specs.declared.line.Line.{Line}
 use Rattle.qplain.specs.declared.reply.Reply.{Reply}
-use Rattle.qplain.specs.Setups.{IsLawfulSetup, Setting}
+use Rattle.qplain.specs.Setups.{IsLawfulSetup}
 use Rattle.qplain.specs.State.{State, start}
-use Rattle.qplain.specs.Journal.{CanCount, change_of, counted, play, played, tally_of}
+use Rattle.qplain.specs.Journal.{CanCount, change_of, play, played, tally_of}
 use Rattle.qplain.specs.Step.{step}
 use Rattle.qplain_laws.proofs.Playing.{legal-one_more, play-one_more}
 use Rattle.qplain_laws.proofs.Start.{start_is_lawful}
-use Rattle.qplain_laws.proofs.Tallying.{tallies_have_room, tally-one_more}
+use Rattle.qplain_laws.proofs.Tallying.{tallies_have_room}
 use Rattle.qstore_journaled.specs.Journaled.{IsPlayed, IsSameJournaled, Journaled}
 
 -- a new store is what the empty journal leaves

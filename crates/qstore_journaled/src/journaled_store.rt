@@ -10,9 +10,7 @@ ghost use Rattle.qstore_journaled.specs.Taken.{AreItsParts};
 
 use crate::ended::Ended;
 use crate::next::{Next, entry_for};
-use qplain::{
-    Call, CallFault, Cred, Entry, MAX_ENTRIES, NoMemory, Receipt, Setup, Tallies,
-};
+use qplain::{Call, CallFault, Cred, Entry, MAX_ENTRIES, NoMemory, Receipt, Setup, Tallies};
 use qstore::Store;
 use std::alloc::Global;
 use std::marker::Model;

@@ -28,10 +28,10 @@ returns-in-Read-clause-decided c =
     (looked-up s c.clear_plan.new.self q _ result c.clear_plan.ensures
     (ok_weaker result _ _
     (subst (λ (S : State). IfOk result (λ reply. (cred : Caller) (moment : ℕ)
-        → (S, reply) ≡ settle S cred moment (at_path S (read_from call.off call.len) path))) same told.step)
+    → (S, reply) ≡ settle S cred moment (at_path S (read_from call.off call.len) path))) same told.step)
     (λ reply is. is cred q.moment))
     (subst (λ (S : State). (cred : Caller) (moment : ℕ)
-        → IsRefused (settle S cred moment (at_path S (read_from call.off call.len) path)).1 → IsOk result) same told.refused_first cred q.moment))
+    → IsRefused (settle S cred moment (at_path S (read_from call.off call.len) path)).1 → IsOk result) same told.refused_first cred q.moment))
 
 pub returns-in-Stat-clause-decided : goal.returns-in-Stat-clause-decided
 returns-in-Stat-clause-decided c =

@@ -1,4 +1,4 @@
-use Rattle.std.proofs.Common.{rules, ◌≡◌, ℕ, string_bytes, None, Some, refl, sym, ap, subst, ◌∙◌}
+use Rattle.std.proofs.Common.{rules, ◌≡◌, string_bytes, None, Some, refl, sym, ap, subst, ◌∙◌}
 use Rattle.qplain.specs.declared.reply.Reply.TheVariants.{Done}
 use Rattle.qplain.specs.Names.{created, owners_by}
 use Rattle.qplain.specs.State.{State, is_directory, named}

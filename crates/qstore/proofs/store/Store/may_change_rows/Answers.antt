@@ -1,4 +1,4 @@
-use Rattle.std.proofs.Common.{◌≡◌, ◌⊎◌, inl, inr, refl, sym, ap, subst}
+use Rattle.std.proofs.Common.{◌≡◌, ◌⊎◌, inl, inr, ap, subst}
 use Rattle.qrules.specs.declared.graces.Graces.{Graces}
 use Rattle.qplain.specs.Journal.{board_of}
 use Rattle.qstore.specs.declared.plan.Plan.{Plan}
