@@ -9,7 +9,7 @@ use qplain::{MAX_CHANGED_ROWS, NoMemory, PlacedRow};
 use qshare_boards::{BoardChange, Publisher};
 use qshare_history::{Prefix, StoreId};
 use qstore::Store;
-use qstore_journaled::{JournaledStore, Next};
+use qstore_journaled::JournaledStore;
 use std::alloc::Global;
 use std::sync::Wait;
 
@@ -56,7 +56,7 @@ impl<S: StoreId, R: Wait + Drop> Boards<S> for Published<S, R> {
 
     ghost waits = { λ b published journal. Waits S.id.setting b.publisher b.waiting.items published journal };
 
-    fn note(&mut self, store: &JournaledStore, _next: &Next) -> Result<(), NoMemory> {
+    fn note(&mut self, store: &JournaledStore) -> Result<(), NoMemory> {
         let_wait(&mut self.waiting, store.store())
     }
 

@@ -1,5 +1,6 @@
 -- A journaled store that makes one call more is again what its journal leaves.
-use Rattle.std.proofs.Common.{◌≡◌, ◌+◌, ◌<◌, [], ◌∷◌, ◌++◌, length, sym, ap, ◌∙◌, arith}
+use Rattle.std.proofs.Common.{◌≡◌, ◌+◌, ◌<◌, [], ◌∷◌, ◌++◌, length, sym, ap, ◌∙◌, arith, Option, Some, subst}
+use Rattle.std.specs.Option.{unwrap_or}
 use Rattle.std.proofs.lemmas.List.{length-append}
 use Rattle.qplain.specs.declared.bounds.TheConstants.{MAX_ENTRIES}
 use Rattle.qplain.specs.declared.entry.Entry.{Entry}
@@ -12,7 +13,9 @@ use Rattle.qplain.specs.Step.{step}
 use Rattle.qplain_laws.proofs.Playing.{legal-one_more, play-one_more}
 use Rattle.qplain_laws.proofs.Start.{start_is_lawful}
 use Rattle.qplain_laws.proofs.Tallying.{tallies_have_room}
+use Rattle.qstore.specs.Ready.{committed}
 use Rattle.qstore_journaled.specs.Journaled.{IsPlayed, IsSameJournaled, Journaled}
+use Rattle.qstore_journaled.specs.Next.{IsNext}
 
 -- a new store is what the empty journal leaves
 pub begins : (j : Journaled) → IsLawfulSetup j.setting → j.stored.state ≡ start j.setting → j.journal ≡ [] → IsPlayed j
@@ -60,3 +63,21 @@ can_count j reply line is few stepped =
     let next : reply ≡ (step (play S j.journal) line.cred line.moment line.call).1 =
     stepped ∙ ap (λ T. (step T line.cred line.moment line.call).1) is.state in
     rw next (tallies_have_room j.setting j.journal line.cred line.moment line.call is.setup is.legal (omega (arith, few)))
+
+-- so may an entry that is ready
+pub next-counts : (j : Journaled) (e : Entry) → IsPlayed j → IsNext j e → CanCount (tally_of j.journal) (change_of e.reply)
+next-counts j e is next =
+    can_count j e.reply (record { cred = e.cred; moment = e.moment; call = e.call }) is next.few (ap (λ (p : State × Reply). p.1) next.step)
+
+-- and with it the store is what its journal leaves
+pub next-played : (old new : Journaled) (e : Entry) → IsPlayed old → IsNext old e → new.setting ≡ old.setting
+    → new.journal ≡ old.journal ++ e ∷ [] → new.stored.state ≡ committed old.stored → IsPlayed new
+next-played old new e is next setting journal state =
+    played_on old new e is next.few setting journal (state ∙ ap (λ (p : State × Reply). p.0) next.step) (ap (λ (p : State × Reply). p.1) next.step)
+
+-- the entry that is taken out is the one that was ready
+pub taken-next : (j : Journaled) (e taken : Entry) → IsNext j e → j.next ≡ Some taken → IsNext j taken
+taken-next j e taken next is = subst (IsNext j) (sym same) next
+  where
+    same : taken ≡ e
+    same = ap (λ (o : Option Entry). unwrap_or o e) (sym is ∙ next.is)

@@ -11,6 +11,7 @@ journaled_of a = record {
   stored = a.store;
   journal = a.journal.items;
   room = vec_capacity a.journal - vec_len a.journal;
+  next = a.next;
 }
 
 -- the store is what its journal leaves, and the kept tally is the journal's

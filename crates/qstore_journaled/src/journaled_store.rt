@@ -1,30 +1,34 @@
 //! A store with the journal of its calls.
-ghost use Rattle.std.specs.Prelude.{◌≡◌, ◌<◌, ◌≤◌, ◌↔◌, [], length, Err, IfOk};
+ghost use Rattle.std.specs.Prelude.{◌≡◌, ◌<◌, ◌≤◌, ◌+◌, ◌++◌, ◌∷◌, ◌↔◌, [], length, Some, Err, IfOk};
 ghost use Rattle.std.specs.Bool.{Decides};
 ghost use Rattle.qplain.specs.declared.bounds.TheConstants.{MAX_ENTRIES};
 ghost use Rattle.qplain.specs.declared.call_fault.CallFault.TheVariants.{JournalFull};
+ghost use Rattle.qplain.specs.declared.entry.Entry.{Entry as EntryValue};
+ghost use Rattle.qplain.specs.Journal.{entry_of, tally_of};
 ghost use Rattle.qstore_journaled.specs.Journaled.{IsPlayed, IsSameJournaled};
 ghost use Rattle.qstore_journaled.specs.Lines.{line_of};
-ghost use Rattle.qstore_journaled.specs.Next.{CanFollow, IsEntryFor, IsReceiptOf};
+ghost use Rattle.qstore_journaled.specs.Next.{HasNext, IsNext};
 ghost use Rattle.qstore_journaled.specs.Taken.{AreItsParts};
 
 use crate::ended::Ended;
-use crate::next::{Next, entry_for};
-use qplain::{Call, CallFault, Cred, Entry, MAX_ENTRIES, NoMemory, Receipt, Setup, Tallies};
+use crate::entry::entry_for;
+use qplain::{Call, CallFault, Cred, Entry, MAX_ENTRIES, NoMemory, Reply, Setup, Tallies};
 use qstore::Store;
 use std::alloc::Global;
 use std::marker::Model;
+use std::mem::replace;
 
 /// A store with the journal of its calls, the journal's tally, and the setup that it began with. It is always what the
 /// journal leaves when one thread plays it on the plain machine, and each journaled reply is that machine's.
 ///
-/// Contracts see the setup, the store, the journal, and the room that is made in it.
+/// Contracts see the setup, the store, the journal, the room that is made in it, and the entry that is ready, if one is.
 #[derive(Drop)]
 pub struct JournaledStore {
     setup: Setup,
     store: Store,
     journal: Vec<Entry>,
     tallies: Tallies,
+    next: Option<Entry>,
 }
 
 impl Model for JournaledStore {
@@ -55,6 +59,7 @@ impl JournaledStore {
             store,
             journal: Vec::new(alloc),
             tallies: Tallies::new(),
+            next: None,
         })
     }
 
@@ -81,12 +86,19 @@ impl JournaledStore {
         self.journal.as_slice()
     }
 
-    /// Decides a call as the journal's next entry, and makes every growth that it needs; setup, state and journal stay
-    /// as they were.
+    /// The journal's tally. O(1).
+    pub fn tallies(&self) -> Tallies
+        ensures { result ≡ tally_of self.now.journal }
+    {
+        self.tallies
+    }
+
+    /// Decides a call, makes every growth that it needs, keeps the entry by which the journal will grow, and gives its
+    /// reply; setup, state and journal stay as they were.
     ///
     /// Err is JournalFull, reported first, where the journal has its 1,048,576 entries, or OutOfMemory. Moments,
-    /// refusals and costs are those of `Store::ready`. What is ready is for `commit` of this store, before any other
-    /// `ready` or `commit` of it, and may be dropped.
+    /// refusals and costs are those of `Store::ready`. What is ready is for `commit`, and may be left: the next `ready`
+    /// takes its place.
     #[inline(always)]
     pub fn ready(
         &mut self,
@@ -94,17 +106,17 @@ impl JournaledStore {
         cred: &Cred,
         moment: u64,
         call: &Call,
-    ) -> Result<Next, CallFault>
+    ) -> Result<Reply, CallFault>
         ensures same { IsSameJournaled self.old self.new }
-        ensures next { IfOk result (CanFollow self.new) }
-        ensures entry { IfOk result (λ n. IsEntryFor worker (line_of cred.now moment call.now) n.entry) }
+        ensures next { IfOk result (λ reply.
+            IsNext self.new (entry_of worker (line_of cred.now moment call.now) reply)) }
         ensures full { (result ≡ Err JournalFull) ↔ (length self.old.journal ≡ MAX_ENTRIES) }
         ensures played { IsPlayed self.new }
     {
         if self.journal.len() >= MAX_ENTRIES {
             return Err(CallFault::JournalFull);
         }
-        // What is ready and an entry are large: a `?` would move them once more.
+        // A reply and an entry are large: a `?` would move them once more.
         let Ok(()) = self.journal.reserve(1) else {
             return Err(CallFault::OutOfMemory);
         };
@@ -117,36 +129,41 @@ impl JournaledStore {
         let Ok(entry) = entry_for(worker, cred, moment, call, told) else {
             return Err(CallFault::OutOfMemory);
         };
-        let tallies = self.tallies.with_call(entry.reply.change());
-        Ok(Next {
-            reply,
-            entry,
-            tallies,
-        })
+        self.next = Some(entry);
+        Ok(reply)
     }
 
-    /// Makes the call that is ready, and journals it. It takes no memory and always succeeds.
+    /// The entry that is ready.
+    pub fn next(&self) -> &Entry
+        requires { HasNext self.now }
+        ensures { self.now.next ≡ Some result.now }
+    {
+        match &self.next {
+            Some(entry) => entry,
+            None => unreachable!(),
+        }
+    }
+
+    /// Makes the call that is ready, and journals it at the place that it gives, from 1. It takes no memory and always
+    /// succeeds.
     ///
     /// The caller owes that this store had no other `ready` or `commit` since.
     #[inline(always)]
-    pub fn commit(&mut self, next: Next) -> Receipt
-        requires { CanFollow self.old next }
+    pub fn commit(&mut self) -> u64
+        requires { HasNext self.old }
         ensures setting { self.new.setting ≡ self.old.setting }
-        ensures receipt { IsReceiptOf next.entry self.old.journal self.new.journal result }
+        ensures journal { (e : EntryValue) → self.old.next ≡ Some e
+            → self.new.journal ≡ self.old.journal ++ e ∷ [] }
+        ensures place { result ≡ length self.old.journal + 1 }
         ensures played { IsPlayed self.new }
     {
-        let Next {
-            reply,
-            entry,
-            tallies,
-        } = next;
+        let Some(entry) = replace(&mut self.next, None) else {
+            unreachable!()
+        };
         self.store.commit();
-        self.tallies = tallies;
+        self.tallies = self.tallies.with_call(entry.reply.change());
         self.journal.push_reserved(entry);
-        Receipt {
-            place: self.journal.len() as u64,
-            reply,
-        }
+        self.journal.len() as u64
     }
 
     /// The setup, the store, the journal and its tally.
