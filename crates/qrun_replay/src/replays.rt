@@ -121,10 +121,17 @@ fn play_again(
     ensures mismatch { (place : ℕ) → result ≡ Err (Mismatch place)
         → IsFirstMismatch (start setup) journal.now.entries place }
 {
-    let mut store = JournaledStore::new(alloc, setup, seed)?;
-    replay_all(&mut store, journal.entries())?;
     let answered = all_answered(alloc, journal)?;
     let no_boards = Items::new(Vec::new(alloc));
+    let mut store = JournaledStore::new(alloc, setup, seed)?;
+    match replay_all(&mut store, journal.entries()) {
+        Ok(()) => {}
+        Err(fault) => {
+            // A store that is dropped where it stands is taken apart in the proof there.
+            drop(store);
+            return Err(fault);
+        }
+    }
     Ok(outcome_of(alloc, store, journal.workers(), answered, no_boards)?)
 }
 

@@ -104,6 +104,15 @@ fn open_store(alloc: Global, setup: Setup, seats: u64, seed: u64) -> Result<Open
     })
 }
 
+/// Gives up a store for which no seats were made, and says why. A store that is dropped where it stands is taken apart
+/// in each proof there.
+fn given_up(store: JournaledStore, fault: ShareFault) -> ShareFault
+    ensures { result ≡ fault }
+{
+    drop(store);
+    fault
+}
+
 impl Opened {
     /// A new store of the setup, for 1 to 16 seats.
     ///
@@ -149,9 +158,12 @@ impl Opened {
         let rest = all.empty();
         let prefix = history.prefix();
         let Ok(mut publisher) = first_publisher::<S, R>(alloc, rt, &store, &prefix, seats) else {
-            return Err(ShareFault::OutOfMemory);
+            return Err(given_up(store, ShareFault::OutOfMemory));
         };
-        let made = viewing_seats(alloc, &mut publisher, &prefix, seats, all)?;
+        let made = match viewing_seats(alloc, &mut publisher, &prefix, seats, all) {
+            Ok(made) => made,
+            Err(fault) => return Err(given_up(store, fault)),
+        };
         let boards = Published {
             alloc,
             publisher,
@@ -181,7 +193,10 @@ impl Opened {
         } = self;
         let (tally, mut all) = counters.open::<S>();
         let rest = all.empty();
-        let made = blind_seats(alloc, &history.prefix(), seats, all)?;
+        let made = match blind_seats(alloc, &history.prefix(), seats, all) {
+            Ok(made) => made,
+            Err(fault) => return Err(given_up(store, fault)),
+        };
         let locked = LockedStore::new(store, history, tally, seats, rest, NoBoards);
         Ok((Shared::over(locked), made))
     }
@@ -221,13 +236,16 @@ impl Opened {
         let last = all.split_off();
         let prefix = history.prefix();
         let Ok(mut publisher) = first_publisher::<S, R>(alloc, rt, &store, &prefix, 1) else {
-            return Err(ShareFault::OutOfMemory);
+            return Err(given_up(store, ShareFault::OutOfMemory));
         };
         let Ok(viewer) = Viewer::new(alloc, &mut publisher, prefix.again()) else {
-            return Err(ShareFault::NoReader);
+            return Err(given_up(store, ShareFault::NoReader));
         };
         let observer = Seat::new(seats, prefix.again(), last, viewer);
-        let workers = blind_seats(alloc, &prefix, seats - 1, all)?;
+        let workers = match blind_seats(alloc, &prefix, seats - 1, all) {
+            Ok(workers) => workers,
+            Err(fault) => return Err(given_up(store, fault)),
+        };
         let boards = OnDemand {
             alloc,
             publisher,

@@ -6,9 +6,9 @@ use Rattle.qrun_replay.proofs.replays.play_again.Goals as goal
 pub outcome_of-requires-clause-of_edition : goal.outcome_of-requires-clause-of_edition
 outcome_of-requires-clause-of_edition c =
     rw (
-      c.in_ok-replay_all.ensures.setting,
+      c.in-Ok.ensures.setting,
       c.in_ok-store.ensures.setting,
-      c.in_ok-replay_all.ensures.ok,
+      c.in-Ok.ensures.ok,
       c.entries.ensures.entries,
       c.requires.edition,
     ) (λ k d less. (c.entries.ensures.lawful.each k d less).3)
@@ -16,7 +16,7 @@ outcome_of-requires-clause-of_edition c =
 pub outcome_of-requires-clause-places : goal.outcome_of-requires-clause-places
 outcome_of-requires-clause-places c =
     rw (
-      c.in_ok-replay_all.ensures.ok,
+      c.in-Ok.ensures.ok,
       c.entries.ensures.entries,
       c.in_ok-answered.ensures,
     ) (all_places c.args.journal.now.entries (range_with_len 1 c.args.journal.now.workers))
@@ -25,9 +25,9 @@ pub returns-clause-replay : goal.returns-clause-replay
 returns-clause-replay c =
     again c.args.setup c.args.journal.now c.in_ok-outcome_of.field-0 c.requires.edition
     (rw (
-      c.in_ok-replay_all.ensures.setting,
+      c.in-Ok.ensures.setting,
       c.in_ok-store.ensures.setting,
-      c.in_ok-replay_all.ensures.ok,
+      c.in-Ok.ensures.ok,
       c.entries.ensures.entries,
       c.in_ok-answered.ensures,
       transcripts_seen c.args.journal.now.entries (range_with_len 1 c.args.journal.now.workers),
