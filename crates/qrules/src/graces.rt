@@ -44,7 +44,7 @@ pub(crate) fn next_end(is_over_soft: bool, end: Option<u64>, new: u64) -> Option
     }
 }
 
-/// Makes a grace end the one after a change that may begin a grace. It writes nothing where none stands and none begins.
+/// Makes a grace end the one after a change that may begin a grace. Nothing is written where none stands or begins.
 #[inline(always)]
 pub(crate) fn renew_end(end: &mut Option<u64>, is_over_soft: bool, new: u64)
     ensures { end.new ≡ next_end is_over_soft end.old new }

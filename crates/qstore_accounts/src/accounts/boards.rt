@@ -18,8 +18,8 @@ use qplain::{MAX_CHANGED_ROWS, NoMemory, PlacedRow};
 use qrules::{BoardRow, Kind};
 use std::alloc::Global;
 
-/// Puts the row of a posting's record, as the posting leaves it, in its place, after N rows of others, after these rows,
-/// if there is a posting and it changes the record.
+/// Puts the row of a posting's record, as the posting leaves it, in its place, after N rows of others, after these
+/// rows, if there is a posting and it changes the record.
 fn push_changed(
     ledger: &Ledger,
     kind: Kind,
