@@ -12,8 +12,8 @@ class Workload(NamedTuple):
     config: str
     instructions: int  # of the program without proofs, for a line; for the whole process where there are no lines
     peak: float  # of the program without proofs, in MiB
-    bar: float = 2.0  # at most so many times its instructions
-    peak_bar: float = 2.5  # at most so many times its peak
+    bar: float = 1.7  # at most so many times its instructions
+    peak_bar: float = 2.0  # at most so many times its peak
 
 
 LINES = 65_536
@@ -137,12 +137,12 @@ def workloads():
     two = config()
     sixty_four = config([0, *range(1000, 1063)], [0, *range(2000, 2063)])
     return [
-        Workload("60,000 creates, then 5,536 stats", creates(), two, 1_936, 25),
+        Workload("60,000 creates, then 5,536 stats", creates(), two, 1_936, 25, 1.75),
         Workload("60,000 links and renames in one directory", links_and_renames(), two, 2_216, 0),
         Workload("stat /", repeated("0:0 stat /"), two, 1_103, 11),
         Workload("stats and quotas", stats_and_quotas(), two, 1_770, 15),
         Workload(".. a third of them reads of 64 bytes", stats_and_quotas(f"{CALLER} read /file00001 0 64"), two, 1_809, 16),
-        Workload("quota", repeated("0:0 quota user 1000"), two, 1_757, 17, 1.6),
+        Workload("quota", repeated("0:0 quota user 1000"), two, 1_757, 17),
         Workload("setquota", repeated("0:0 setquota user 1000 400 800 100 200"), two, 1_603, 13),
         Workload("16 kinds of refusals", refusals(), two, 1_367, 13.5),
         Workload("64 users and groups, small writes", many_principals(), sixty_four, 2_371, 108),
@@ -152,9 +152,9 @@ def workloads():
         Workload("one byte in a file of 100,000 blocks", grown(), two, 2_762, 407),
         Workload("fills of 64 KiB, fresh", fresh_fills(), two, 8_112, 518),
         Workload("fills of 64 KiB onto one place", same_fills(), two, 6_473, 3),
-        Workload("small writes and reads", small_writes_and_reads(), two, 3_267, 58, 5.0),
-        Workload("64 KiB a line as hex digits", hex_lines(), two, 389_925, 192, 7.5),
-        Workload("reads of 64 KiB", long_reads(), two, 116_633, 132, 6.0),
+        Workload("small writes and reads", small_writes_and_reads(), two, 3_267, 58),
+        Workload("64 KiB a line as hex digits", hex_lines(), two, 389_925, 192, 1.3),
+        Workload("reads of 64 KiB", long_reads(), two, 116_633, 132, 1.3),
         Workload("an empty script, the whole process", [], two, 450_661, 0),
         Workload(".. with 64 users and 64 groups", [], sixty_four, 2_308_861, 0),
     ]

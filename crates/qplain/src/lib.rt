@@ -16,7 +16,7 @@ pub use journal::Journal;
 pub use line::Line;
 pub use look_fault::LookFault;
 pub use owners::Owners;
-pub use path::Path;
+pub use path::{Path, are_path_bytes};
 pub use placed_row::{MAX_CHANGED_ROWS, PlacedRow};
 pub use principal::{MAX_PRINCIPALS, Principal, is_principal_name};
 pub use qblocks::{Data, NoMemory, SharedItems};

@@ -1,11 +1,10 @@
 //! Paths where the caller has them.
 ghost use Rattle.std.specs.Prelude.{◌≡◌, ◌↔◌, Err, IfOk, IfErr};
-ghost use Rattle.std.specs.List.{list_all};
-ghost use Rattle.qplain.specs.Paths.{ArePathBytes, is_path_byte};
+ghost use Rattle.qplain.specs.Paths.{ArePathBytes};
 
 use crate::asking::path_of;
 use crate::fault::Fault;
-use qplain::Path;
+use qplain::{Path, are_path_bytes};
 use std::alloc::Global;
 
 /// The text of a path where the caller has it: one byte or more, each of which may stand in a path.
@@ -13,12 +12,6 @@ use std::alloc::Global;
 pub struct PathText<'a> {
     pub text: &'a str,
     pub ghost good: { ArePathBytes text.now },
-}
-
-fn are_path_bytes(bytes: &[u8]) -> bool
-    ensures { result ≡ list_all is_path_byte bytes.now }
-{
-    bytes.iter().all(|byte| (0x21..=0x7e).contains(byte))
 }
 
 impl<'a> PathText<'a> {

@@ -1,16 +1,23 @@
 //! One path: what is wrong with it, and its components one after another.
 ghost use Rattle.std.specs.Prelude.{◌≡◌, ◌∷◌, ◌<◌, length, option_map, Some, IfSome};
-ghost use Rattle.std.specs.List.{position, slice_split};
+ghost use Rattle.std.specs.List.{list_all, position, slice_split};
 ghost use Rattle.qplain.specs.Walk.{components, is_name, is_slash, is_well_formed};
 ghost use Rattle.qstore_walk.specs.Paths.{name_in, parts_in, path_fault};
 
+use qlanes::first_place;
 use qplain::{MAX_NAME, MAX_PATH, Refusal};
 
-/// Where the first slash stands.
+/// Where the first slash stands. O(bytes before it).
 fn slash_in(text: &str) -> Option<usize>
     ensures { result ≡ position is_slash text.now }
 {
-    text.as_bytes().iter().position(|byte| *byte == b'/')
+    let bytes = text.as_bytes();
+    let place = first_place(bytes, b'/');
+    if place < bytes.len() {
+        Some(place)
+    } else {
+        None
+    }
 }
 
 /// The text before the first slash, and that after it, if there is one. O(bytes before it).
@@ -30,6 +37,7 @@ pub(crate) fn names_of(path: &str) -> Option<&str>
 {
     match path.as_bytes() {
         [b'/'] => None,
+        [first, ..] if *first == b'/' => Some(&path[1..]),
         _ => cut(path).1,
     }
 }
@@ -55,14 +63,12 @@ fn is_name(name: &str) -> bool
     !matches!(name.as_bytes(), [] | [b'.'] | [b'.', b'.'])
 }
 
-/// Whether a path begins with a slash, and all of its components are names. O(bytes).
-fn is_well_formed(path: &str) -> bool
-    ensures { result ≡ is_well_formed path.now }
+/// Whether each of these components is a name. O(bytes).
+#[inline(never)]
+fn are_names(all: &str) -> bool
+    ensures { result ≡ list_all is_name (parts_in (Some all.now)) }
 {
-    if path.as_bytes().first() != Some(&b'/') {
-        return false;
-    }
-    let mut behind = names_of(path);
+    let mut behind = Some(all);
     while let Some(names) = behind {
         let (name, rest) = cut(names);
         if !is_name(name) {
@@ -71,6 +77,20 @@ fn is_well_formed(path: &str) -> bool
         behind = rest;
     }
     true
+}
+
+/// Whether a path begins with a slash, and all of its components are names. O(bytes).
+#[inline(always)]
+fn is_well_formed(path: &str) -> bool
+    ensures { result ≡ is_well_formed path.now }
+{
+    if path.as_bytes().first() != Some(&b'/') {
+        return false;
+    }
+    match names_of(path) {
+        Some(names) => are_names(names),
+        None => true,
+    }
 }
 
 /// What is wrong with a path of any length. O(bytes).
@@ -100,6 +120,7 @@ fn fault_of_any(path: &str) -> Option<Refusal>
 
 /// What is wrong with a path: EINVAL for its form, else ENAMETOOLONG of a component above 255 bytes, or of the whole
 /// above 4095. O(bytes).
+#[inline(always)]
 pub(crate) fn fault_of(path: &str) -> Option<Refusal>
     ensures { result ≡ path_fault path.now }
 {

@@ -3,6 +3,7 @@ ghost use Rattle.std.specs.Prelude.{◌≡◌, Ok, IfOk, IfSome};
 ghost use Rattle.qtext.specs.Gives.{Gives};
 ghost use Rattle.qtext_read.specs.Callers.{caller_of};
 
+use qlanes::are_same_bytes;
 use qplain::{Cred, NoMemory};
 use qtext::ReadFault;
 use qtext_read::caller_of;
@@ -57,7 +58,7 @@ impl<'a> Callers<'a> {
         let Some(Some(kept)) = self.places.get(self.last) else {
             return Ok(None);
         };
-        if kept.word != word {
+        if !are_same_bytes(kept.word, word) {
             return Ok(None);
         }
         Ok(Some(kept.cred.copy()?))

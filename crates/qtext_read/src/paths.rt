@@ -4,6 +4,7 @@ ghost use Rattle.qtext.specs.Gives.{Gives};
 ghost use Rattle.qtext_read.specs.Arguments.{path_of};
 
 use crate::argument::path_of;
+use qlanes::are_same_bytes;
 use qplain::{NoMemory, Path, SharedItems};
 use qtext::ReadFault;
 use std::alloc::Global;
@@ -31,15 +32,14 @@ impl Page {
             return Ok(None);
         }
         let to = from + word.len();
-        let part = &bytes[from..to];
-        if part == word {
+        if are_same_bytes(&bytes[from..to], word) {
             return Path::within(&self.bytes, from, to);
         }
         Ok(None)
     }
 }
 
-/// The path that was read last, beside its word.
+/// A path that was read, beside its word.
 #[derive(Drop)]
 struct KeptPath<'a> {
     word: &'a [u8],
@@ -48,10 +48,11 @@ struct KeptPath<'a> {
 }
 
 /// Whether two words are the same. Names of files in a row mostly differ at their ends, so that is looked at first.
+#[inline(always)]
 fn is_same(word: &[u8], other: &[u8]) -> bool
     ensures { IsTrue result ↔ (word.now ≡ other.now) }
 {
-    word.len() == other.len() && word.last() == other.last() && word == other
+    word.len() == other.len() && word.last() == other.last() && are_same_bytes(word, other)
 }
 
 /// How many bytes these words take, with a space before each.
@@ -64,8 +65,8 @@ fn bytes_of(words: &[&[u8]]) -> usize {
 }
 
 /// Reads the paths of a text one after the other. Each shares the bytes of a page of the text with the others that
-/// stand there, so that most take no memory; one that is spelled as the one before is that one. Contracts see how many
-/// bytes of the text are left after the words of the next call.
+/// stand there, so that most take no memory; the last one that was spelled as the one before it is kept and not read
+/// again. Contracts see how many bytes of the text are left after the words of the next call.
 ///
 /// Where a word stands is told from the end of its line. It is looked up, so that a path is the one that its word
 /// spells whatever was told: of a word that stands elsewhere the bytes are copied.
@@ -73,7 +74,9 @@ fn bytes_of(words: &[&[u8]]) -> usize {
 pub struct Paths<'a> {
     text: &'a [u8],
     page: Option<Page>,
-    last: Option<KeptPath<'a>>,
+    kept: Option<KeptPath<'a>>,
+    /// The word of the path that was looked up last.
+    last: &'a [u8],
     /// How many bytes of the text are left after the words of the next call.
     left: usize,
 }
@@ -94,7 +97,8 @@ impl<'a> Paths<'a> {
         Paths {
             text,
             page: None,
-            last: None,
+            kept: None,
+            last: &text[..0],
             left: text.len(),
         }
     }
@@ -157,14 +161,17 @@ impl<'a> Paths<'a> {
     ) -> Result<Path, ReadFault>
         ensures { Gives result (path_of word.now) }
     {
-        if let Some(last) = &self.last {
-            if is_same(last.word, word) {
-                return Ok(last.path.copy()?);
+        if let Some(kept) = &self.kept {
+            if is_same(kept.word, word) {
+                return Ok(kept.path.copy()?);
             }
         }
         let path = self.look_up(alloc, word, self.left.saturating_add(bytes_of(behind)))?;
-        let kept = path.copy()?;
-        self.last = Some(KeptPath { word, path: kept });
+        if is_same(self.last, word) {
+            let kept = path.copy()?;
+            self.kept = Some(KeptPath { word, path: kept });
+        }
+        self.last = word;
         Ok(path)
     }
 }
