@@ -3,9 +3,10 @@
 --     row_filled row j    it holds a block
 --     row_byte row o      the byte at the offset o in the row, or 0
 --     Puts ..             what a write does to bytes, to slots and to the blocks that are spare
-use Rattle.std.specs.Prelude.{◌≡◌, ℕ, zero, suc, ◌+◌, ◌-◌, ◌/◌, ◌%◌, ◌<◌, ◌≤◌, Bool, ◌||◌, ◌&&◌, nat_le, nat_lt}
+--     CutsOff ..          what a cut does to bytes
+use Rattle.std.specs.Prelude.{◌≡◌, ◌≢◌, ℕ, zero, suc, ◌+◌, ◌-◌, ◌/◌, ◌%◌, ◌<◌, ◌≤◌, Bool, ◌||◌, ◌&&◌, nat_le, nat_lt}
 use Rattle.std.specs.Prelude.{nat_eq, if◌then◌else◌, List, length, slice_index, slice_index_or, is_some, Option, Some}
-use Rattle.std.specs.Prelude.{None}
+use Rattle.std.specs.Prelude.{None, true}
 use Rattle.qblocks.specs.declared.block.TheConstants.{BLOCK_SIZE}
 use Rattle.qblocks.specs.declared.row.TheConstants.{ROW_BLOCKS}
 
@@ -36,6 +37,11 @@ pub record Overwrites (f g : ℕ → ℕ) (off : ℕ) (input : List ℕ) : Type 
   pub before : (o : ℕ) → o < off → g o ≡ f o
   pub behind : (o : ℕ) → off + length input ≤ o → g o ≡ f o
 
+-- the bytes g are the bytes f up to the offset, and 0 from there on
+pub record CutsOff (f g : ℕ → ℕ) (at : ℕ) : Type 0 where
+  pub before : (o : ℕ) → o < at → g o ≡ f o
+  pub tail : (o : ℕ) → at ≤ o → g o ≡ 0
+
 -- a write changes the bytes f to g and the filled slots p to q, and takes a spare block for each
 -- that was missing
 pub record Puts (f g : ℕ → ℕ) (p q : ℕ → Bool) (old new off : ℕ) (input : List ℕ) : Type 0 where
@@ -63,6 +69,13 @@ row_filled row j = is_some (slot_at row j)
 -- the byte at the offset o in the row, or 0
 abbrev pub row_byte : List Slot → ℕ → ℕ
 row_byte row o = byte_of (slot_at row (o / BLOCK_SIZE)) (o % BLOCK_SIZE)
+
+-- a write into the block of a slot, which comes from the spare ones where there is none yet
+pub record PutsInSlot (row new : List Slot) (j had left at : ℕ) (input : List ℕ) : Type 0 where
+  pub filled : row_filled new j ≡ true
+  pub writes : Overwrites (byte_of (slot_at row j)) (byte_of (slot_at new j)) at input
+  pub others : (q : ℕ) → q ≢ j → slot_at new q ≡ slot_at row q
+  pub spare : left + (if row_filled row j then 0 else 1) ≡ had
 
 -- the write into a row, as `Puts` says it
 abbrev pub PutsInRow : List Slot → List Slot → ℕ → ℕ → ℕ → List ℕ → Type 0

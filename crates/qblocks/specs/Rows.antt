@@ -3,7 +3,7 @@
 --     filled m k     its block is allocated
 --     byte_at m o    the byte at the offset o, or 0
 --     FieldsFit ..   what is always true of a file's fields
-use Rattle.std.specs.Prelude.{◌≡◌, ℕ, ◌+◌, ◌-◌, ◌*◌, ◌/◌, ◌%◌, ◌<◌, ◌≤◌, ◌^◌, Bool, true, false, ◌||◌, nat_lt, List}
+use Rattle.std.specs.Prelude.{◌≡◌, ◌≢◌, ℕ, ◌+◌, ◌-◌, ◌*◌, ◌/◌, ◌%◌, ◌<◌, ◌≤◌, ◌^◌, Bool, true, false, ◌||◌, nat_lt, List}
 use Rattle.std.specs.Prelude.{[], length, map, filter, is_some, Option, Some, None, Box}
 use Rattle.std.specs.Ordering.{nat_cmp}
 use Rattle.std.specs.BTreeMap as tree
@@ -60,6 +60,16 @@ module _ {Z : Type 0} where
   -- the row is there exactly if some of its slots is filled
   abbrev pub IsThereIfUsed : Table Z → ℕ → Type 0
   IsThereIfUsed m r = has_row m r ≡ is_used (filled m) r
+
+  -- no row but this one is another, and none has come or gone
+  pub record ChangesRow (old new : Table Z) (r : ℕ) : Type 0 where
+    pub others : (q : ℕ) → q ≢ r → row_of new q ≡ row_of old q
+    pub rows : (q : ℕ) → has_row new q ≡ has_row old q
+
+  -- each row is there exactly if some of its slots is filled, and its number is below 2^28
+  pub record AreRows (m : Table Z) : Type 0 where
+    pub bound : (r : ℕ) → has_row m r ≡ true → r < 2 ^ 28
+    pub used : (r : ℕ) → IsThereIfUsed m r
 
   -- the two tables hold the same blocks
   pub record SameBlocks (old new : Table Z) : Type 0 where

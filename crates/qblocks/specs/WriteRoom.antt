@@ -2,7 +2,8 @@
 --     WriteRoom, no_room          the write's offset and length;  where there is no room
 --     RoomyFile                a file and its room, which "as before" does not speak of
 --     IsReadyToPut f off n blocks   that write needs no memory where N blocks are at hand
-use Rattle.std.specs.Prelude.{◌≡◌, ℕ}
+--     IsThereToPut f off n blocks   the file is there, and is so
+use Rattle.std.specs.Prelude.{◌≡◌, ℕ, Option, true, is_some, IfSome}
 use Rattle.qblocks.specs.File.{File, Adds}
 
 -- the offset and the length of the write that there is room for
@@ -23,3 +24,8 @@ pub record RoomyFile : Type 0 where
 pub record IsReadyToPut (f : RoomyFile) (off n spare : ℕ) : Type 0 where
   pub room : f.room ≡ record { off = off; len = n }
   pub blocks : Adds f.file off n spare
+
+-- there is a file, and in it room for that write
+pub record IsThereToPut (file : Option RoomyFile) (off n spare : ℕ) : Type 0 where
+  pub there : is_some file ≡ true
+  pub ready : IfSome file (λ f. IsReadyToPut f off n spare)

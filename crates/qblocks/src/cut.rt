@@ -1,12 +1,12 @@
 //! Cutting the rows of a file off at a size.
-ghost use Rattle.std.specs.Prelude.{◌≡◌, ◌≢◌, true, ℕ, ◌+◌, ◌-◌, ◌*◌, ◌/◌, ◌<◌, ◌≤◌, ◌^◌, ◌&&◌, nat_lt, None, Some};
+ghost use Rattle.std.specs.Prelude.{◌≡◌, true, ℕ, ◌+◌, ◌-◌, ◌*◌, ◌/◌, ◌<◌, ◌≤◌, ◌^◌, ◌&&◌, nat_lt, None, Some};
 ghost use Rattle.std.specs.Prelude.{option_map, IsSome, IfSome, IfNone};
 ghost use Rattle.std.specs.Ordering.{nat_cmp};
 ghost use Rattle.std.specs.BTreeMap as tree;
 ghost use Rattle.std.specs.BTreeMap.{btree_map_len};
 ghost use Rattle.qblocks.specs.declared.block.TheConstants.{BLOCK_SIZE};
-ghost use Rattle.qblocks.specs.Row.{LosesBlocks, row_filled, row_byte};
-ghost use Rattle.qblocks.specs.Rows.{Frees, HasFrom, IsNextRow, IsThereIfUsed, has_row, row_of, filled, byte_at};
+ghost use Rattle.qblocks.specs.Row.{CutsOff, LosesBlocks, row_filled, row_byte};
+ghost use Rattle.qblocks.specs.Rows.{AreRows, ChangesRow, Frees, HasFrom, IsNextRow, IsThereIfUsed, has_row, row_of, filled, byte_at};
 
 use crate::block::BLOCK_SIZE;
 use crate::room::forget_row;
@@ -55,15 +55,12 @@ fn pop_rows(rows: &mut Rows, keep: u64) -> u64
 /// Cuts the row `r` off at `at`, and gives how many blocks were taken out.
 fn cut_row(rows: &mut Rows, r: u64, at: u64) -> u64
     requires { at < ROW_SIZE }
-    ensures before { (o : ℕ) → o < at
-        → row_byte (row_of rows.new r) o ≡ row_byte (row_of rows.old r) o }
-    ensures tail { (o : ℕ) → at ≤ o → row_byte (row_of rows.new r) o ≡ 0 }
+    ensures cuts { CutsOff (row_byte (row_of rows.old r)) (row_byte (row_of rows.new r)) at }
     ensures filled { (j : ℕ) → row_filled (row_of rows.new r) j
         ≡ (row_filled (row_of rows.old r) j && nat_lt (j * BLOCK_SIZE) at) }
     ensures freed { LosesBlocks (row_of rows.old r) (row_of rows.new r) result }
     ensures bound { result ≤ ROW_BLOCKS }
-    ensures others { (q : ℕ) → q ≢ r → row_of rows.new q ≡ row_of rows.old q }
-    ensures rows { (q : ℕ) → has_row rows.new q ≡ has_row rows.old q }
+    ensures only { ChangesRow rows.old rows.new r }
 {
     match rows.get_mut(&r) {
         Some(row) => row::cut(row, at),
@@ -75,10 +72,8 @@ fn cut_row(rows: &mut Rows, r: u64, at: u64) -> u64
 /// number.
 pub(crate) fn cut(rows: &mut Rows, size: u64) -> u64
     requires size { size ≤ 2 ^ 40 }
-    requires bound { (r : ℕ) → has_row rows.old r ≡ true → r < 2 ^ 28 }
-    requires used { (r : ℕ) → IsThereIfUsed rows.old r }
-    ensures before { (o : ℕ) → o < size → byte_at rows.new o ≡ byte_at rows.old o }
-    ensures tail { (o : ℕ) → size ≤ o → byte_at rows.new o ≡ 0 }
+    requires rows { AreRows rows.old }
+    ensures cuts { CutsOff (byte_at rows.old) (byte_at rows.new) size }
     ensures filled { (k : ℕ) → filled rows.new k
         ≡ (filled rows.old k && nat_lt (k * BLOCK_SIZE) size) }
     ensures used { (r : ℕ) → IsThereIfUsed rows.new r }

@@ -1,5 +1,5 @@
 //! A file: its size, its blocks and the room for its next write.
-ghost use Rattle.std.specs.Prelude.{◌≡◌, ℕ, ◌+◌, ◌≤◌, ◌^◌, ◌||◌, drop, length, take, IfOk, OnOk, OnErr};
+ghost use Rattle.std.specs.Prelude.{◌≡◌, ◌+◌, ◌≤◌, ◌^◌, drop, length, take, IfOk, OnOk, OnErr};
 ghost use Rattle.std.specs.List.Sorted.{IsStrictlyIncreasing};
 ghost use Rattle.qblocks.specs.File.{empty_file, size_of, blocks_of, MoreBlocks, Adds, AllocatesTouched, after_write};
 ghost use Rattle.qblocks.specs.File.{after_truncate, read_at};

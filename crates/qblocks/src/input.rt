@@ -1,5 +1,5 @@
 //! What a write brings: bytes, or N equal ones.
-ghost use Rattle.std.specs.Prelude.{◌≡◌, ◌+◌, ◌≤◌, ◌==◌, IsTrue, length, take, drop};
+ghost use Rattle.std.specs.Prelude.{◌≡◌, ◌+◌, ◌≤◌, ◌==◌, length, take, drop};
 ghost use Rattle.qblocks.specs.Input.{input_bytes};
 
 /// The bytes of a write.

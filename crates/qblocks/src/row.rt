@@ -3,7 +3,7 @@ ghost use Rattle.std.specs.Prelude.{◌≡◌, ◌≢◌, true, false, ℕ, ◌+
 ghost use Rattle.std.specs.Prelude.{length, is_some, IfOk, OnOk, None, if◌then◌else◌, ◌++◌, map, vec_len};
 ghost use Rattle.std.specs.List.{range_with_len};
 ghost use Rattle.qblocks.specs.Input.{input_bytes};
-ghost use Rattle.qblocks.specs.Row.{Overwrites, PutsInRow, LosesBlocks, byte_of, slot_at, row_filled, row_byte, gaps};
+ghost use Rattle.qblocks.specs.Row.{CutsOff, PutsInRow, PutsInSlot, LosesBlocks, byte_of, slot_at, row_filled, row_byte, gaps};
 ghost use Rattle.qblocks.specs.Row.{gaps_in};
 
 use crate::block::{BLOCK_SIZE, Block};
@@ -62,11 +62,7 @@ fn put_block(row: &mut Row, j: u64, at: u64, input: Input, spare: &mut Spare)
     requires slot { j < ROW_BLOCKS }
     requires fits { at + length (input_bytes input) ≤ BLOCK_SIZE }
     requires spare { (if row_filled row.old j then 0 else 1) ≤ spare.old }
-    ensures filled { row_filled row.new j ≡ true }
-    ensures writes { Overwrites (byte_of (slot_at row.old j)) (byte_of (slot_at row.new j)) at
-        (input_bytes input.entry) }
-    ensures others { (q : ℕ) → q ≢ j → slot_at row.new q ≡ slot_at row.old q }
-    ensures spare { spare.new + (if row_filled row.old j then 0 else 1) ≡ spare.old }
+    ensures { PutsInSlot row.old row.new j spare.old spare.new at (input_bytes input.entry) }
 {
     let slot = &mut row[j as usize];
     if let Some(block) = slot {
@@ -131,8 +127,7 @@ fn zero_tail(row: &mut Row, j: u64, at: u64)
 /// number.
 pub(crate) fn cut(row: &mut Row, at: u64) -> u64
     requires { at < ROW_SIZE }
-    ensures before { (o : ℕ) → o < at → row_byte row.new o ≡ row_byte row.old o }
-    ensures tail { (o : ℕ) → at ≤ o → row_byte row.new o ≡ 0 }
+    ensures cuts { CutsOff (row_byte row.old) (row_byte row.new) at }
     ensures filled { (j : ℕ) → row_filled row.new j
         ≡ (row_filled row.old j && nat_lt (j * BLOCK_SIZE) at) }
     ensures freed { LosesBlocks row.old row.new result }

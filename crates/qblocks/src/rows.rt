@@ -1,10 +1,10 @@
 //! The rows of a file by their numbers: what is missing, writing and reading.
-ghost use Rattle.std.specs.Prelude.{◌≡◌, ◌≢◌, true, ℕ, ◌+◌, ◌-◌, ◌*◌, ◌/◌, ◌<◌, ◌≤◌, ◌^◌, ◌++◌, ◌||◌, length, map};
+ghost use Rattle.std.specs.Prelude.{◌≡◌, true, ℕ, ◌+◌, ◌-◌, ◌*◌, ◌/◌, ◌<◌, ◌≤◌, ◌^◌, ◌++◌, length, map};
 ghost use Rattle.std.specs.Prelude.{vec_len, OnOk};
 ghost use Rattle.std.specs.List.{range_with_len};
 ghost use Rattle.qblocks.specs.Input.{input_bytes};
 ghost use Rattle.qblocks.specs.Row.{PutsInRow, gaps, gaps_in, in_pieces, row_filled, row_byte};
-ghost use Rattle.qblocks.specs.Rows.{PutsInRows, has_row, row_of, filled, byte_at};
+ghost use Rattle.qblocks.specs.Rows.{ChangesRow, PutsInRows, has_row, row_of, filled, byte_at};
 
 use crate::block::BLOCK_SIZE;
 use crate::input::Input;
@@ -37,8 +37,7 @@ fn put_in_row(rows: &mut Rows, r: u64, at: u64, input: Input, spare: &mut Spare)
     requires spare { gaps_in (row_filled (row_of rows.old r)) at (length (input_bytes input)) ≤ spare.old }
     ensures puts { PutsInRow (row_of rows.old r) (row_of rows.new r) spare.old spare.new at
         (input_bytes input.entry) }
-    ensures others { (q : ℕ) → q ≢ r → row_of rows.new q ≡ row_of rows.old q }
-    ensures rows { (q : ℕ) → has_row rows.new q ≡ has_row rows.old q }
+    ensures only { ChangesRow rows.old rows.new r }
 {
     if let Some(row) = rows.get_mut(&r) {
         row::put(row, at, input, spare);

@@ -35,14 +35,14 @@ fn replay_entry(store: &mut JournaledStore, entry: &Entry) -> Result<(), ReplayF
     ensures mismatch { (place : ℕ) → result ≡ Err (Mismatch place)
         → IsMismatchAfter (start store.old.setting) store.old.journal entry.now place }
 {
-    // What is ready is large: a `?` would move it once more.
-    let Ok(next) = store.ready(entry.worker, &entry.cred, entry.moment, &entry.call) else {
+    // A reply is large: a `?` would move it once more.
+    let Ok(reply) = store.ready(entry.worker, &entry.cred, entry.moment, &entry.call) else {
         return Err(ReplayFault::Memory);
     };
-    if !are_same(&next.entry().reply, &entry.reply) {
+    if !are_same(&reply, &entry.reply) {
         return Err(ReplayFault::Mismatch(store.entries().len() as u64 + 1));
     }
-    let _receipt = store.commit(next);
+    let _place = store.commit();
     Ok(())
 }
 

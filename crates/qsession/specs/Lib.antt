@@ -13,4 +13,3 @@ pub mod BorrowedCalls
 pub mod Replies
 pub mod ReadReplies
 pub mod Slots
-pub mod KeptRecorder

@@ -1,6 +1,7 @@
 -- What a call makes of what is held: a step of the plain machine, which is journaled where a journal is kept.
 use Rattle.std.specs.Prelude.{◌≡◌, [], ◌∷◌, ◌++◌, length, Option, Some, None}
 use Rattle.qplain.specs.declared.bounds.TheConstants.{MAX_ENTRIES}
+use Rattle.qplain.specs.declared.entry.Entry.{Entry}
 use Rattle.qplain.specs.declared.line.Line.{Line}
 use Rattle.qplain.specs.declared.reply.Reply.{Reply}
 use Rattle.qplain.specs.State.{State}
@@ -12,8 +13,6 @@ use Rattle.qsession.specs.declared.fault.Fault.TheVariants.{Memory, JournalFull}
 use Rattle.qsession.specs.declared.recorder.TheConstants.{WORKER}
 use Rattle.qsession.specs.declared.kept.Kept.{Kept}
 use Rattle.qsession.specs.declared.kept.Kept.TheVariants.{Plain, Journaled}
-use Rattle.qsession.specs.declared.ready_call.ReadyCall.{ReadyCall}
-use Rattle.qsession.specs.declared.ready_call.ReadyCall.TheVariants.{Ready, Next}
 use Rattle.qsession.specs.Holdings.{Holding, KeptJournal, holding_of}
 use Rattle.qsession.specs.Recorded.{CanRecord}
 
@@ -58,29 +57,23 @@ HasCause h Memory = Unit {0}
 HasCause h JournalFull = IsFullJournal h.journal
 HasCause h fault = ⊥
 
--- what is kept is as the call that is ready needs it
-abbrev pub CanCommit : Kept → ReadyCall → Type 0
-CanCommit (Plain s) (Ready r) = IsReady s r
-CanCommit (Journaled j) (Next n) = CanRecord j n
-CanCommit kept ready = ⊥
+-- what is kept is as the call that is ready in it needs it
+abbrev pub CanCommit : Kept → Type 0
+CanCommit (Plain s) = IsReady s
+CanCommit (Journaled j) = CanRecord j
 
--- the reply of a call that is ready
-abbrev pub reply_ready : ReadyCall → Reply
-reply_ready (Ready r) = r.reply
-reply_ready (Next n) = n.entry.reply
+-- what is kept will hold this when the call that is ready in it is carried out
+abbrev pub Leaves : Kept → Holding → Type 0
+Leaves (Plain s) h = h ≡ record { state = committed s; journal = None }
+Leaves (Journaled j) h =
+    (e : Entry) → j.next ≡ Some e
+    → h ≡ record {
+      state = committed j.stored;
+      journal = Some (record { setting = j.setting; entries = j.journal ++ e ∷ [] });
+    }
 
--- what is kept will hold this, with this reply, when the call that is ready is carried out
-abbrev pub Leaves : Kept → ReadyCall → Holding → Reply → Type 0
-Leaves (Plain s) (Ready r) h reply = (h ≡ record { state = (committed s r).0; journal = None }) × (reply ≡ r.reply)
-Leaves (Journaled j) (Next n) h reply =
-    (h ≡ record {
-      state = (committed j.stored n.ready).0;
-      journal = Some (record { setting = j.setting; entries = j.journal ++ n.entry ∷ [] });
-    }) × (reply ≡ n.entry.reply)
-Leaves kept ready h reply = ⊥
-
--- the call of the line is ready, and will leave and answer what it does
-pub record IsReadyFor (kept : Kept) (line : Line) (ready : ReadyCall) : Type 0 where
-  pub can : CanCommit kept ready
-  pub leaves : Leaves kept ready (holding_after (holding_of kept) line) (reply_to (holding_of kept) line)
-  pub reply : reply_ready ready ≡ reply_to (holding_of kept) line
+-- the call of the line is ready, will leave what it does, and is answered so
+pub record IsReadyFor (kept : Kept) (line : Line) (reply : Reply) : Type 0 where
+  pub can : CanCommit kept
+  pub leaves : Leaves kept (holding_after (holding_of kept) line)
+  pub reply_is : reply ≡ reply_to (holding_of kept) line

@@ -1,6 +1,7 @@
 //! What an open session keeps.
 ghost use Rattle.std.specs.Prelude.{◌≡◌, ◌≤◌, ◌↔◌, Some, None, Err, IsErr, IfSome, IfNone, IfOk, IfErr, OnErr, length};
 ghost use Rattle.qplain.specs.declared.line.Line.{Line};
+ghost use Rattle.qplain.specs.declared.reply.Reply.{Reply as ReplyValue};
 ghost use Rattle.qplain.specs.declared.call.Call.TheVariants.{Read};
 ghost use Rattle.qplain.specs.declared.edition.Edition.TheVariants.{Two};
 ghost use Rattle.qstore_journaled.specs.Lines.{line_of};
@@ -16,7 +17,6 @@ use crate::fault::Fault;
 use crate::laws::replies_are_of_their_kind;
 use crate::path_text::PathText;
 use crate::read_reply::{ReadReply, put_answer};
-use crate::ready_call::ReadyCall;
 use crate::recorder::Recorder;
 use qplain::{Call, CallFault, Cred, NoMemory, Path, Reply, Setup};
 use qstore::Store;
@@ -103,7 +103,10 @@ impl Kept {
                 Err(_) => Err(Fault::Memory),
             },
             Kept::Journaled(store) => match store.ready(cred, moment, call) {
-                Ok(next) => Ok(store.commit(next)),
+                Ok(reply) => {
+                    store.commit();
+                    Ok(reply)
+                }
                 Err(fault) => Err(fault_of(fault)),
             },
         }
@@ -192,8 +195,9 @@ impl Kept {
         put_answer(answer, buffer)
     }
 
-    /// Decides a call and makes every growth that it needs; what is held stays as it was. Faults are those of `call`.
-    pub fn ready(&mut self, cred: &Cred, moment: u64, call: &Call) -> Result<ReadyCall, Fault>
+    /// Decides a call, makes every growth that it needs, keeps what is to be done, and gives the reply; what is held
+    /// stays as it was. Faults are those of `call`.
+    pub fn ready(&mut self, cred: &Cred, moment: u64, call: &Call) -> Result<Reply, Fault>
         ensures same { holding_of self.new ≡ holding_of self.old }
         ensures ready { IfOk result (IsReadyFor self.new (line_of cred.now moment call.now)) }
         ensures cause { IfErr result (HasCause (holding_of self.old)) }
@@ -201,35 +205,25 @@ impl Kept {
     {
         match self {
             Kept::Plain(store) => match store.ready(cred, moment, call) {
-                Ok(ready) => Ok(ReadyCall::Ready(ready)),
+                Ok(reply) => Ok(reply),
                 Err(_) => Err(Fault::Memory),
             },
             Kept::Journaled(store) => match store.ready(cred, moment, call) {
-                Ok(next) => Ok(ReadyCall::Next(next)),
+                Ok(reply) => Ok(reply),
                 Err(fault) => Err(fault_of(fault)),
             },
         }
     }
 
     /// Makes the call that is ready. It takes no memory and always succeeds.
-    pub fn commit(&mut self, ready: ReadyCall) -> Reply
-        requires { CanCommit self.old ready }
-        ensures { (line : Line) → IsReadyFor self.old line ready
-            → IsStep (holding_of self.old) (holding_of self.new) line result }
+    pub fn commit(&mut self)
+        requires { CanCommit self.old }
+        ensures { (line : Line) (reply : ReplyValue) → IsReadyFor self.old line reply
+            → IsStep (holding_of self.old) (holding_of self.new) line reply }
     {
         match self {
-            Kept::Plain(store) => {
-                let ReadyCall::Ready(ready) = ready else {
-                    unreachable!()
-                };
-                store.commit(ready)
-            }
-            Kept::Journaled(store) => {
-                let ReadyCall::Next(next) = ready else {
-                    unreachable!()
-                };
-                store.commit(next)
-            }
+            Kept::Plain(store) => store.commit(),
+            Kept::Journaled(store) => store.commit(),
         }
     }
 }

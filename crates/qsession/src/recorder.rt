@@ -1,30 +1,30 @@
 //! A store that keeps a journal of a session's calls.
-ghost use Rattle.std.specs.Prelude.{◌≡◌, ◌↔◌, ◌++◌, ◌∷◌, [], All, Err, IfOk, length};
+ghost use Rattle.std.specs.Prelude.{◌≡◌, ◌↔◌, ◌++◌, ◌∷◌, [], Some, Err, IfOk, length};
 ghost use Rattle.qplain.specs.declared.bounds.TheConstants.{MAX_ENTRIES};
 ghost use Rattle.qplain.specs.declared.call_fault.CallFault.TheVariants.{JournalFull};
 ghost use Rattle.qplain.specs.declared.edition.Edition.TheVariants.{Two};
-ghost use Rattle.qplain.specs.Journal.{tally_of};
+ghost use Rattle.qplain.specs.declared.entry.Entry.{Entry as EntryValue};
+ghost use Rattle.qplain.specs.Journal.{entry_of, tally_of};
 ghost use Rattle.qstore_journaled.specs.Journaled.{IsPlayed, IsSameJournaled};
 ghost use Rattle.qstore_journaled.specs.Lines.{line_of};
-ghost use Rattle.qstore_journaled.specs.Next.{IsEntryFor};
+ghost use Rattle.qstore_journaled.specs.Next.{IsNext};
 ghost use Rattle.qsession.specs.Recorded.{CanRecord, IsOfSession};
 
 use qplain::{Call, CallFault, Cred, Entry, NoMemory, Reply, Setup, Tallies};
 use qstore::Store;
-use qstore_journaled::{JournaledStore, Next};
+use qstore_journaled::JournaledStore;
 use std::alloc::Global;
 use std::marker::Model;
 
 /// The worker whose calls a session's journal has: the only one.
 pub(crate) const WORKER: u64 = 1;
 
-/// A store of edition 2 that keeps a journal of its calls, all of worker 1, and the journal's tally.
+/// A store of edition 2 that keeps a journal of its calls, all of worker 1.
 ///
 /// Contracts see it as the journaled store that it is.
 #[derive(Drop)]
 pub struct Recorder {
     store: JournaledStore,
-    tallies: Tallies,
 }
 
 impl Model for Recorder {
@@ -34,9 +34,9 @@ impl Model for Recorder {
 
     ghost view = { λ a. a.store };
 
-    ghost use Rattle.qsession.specs.KeptRecorder.{IsKept};
+    ghost use Rattle.qsession.specs.Recorded.{IsOfSession};
 
-    ghost invariant = { IsKept };
+    ghost invariant = { λ a. IsOfSession a.store };
 }
 
 impl Recorder {
@@ -49,7 +49,6 @@ impl Recorder {
     {
         Ok(Recorder {
             store: JournaledStore::new(alloc, setup, seed)?,
-            tallies: Tallies::new(),
         })
     }
 
@@ -73,31 +72,31 @@ impl Recorder {
     pub fn tallies(&self) -> Tallies
         ensures { result ≡ tally_of self.now.journal }
     {
-        self.tallies
+        self.store.tallies()
     }
 
-    /// Decides a call as the journal's next entry, and makes every growth that it needs; setup, state and journal stay
-    /// as they were. Err is JournalFull, reported first, or OutOfMemory.
+    /// Decides a call, makes every growth that it needs, keeps it as the journal's next entry, and gives its reply;
+    /// setup, state and journal stay as they were. Err is JournalFull, reported first, or OutOfMemory.
     #[inline(always)]
-    pub fn ready(&mut self, cred: &Cred, moment: u64, call: &Call) -> Result<Next, CallFault>
+    pub fn ready(&mut self, cred: &Cred, moment: u64, call: &Call) -> Result<Reply, CallFault>
         ensures same { IsSameJournaled self.old self.new }
-        ensures next { IfOk result (CanRecord self.new) }
-        ensures entry { IfOk result (λ n. IsEntryFor WORKER (line_of cred.now moment call.now) n.entry) }
+        ensures next { IfOk result (λ reply.
+            IsNext self.new (entry_of WORKER (line_of cred.now moment call.now) reply)) }
         ensures full { (result ≡ Err JournalFull) ↔ (length self.old.journal ≡ MAX_ENTRIES) }
+        ensures played { IsPlayed self.new }
     {
         self.store.ready(WORKER, cred, moment, call)
     }
 
     /// Makes the call that is ready, and journals it. It takes no memory and always succeeds.
     #[inline(always)]
-    pub fn commit(&mut self, next: Next) -> Reply
-        requires { CanRecord self.old next }
+    pub fn commit(&mut self)
+        requires { CanRecord self.old }
         ensures setting { self.new.setting ≡ self.old.setting }
-        ensures journal { self.new.journal ≡ self.old.journal ++ next.entry ∷ [] }
-        ensures reply { result ≡ next.entry.reply }
+        ensures journal { (e : EntryValue) → self.old.next ≡ Some e
+            → self.new.journal ≡ self.old.journal ++ e ∷ [] }
         ensures played { IsPlayed self.new }
     {
-        self.tallies = next.tallies();
-        self.store.commit(next).reply
+        let _place = self.store.commit();
     }
 }

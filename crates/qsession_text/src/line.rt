@@ -71,11 +71,11 @@ pub fn answer_line(
         Ok(line) => line,
         Err(fault) => return Err(fault),
     };
-    let ready = match kept.ready(&line.cred, line.moment, &line.call) {
-        Ok(ready) => ready,
+    let reply = match kept.ready(&line.cred, line.moment, &line.call) {
+        Ok(reply) => reply,
         Err(fault) => return Err(fault),
     };
-    let out = match reply_line(alloc, ready.reply()) {
+    let out = match reply_line(alloc, &reply) {
         Ok(out) => out,
         Err(fault) => return Err(fault),
     };
@@ -83,6 +83,6 @@ pub fn answer_line(
     if out.len() > room {
         return Err(Fault::Room);
     }
-    let _reply = kept.commit(ready);
+    kept.commit();
     Ok(out)
 }

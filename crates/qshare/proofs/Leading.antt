@@ -1,5 +1,5 @@
 -- How the rows that wait lead from one board to the next.
-use Rattle.std.proofs.Common.{◌≡◌, List, [], ◌∷◌, ◌++◌, length, map, Result, Ok, Err, IfOk, refl, sym, ap, ◌∙◌, subst}
+use Rattle.std.proofs.Common.{◌≡◌, List, [], ◌∷◌, ◌++◌, length, Result, Ok, Err, IfOk, refl, sym, ap, ◌∙◌, subst}
 use Rattle.std.proofs.lemmas.List.{length-map}
 use mathlib.Core.List.{IsPrefix}
 use Rattle.qrules.specs.Sort.{Inodes, Blocks}
@@ -16,9 +16,8 @@ use Rattle.qshare_history.specs.Histories.{Recorded, recorded}
 use Rattle.qshare_history.specs.StoreIds.{Identity}
 use Rattle.qshare_boards.specs.declared.board_change.BoardChange.{BoardChange}
 use Rattle.qshare_boards.specs.Boards.{BringsOn, changed_by, shown_of}
-use Rattle.qstore_journaled.specs.declared.next.Next.{Next}
 use Rattle.qstore_journaled.specs.Journaled.{IsStoreOf, Journaled}
-use Rattle.qstore_journaled.specs.Next.{CanFollow}
+use Rattle.qstore_journaled.specs.Next.{IsNext}
 use Rattle.qshare.specs.Waiting.{LeadsOn, Replaces, Waits}
 use Rattle.qshare.proofs.Placing.{as_many_holders}
 
@@ -27,25 +26,25 @@ state_is : (setting : Setting) (j : Journaled) → IsStoreOf setting j → j.sto
 state_is setting j of = of.played.state ∙ ap (λ s. play (start s) j.journal) of.setting_is
 
 -- with the rows of one call more what waits leads to the journal's next board
-pub waits_on : (setting : Setting) (j : Journaled) (n : Next) (shown published : List Entry) (waiting longer : List PlacedRow)
-    → IsStoreOf setting j → CanFollow j n → Waits setting shown waiting published j.journal
-    → LeadsOn waiting j.stored.state longer (committed j.stored n.ready).0
-    → Waits setting shown longer published (j.journal ++ n.entry ∷ [])
-waits_on setting j n shown published waiting longer of can w led =
+pub waits_on : (setting : Setting) (j : Journaled) (e : Entry) (shown published : List Entry) (waiting longer : List PlacedRow)
+    → IsStoreOf setting j → IsNext j e → Waits setting shown waiting published j.journal
+    → LeadsOn waiting j.stored.state longer (committed j.stored)
+    → Waits setting shown longer published (j.journal ++ e ∷ [])
+waits_on setting j e shown published waiting longer of can w led =
     let S : State = start setting in
     let state : j.stored.state ≡ play S j.journal = state_is setting j of in
     let before : with_rows (shown_of S published).rows waiting ≡ rows_of j.stored.state = w.leads ∙ ap rows_of (sym state) in
-    let after : (committed j.stored n.ready).0 ≡ play S (j.journal ++ n.entry ∷ []) =
-    ap (λ p. p.0) can.step ∙ ap (λ T. (played T n.entry).0) state ∙ sym (play-one_more S j.journal n.entry) in
+    let after : committed j.stored ≡ play S (j.journal ++ e ∷ []) =
+    ap (λ p. p.0) can.step ∙ ap (λ T. (played T e).0) state ∙ sym (play-one_more S j.journal e) in
     record { shown_is = w.shown_is; leads = led.leads (shown_of S published).rows before ∙ ap rows_of after }
 
 -- where there was room for them
-pub noted : {T E : Type 0} (setting : Setting) (j : Journaled) (n : Next) (shown published : List Entry) (waiting longer : List PlacedRow)
-    (r : Result T E) → IsStoreOf setting j → CanFollow j n → Waits setting shown waiting published j.journal
-    → IfOk r (λ x. LeadsOn waiting j.stored.state longer (committed j.stored n.ready).0)
-    → IfOk r (λ x. Waits setting shown longer published (j.journal ++ n.entry ∷ []))
-noted setting j n shown published waiting longer (Ok x) of can w led = waits_on setting j n shown published waiting longer of can w led
-noted setting j n shown published waiting longer (Err e) of can w led = tt
+pub noted : {T E : Type 0} (setting : Setting) (j : Journaled) (e : Entry) (shown published : List Entry) (waiting longer : List PlacedRow)
+    (r : Result T E) → IsStoreOf setting j → IsNext j e → Waits setting shown waiting published j.journal
+    → IfOk r (λ x. LeadsOn waiting j.stored.state longer (committed j.stored))
+    → IfOk r (λ x. Waits setting shown longer published (j.journal ++ e ∷ []))
+noted setting j e shown published waiting longer (Ok x) of can w led = waits_on setting j e shown published waiting longer of can w led
+noted setting j e shown published waiting longer (Err fault) of can w led = tt
 
 -- a change with the rows that wait, the store's totals and the journal's length may be published
 pub brings_on : (id : Identity) (j : Journaled) (shown published : List Entry) (waiting : List PlacedRow) (change : BoardChange)

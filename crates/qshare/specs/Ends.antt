@@ -1,5 +1,5 @@
 -- What the end of a shared store gives, and what it gives back where a share is missing.
-use Rattle.std.specs.Prelude.{◌≡◌, ℕ, List, All}
+use Rattle.std.specs.Prelude.{◌≡◌, List, All}
 use mathlib.Core.List.{IsPrefix}
 use Rattle.qplain.specs.Journal.{tally_of}
 use Rattle.qplain_laws.specs.Journals.{IsBalanced}

@@ -101,17 +101,19 @@ impl<S: StoreId, B: Boards<S>> LockedStore<S, B> {
         ensures full { (result ≡ Err JournalFull) ↔ (length self.old.journal ≡ MAX_ENTRIES) }
         ensures legal { IsLegal (start S.id.setting) self.new.journal × (length self.new.journal ≤ MAX_ENTRIES) }
     {
-        // What is ready is large: a `?` would move it once more.
-        let next = match self.store.ready(worker, cred, moment, call) {
-            Ok(next) => next,
+        // A reply is large: a `?` would move it once more.
+        let reply = match self.store.ready(worker, cred, moment, call) {
+            Ok(reply) => reply,
             Err(fault) => return Err(fault),
         };
-        let Ok(()) = self.boards.note(&self.store, &next) else {
+        let Ok(()) = self.boards.note(&self.store) else {
             return Err(CallFault::OutOfMemory);
         };
-        self.history.add(rt, next.entry());
-        self.tally.count_call(mine, next.change(), next.tallies());
-        Ok(self.store.commit(next))
+        self.history.add(rt, self.store.next());
+        let place = self.store.commit();
+        self.tally
+            .count_call(mine, reply.change(), self.store.tallies());
+        Ok(Receipt { place, reply })
     }
 
     /// Publishes the whole journal, with its board where somebody can look at it. It takes no memory but for the log of

@@ -12,7 +12,7 @@ use qrules::BoardRow;
 use qshare_boards::{BoardChange, Publisher};
 use qshare_history::{Prefix, StoreId};
 use qstore::Store;
-use qstore_journaled::{JournaledStore, Next};
+use qstore_journaled::JournaledStore;
 use std::alloc::Global;
 use std::sync::Wait;
 use std::sync::atomic::{AtomicBool, Ordering};
@@ -77,7 +77,7 @@ impl<'a, S: StoreId, R: Wait + Drop> Boards<S> for OnDemand<'a, S, R> {
 
     ghost waits = { λ b published journal. IsPrefix b.publisher published };
 
-    fn note(&mut self, _store: &JournaledStore, _next: &Next) -> Result<(), NoMemory> {
+    fn note(&mut self, _store: &JournaledStore) -> Result<(), NoMemory> {
         Ok(())
     }
 

@@ -1,8 +1,7 @@
 //! How a shared store is made: first a store, then its identity, then its seats.
-ghost use Rattle.std.specs.Prelude.{◌≡◌, ◌<◌, ◌≤◌, ◌⊎◌, ◌-◌, [], length, Err, IfOk, IfErr};
+ghost use Rattle.std.specs.Prelude.{◌≡◌, ◌<◌, ◌≤◌, ◌⊎◌, ◌-◌, [], Err, IfOk, IfErr};
 ghost use Rattle.qplain.specs.Journal.{board_of};
 ghost use Rattle.qplain.specs.Setups.{IsLawfulSetup};
-ghost use Rattle.qplain.specs.State.{start};
 ghost use Rattle.qshare_history.specs.Histories.{recorded};
 ghost use Rattle.qstore_journaled.specs.Journaled.{IsStoreOf};
 ghost use Rattle.qshare.specs.Seats.{new_seat, seats_of};

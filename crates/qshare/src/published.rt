@@ -1,7 +1,6 @@
 //! The boards of a shared store, published for those who look.
 ghost use Rattle.std.specs.Prelude.{◌≡◌, ◌≤◌, ◌+◌, vec_len, vec_capacity, IfOk, OnErr};
-ghost use Rattle.qstore.specs.Ready.{committed};
-ghost use Rattle.qstore_journaled.specs.Next.{CanFollow};
+ghost use Rattle.qstore.specs.Ready.{IsReady, committed};
 ghost use Rattle.qplain.specs.declared.placed_row.TheConstants.{MAX_CHANGED_ROWS};
 ghost use Rattle.qshare.specs.Waiting.{LeadsOn};
 
@@ -9,7 +8,8 @@ use crate::boards::Boards;
 use qplain::{MAX_CHANGED_ROWS, NoMemory, PlacedRow};
 use qshare_boards::{BoardChange, Publisher};
 use qshare_history::{Prefix, StoreId};
-use qstore_journaled::{JournaledStore, Next};
+use qstore::Store;
+use qstore_journaled::JournaledStore;
 use std::alloc::Global;
 use std::sync::Wait;
 
@@ -36,21 +36,17 @@ fn make_room(waiting: &mut Vec<PlacedRow>) -> Result<(), NoMemory>
     Ok(())
 }
 
-/// Lets the rows wait that a ready call changes, if it may change any, after the others. An Err, out of memory,
+/// Lets the rows wait that what is ready changes, if it may change any, after the others. An Err, out of memory,
 /// leaves the others as they were.
-fn let_wait(
-    waiting: &mut Vec<PlacedRow>,
-    store: &JournaledStore,
-    next: &Next,
-) -> Result<(), NoMemory>
-    requires { CanFollow store.now next.now }
-    ensures rows { IfOk result (λ _. LeadsOn waiting.old.items store.now.stored.state
-        waiting.new.items (committed store.now.stored next.now.ready).0) }
+fn let_wait(waiting: &mut Vec<PlacedRow>, store: &Store) -> Result<(), NoMemory>
+    requires { IsReady store.now }
+    ensures rows { IfOk result (λ _. LeadsOn waiting.old.items store.now.state
+        waiting.new.items (committed store.now)) }
     ensures err { OnErr result (waiting.new.items ≡ waiting.old.items) }
 {
-    if next.may_change_rows() {
+    if store.may_change_rows() {
         make_room(waiting)?;
-        store.push_changed_rows(next, waiting);
+        store.push_changed_rows(waiting);
     }
     Ok(())
 }
@@ -60,8 +56,8 @@ impl<S: StoreId, R: Wait + Drop> Boards<S> for Published<S, R> {
 
     ghost waits = { λ b published journal. Waits S.id.setting b.publisher b.waiting.items published journal };
 
-    fn note(&mut self, store: &JournaledStore, next: &Next) -> Result<(), NoMemory> {
-        let_wait(&mut self.waiting, store, next)
+    fn note(&mut self, store: &JournaledStore) -> Result<(), NoMemory> {
+        let_wait(&mut self.waiting, store.store())
     }
 
     fn publish(&mut self, store: &JournaledStore, _published: &Prefix, history: Prefix) {

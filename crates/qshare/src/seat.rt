@@ -6,7 +6,7 @@ ghost use Rattle.qshare_history.specs.Histories.{recorded};
 ghost use Rattle.qshare_boards.specs.Boards.{IsHistoryOf, shown_of};
 ghost use Rattle.qshare_boards.specs.Looks.{IsBoardAnswer, IsRecordAnswer};
 ghost use Rattle.qshare_boards.specs.Whole.{IsWhole};
-ghost use Rattle.qshare.specs.Seats.{HasLooked, HasSeenOn};
+ghost use Rattle.qshare.specs.Seats.{HasLooked};
 
 use crate::boards::Boards;
 use crate::locked_store::LockedStore;

@@ -13,11 +13,11 @@ use Rattle.qplain.specs.State.{State}
 use Rattle.qplain.specs.Step.{settle, step}
 use Rattle.qplain_laws.specs.Laws.{PassesNoLimit}
 use Rattle.qplain_laws.proofs.Within.{limits_hold}
-use Rattle.qstore.specs.declared.ready.Plan.TheVariants.{Nothing}
-use Rattle.qstore.specs.declared.ready.Ready.{Ready}
+use Rattle.qstore.specs.declared.plan.Plan.{Plan}
+use Rattle.qstore.specs.declared.plan.Plan.TheVariants.{Nothing}
 use Rattle.qstore.specs.declared.request.Request.{Request}
 use Rattle.qstore.specs.Applied.{IsApplied}
-use Rattle.qstore.specs.Decided.{IsDecided, IsDecision}
+use Rattle.qstore.specs.Decided.{IsDecided, IsDecision, IsPlanned}
 use Rattle.qstore.specs.Ready.{IsReady, IsRefused, committed, effect}
 use Rattle.qstore.specs.Requests.{CanDecide, IsConsistent, IsRequestFor, IsWritten}
 use Rattle.qstore.specs.Stored.{IsStorable, Stored}
@@ -52,17 +52,17 @@ applied-refused s now same cred moment call refusal is =
     (ap (λ (v : Stored). (v.state, Refused refusal)) same ∙ sym (step-refused s.state cred moment call refusal is))
 
 -- its refusal is ready, and comes to that step
-pub refused-ready : (s now : Stored) → now ≡ s → IsConsistent s → (refusal : Refusal) (d : Ready)
-    → d ≡ record { reply = Refused refusal; plan = Nothing } → IsReady now d
-refused-ready s now same whole refusal d is =
-    subst (λ (r : Ready). IsReady now r) (sym is)
-    (record { can = tt; sound = subst (λ (v : Stored). IsStorable v.state) (sym same) whole.sound })
+pub refused-ready : (s now new : Stored) → now ≡ s → IsConsistent s → new ≡ record now { plan = Nothing } → IsReady new
+refused-ready s now new same whole none =
+    subst IsReady (sym none) (record { can = tt; sound = subst (λ (v : Stored). IsStorable v.state) (sym same) whole.sound })
 
-pub refused-committed : (s now : Stored) → now ≡ s → (cred : Caller) (moment : ℕ) (call : Call) (refusal : Refusal) (d : Ready)
-    → d ≡ record { reply = Refused refusal; plan = Nothing } → refusal_of_arguments s.state cred moment call ≡ Some refusal
-    → committed now d ≡ step s.state cred moment call
-refused-committed s now same cred moment call refusal d is refused =
-    ap (committed now) is ∙ ap (λ (v : Stored). (v.state, Refused refusal)) same ∙ sym (step-refused s.state cred moment call refusal refused)
+pub refused-committed : (s now new : Stored) → now ≡ s → (cred : Caller) (moment : ℕ) (call : Call) (refusal : Refusal) (reply : Reply)
+    → new ≡ record now { plan = Nothing } → reply ≡ Refused refusal → refusal_of_arguments s.state cred moment call ≡ Some refusal
+    → (committed new, reply) ≡ step s.state cred moment call
+refused-committed s now new same cred moment call refusal reply none is refused =
+    (λ i. (committed (none i), is i))
+    ∙ ap (λ (v : Stored). (v.state, Refused refusal)) same
+    ∙ sym (step-refused s.state cred moment call refusal refused)
 
 module _ (s : Stored) (cred : Caller) (moment : ℕ) (bad : Bool) (fault : Option Refusal) (q : Request)
     (asked : IsRequestFor s cred moment bad fault q) (call : Call) (written : IsWritten s.state bad fault call) where
@@ -73,17 +73,19 @@ module _ (s : Stored) (cred : Caller) (moment : ℕ) (bad : Bool) (fault : Optio
       ∙ ap (λ o. settle s.state cred moment (unless o (attempt_of s.state cred call))) (sym (asked.allowed call written))
 
   -- what is decided leaves that
-  pub committed-step : (new : Stored) (d : Ready) → IsDecided s new q (attempt_of s.state q.cred.now call) d
-      → committed new d ≡ step s.state cred moment call
-  committed-step new d decided = decided.step ∙ settled-step
+  pub effect-step : (new : Stored) (plan : Plan) (reply : Reply) → IsDecided s new q (attempt_of s.state q.cred.now call) plan reply
+      → (effect new plan, reply) ≡ step s.state cred moment call
+  effect-step new plan reply decided = decided.step ∙ settled-step
 
-  -- and is ready
-  pub decided-ready : (new : Stored) (d : Ready) → IsDecided s new q (attempt_of s.state q.cred.now call) d → IsReady new d
-  decided-ready new d decided = record {
-    can = decided.can;
-    sound =
-        IsStorable-from_step s.state (effect new d.plan) cred moment call d.reply asked.can.whole.sound (committed-step new d decided);
-  }
+  -- which is storable
+  pub effect-sound : (new : Stored) (plan : Plan) (reply : Reply) → IsDecided s new q (attempt_of s.state q.cred.now call) plan reply
+      → IsStorable (effect new plan)
+  effect-sound new plan reply decided =
+      IsStorable-from_step s.state (effect new plan) cred moment call reply asked.can.whole.sound (effect-step new plan reply decided)
+
+  -- so what is decided and kept is ready
+  pub decided-ready : (new : Stored) (reply : Reply) → IsDecided s new q (attempt_of s.state q.cred.now call) new.plan reply → IsReady new
+  decided-ready new reply decided = record { can = decided.can; sound = effect-sound new new.plan reply decided }
 
   -- where it is refused, it is no want of memory
   pub refused-step : {A : Type 0} → (IsRefused (settle s.state q.cred.now q.moment (attempt_of s.state q.cred.now call)).1 → A)
@@ -92,9 +94,11 @@ module _ (s : Stored) (cred : Caller) (moment : ℕ) (bad : Bool) (fault : Optio
 
   module _ (now new : Stored) (same : now ≡ s) where
     -- what is decided then is decided of the store before
-    pub decided-before : (result : Result Ready AllocError) → IsDecision now new q (attempt_of now.state q.cred.now call) result
-        → IsDecision s new q (attempt_of s.state q.cred.now call) result
-    decided-before result decided = subst (λ (v : Stored). IsDecision v new q (attempt_of v.state q.cred.now call) result) same decided
+    pub decided-before : (plan : Plan) (result : Result Reply AllocError)
+        → IsPlanned now new q (attempt_of now.state q.cred.now call) plan result
+        → IsPlanned s new q (attempt_of s.state q.cred.now call) plan result
+    decided-before plan result decided =
+        subst (λ (v : Stored). IsPlanned v new q (attempt_of v.state q.cred.now call) plan result) same decided
 
     -- what is answered at once is applied
     pub answered-now : (reply : Reply) → settle now.state q.cred.now q.moment (attempt_of now.state q.cred.now call) ≡ (now.state, reply)
@@ -104,23 +108,30 @@ module _ (s : Stored) (cred : Caller) (moment : ℕ) (bad : Bool) (fault : Optio
         subst (λ (v : Stored). settle v.state q.cred.now q.moment (attempt_of v.state q.cred.now call) ≡ (v.state, reply)) same is in
         applied s.state now.state cred moment call reply (ap (λ (v : Stored). (v.state, reply)) same ∙ sym before ∙ settled-step)
 
-    -- so it is ready
-    pub ready-now : (d : Ready) → IsDecision now new q (attempt_of now.state q.cred.now call) (Ok d) → IsReady new d
-    ready-now d decided = decided-ready new d (decided-before (Ok d) decided).decided
+    module _ (plan : Plan) (reply : Reply) (decided : IsPlanned now new q (attempt_of now.state q.cred.now call) plan (Ok reply)) where
+      -- what is decided leaves a storable state
+      pub sound-now : IsStorable (effect new plan)
+      sound-now = effect-sound new plan reply (decided-before plan (Ok reply) decided).decided
 
-    -- and where it is carried out, it is applied
-    pub applied-now : (T : State) (d : Ready) (reply : Reply) → IsDecision now new q (attempt_of now.state q.cred.now call) (Ok d)
-        → (T, reply) ≡ committed new d → IsApplied s.state T cred moment call (Ok reply)
-    applied-now T d reply decided is = applied s.state T cred moment call reply (is ∙ committed-step new d (decided-before (Ok d) decided).decided)
+      -- and where it is carried out, it is applied
+      pub applied-now : (T : State) → T ≡ effect new plan → IsApplied s.state T cred moment call (Ok reply)
+      applied-now T is =
+          applied s.state T cred moment call reply
+          ((λ i. (is i, reply)) ∙ effect-step new plan reply (decided-before plan (Ok reply) decided).decided)
+
+    -- what is decided and kept is ready
+    pub ready-now : (reply : Reply) → IsDecision now new q (attempt_of now.state q.cred.now call) (Ok reply) → IsReady new
+    ready-now reply decided = decided-ready new reply (decided-before new.plan (Ok reply) decided).decided
 
     -- and nothing is where memory is wanting
-    pub unapplied-now : (decision : Result Ready AllocError) (result : Result Reply AllocError) → IsErr decision → IsErr result
-        → IsDecision now new q (attempt_of now.state q.cred.now call) decision → IsApplied s.state new.state cred moment call result
-    unapplied-now (Ok d) result wanting wants decided = cc
-    unapplied-now (Err lack) (Ok reply) wanting wants decided = cc
-    unapplied-now (Err lack) (Err want) wanting wants decided = record {
+    pub unapplied-now : (plan : Plan) (decision result : Result Reply AllocError) → IsErr decision → IsErr result
+        → IsPlanned now new q (attempt_of now.state q.cred.now call) plan decision
+        → IsApplied s.state new.state cred moment call result
+    unapplied-now plan (Ok told) result wanting wants decided = cc
+    unapplied-now plan (Err lack) (Ok reply) wanting wants decided = cc
+    unapplied-now plan (Err lack) (Err want) wanting wants decided = record {
       ok = tt;
       err = decided.same.state ∙ ap (λ (v : Stored). v.state) same;
-      refused_first = refused-step (decided-before (Err lack) decided).refused_first;
+      refused_first = refused-step (decided-before plan (Err lack) decided).refused_first;
       limits = tt;
     }

@@ -1,7 +1,7 @@
 -- What a decision comes to: once for all calls.
-use Rattle.std.proofs.Common.{◌≡◌, ℕ, ◌+◌, ◌-◌, ◌^◌, ◌≤◌, ◌==◌, true, not, cond, List, Option, Some, Result, Ok, Err, refl, sym, ap, subst, ◌∙◌, arith}
+use Rattle.std.proofs.Common.{◌≡◌, ℕ, ◌+◌, ◌-◌, ◌^◌, ◌≤◌, ◌==◌, true, not, cond, List, Option, Some, Result, Ok, Err, IfOk, refl, sym, ap, subst, ◌∙◌, arith}
 use Rattle.std.specs.declared.alloc.AllocError.{AllocError}
-use Rattle.std.specs.Result.{IsErr}
+use Rattle.std.specs.Result.{IsErr, IsOk}
 use Rattle.qrules.specs.declared.kind.Kind.TheVariants.{User}
 use Rattle.qrules.specs.Sort.{Inodes, Blocks}
 use Rattle.qrules.specs.declared.kind.Kind.{Kind}
@@ -33,14 +33,15 @@ use Rattle.qstore_accounts.proofs.Booked.{claim-weight}
 use Rattle.qstore_change.specs.declared.tree_change.TreeChange.{TreeChange}
 use Rattle.qstore_change.specs.Changes.{CanChange, changed}
 use Rattle.qstore.specs.declared.request.Exchange.{Exchange}
-use Rattle.qstore.specs.declared.ready.Plan.TheVariants.{Nothing, Change, Limits as SetLimits}
-use Rattle.qstore.specs.declared.ready.Ready.{Ready}
+use Rattle.qstore.specs.declared.plan.Plan.{Plan}
+use Rattle.qstore.specs.declared.plan.Plan.TheVariants.{Nothing, Change, Limits as SetLimits, SetGraces}
 use Rattle.qstore.specs.declared.request.Request.{Request}
-use Rattle.qstore.specs.Decided.{IsAsked, IsBilled, IsDecision, IsUnbilled}
+use Rattle.qstore.specs.Decided.{IsAsked, IsBilled, IsDecision, IsPlanned, IsUnbilled}
 use Rattle.qstore.specs.Ready.{CanCarryOut, IsRefused, billed, effect}
 use Rattle.qstore.specs.Requests.{IsConsistent}
 use Rattle.qstore.specs.Stored.{IsSameStore, Stored}
 use Rattle.qstore.specs.Told.{told}
+use Rattle.qstore.proofs.Listed.{ok_weaker}
 
 -- ---- claims
 
@@ -97,30 +98,29 @@ module _ (old new : Stored) (same : IsSameStore old new) (request : Request) (at
   abbrev settled_so : State × Reply
   settled_so = settle old.state request.cred.now request.moment attempt
 
-  -- what is made ready is a decision
-  pub decision-ready : (d : Ready) → settled_so ≡ (effect new d.plan, d.reply) → CanCarryOut new d.plan
-      → IsDecision old new request attempt (Ok d)
-  decision-ready d is can = record { same = same; decided = record { step = sym is; can = can }; refused_first = λ refused. refl }
+  -- a plan and a reply that come to that are a decision
+  pub decision-ready : (plan : Plan) (reply : Reply) → settled_so ≡ (effect new plan, reply) → CanCarryOut new plan
+      → IsPlanned old new request attempt plan (Ok reply)
+  decision-ready plan reply is can =
+      record { same = same; decided = record { step = sym is; can = can }; refused_first = λ refused. refl }
 
   -- an answer decides a request that is answered so
-  pub decision-answered : (d : Ready) (reply : Reply) → settled_so ≡ (old.state, reply) → d ≡ record { reply = reply; plan = Nothing }
-      → IsDecision old new request attempt (Ok d)
-  decision-answered d reply is made =
-      subst (λ (r : Ready). IsDecision old new request attempt (Ok r)) (sym made)
-      (decision-ready (record { reply = reply; plan = Nothing }) (is ∙ (λ i. (sym same.state i, reply))) tt)
+  pub decision-answered : (reply answer : Reply) → settled_so ≡ (old.state, answer) → reply ≡ answer
+      → IsPlanned old new request attempt Nothing (Ok reply)
+  decision-answered reply answer is made = decision-ready Nothing reply (is ∙ (λ i. (sym same.state i, sym made i))) tt
 
   -- a refusal decides an attempt that is refused so
-  pub decision-refused : (d : Ready) (refusal : Refusal) → attempt ≡ Refuse refusal → d ≡ record { reply = Refused refusal; plan = Nothing }
-      → IsDecision old new request attempt (Ok d)
-  decision-refused d refusal is made =
-      decision-answered d (Refused refusal) (ap (settle old.state request.cred.now request.moment) is) made
+  pub decision-refused : (reply : Reply) (refusal : Refusal) → attempt ≡ Refuse refusal → reply ≡ Refused refusal
+      → IsPlanned old new request attempt Nothing (Ok reply)
+  decision-refused reply refusal is made =
+      decision-answered reply (Refused refusal) (ap (settle old.state request.cred.now request.moment) is) made
 
   module _ (number given : ℕ) (exchange : Exchange) (S1 : State) (asked : IsAsked old exchange given S1) (becomes : attempt ≡ Becomes S1 number) where
     -- a bill that is refused decides the plain result
-    pub decision-unbilled : (d : Ready) (refusal : Refusal) → IsUnbilled old request exchange given refusal
-        → d ≡ record { reply = Refused refusal; plan = Nothing } → IsDecision old new request attempt (Ok d)
-    decision-unbilled d refusal is made =
-        decision-answered d (Refused refusal)
+    pub decision-unbilled : (reply : Reply) (refusal : Refusal) → IsUnbilled old request exchange given refusal
+        → reply ≡ Refused refusal → IsPlanned old new request attempt Nothing (Ok reply)
+    decision-unbilled reply refusal is made =
+        decision-answered reply (Refused refusal)
         (ap (settle old.state request.cred.now request.moment) becomes
         ∙ settle-refused old.state S1 request.cred.now request.moment number refusal (is S1 asked)) made
 
@@ -132,9 +132,9 @@ module _ (old new : Stored) (same : IsSameStore old new) (request : Request) (at
         ∙ settle-granted old.state S1 request.cred.now request.moment number (billed_so.granted S1 asked).0
 
     -- so memory may be wanting then
-    pub decision-unmade : (bill : Bill) (result : Result Ready AllocError) → IsBilled old bill request exchange given → IsErr result
-        → IsDecision old new request attempt result
-    decision-unmade bill (Ok d) billed_so wanting = cc
+    pub decision-unmade : {plan : Plan} (bill : Bill) (result : Result Reply AllocError) → IsBilled old bill request exchange given → IsErr result
+        → IsPlanned old new request attempt plan result
+    decision-unmade bill (Ok reply) billed_so wanting = cc
     decision-unmade bill (Err fault) billed_so wanting = record {
       same = same;
       decided = tt;
@@ -143,16 +143,15 @@ module _ (old new : Stored) (same : IsSameStore old new) (request : Request) (at
     }
 
     -- and a bill that is granted decides it
-    pub decision-billed : (change : TreeChange) (d : Ready) → IsBilled old new.bill request exchange given
-        → changed old.state change ≡ S1 → CanChange new.state new.room change
-        → d ≡ record { reply = Done number (told exchange); plan = Change change }
-        → IsDecision old new request attempt (Ok d)
-    decision-billed change d billed_so made can is =
-        subst (λ (r : Ready). IsDecision old new request attempt (Ok r)) (sym is)
-        (decision-ready (record { reply = Done number (told exchange); plan = Change change })
+    pub decision-billed : (change : TreeChange) (reply : Reply) → IsBilled old new.bill request exchange given
+        → changed old.state change ≡ S1 → CanChange new.state new.room change → reply ≡ Done number (told exchange)
+        → IsPlanned old new request attempt (Change change) (Ok reply)
+    decision-billed change reply billed_so made can is =
+        decision-ready (Change change) reply
         (is-done new.bill billed_so
-        ∙ (λ i. (sym there i, Done number (sym (told-change old.books exchange old.state S1 asked.before asked.after asked.replaced) i))))
-        (can, record { placed = subst (λ (b : Books). IsBillFor b new.bill) (sym same.books) billed_so.placed; books = books }))
+        ∙ (λ i. (sym there i, Done number (sym (told-change old.books exchange old.state S1 asked.before asked.after asked.replaced) i)))
+        ∙ (λ i. (billed new (changed new.state change), sym is i)))
+        (can, record { placed = subst (λ (b : Books). IsBillFor b new.bill) (sym same.books) billed_so.placed; books = books })
       where
         left : AreBooksOf (ends_after S1 request.moment) (settled new.bill old.books)
         left = (billed_so.granted S1 asked).1
@@ -168,21 +167,61 @@ module _ (old new : Stored) (same : IsSameStore old new) (request : Request) (at
         books = subst (λ (S : State). AreBooksOf S (settled new.bill new.books)) (sym there)
             (subst (λ (b : Books). AreBooksOf (ends_after S1 request.moment) (settled new.bill b)) (sym same.books) left)
 
--- of what is granted memory may still be wanting
-pub decision-lacking : (old new : Stored) (request : Request) (attempt : Attempt) (d : Ready) (number : ℕ) (change : TotalChange)
-    → d.reply ≡ Done number change → IsDecision old new request attempt (Ok d) → (result : Result Ready AllocError) → IsErr result
-    → IsDecision old new request attempt result
-decision-lacking old new request attempt d number change is decision (Ok other) wanting = cc
-decision-lacking old new request attempt d number change is decision (Err lack) wanting = record {
-  same = decision.same;
-  decided = tt;
-  refused_first =
-      done-unrefused number change (settle old.state request.cred.now request.moment attempt).1
-      (sym (ap (λ (t : State × Reply). t.1) decision.decided.step) ∙ is);
-}
+-- ---- decisions that the store keeps
+
+-- what a plan leaves does not hang on what the store keeps
+effect-kept : (s : Stored) (kept plan : Plan) → effect (record s { plan = kept }) plan ≡ effect s plan
+effect-kept s kept Nothing = refl
+effect-kept s kept (Change change) = refl
+effect-kept s kept SetLimits = refl
+effect-kept s kept (SetGraces graces) = refl
+
+-- nor whether it can carry it out
+can-kept : (s : Stored) (kept plan : Plan) → CanCarryOut s plan → CanCarryOut (record s { plan = kept }) plan
+can-kept s kept Nothing can = tt
+can-kept s kept (Change change) can = (can.0, record { placed = can.1.placed; books = can.1.books })
+can-kept s kept SetLimits can = record { placed = can.placed; books = can.books }
+can-kept s kept (SetGraces graces) can = can
+
+-- so a plan that is kept makes a decision of what was planned
+pub kept : {old mid new : Stored} {request : Request} {attempt : Attempt} (plan : Plan) (result : Result Reply AllocError)
+    → new ≡ record mid { plan = plan } → IsPlanned old mid request attempt plan result → IsDecision old new request attempt result
+kept {old} {mid} {new} {request} {attempt} plan result is planned =
+    subst (λ (v : Stored). IsPlanned old v request attempt v.plan result) (sym is) (record {
+      same = record { state = planned.same.state; books = planned.same.books };
+      decided = ok_weaker result _ _ planned.decided (λ reply decided. record {
+        step = (λ i. (effect-kept mid plan plan i, reply)) ∙ decided.step;
+        can = can-kept mid plan plan decided.can;
+      });
+      refused_first = planned.refused_first;
+    })
+
+-- a refusal of a store that is as it was
+pub refused-here : (s new : Stored) (request : Request) (attempt : Attempt) (reply : Reply) (refusal : Refusal) → attempt ≡ Refuse refusal
+    → new ≡ record s { plan = Nothing } → reply ≡ Refused refusal → IsDecision s new request attempt (Ok reply)
+refused-here s new request attempt reply refusal is none made =
+    kept Nothing (Ok reply) none (decision-refused s s (same-store s) request attempt reply refusal is made)
+
+-- and an answer
+pub answered-here : (s new : Stored) (request : Request) (attempt : Attempt) (reply : Reply)
+    → settle s.state request.cred.now request.moment attempt ≡ (s.state, reply) → new ≡ record s { plan = Nothing }
+    → IsDecision s new request attempt (Ok reply)
+answered-here s new request attempt reply is none =
+    kept Nothing (Ok reply) none (decision-answered s s (same-store s) request attempt reply reply is refl)
+
+-- and what is looked up, where memory may be wanting
+pub looked-up : (s new : Stored) (request : Request) (attempt : Attempt) (result : Result Reply AllocError) → new ≡ record s { plan = Nothing }
+    → IfOk result (λ reply. (s.state, reply) ≡ settle s.state request.cred.now request.moment attempt)
+    → (IsRefused (settle s.state request.cred.now request.moment attempt).1 → IsOk result) → IsDecision s new request attempt result
+looked-up s new request attempt result none told first =
+    kept Nothing result none (record {
+      same = same-store s;
+      decided = ok_weaker result _ _ told (λ reply is. record { step = is; can = tt });
+      refused_first = first;
+    })
 
 -- a decision along an equal attempt
-pub decision-along : (old new : Stored) (request : Request) (attempt other : Attempt) (result : Result Ready AllocError) → attempt ≡ other
+pub decision-along : (old new : Stored) (request : Request) (attempt other : Attempt) (result : Result Reply AllocError) → attempt ≡ other
     → IsDecision old new request other result → IsDecision old new request attempt result
 decision-along old new request attempt other result same is = subst (λ a. IsDecision old new request a result) (sym same) is
 
@@ -205,9 +244,9 @@ bytes-unrefused S cred moment attempt bytes is refused =
 pub decision-limits : (old new : Stored) → IsSameStore old new → (request : Request) (kind : Kind) (id : ℕ) (limits : Limits)
     → IsLawful old.state → (request.cred.now.uid == 0) ≡ true → is_declared old.state kind id ≡ true
     → AreBooksOf (ends_after (with_limits_of old.state kind id limits) request.moment) (settled new.bill old.books) → IsBillFor old.books new.bill
-    → IsDecision old new request (set_quota old.state request.cred.now kind id limits) (Ok (record { reply = Done 0 no_change; plan = SetLimits }))
+    → IsPlanned old new request (set_quota old.state request.cred.now kind id limits) SetLimits (Ok (Done 0 no_change))
 decision-limits old new same request kind id limits lawful super declared books placed =
-    decision-ready old new same request (set_quota old.state request.cred.now kind id limits) (record { reply = Done 0 no_change; plan = SetLimits })
+    decision-ready old new same request (set_quota old.state request.cred.now kind id limits) SetLimits (Done 0 no_change)
     ((λ i. settle old.state request.cred.now request.moment
     (cond (not (super i)) (Refuse EPERM)
     (cond (not (declared i)) (Refuse ESRCH) (Becomes (with_limits_of old.state kind id limits) 0))))

@@ -44,6 +44,11 @@ pub ok_weaker : {V E : Type 0} (result : Result V E) (P Q : V → Type 0) → If
 ok_weaker (Ok v) P Q holds gives = gives v holds
 ok_weaker (Err e) P Q holds gives = tt
 
+-- and so does what holds of no result
+pub ok_so : {V E : Type 0} (result : Result V E) (P : V → Type 0) (Q : Type 0) → IfOk result P → ((v : V) → P v → Q) → OnOk result Q
+ok_so (Ok v) P Q holds gives = gives v holds
+ok_so (Err e) P Q holds gives = tt
+
 -- and of why it is not
 pub err_weaker : {V E : Type 0} (result : Result V E) (P Q : E → Type 0) → IfErr result P → ((e : E) → P e → Q e) → IfErr result Q
 err_weaker (Ok v) P Q holds gives = tt

@@ -9,6 +9,7 @@ use Rattle.qplain.specs.Attempt.{Attempt}
 use Rattle.qplain.specs.Calls.{attempt_of}
 use Rattle.qplain.specs.Decision.{ends_after, refusal_between}
 use Rattle.qplain.specs.declared.refusal.Refusal.{Refusal}
+use Rattle.qplain.specs.declared.reply.Reply.{Reply}
 use Rattle.qplain.specs.State.{Inode, State}
 use Rattle.qplain.specs.Step.{settle}
 use Rattle.qplain.specs.Use.{weight}
@@ -18,28 +19,33 @@ use Rattle.qstore_accounts.specs.Bills.{IsBillFor, settled}
 use Rattle.qstore_accounts.specs.Books.{AreBooksOf}
 use Rattle.qstore_accounts.specs.Replacements.{IsClaimed, IsReplacement}
 use Rattle.qstore.specs.declared.request.Exchange.{Exchange}
-use Rattle.qstore.specs.declared.ready.Ready.{Ready}
+use Rattle.qstore.specs.declared.plan.Plan.{Plan}
 use Rattle.qstore.specs.declared.request.Request.{Request}
 pub use Rattle.qstore.specs.Requests.{CanDecide, IsConsistent, IsFree}
-use Rattle.qstore.specs.Ready.{CanCarryOut, IsRefused, committed}
+use Rattle.qstore.specs.Ready.{CanCarryOut, IsRefused, effect}
 use Rattle.qstore.specs.Stored.{IsSameStore, Stored}
 
--- what is ready is what the plain machine makes of the attempt, and the store, with the room that was made and the bill
--- that was granted, can carry it out
-pub record IsDecided (old new : Stored) (request : Request) (attempt : Attempt) (r : Ready) : Type 0 where
-  pub step : committed new r ≡ settle old.state request.cred.now request.moment attempt
-  pub can : CanCarryOut new r.plan
-
--- a request that comes to this attempt is decided: the store is the same, what is ready is decided, and memory is
--- wanting after all refusals
-pub record IsDecision (old new : Stored) (request : Request) (attempt : Attempt) (result : Result Ready AllocError)
+-- what the plan leaves, with the reply, is what the plain machine makes of the attempt, and the store, with the room
+-- that was made and the bill that was granted, can carry the plan out
+pub record IsDecided (old new : Stored) (request : Request) (attempt : Attempt) (plan : Plan) (reply : Reply)
     : Type 0 where
+  pub step : (effect new plan, reply) ≡ settle old.state request.cred.now request.moment attempt
+  pub can : CanCarryOut new plan
+
+-- a request that comes to this attempt is decided with this plan: the store is the same, plan and reply are decided,
+-- and memory is wanting after all refusals
+pub record IsPlanned (old new : Stored) (request : Request) (attempt : Attempt) (plan : Plan)
+    (result : Result Reply AllocError) : Type 0 where
   pub same : IsSameStore old new
-  pub decided : IfOk result (IsDecided old new request attempt)
+  pub decided : IfOk result (IsDecided old new request attempt plan)
   pub refused_first : IsRefused (settle old.state request.cred.now request.moment attempt).1 → IsOk result
 
+-- it is decided with the plan that the store keeps
+abbrev pub IsDecision : Stored → Stored → Request → Attempt → Result Reply AllocError → Type 0
+IsDecision old new request attempt result = IsPlanned old new request attempt new.plan result
+
 -- a request for a call whose arguments are lawful is decided
-abbrev pub IsDecisionOf : Stored → Stored → Request → Call → Result Ready AllocError → Type 0
+abbrev pub IsDecisionOf : Stored → Stored → Request → Call → Result Reply AllocError → Type 0
 IsDecisionOf old new request call result =
     IsDecision old new request (attempt_of old.state request.cred.now call) result
 

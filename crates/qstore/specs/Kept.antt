@@ -25,7 +25,8 @@ state_of a = record {
 
 -- what a caller sees of a store
 abbrev pub stored_of : Inside → Stored
-stored_of a = record { state = state_of a; room = a.tree.room; books = a.accounts; bill = a.bill }
+stored_of a =
+    record { state = state_of a; room = a.tree.room; books = a.accounts; bill = a.bill; plan = a.plan }
 
 -- the state is storable, and what is kept beside it is what it counts to: the books, and each inode's links in order
 pub record IsCounted (S : State) (b : Books) (kept : List (ℕ × ℕ)) : Type 0 where

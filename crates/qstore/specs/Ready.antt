@@ -1,4 +1,4 @@
--- What a call that is ready will do, and when it may.
+-- What `commit` will do of a call that is ready, and when it may.
 use Rattle.std.specs.Prelude.{◌≡◌, Bool, true, false}
 use Rattle.qrules.specs.Range.{are_graces_in_range}
 use Rattle.qplain.specs.declared.call.Call.{Call}
@@ -14,9 +14,8 @@ use Rattle.qplain.specs.State.{State}
 use Rattle.qstore_change.specs.Changes.{CanChange, changed}
 use Rattle.qstore_accounts.specs.Bills.{IsBillFor, settled}
 use Rattle.qstore_accounts.specs.Books.{AreBooksOf, holders_of}
-use Rattle.qstore.specs.declared.ready.Plan.{Plan}
-use Rattle.qstore.specs.declared.ready.Plan.TheVariants.{Nothing, Change, Limits, SetGraces}
-use Rattle.qstore.specs.declared.ready.Ready.{Ready}
+use Rattle.qstore.specs.declared.plan.Plan.{Plan}
+use Rattle.qstore.specs.declared.plan.Plan.TheVariants.{Nothing, Change, Limits, SetGraces}
 use Rattle.qstore.specs.Stored.{IsStorable, Stored}
 
 -- the reply is a refusal
@@ -51,9 +50,9 @@ effect s (Change change) = billed s (changed s.state change)
 effect s Limits = billed s s.state
 effect s (SetGraces graces) = record s.state { graces = graces }
 
--- what a ready call leaves, and its reply
-abbrev pub committed : Stored → Ready → State × Reply
-committed s r = (effect s r.plan, r.reply)
+-- the state that what is ready leaves
+abbrev pub committed : Stored → State
+committed s = effect s s.plan
 
 -- the store's bill is for its books, which after it are those of this state with the bill's holders
 pub record CanSettle (s : Stored) (S : State) : Type 0 where
@@ -68,7 +67,7 @@ CanCarryOut s (Change change) =
 CanCarryOut s Limits = CanSettle s s.state
 CanCarryOut s (SetGraces graces) = are_graces_in_range graces ≡ true
 
--- the store is as `ready` left it, as far as the call needs
-pub record IsReady (s : Stored) (r : Ready) : Type 0 where
-  pub can : CanCarryOut s r.plan
-  pub sound : IsStorable (effect s r.plan)
+-- the store is as `ready` left it, as far as what is ready needs
+pub record IsReady (s : Stored) : Type 0 where
+  pub can : CanCarryOut s s.plan
+  pub sound : IsStorable (committed s)

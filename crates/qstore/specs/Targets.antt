@@ -3,14 +3,15 @@ use Rattle.std.specs.Prelude.{◌≡◌, ℕ, ◌+◌, ◌^◌, ◌<◌, ◌≤�
 use Rattle.std.specs.declared.alloc.AllocError.{AllocError}
 use Rattle.qblocks.specs.File.{Adds, after_write}
 use Rattle.qplain.specs.declared.refusal.Refusal.{Refusal}
+use Rattle.qplain.specs.declared.reply.Reply.{Reply}
 use Rattle.qplain.specs.declared.reply.Reply.TheVariants.{Done, Refused}
 use Rattle.qplain.specs.Attempt.{Becomes, at_path}
 use Rattle.qplain.specs.Caller.{Caller}
 use Rattle.qplain.specs.Files.{with_file, write_into}
 use Rattle.qplain.specs.State.{Inode, inode_at}
 use Rattle.qstore_change.specs.declared.tree_change.TreeChange.TheVariants.{Write}
-use Rattle.qstore.specs.declared.ready.Plan.TheVariants.{Nothing, Change}
-use Rattle.qstore.specs.declared.ready.Ready.{Ready}
+use Rattle.qstore.specs.declared.plan.Plan.{Plan}
+use Rattle.qstore.specs.declared.plan.Plan.TheVariants.{Nothing, Change}
 use Rattle.qstore.specs.declared.store.write.Target.{Target}
 use Rattle.qstore.specs.Decided.{IsStretched, no_exchange}
 use Rattle.qstore.specs.Stored.{Stored}
@@ -30,15 +31,18 @@ pub record IsTarget (s : Stored) (cred : Caller) (path : List ℕ) (off : ℕ) (
   pub becomes : at_path s.state (write_into s.state cred off bytes) path
       ≡ Becomes (with_file s.state target.number inode (after_write inode.file off bytes)) target.number
 
--- the write that is ready, with this room
-abbrev pub put_ready : Target → ℕ → List ℕ → ℕ → Ready
-put_ready target off bytes spare = record {
-  reply = Done target.number (told target.exchange);
-  plan = Change (Write target.number off bytes spare);
-}
+-- the plan of the write, with this room
+abbrev pub put_plan : Target → ℕ → List ℕ → ℕ → Plan
+put_plan target off bytes spare = Change (Write target.number off bytes spare)
 
--- what is decided of it: it is ready, or refused, or memory is wanting
-abbrev pub put_decision : Target → ℕ → List ℕ → Result (Result ℕ Refusal) AllocError → Result Ready AllocError
-put_decision target off bytes (Ok (Ok spare)) = Ok (put_ready target off bytes spare)
-put_decision target off bytes (Ok (Err refusal)) = Ok (record { reply = Refused refusal; plan = Nothing })
-put_decision target off bytes (Err lack) = Err lack
+-- what is planned where room was to be made: the write, or nothing, where it is refused or memory is wanting
+abbrev pub put_planned : Target → ℕ → List ℕ → Result (Result ℕ Refusal) AllocError → Plan
+put_planned target off bytes (Ok (Ok spare)) = put_plan target off bytes spare
+put_planned target off bytes (Ok (Err refusal)) = Nothing
+put_planned target off bytes (Err lack) = Nothing
+
+-- and what is replied
+abbrev pub put_reply : Target → Result (Result ℕ Refusal) AllocError → Result Reply AllocError
+put_reply target (Ok (Ok spare)) = Ok (Done target.number (told target.exchange))
+put_reply target (Ok (Err refusal)) = Ok (Refused refusal)
+put_reply target (Err lack) = Err lack

@@ -2,7 +2,7 @@
 ghost use Rattle.std.specs.Prelude.{◌≡◌, ◌<◌, ◌^◌, true, false, All, IfOk, OnOk, OnErr};
 ghost use Rattle.std.specs.Result.{IsOk};
 ghost use Rattle.qrules.specs.Sort.{Blocks, Inodes};
-ghost use Rattle.qplain.specs.State.{State, start};
+ghost use Rattle.qplain.specs.State.{start};
 ghost use Rattle.qplain.specs.Use.{total_of};
 ghost use Rattle.qplain.specs.Caller.{is_superuser};
 ghost use Rattle.qplain.specs.Arguments.{has_bad_number};
@@ -13,7 +13,7 @@ ghost use Rattle.qstore.specs.Stored.{Stored};
 ghost use Rattle.qstore.specs.Decided.{CanDecide, IsDecisionOf};
 ghost use Rattle.qstore.specs.Ready.{IsReady, IsRefused, committed, wants_no_memory};
 
-use crate::{Call, Cred, Decision, NoMemory, Plan, Ready, Reply, Request, Setup};
+use crate::{Call, Cred, Decision, NoMemory, Plan, Reply, Request, Setup};
 use qstore_accounts::{Accounts, Bill};
 use qstore_tree::Tree;
 use qstore_walk::{paths_fault, root_owners};
@@ -26,6 +26,7 @@ mod claims;
 mod commit;
 mod create;
 mod look;
+mod plan;
 mod quota;
 mod removal;
 mod rename;
@@ -35,7 +36,6 @@ mod write;
 
 /// Inodes, names and quota records in memory, whose state and replies are those of the plain machine.
 /// Every record's use, the totals and the link counts are kept, and no call walks the inodes or the names.
-#[derive(Drop)]
 pub struct Store {
     alloc: Global,
     file_limit: u64,
@@ -43,6 +43,22 @@ pub struct Store {
     tree: Tree,
     next: u64,
     bill: Bill,
+    plan: Plan,
+}
+
+// By hand: a derived drop is taken apart, plan by plan, in the proof of each function that drops a store.
+impl Drop for Store {
+    fn drop(self) {
+        let Store {
+            alloc: _,
+            file_limit: _,
+            accounts,
+            tree,
+            next: _,
+            bill: _,
+            plan,
+        } = self;
+    }
 }
 
 impl Model for Store {
@@ -72,6 +88,7 @@ impl Store {
             tree: Tree::new(alloc, seed, root_owners(&setup))?,
             next: 2,
             bill: Bill::empty(),
+            plan: Plan::Nothing,
         })
     }
 
@@ -121,9 +138,13 @@ impl Store {
                 Ok(self.decide_truncate(request, path.text(), *size))
             }
             Call::Read { path, off, len } => {
-                Ok(Ready::answer(self.decide_read(path.text(), *off, *len)?))
+                self.clear_plan();
+                self.decide_read(path.text(), *off, *len)
             }
-            Call::Stat { path } => Ok(Ready::answer(self.decide_stat(path.text()))),
+            Call::Stat { path } => {
+                self.clear_plan();
+                Ok(self.decide_stat(path.text()))
+            }
             Call::Link { from, to } => self.decide_link(request, from.text(), to.text()),
             Call::Unlink { path } => self.decide_unlink(request, path),
             Call::Rmdir { path } => self.decide_rmdir(request, path),
@@ -139,50 +160,51 @@ impl Store {
             }
             Call::SetGrace { graces } => Ok(self.decide_set_grace(request, *graces)),
             Call::Quota { kind, id } => {
-                Ok(Ready::answer(self.decide_quota(request.cred, *kind, *id)))
+                self.clear_plan();
+                Ok(self.decide_quota(request.cred, *kind, *id))
             }
         }
     }
 
-    /// Decides a call and makes every growth that it needs, and leaves the state as it was.
+    /// Decides a call, makes every growth that it needs, keeps what is to be done, and gives the reply. The state is
+    /// left as it was.
     ///
     /// `moment` is in seconds; above 2^40 the reply is EINVAL. A refusal is a reply, and needs no memory: EINVAL first,
     /// then ENAMETOOLONG, the call's own tests, ENOSPC, EDQUOT. Err is out of memory alone, after all refusals, and
     /// leaves the state as it was, too: only a granted create, mkdir, write, read, link, unlink, rmdir or rename meets
     /// it. The bytes of a write are not copied: the call and what is ready share them.
     ///
-    /// The `Ready` is for `commit` of this store, before any other call of it but a stat. It may be dropped: the room
-    /// of a create, a mkdir or a link serves the next of them in its directory, a write's blocks go with it, and what
-    /// is left in its file is taken out by that file's next write.
+    /// What is ready is for `commit`, before any other call of this store but a stat. It may be left: the next `ready`
+    /// takes its place, the room of a create, a mkdir or a link serves the next of them in its directory, a write's
+    /// blocks go with it, and what is left in its file is taken out by that file's next write.
     #[inline(never)]
     pub fn ready(&mut self, cred: &Cred, moment: u64, call: &Call) -> Decision
         ensures state { self.new.state ≡ self.old.state }
-        ensures step { IfOk result (λ r. committed self.new r ≡ step self.old.state cred.now moment call.now) }
-        ensures ready { IfOk result (IsReady self.new) }
+        ensures step { IfOk result (λ reply. (committed self.new, reply)
+            ≡ step self.old.state cred.now moment call.now) }
+        ensures ready { OnOk result (IsReady self.new) }
         ensures refused_first { IsRefused (step self.old.state cred.now moment call.now).1 → IsOk result }
         ensures answered { wants_no_memory call.now ≡ true → IsOk result }
     {
         let has_bad_number = self.has_bad_number(call);
         let request = match self.check(cred, moment, has_bad_number, paths_fault(call)) {
             Ok(request) => request,
-            Err(refusal) => return Ok(Ready::refused(refusal)),
+            Err(refusal) => return Ok(self.refused(refusal)),
         };
         self.decide_lawful(&request, call)
     }
 
-    /// Does what is ready, and gives the reply. It takes no memory and always succeeds.
-    /// The caller owes that this store had no other call since, but a stat.
+    /// Does what is ready. It takes no memory and always succeeds.
+    /// The caller owes that this store had no other call since `ready`, but a stat.
     #[inline(always)]
-    pub fn commit(&mut self, ready: Ready) -> Reply
-        requires { IsReady self.old ready }
-        ensures { (self.new.state, result) ≡ committed self.old ready }
+    pub fn commit(&mut self)
+        requires { IsReady self.old }
+        ensures { self.new.state ≡ committed self.old }
     {
-        let Ready { reply, plan } = ready;
-        match plan {
+        match &self.plan {
             Plan::Nothing => {}
-            plan => self.carry_out(plan),
+            _ => self.carry_out(),
         }
-        reply
     }
 
     /// One call: the state and the reply are those of the plain machine's step. An Err leaves the state as it was, and
@@ -198,9 +220,8 @@ impl Store {
         ensures limits { OnOk result (is_superuser cred.now ≡ false
             → All (PassesNoLimit self.old.state self.new.state moment) self.old.state.holders) }
     {
-        let Ok(ready) = self.ready(cred, moment, call) else {
-            return Err(NoMemory);
-        };
-        Ok(self.commit(ready))
+        let reply = self.ready(cred, moment, call)?;
+        self.commit();
+        Ok(reply)
     }
 }

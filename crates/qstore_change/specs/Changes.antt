@@ -1,9 +1,9 @@
 -- What a change makes of a state's inodes and names, and when it may be made.
 use Rattle.std.specs.Prelude.{◌≡◌, ℕ, ◌+◌, ◌<◌, ◌≤◌, ◌==◌, ◌&&◌, not, true, false, List, length, string_bytes}
-use Rattle.std.specs.Prelude.{is_some, Option, Some, None, IfSome}
+use Rattle.std.specs.Prelude.{Option, Some, None}
 use Rattle.qblocks.specs.declared.file.TheConstants.{MAX_SIZE}
 use Rattle.qblocks.specs.File.{after_truncate, after_write}
-use Rattle.qblocks.specs.WriteRoom.{IsReadyToPut}
+use Rattle.qblocks.specs.WriteRoom.{IsThereToPut}
 use Rattle.qplain.specs.State.{Inode, State, inode_at, is_directory, named, new_directory, new_file}
 use Rattle.qplain.specs.Use.{is_empty}
 use Rattle.qplain.specs.Files.{with_inode}
@@ -53,8 +53,7 @@ pub record CanWrite (S : State) (room : Room) (number off spare : ℕ) (bytes : 
   pub inode : Inode
   pub there : inode_at S number ≡ Some inode
   pub bound : off + length bytes ≤ MAX_SIZE
-  pub file_there : is_some (file_room room number) ≡ true
-  pub file_room : IfSome (file_room room number) (λ f. IsReadyToPut f off (length bytes) spare)
+  pub file : IsThereToPut (file_room room number) off (length bytes) spare
 
 -- the file may be cut off or grow
 pub record CanTruncate (S : State) (number size : ℕ) : Type 0 where

@@ -5,7 +5,7 @@ ghost use Rattle.std.specs.BTreeMap.{is_at};
 ghost use Rattle.std.specs.Map.{lookup, remove_entry, set_value};
 ghost use Rattle.qplain.specs.State.{is_dir, name_key_cmp};
 ghost use Rattle.qstore_tree.specs.Tree.{HasNoNames};
-ghost use Rattle.qstore_change.specs.Moves.{moved_links};
+ghost use Rattle.qstore_change.specs.Moves.{IsSameButLinks, moved_links};
 
 use crate::parts::drop_link;
 use qstore_tree::Tree;
@@ -53,15 +53,13 @@ pub(crate) fn move_node(tree: &mut Tree, dir: u64, to_dir: u64, number: u64, ont
     requires from { (links : ℕ) × (lookup (is_at (nat_cmp dir)) tree.old.links ≡ Some links) × 0 < links }
     requires to { (links : ℕ) × (lookup (is_at (nat_cmp to_dir)) tree.old.links ≡ Some links)
         × links + 1 < 2 ^ 64 }
-    ensures inodes { tree.new.inodes ≡ tree.old.inodes }
-    ensures names { tree.new.names ≡ tree.old.names }
+    ensures rest { IsSameButLinks tree.old tree.new }
     ensures file { is_dir (lookup (is_at (nat_cmp number)) tree.old.inodes) ≡ false
         → tree.new.links ≡ tree.old.links }
     ensures directory { (from to : ℕ) → is_dir (lookup (is_at (nat_cmp number)) tree.old.inodes) ≡ true
         → lookup (is_at (nat_cmp dir)) tree.old.links ≡ Some from
         → lookup (is_at (nat_cmp to_dir)) tree.old.links ≡ Some to
         → tree.new.links ≡ moved_links tree.old.links dir to_dir onto from to }
-    ensures room { tree.new.room ≡ tree.old.room }
 {
     if is_directory(tree, number) {
         move_links(tree, dir, to_dir, onto);

@@ -1,22 +1,22 @@
 -- A journaled store that makes one call more is again what its journal leaves.
-use Rattle.std.proofs.Common.{◌≡◌, ℕ, ◌+◌, ◌<◌, [], ◌∷◌, ◌++◌, length, refl, sym, ap, ◌∙◌, arith}
-use Rattle.std.proofs.lemmas.List.{length-append}
+use Rattle.std.proofs.Common.{◌≡◌, ℕ, ◌+◌, ◌<◌, ◌≤◌, refl, List, [], ◌∷◌, ◌++◌, length, take, slice_get, sym, ap, ◌∙◌, arith, Option, Some, subst}
+use Rattle.std.specs.Option.{unwrap_or}
+use Rattle.std.proofs.lemmas.List.{get_or_push, length-append, length-take-le, take_more}
+use Rattle.std.proofs.lemmas.Option.{get_or_from_slice_get, slice_get_read, slice_get_within}
 use Rattle.qplain.specs.declared.bounds.TheConstants.{MAX_ENTRIES}
-use Rattle.qplain.specs.declared.change.Change.{Change}
 use Rattle.qplain.specs.declared.entry.Entry.{Entry}
 use Rattle.qplain.specs.declared.line.Line.{Line}
 use Rattle.qplain.specs.declared.reply.Reply.{Reply}
-use Rattle.qplain.specs.Setups.{IsLawfulSetup, Setting}
+use Rattle.qplain.specs.Setups.{IsLawfulSetup}
 use Rattle.qplain.specs.State.{State, start}
-use Rattle.qplain.specs.Journal.{CanCount, change_of, counted, play, played, tally_of}
+use Rattle.qplain.specs.Journal.{CanCount, change_of, play, played, tally_of}
 use Rattle.qplain.specs.Step.{step}
 use Rattle.qplain_laws.proofs.Playing.{legal-one_more, play-one_more}
 use Rattle.qplain_laws.proofs.Start.{start_is_lawful}
-use Rattle.qplain_laws.proofs.Tallying.{tallies_have_room, tally-one_more}
-use Rattle.qstore.specs.declared.ready.Ready.{Ready}
+use Rattle.qplain_laws.proofs.Tallying.{tallies_have_room}
 use Rattle.qstore.specs.Ready.{committed}
-use Rattle.qstore.specs.Stored.{Stored}
 use Rattle.qstore_journaled.specs.Journaled.{IsPlayed, IsSameJournaled, Journaled}
+use Rattle.qstore_journaled.specs.Next.{IsNext}
 
 -- a new store is what the empty journal leaves
 pub begins : (j : Journaled) → IsLawfulSetup j.setting → j.stored.state ≡ start j.setting → j.journal ≡ [] → IsPlayed j
@@ -28,7 +28,7 @@ begins j lawful state none = record {
   few = rw none (omega arith);
 }
 
--- with the same setup, state and journal it is so, whatever room there is
+-- with the same setup, state and journal it is so, whatever is ready
 pub stays : (old new : Journaled) → IsPlayed old → IsSameJournaled old new → IsPlayed new
 stays old new is same = record {
   setup = rw same.setting is.setup;
@@ -64,3 +64,26 @@ can_count j reply line is few stepped =
     let next : reply ≡ (step (play S j.journal) line.cred line.moment line.call).1 =
     stepped ∙ ap (λ T. (step T line.cred line.moment line.call).1) is.state in
     rw next (tallies_have_room j.setting j.journal line.cred line.moment line.call is.setup is.legal (omega (arith, few)))
+
+-- so may an entry that is ready
+pub next-counts : (j : Journaled) (e : Entry) → IsPlayed j → IsNext j e → CanCount (tally_of j.journal) (change_of e.reply)
+next-counts j e is next =
+    can_count j e.reply (record { cred = e.cred; moment = e.moment; call = e.call }) is next.few (ap (λ (p : State × Reply). p.1) next.step)
+
+-- and with it the store is what its journal leaves
+pub next-played : (old new : Journaled) (e : Entry) → IsPlayed old → IsNext old e → new.setting ≡ old.setting
+    → new.journal ≡ old.journal ++ e ∷ [] → new.stored.state ≡ committed old.stored → IsPlayed new
+next-played old new e is next setting journal state =
+    played_on old new e is next.few setting journal (state ∙ ap (λ (p : State × Reply). p.0) next.step) (ap (λ (p : State × Reply). p.1) next.step)
+
+-- the entry that is told is the one that was ready
+pub taken-next : (j : Journaled) (e taken : Entry) → IsNext j e → j.next ≡ Some taken → IsNext j taken
+taken-next j e taken next is = subst (IsNext j) (sym same) next
+  where
+    same : taken ≡ e
+    same = ap (λ (o : Option Entry). unwrap_or o e) (sym is ∙ next.is)
+
+-- the entry behind the first N of a list makes them one more
+pub one_more : (entries : List Entry) (n : ℕ) (e : Entry) → slice_get entries n ≡ Some e → take (n + 1) entries ≡ take n entries ++ e ∷ []
+one_more entries n e is =
+    take_more entries n e (slice_get_within entries n e is) ∙ ap (λ x. take n entries ++ x ∷ []) (get_or_from_slice_get entries n e e is)

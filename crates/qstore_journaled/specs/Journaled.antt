@@ -1,6 +1,6 @@
 -- A store beside the setup that it began with and the journal of its calls: what a contract sees of it, and what always
 -- holds of it.
-use Rattle.std.specs.Prelude.{◌≡◌, ℕ, ◌≤◌, List, length}
+use Rattle.std.specs.Prelude.{◌≡◌, ◌≤◌, List, Option, length}
 use Rattle.qplain.specs.declared.bounds.TheConstants.{MAX_ENTRIES}
 use Rattle.qplain.specs.declared.entry.Entry.{Entry}
 use Rattle.qplain.specs.Setups.{IsLawfulSetup, Setting}
@@ -9,12 +9,12 @@ use Rattle.qplain.specs.Journal.{IsLegal, play}
 use Rattle.qplain_laws.specs.Laws.{IsLawful}
 use Rattle.qstore.specs.Stored.{Stored}
 
--- the setup, the store and its journal, and for how many entries more the journal has room
+-- the setup, the store and its journal, and the entry that is ready, if one is
 pub record Journaled : Type 0 where
   pub setting : Setting
   pub stored : Stored
   pub journal : List Entry
-  pub room : ℕ
+  pub next : Option Entry
 
 -- The headline: the journal is legal from the setup's start, and the store is exactly what it leaves when one thread
 -- plays it on the plain machine; setup and start are lawful, and the journal is no longer than it may be.
@@ -25,7 +25,7 @@ pub record IsPlayed (j : Journaled) : Type 0 where
   pub state : j.stored.state ≡ play (start j.setting) j.journal
   pub few : length j.journal ≤ MAX_ENTRIES
 
--- the two have the same setup, state and journal, whatever room there is
+-- the two have the same setup, state and journal, whatever is ready
 pub record IsSameJournaled (old new : Journaled) : Type 0 where
   pub setting : new.setting ≡ old.setting
   pub state : new.stored.state ≡ old.stored.state

@@ -1,5 +1,5 @@
 -- How a `JournaledStore` keeps its parts. No public clause cites this module.
-use Rattle.std.specs.Prelude.{◌≡◌, ◌-◌, vec_len, vec_capacity}
+use Rattle.std.specs.Prelude.{◌≡◌, ◌≤◌, length, slice_get, take}
 use Rattle.qplain.specs.Journal.{tally_of}
 use Rattle.qstore_journaled.specs.declared.journaled_store.JournaledStore.TheInside.{Inside}
 use Rattle.qstore_journaled.specs.Journaled.{IsPlayed, Journaled}
@@ -9,11 +9,12 @@ abbrev pub journaled_of : Inside → Journaled
 journaled_of a = record {
   setting = a.setup;
   stored = a.store;
-  journal = a.journal.items;
-  room = vec_capacity a.journal - vec_len a.journal;
+  journal = take a.len a.entries.items;
+  next = slice_get a.entries.items a.len;
 }
 
--- the store is what its journal leaves, and the kept tally is the journal's
+-- the store is what its journal leaves, whose entries are there, and the kept tally is the journal's
 pub record IsKept (a : Inside) : Type 0 where
   pub played : IsPlayed (journaled_of a)
-  pub tallies : a.tallies ≡ tally_of a.journal.items
+  pub len : a.len ≤ length a.entries.items
+  pub tallies : a.tallies ≡ tally_of (journaled_of a).journal

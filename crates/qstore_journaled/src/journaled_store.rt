@@ -1,21 +1,18 @@
 //! A store with the journal of its calls.
-ghost use Rattle.std.specs.Prelude.{◌≡◌, ◌<◌, ◌≤◌, ◌+◌, ◌↔◌, [], length, vec_len, vec_capacity, Err, IfOk};
+ghost use Rattle.std.specs.Prelude.{◌≡◌, ◌<◌, ◌+◌, ◌++◌, ◌∷◌, ◌↔◌, [], length, Some, Err, IfOk};
 ghost use Rattle.std.specs.Bool.{Decides};
 ghost use Rattle.qplain.specs.declared.bounds.TheConstants.{MAX_ENTRIES};
-ghost use Rattle.qplain.specs.declared.placed_row.TheConstants.{MAX_CHANGED_ROWS};
 ghost use Rattle.qplain.specs.declared.call_fault.CallFault.TheVariants.{JournalFull};
-ghost use Rattle.qstore_accounts.specs.Pushed.{IsPushed};
-ghost use Rattle.qstore.specs.Ready.{committed};
+ghost use Rattle.qplain.specs.declared.entry.Entry.{Entry as EntryValue};
+ghost use Rattle.qplain.specs.Journal.{entry_of, tally_of};
 ghost use Rattle.qstore_journaled.specs.Journaled.{IsPlayed, IsSameJournaled};
 ghost use Rattle.qstore_journaled.specs.Lines.{line_of};
-ghost use Rattle.qstore_journaled.specs.Next.{CanFollow, IsEntryFor, IsReceiptOf};
+ghost use Rattle.qstore_journaled.specs.Next.{HasNext, IsNext};
 ghost use Rattle.qstore_journaled.specs.Taken.{AreItsParts};
 
 use crate::ended::Ended;
-use crate::next::{Next, entry_for};
-use qplain::{
-    Call, CallFault, Cred, Entry, MAX_ENTRIES, NoMemory, PlacedRow, Receipt, Setup, Tallies,
-};
+use crate::entry::entry_for;
+use qplain::{Call, CallFault, Cred, Entry, MAX_ENTRIES, NoMemory, Reply, Setup, Tallies};
 use qstore::Store;
 use std::alloc::Global;
 use std::marker::Model;
@@ -23,12 +20,15 @@ use std::marker::Model;
 /// A store with the journal of its calls, the journal's tally, and the setup that it began with. It is always what the
 /// journal leaves when one thread plays it on the plain machine, and each journaled reply is that machine's.
 ///
-/// Contracts see the setup, the store, the journal, and the room that is made in it.
+/// Contracts see the setup, the store, the journal, and the entry that is ready, if one is.
 #[derive(Drop)]
 pub struct JournaledStore {
     setup: Setup,
     store: Store,
-    journal: Vec<Entry>,
+    /// The journal, and behind it the entry that is ready.
+    entries: Vec<Entry>,
+    /// How many of them the journal has.
+    len: usize,
     tallies: Tallies,
 }
 
@@ -58,7 +58,8 @@ impl JournaledStore {
         Ok(JournaledStore {
             setup,
             store,
-            journal: Vec::new(alloc),
+            entries: Vec::new(alloc),
+            len: 0,
             tallies: Tallies::new(),
         })
     }
@@ -83,15 +84,22 @@ impl JournaledStore {
         ensures entries { result.now ≡ self.now.journal }
         ensures played { IsPlayed self.now }
     {
-        self.journal.as_slice()
+        &self.entries[..self.len]
     }
 
-    /// Decides a call as the journal's next entry, and makes every growth that it needs; setup, state and journal stay
-    /// as they were.
+    /// The journal's tally. O(1).
+    pub fn tallies(&self) -> Tallies
+        ensures { result ≡ tally_of self.now.journal }
+    {
+        self.tallies
+    }
+
+    /// Decides a call, makes every growth that it needs, keeps the entry by which the journal will grow, and gives its
+    /// reply; setup, state and journal stay as they were.
     ///
     /// Err is JournalFull, reported first, where the journal has its 1,048,576 entries, or OutOfMemory. Moments,
-    /// refusals and costs are those of `Store::ready`. What is ready is for `commit` of this store, before any other
-    /// `ready` or `commit` of it, and may be dropped.
+    /// refusals and costs are those of `Store::ready`. What is ready is for `commit`, and may be left: the next `ready`
+    /// takes its place.
     #[inline(always)]
     pub fn ready(
         &mut self,
@@ -99,83 +107,82 @@ impl JournaledStore {
         cred: &Cred,
         moment: u64,
         call: &Call,
-    ) -> Result<Next, CallFault>
+    ) -> Result<Reply, CallFault>
         ensures same { IsSameJournaled self.old self.new }
-        ensures next { IfOk result (CanFollow self.new) }
-        ensures entry { IfOk result (λ n. IsEntryFor worker (line_of cred.now moment call.now) n.entry) }
+        ensures next { IfOk result (λ reply.
+            IsNext self.new (entry_of worker (line_of cred.now moment call.now) reply)) }
         ensures full { (result ≡ Err JournalFull) ↔ (length self.old.journal ≡ MAX_ENTRIES) }
         ensures played { IsPlayed self.new }
     {
-        if self.journal.len() >= MAX_ENTRIES {
+        if self.len >= MAX_ENTRIES {
             return Err(CallFault::JournalFull);
         }
-        // What is ready and an entry are large: a `?` would move them once more.
-        let Ok(()) = self.journal.reserve(1) else {
+        self.entries.truncate(self.len);
+        // A reply and an entry are large: a `?` would move them once more.
+        let Ok(()) = self.entries.reserve(1) else {
             return Err(CallFault::OutOfMemory);
         };
-        let Ok(ready) = self.store.ready(cred, moment, call) else {
+        let Ok(reply) = self.store.ready(cred, moment, call) else {
             return Err(CallFault::OutOfMemory);
         };
-        let Ok(reply) = ready.reply().copy() else {
+        let Ok(told) = reply.copy() else {
             return Err(CallFault::OutOfMemory);
         };
-        let Ok(entry) = entry_for(worker, cred, moment, call, reply) else {
+        let Ok(entry) = entry_for(worker, cred, moment, call, told) else {
             return Err(CallFault::OutOfMemory);
         };
-        let tallies = self.tallies.with_call(entry.reply.change());
-        Ok(Next {
-            ready,
-            entry,
-            tallies,
-        })
+        self.entries.push_reserved(entry);
+        Ok(reply)
     }
 
-    /// Puts the rows that `commit` of what is ready will change on a board after others, of which there is room for
-    /// `MAX_CHANGED_ROWS`. O(1).
-    ///
-    /// The caller owes that this store had no other `ready` or `commit` since.
-    pub fn push_changed_rows(&self, next: &Next, rows: &mut Vec<PlacedRow>)
-        requires next { CanFollow self.now next.now }
-        requires room { vec_len rows.old + MAX_CHANGED_ROWS ≤ vec_capacity rows.old }
-        ensures { IsPushed self.now.stored.state rows.old.items rows.new.items
-            (committed self.now.stored next.now.ready).0 }
+    /// The entry that is ready.
+    pub fn next(&self) -> &Entry
+        requires { HasNext self.now }
+        ensures { self.now.next ≡ Some result.now }
     {
-        self.store.push_changed_rows(&next.ready, rows);
+        match self.entries.get(self.len) {
+            Some(entry) => entry,
+            None => unreachable!(),
+        }
     }
 
-    /// Makes the call that is ready, and journals it. It takes no memory and always succeeds.
+    /// Makes the call that is ready, and journals it at the place that it gives, from 1. It takes no memory and always
+    /// succeeds.
     ///
     /// The caller owes that this store had no other `ready` or `commit` since.
     #[inline(always)]
-    pub fn commit(&mut self, next: Next) -> Receipt
-        requires { CanFollow self.old next }
+    pub fn commit(&mut self) -> u64
+        requires { HasNext self.old }
         ensures setting { self.new.setting ≡ self.old.setting }
-        ensures receipt { IsReceiptOf next.entry self.old.journal self.new.journal result }
+        ensures journal { (e : EntryValue) → self.old.next ≡ Some e
+            → self.new.journal ≡ self.old.journal ++ e ∷ [] }
+        ensures place { result ≡ length self.old.journal + 1 }
         ensures played { IsPlayed self.new }
     {
-        let Next {
-            ready,
-            entry,
-            tallies,
-        } = next;
-        let reply = self.store.commit(ready);
-        self.tallies = tallies;
-        self.journal.push_reserved(entry);
-        Receipt {
-            place: self.journal.len() as u64,
-            reply,
-        }
+        let change = self.next().reply.change();
+        self.store.commit();
+        self.tallies = self.tallies.with_call(change);
+        self.len += 1;
+        self.len as u64
     }
 
     /// The setup, the store, the journal and its tally.
     pub fn into_parts(self) -> Ended
         ensures { AreItsParts self.setting self.journal result }
     {
+        let JournaledStore {
+            setup,
+            store,
+            entries: mut journal,
+            len,
+            tallies,
+        } = self;
+        journal.truncate(len);
         Ended {
-            setup: self.setup,
-            store: self.store,
-            journal: self.journal,
-            tallies: self.tallies,
+            setup,
+            store,
+            journal,
+            tallies,
         }
     }
 }

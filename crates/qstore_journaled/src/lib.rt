@@ -3,8 +3,7 @@
 
 pub use ended::Ended;
 pub use journaled_store::JournaledStore;
-pub use next::Next;
 
 mod ended;
+mod entry;
 mod journaled_store;
-mod next;

@@ -1,5 +1,5 @@
 -- What a contract sees of a tree, and what a change of one node, or one node more, does to it.
-use Rattle.std.proofs.Common.{◌≡◌, ℕ, Bool, true, false, cond, List, [], Option, Some, None, ◌&&◌, refl, sym, ap, ◌∙◌, subst, nat_eq}
+use Rattle.std.proofs.Common.{IsSomeAnd, ◌≡◌, ℕ, Bool, true, false, cond, List, [], Option, Some, None, ◌&&◌, refl, sym, ap, ◌∙◌, subst, nat_eq}
 use Rattle.std.specs.Ordering.{is_eq, nat_cmp}
 use Rattle.std.specs.Cmp.{eq_by_cmp_equiv, nat_cmp_total, tied_itself, unsigned_ties}
 use Rattle.std.specs.Cmp.Lexicographic.{slice_cmp, nat_list_cmp_total}
@@ -99,6 +99,12 @@ file_is (Directory names) is = cc
 pub adds_in : (content : Content) (off n blocks : ℕ) → Adds (file_in content) off n blocks → IfSome (roomy_file_in content) (λ f. Adds f.file off n blocks)
 adds_in (AFile f) off n blocks adds = adds
 adds_in (Directory names) off n blocks adds = tt
+
+-- so it adds to the file that is there
+pub adds_there : (content : Content) (off n blocks : ℕ) → is_dir_content content ≡ false → Adds (file_in content) off n blocks
+    → IsSomeAnd (roomy_file_in content) (λ f. Adds f.file off n blocks)
+adds_there (AFile f) off n blocks is adds = adds
+adds_there (Directory names) off n blocks is adds = cc
 
 -- other slots and other room are the same tree
 pub same_tree-reordered : (es fs : List (ℕ × Node)) (s t : ℕ) (before now : RoomyTree) → tree_of es s ≡ now → IsSameTree before now

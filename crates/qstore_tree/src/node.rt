@@ -1,13 +1,13 @@
 //! One inode, as a store keeps it.
 ghost use Rattle.std.specs.Prelude.{◌≡◌, ◌+◌, ◌<◌, ◌≤◌, ◌==◌, ◌^◌, ◌++◌, [], length, map, string_bytes, None, false};
-ghost use Rattle.std.specs.Prelude.{true, is_some, IfOk, IfSome, IsPermutation, OnOk};
+ghost use Rattle.std.specs.Prelude.{true, is_some, IfOk, IfSome, IsSomeAnd, IsPermutation, OnOk};
 ghost use Rattle.std.specs.Ordering.{nat_cmp};
 ghost use Rattle.std.specs.Cmp.Lexicographic.{slice_cmp};
 ghost use Rattle.std.specs.BTreeMap.{insert_entry, is_at};
 ghost use Rattle.std.specs.Map.{lookup};
 ghost use Rattle.qblocks.specs.File.{Adds, MoreBlocks, after_truncate, after_write};
 ghost use Rattle.qblocks.specs.Input.{input_bytes};
-ghost use Rattle.qblocks.specs.WriteRoom.{IsReadyToPut};
+ghost use Rattle.qblocks.specs.WriteRoom.{IsReadyToPut, IsThereToPut};
 ghost use Rattle.qplain.specs.State.{new_directory, new_file};
 ghost use Rattle.qrules.specs.Sort.{Blocks};
 ghost use Rattle.qplain.specs.Owners.{with_owners};
@@ -141,9 +141,8 @@ impl Node {
         len: u64,
         missing: u64,
     ) -> Result<Spare, NoMemory>
-        requires file { is_some (roomy_file_in self.old.content) ≡ true }
         requires bound { off + len ≤ MAX_SIZE }
-        requires missing { IfSome (roomy_file_in self.old.content) (λ f. Adds f.file off len missing) }
+        requires missing { IsSomeAnd (roomy_file_in self.old.content) (λ f. Adds f.file off len missing) }
         requires few { missing ≤ 2 ^ 28 }
         ensures same { IsSameNode self.old self.new }
         ensures there { is_some (roomy_file_in self.new.content) ≡ true }
@@ -160,9 +159,7 @@ impl Node {
     /// takes no memory and always succeeds.
     pub(crate) fn put(&mut self, off: u64, input: Input, spare: Spare) -> u64
         requires bound { off + length (input_bytes input) ≤ MAX_SIZE }
-        requires there { is_some (roomy_file_in self.old.content) ≡ true }
-        requires ready { IfSome (roomy_file_in self.old.content)
-            (λ f. IsReadyToPut f off (length (input_bytes input)) spare) }
+        requires file { IsThereToPut (roomy_file_in self.old.content) off (length (input_bytes input)) spare }
         ensures inode { inode_of self.new ≡ record (inode_of self.old)
             { file = after_write (inode_of self.old).file off (input_bytes input.entry) } }
         ensures count { MoreBlocks (inode_of self.old).file (inode_of self.new).file result }

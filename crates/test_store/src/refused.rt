@@ -49,8 +49,9 @@ fn answer(store: &mut Store, row: &Entry) -> Result<Reply, NoMemory> {
     if row.worker == 1 {
         return store.apply(&row.cred, row.moment, &row.call);
     }
-    let ready = store.ready(&row.cred, row.moment, &row.call)?;
-    Ok(store.commit(ready))
+    let reply = store.ready(&row.cred, row.moment, &row.call)?;
+    store.commit();
+    Ok(reply)
 }
 
 /// All that can be seen of a store but the bytes of its files: its totals, its rows, and `/a`.

@@ -4,7 +4,7 @@ ghost use Rattle.qrules.specs.declared.kind.Kind.TheVariants.{User, Group, Proje
 ghost use Rattle.qplain.specs.Arguments.{is_undeclared};
 ghost use Rattle.qstore.specs.Decided.{CanDecide, IsDecisionOf};
 
-use crate::{Call, Exchange, Ready, Refusal, Request, Store};
+use crate::{Call, Exchange, Refusal, Reply, Request, Store};
 use qstore_change::TreeChange;
 use qstore_walk::{Found, find, may_give, renewed};
 
@@ -17,7 +17,7 @@ impl Store {
         uid: Option<u32>,
         gid: Option<u32>,
         project: Option<u32>,
-    ) -> Ready
+    ) -> Reply
         requires can { CanDecide self.old request.now }
         requires declared { (is_undeclared self.old.state User uid || is_undeclared self.old.state Group gid
             || is_undeclared self.old.state Project project) ≡ false }
@@ -25,11 +25,11 @@ impl Store {
     {
         let Found { number, node } = match find(self.tree(), path) {
             Ok(found) => found,
-            Err(refusal) => return Ready::refused(refusal),
+            Err(refusal) => return self.refused(refusal),
         };
         let owners = renewed(uid, gid, project, node.owners);
         if !may_give(request.cred, node, owners) {
-            return Ready::refused(Refusal::EPERM);
+            return self.refused(Refusal::EPERM);
         }
         let from = self.claim_of(request, number, node);
         let to = self.claim(request, owners, from.weight.blocks);

@@ -13,7 +13,7 @@ ghost use Rattle.qstore.specs.Decided.{CanDecide, IsAsked, IsBilled, IsConsisten
 ghost use Rattle.qstore.specs.Requests.{IsWithProject, are_declared, is_declared_if_any};
 ghost use Rattle.qstore.specs.Stored.{IsSameStore};
 
-use crate::{Exchange, Ready, Refusal, Request, Store};
+use crate::{Exchange, Refusal, Reply, Request, Store};
 use qplain::{MAX_BLOCKS, Owners};
 use qrules::Kind;
 use qstore_accounts::{Claim, Slots};
@@ -122,15 +122,15 @@ impl Store {
         number: u64,
         exchange: &Exchange,
         change: TreeChange,
-    ) -> Ready
+    ) -> Reply
         requires asked { IsAsked self.old exchange.now 0 (changed self.old.state change) }
         requires can { CanChange self.old.state self.old.room change }
         ensures { IsDecision self.old self.new request.now
             (Becomes (changed self.old.state change) number) (Ok result) }
     {
         match self.admit(request, exchange, 0) {
-            Ok(()) => Ready::granted(number, exchange, change),
-            Err(refusal) => Ready::refused(refusal),
+            Ok(()) => self.granted(number, exchange, change),
+            Err(refusal) => self.refused(refusal),
         }
     }
 }

@@ -1,15 +1,13 @@
 //! To create a file (open(2)), and to make a directory (mkdir(2)).
-ghost use Rattle.std.specs.Prelude.{◌≡◌, string_bytes, true};
+ghost use Rattle.std.specs.Prelude.{◌≡◌, true};
 ghost use Rattle.qplain.specs.Attempt.{Becomes};
 ghost use Rattle.qplain.specs.Names.{created, owners_by, project_of, unless_too_many_links};
-ghost use Rattle.qplain.specs.State.{State, inode_at, is_directory, new_directory};
-ghost use Rattle.qstore_tree.specs.Room.{Room};
-ghost use Rattle.qstore_change.specs.Changes.{CanChange, CanCreate, changed};
+ghost use Rattle.qplain.specs.State.{inode_at, is_directory, new_directory};
 ghost use Rattle.qstore.specs.Applied.{IsApplied};
 ghost use Rattle.qstore.specs.Decided.{CanDecide, IsConsistent, IsDecision, IsDecisionOf, IsFree};
 ghost use Rattle.qstore_change.specs.FileTypes.{inode_new};
 
-use crate::{Call, Cred, Decision, Exchange, NoMemory, Ready, Refusal, Reply, Request, Store};
+use crate::{Call, Cred, Decision, Exchange, NoMemory, Refusal, Reply, Request, Store};
 use qstore_change::{FileType, creation};
 use qstore_walk::{caller_owners, has_all_links, inode, last_component, path_fault};
 
@@ -22,8 +20,9 @@ impl Store {
             Ok(request) => request,
             Err(refusal) => return Ok(Reply::Refused(refusal)),
         };
-        let ready = self.decide_create(&request, path)?;
-        Ok(self.commit(ready))
+        let reply = self.decide_create(&request, path)?;
+        self.commit();
+        Ok(reply)
     }
 
     /// A mkdir by `apply`, of a path that is borrowed.
@@ -34,8 +33,9 @@ impl Store {
             Ok(request) => request,
             Err(refusal) => return Ok(Reply::Refused(refusal)),
         };
-        let ready = self.decide_mkdir(&request, path)?;
-        Ok(self.commit(ready))
+        let reply = self.decide_mkdir(&request, path)?;
+        self.commit();
+        Ok(reply)
     }
 
     /// Decides the creation of a file, and makes room for it.
@@ -45,10 +45,10 @@ impl Store {
     {
         let last = match last_component(self.tree(), path, Refusal::EEXIST) {
             Ok(last) => last,
-            Err(refusal) => return Ok(Ready::refused(refusal)),
+            Err(refusal) => return Ok(self.refused(refusal)),
         };
         match last.leads_to {
-            Some(_) => Ok(Ready::refused(Refusal::EEXIST)),
+            Some(_) => Ok(self.refused(Refusal::EEXIST)),
             None => self.make_inode(request, last.dir, last.name, FileType::File),
         }
     }
@@ -88,12 +88,13 @@ impl Store {
         let exchange = Exchange { from, to };
         match self.admit(request, &exchange, 1) {
             Ok(()) => {}
-            Err(refusal) => return Ok(Ready::refused(refusal)),
+            Err(refusal) => return Ok(self.refused(refusal)),
         }
         let name = String::from_str(self.alloc, name)?;
         self.tree.make_room(dir)?;
         let change = creation(sort, dir, name, owners);
-        Ok(Ready::granted(self.next, &exchange, change))
+        let number = self.next;
+        Ok(self.granted(number, &exchange, change))
     }
 
     /// Decides the making of a directory, and makes room for it.
@@ -103,10 +104,10 @@ impl Store {
     {
         let last = match last_component(self.tree(), path, Refusal::EEXIST) {
             Ok(last) => last,
-            Err(refusal) => return Ok(Ready::refused(refusal)),
+            Err(refusal) => return Ok(self.refused(refusal)),
         };
         match last.leads_to {
-            Some(_) => Ok(Ready::refused(Refusal::EEXIST)),
+            Some(_) => Ok(self.refused(Refusal::EEXIST)),
             None => self.make_directory(request, last.dir, last.name),
         }
     }
@@ -120,7 +121,7 @@ impl Store {
             self.old.state.next) result }
     {
         if has_all_links(self.tree(), dir) {
-            return Ok(Ready::refused(Refusal::EMLINK));
+            return Ok(self.refused(Refusal::EMLINK));
         }
         self.make_inode(request, dir, name, FileType::Directory)
     }

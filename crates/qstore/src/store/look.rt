@@ -1,5 +1,5 @@
 //! To read from a file (read(2)), to ask for an inode's numbers (stat(2)), and the rows of what a store keeps.
-ghost use Rattle.std.specs.Prelude.{◌≡◌, ℕ, IfOk, IfErr, IsPermutation, OnOk, length, map};
+ghost use Rattle.std.specs.Prelude.{◌≡◌, ℕ, IfOk, IfErr, IsPermutation, OnOk, map};
 ghost use Rattle.std.specs.Ordering.{nat_cmp};
 ghost use Rattle.std.specs.List.{AllPairs};
 ghost use Rattle.std.specs.List.Sorted.{IsStrictlySortedBy};

@@ -4,7 +4,7 @@ ghost use Rattle.qplain.specs.Quotas.{ask_quota};
 ghost use Rattle.qplain.specs.Step.{settle};
 ghost use Rattle.qstore.specs.Decided.{CanDecide, IsDecisionOf};
 
-use crate::{Call, Cred, Plan, Ready, Refusal, Reply, Request, Store};
+use crate::{Call, Cred, Plan, Refusal, Reply, Request, Store};
 use qplain::NO_CHANGE;
 use qrules::{Kind, Limits};
 use qstore_walk::is_own;
@@ -31,22 +31,20 @@ impl Store {
         kind: Kind,
         id: u32,
         limits: Limits,
-    ) -> Ready
+    ) -> Reply
         requires { CanDecide self.old request.now }
         ensures { IsDecisionOf self.old self.new request.now (Call.SetQuota kind id limits) (Ok result) }
     {
         if request.cred.uid() != 0 {
-            return Ready::refused(Refusal::EPERM);
+            return self.refused(Refusal::EPERM);
         }
         match self.accounts.slot(kind, id) {
-            None => Ready::refused(Refusal::ESRCH),
+            None => self.refused(Refusal::ESRCH),
             Some(slot) => {
                 self.accounts
                     .bill_of_limits(kind, slot, limits, request.moment, &mut self.bill);
-                Ready {
-                    reply: Reply::Done(0, NO_CHANGE),
-                    plan: Plan::Limits,
-                }
+                self.plan = Plan::Limits;
+                Reply::Done(0, NO_CHANGE)
             }
         }
     }

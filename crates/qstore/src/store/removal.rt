@@ -2,15 +2,13 @@
 ghost use Rattle.std.specs.Prelude.{◌≡◌, ◌≤◌, ◌<◌, true, Some};
 ghost use Rattle.qplain.specs.Attempt.{Becomes};
 ghost use Rattle.qplain.specs.Names.{rmdir_as, swept, unlink_as, without_name};
-ghost use Rattle.qplain.specs.State.{State, inode_at, is_directory, named};
+ghost use Rattle.qplain.specs.State.{inode_at, is_directory, named};
 ghost use Rattle.qstore_tree.specs.Nodes.{inode_of};
-ghost use Rattle.qstore_tree.specs.Room.{Room};
 ghost use Rattle.qstore_walk.specs.Paths.{name_in};
-ghost use Rattle.qstore_change.specs.Changes.{CanChange, changed};
 ghost use Rattle.qstore.specs.Decided.{CanDecide, IsAsked, IsDecision, IsDecisionOf, IsGivenUp, no_exchange};
 ghost use Rattle.qstore_change.specs.FileTypes.{CanRemove};
 
-use crate::{Call, Decision, Exchange, Path, Ready, Refusal, Request, Store};
+use crate::{Call, Decision, Exchange, Path, Refusal, Request, Store};
 use qstore_change::{FileType, removal};
 use qstore_tree::{Content, Node};
 use qstore_walk::{inode, is_empty, last_component, may_remove};
@@ -23,11 +21,11 @@ impl Store {
     {
         let last = match last_component(self.tree(), path.text(), Refusal::EISDIR) {
             Ok(last) => last,
-            Err(refusal) => return Ok(Ready::refused(refusal)),
+            Err(refusal) => return Ok(self.refused(refusal)),
         };
         match last.leads_to {
             Some(number) => self.take_name(request, path, last.dir, number),
-            None => Ok(Ready::refused(Refusal::ENOENT)),
+            None => Ok(self.refused(Refusal::ENOENT)),
         }
     }
 
@@ -40,13 +38,13 @@ impl Store {
     {
         let tree = self.tree();
         let Some(node) = inode(tree, number) else {
-            return Ok(Ready::refused(Refusal::ENOENT));
+            return Ok(self.refused(Refusal::ENOENT));
         };
         let Content::File(_) = &node.content else {
-            return Ok(Ready::refused(Refusal::EISDIR));
+            return Ok(self.refused(Refusal::EISDIR));
         };
         if !may_remove(tree, request.cred, dir, number, node) {
-            return Ok(Ready::refused(Refusal::EPERM));
+            return Ok(self.refused(Refusal::EPERM));
         }
         let exchange = self.given_up(request, number, node);
         self.grant_removal(request, path, dir, number, &exchange, FileType::File)
@@ -87,11 +85,11 @@ impl Store {
     {
         match self.admit(request, exchange, 0) {
             Ok(()) => {}
-            Err(refusal) => return Ok(Ready::refused(refusal)),
+            Err(refusal) => return Ok(self.refused(refusal)),
         }
         let path = path.copy()?;
         let change = removal(sort, dir, path, number);
-        Ok(Ready::granted(number, exchange, change))
+        Ok(self.granted(number, exchange, change))
     }
 
     /// Decides that a directory goes.
@@ -101,11 +99,11 @@ impl Store {
     {
         let last = match last_component(self.tree(), path.text(), Refusal::EBUSY) {
             Ok(last) => last,
-            Err(refusal) => return Ok(Ready::refused(refusal)),
+            Err(refusal) => return Ok(self.refused(refusal)),
         };
         match last.leads_to {
             Some(number) => self.take_directory(request, path, last.dir, number),
-            None => Ok(Ready::refused(Refusal::ENOENT)),
+            None => Ok(self.refused(Refusal::ENOENT)),
         }
     }
 
@@ -120,16 +118,16 @@ impl Store {
     {
         let tree = self.tree();
         let Some(node) = inode(tree, number) else {
-            return Ok(Ready::refused(Refusal::ENOENT));
+            return Ok(self.refused(Refusal::ENOENT));
         };
         let Content::Directory(_) = &node.content else {
-            return Ok(Ready::refused(Refusal::ENOTDIR));
+            return Ok(self.refused(Refusal::ENOTDIR));
         };
         if !may_remove(tree, request.cred, dir, number, node) {
-            return Ok(Ready::refused(Refusal::EPERM));
+            return Ok(self.refused(Refusal::EPERM));
         }
         if !is_empty(tree, number) {
-            return Ok(Ready::refused(Refusal::ENOTEMPTY));
+            return Ok(self.refused(Refusal::ENOTEMPTY));
         }
         let (from, to) = (Some(self.claim_of(request, number, node)), None);
         self.grant_removal(

@@ -12,7 +12,7 @@ ghost use Rattle.qstore_change.specs.Changes.{CanRename};
 ghost use Rattle.qstore.specs.Decided.{CanDecide, IsAsked, IsDecision, IsDecisionOf, IsFree};
 ghost use Rattle.qstore.specs.Renamings.{IsRenaming, with_new_name};
 
-use crate::{Call, Decision, Exchange, Path, Ready, Reply, Request, Store};
+use crate::{Call, Decision, Exchange, Path, Reply, Request, Store};
 use qplain::NO_CHANGE;
 use qstore_change::TreeChange;
 use qstore_tree::Content;
@@ -28,7 +28,7 @@ impl Store {
     {
         match further_name(self.tree(), from, to) {
             Ok(new) => self.name_file(request, &new),
-            Err(refusal) => Ok(Ready::refused(refusal)),
+            Err(refusal) => Ok(self.refused(refusal)),
         }
     }
 
@@ -45,13 +45,13 @@ impl Store {
         let exchange = Exchange { from, to };
         match self.admit(request, &exchange, 0) {
             Ok(()) => {}
-            Err(refusal) => return Ok(Ready::refused(refusal)),
+            Err(refusal) => return Ok(self.refused(refusal)),
         }
         let name = String::from_str(self.alloc, new.name)?;
         self.tree.make_name_room(new.dir)?;
         let FurtherName { number, dir, .. } = *new;
         let change = TreeChange::Link { dir, name, number };
-        Ok(Ready::granted(number, &exchange, change))
+        Ok(self.granted(number, &exchange, change))
     }
 
     /// Decides another name of an inode, and makes room for it.
@@ -61,10 +61,11 @@ impl Store {
     {
         let new = match find_renaming(self.tree(), from.text(), to) {
             Ok(new) => new,
-            Err(refusal) => return Ok(Ready::refused(refusal)),
+            Err(refusal) => return Ok(self.refused(refusal)),
         };
         if is_its_own(&new) {
-            return Ok(Ready::answer(Reply::Done(new.number, NO_CHANGE)));
+            self.clear_plan();
+            return Ok(Reply::Done(new.number, NO_CHANGE));
         }
         self.rename_over(request, from, to, &new)
     }
@@ -83,7 +84,7 @@ impl Store {
             unreachable!()
         };
         match rename_fault(tree, request.cred, to, new, node) {
-            Some(refusal) => return Ok(Ready::refused(refusal)),
+            Some(refusal) => return Ok(self.refused(refusal)),
             None => {}
         }
         let exchange = self.replaced(request, new);
@@ -132,7 +133,7 @@ impl Store {
     {
         match self.admit(request, exchange, 0) {
             Ok(()) => {}
-            Err(refusal) => return Ok(Ready::refused(refusal)),
+            Err(refusal) => return Ok(self.refused(refusal)),
         }
         let to_name = String::from_str(self.alloc, new.to.name)?;
         let path = from.copy()?;
@@ -144,6 +145,6 @@ impl Store {
             to_name,
             number: new.number,
         };
-        Ok(Ready::granted(new.number, exchange, change))
+        Ok(self.granted(new.number, exchange, change))
     }
 }

@@ -6,11 +6,13 @@ ghost use Rattle.qplain.specs.Calls.{attempt_of};
 ghost use Rattle.qplain.specs.Step.{settle};
 ghost use Rattle.qstore_tree.specs.Nodes.{inode_of};
 ghost use Rattle.qstore.specs.Applied.{IsApplied};
-ghost use Rattle.qstore.specs.Decided.{CanDecide, IsDecisionOf, IsStretched, no_exchange};
-ghost use Rattle.qstore.specs.Ready.{IsReady, committed};
-ghost use Rattle.qstore.specs.Targets.{IsTarget, put_decision, put_ready};
+ghost use Rattle.qstore.specs.Decided.{CanDecide, IsDecisionOf, IsPlanned, IsStretched, no_exchange};
+ghost use Rattle.qstore.specs.Ready.{CanCarryOut, effect};
+ghost use Rattle.qstore.specs.Stored.{IsStorable};
+ghost use Rattle.qstore.specs.Targets.{IsTarget, put_plan, put_planned, put_reply};
+ghost use Rattle.qstore.specs.Told.{told};
 
-use crate::{Call, Cred, Decision, Exchange, NoMemory, Ready, Refusal, Reply, Request, Store};
+use crate::{Call, Cred, Decision, Exchange, NoMemory, Refusal, Reply, Request, Store};
 use qblocks::{Input, Spare};
 use qplain::{Data, MAX_DATA, NO_CHANGE};
 use qstore_accounts::{Claim, change_of};
@@ -68,11 +70,14 @@ impl Store {
         let input = bytes.input();
         let target = match self.target(request, path, off, input) {
             Ok(target) => target,
-            Err(reply) => return Ok(Ready::answer(reply)),
+            Err(reply) => {
+                self.clear_plan();
+                return Ok(reply);
+            }
         };
         let spare = match self.room_for_put(request, path, off, input, &target)? {
             Ok(spare) => spare,
-            Err(refusal) => return Ok(Ready::refused(refusal)),
+            Err(refusal) => return Ok(self.refused(refusal)),
         };
         let (number, bytes) = (target.number, bytes.copy()?);
         let change = TreeChange::Write {
@@ -81,7 +86,7 @@ impl Store {
             bytes,
             spare,
         };
-        Ok(Ready::granted(number, &target.exchange, change))
+        Ok(self.granted(number, &target.exchange, change))
     }
 
     /// Whether the end of N bytes at the offset is past the file limit.
@@ -137,21 +142,16 @@ impl Store {
         ensures some { 0 < more → IsStretched self.now (inode_of node.now) more result }
     {
         if more == 0 {
-            return Exchange {
-                from: None,
-                to: None,
-            };
+            let (from, to) = (None, None);
+            return Exchange { from, to };
         }
         let claim = self.claim_of(request, number, node);
         let to = Some(Claim::new(claim.slots, claim.weight.blocks + more));
-        Exchange {
-            from: Some(claim),
-            to,
-        }
+        let from = Some(claim);
+        Exchange { from, to }
     }
 
-    /// Makes room for a write that passed all tests but those of space and quota, or tells by which of them it is
-    /// refused.
+    /// Makes room for a write that passed all tests but those of space and quota, or tells which of them refuses it.
     fn room_for_put(
         &mut self,
         request: &Request,
@@ -162,8 +162,9 @@ impl Store {
     ) -> Result<Result<Spare, Refusal>, NoMemory>
         requires can { CanDecide self.old request.now }
         requires target { IsTarget self.old request.now.cred.now path.now off (input_bytes bytes) target.now }
-        ensures { IsDecisionOf self.old self.new request.now (Call.Write path.now off (input_bytes bytes.entry))
-            (put_decision target.now off (input_bytes bytes.entry) result) }
+        ensures { IsPlanned self.old self.new request.now
+            (attempt_of self.old.state request.now.cred.now (Call.Write path.now off (input_bytes bytes.entry)))
+            (put_planned target.now off (input_bytes bytes.entry) result) (put_reply target.now result) }
     {
         match self.admit(request, &target.exchange, 0) {
             Ok(()) => {}
@@ -177,17 +178,16 @@ impl Store {
 
     /// Writes where room is made, and settles the store's bill. It takes no memory and always succeeds.
     fn put(&mut self, target: &Target, off: u64, bytes: Input, spare: Spare) -> Reply
-        requires { IsReady self.old (put_ready target.now off (input_bytes bytes) spare) }
-        ensures { (self.new.state, result)
-            ≡ committed self.old (put_ready target.now off (input_bytes bytes.entry) spare) }
+        requires can { CanCarryOut self.old (put_plan target.now off (input_bytes bytes) spare) }
+        requires sound { IsStorable (effect self.old (put_plan target.now off (input_bytes bytes) spare)) }
+        ensures state { self.new.state ≡ effect self.old (put_plan target.now off (input_bytes bytes.entry) spare) }
+        ensures reply { result ≡ Reply.Done target.now.number (told target.now.exchange) }
     {
-        let Target {
-            number,
-            exchange,
-            ..
-        } = *target;
-        write(&mut self.tree, number, off, bytes, spare);
+        write(&mut self.tree, target.number, off, bytes, spare);
         self.accounts.settle(&self.bill);
-        Reply::Done(number, change_of(exchange.from, exchange.to))
+        Reply::Done(
+            target.number,
+            change_of(target.exchange.from, target.exchange.to),
+        )
     }
 }

@@ -6,7 +6,7 @@ ghost use Rattle.std.specs.BTreeMap.{insert_entry, is_at};
 ghost use Rattle.std.specs.Map.{lookup, remove_entry, set_value};
 ghost use Rattle.qblocks.specs.File.{Adds, MoreBlocks, after_write};
 ghost use Rattle.qblocks.specs.Input.{input_bytes};
-ghost use Rattle.qblocks.specs.WriteRoom.{IsReadyToPut};
+ghost use Rattle.qblocks.specs.WriteRoom.{IsReadyToPut, IsThereToPut};
 ghost use Rattle.qplain.specs.State.{Inode, is_dir, name_key_cmp, new_directory, new_file};
 ghost use Rattle.qstore_tree.specs.Nodes.{inode_of, names_in};
 ghost use Rattle.qstore_tree.specs.Tree.{HasRoomFor, IsSameTree, file_room, name_room};
@@ -157,9 +157,7 @@ impl Tree {
     /// and always succeeds.
     pub fn put(&mut self, number: u64, off: u64, input: Input, spare: Spare) -> u64
         requires bound { off + length (input_bytes input) ≤ MAX_SIZE }
-        requires there { is_some (file_room self.old.room number) ≡ true }
-        requires ready { IfSome (file_room self.old.room number)
-            (λ f. IsReadyToPut f off (length (input_bytes input)) spare) }
+        requires file { IsThereToPut (file_room self.old.room number) off (length (input_bytes input)) spare }
         ensures inodes { (inode : Inode) → lookup (is_at (nat_cmp number)) self.old.inodes ≡ Some inode
             → self.new.inodes ≡ set_value (is_at (nat_cmp number)) self.old.inodes
             (record inode { file = after_write inode.file off (input_bytes input.entry) }) }

@@ -8,32 +8,32 @@ use Rattle.qblocks.proofs.Table.{byte_at-own, byte_at-same}
 use Rattle.qblocks.proofs.Freed.{Frees-row, Frees-none, Frees-more, is_used-same, is_used-row, absent_is_unused, there_if_used}
 use Rattle.qblocks.proofs.cut.cut.Goals as goal
 
-pub returns-clause-before : goal.returns-clause-before
-returns-clause-before c = λ o l.
-    let e = c.cut_row-cut.ensures in
-    let kept = c.pop_rows-freed.ensures.before in
-    let row = c.args.size / ROW_SIZE in
-    ap (λ slot. byte_of slot (o % BLOCK_SIZE)) (c.forget_row.ensures.same.slots (o / BLOCK_SIZE))
-    ∙ ⊎_elim
-    (λ here.
-    byte_at-own c.cut_row-cut.new.rows row o here ∙ e.before (o % ROW_SIZE) (omega arith)
-    ∙ ap (λ r. row_byte (slots_of r) (o % ROW_SIZE)) (kept row (omega arith)) ∙ sym (byte_at-own c.args.rows.now row o here))
-    (λ below.
-    byte_at-same c.args.rows.now c.cut_row-cut.new.rows o
-    (e.others (o / BLOCK_SIZE / ROW_BLOCKS) (λ at. below (omega (arith, at))) ∙ ap slots_of (kept (o / BLOCK_SIZE / ROW_BLOCKS) (omega arith))))
-    (cases_eq (o / ROW_SIZE) row)
-
-pub returns-clause-tail : goal.returns-clause-tail
-returns-clause-tail c = λ o l.
-    let e = c.cut_row-cut.ensures in
-    let q = o / BLOCK_SIZE / ROW_BLOCKS in
-    ap (λ slot. byte_of slot (o % BLOCK_SIZE)) (c.forget_row.ensures.same.slots (o / BLOCK_SIZE))
-    ∙ ⊎_elim
-    (λ here. byte_at-own c.cut_row-cut.new.rows (c.args.size / ROW_SIZE) o here ∙ e.tail (o % ROW_SIZE) (omega arith))
-    (λ past.
-    ap (λ row. byte_of (slot_at row (o / BLOCK_SIZE % ROW_BLOCKS)) (o % BLOCK_SIZE))
-    (e.others q (λ at. past (omega (arith, at))) ∙ ap slots_of (c.pop_rows-freed.ensures.none q (omega (arith, past)))))
-    (cases_eq (o / ROW_SIZE) (c.args.size / ROW_SIZE))
+pub returns-clause-cuts : goal.returns-clause-cuts
+returns-clause-cuts c = record {
+  before = λ o l.
+      let e = c.cut_row-cut.ensures in
+      let kept = c.pop_rows-freed.ensures.before in
+      let row = c.args.size / ROW_SIZE in
+      ap (λ slot. byte_of slot (o % BLOCK_SIZE)) (c.forget_row.ensures.same.slots (o / BLOCK_SIZE))
+      ∙ ⊎_elim
+      (λ here.
+      byte_at-own c.cut_row-cut.new.rows row o here ∙ e.cuts.before (o % ROW_SIZE) (omega arith)
+      ∙ ap (λ r. row_byte (slots_of r) (o % ROW_SIZE)) (kept row (omega arith)) ∙ sym (byte_at-own c.args.rows.now row o here))
+      (λ below.
+      byte_at-same c.args.rows.now c.cut_row-cut.new.rows o
+      (e.only.others (o / BLOCK_SIZE / ROW_BLOCKS) (λ at. below (omega (arith, at))) ∙ ap slots_of (kept (o / BLOCK_SIZE / ROW_BLOCKS) (omega arith))))
+      (cases_eq (o / ROW_SIZE) row);
+  tail = λ o l.
+      let e = c.cut_row-cut.ensures in
+      let q = o / BLOCK_SIZE / ROW_BLOCKS in
+      ap (λ slot. byte_of slot (o % BLOCK_SIZE)) (c.forget_row.ensures.same.slots (o / BLOCK_SIZE))
+      ∙ ⊎_elim
+      (λ here. byte_at-own c.cut_row-cut.new.rows (c.args.size / ROW_SIZE) o here ∙ e.cuts.tail (o % ROW_SIZE) (omega arith))
+      (λ past.
+      ap (λ row. byte_of (slot_at row (o / BLOCK_SIZE % ROW_BLOCKS)) (o % BLOCK_SIZE))
+      (e.only.others q (λ at. past (omega (arith, at))) ∙ ap slots_of (c.pop_rows-freed.ensures.none q (omega (arith, past)))))
+      (cases_eq (o / ROW_SIZE) (c.args.size / ROW_SIZE));
+}
 
 pub returns-clause-used : goal.returns-clause-used
 returns-clause-used c = λ r.
@@ -45,12 +45,13 @@ returns-clause-used c = λ r.
     ⊎_elim
     (λ here. ap (has_row new) here ∙ c.forget_row.ensures.used ∙ ap (is_used (filled new)) (sym here))
     (λ other.
-    let same = is_used-same (filled cut) (filled new) r (λ k. ap is_some (c.forget_row.ensures.same.slots k)) ∙ is_used-row popped cut r (e.others r other) in
-    c.forget_row.ensures.others r other ∙ e.rows r
+    let same = is_used-same (filled cut) (filled new) r (λ k. ap is_some (c.forget_row.ensures.same.slots k))
+    ∙ is_used-row popped cut r (e.only.others r other) in
+    c.forget_row.ensures.others r other ∙ e.only.rows r
     ∙ ⊎_elim
     (λ below.
     let kept = c.pop_rows-freed.ensures.before r (omega arith) in
-    ap is_some kept ∙ c.requires.used r ∙ sym (same ∙ is_used-row c.args.rows.now popped r (ap slots_of kept)))
+    ap is_some kept ∙ c.requires.rows.used r ∙ sym (same ∙ is_used-row c.args.rows.now popped r (ap slots_of kept)))
     (λ past.
     let gone = ap is_some (c.pop_rows-freed.ensures.none r (omega (arith, other))) in
     gone ∙ sym (same ∙ absent_is_unused popped r gone))
@@ -66,7 +67,7 @@ returns-clause-frees c =
     let e = c.cut_row-cut.ensures in
     let row = c.args.size / ROW_SIZE in
     let same : (k : ℕ) → filled new k ≡ filled cut k = λ k. ap is_some (c.forget_row.ensures.same.slots k) in
-    let one = Frees-row popped cut row c.cut_row-cut.result e.others e.freed (λ q there. sym (e.rows q) ∙ there) in
+    let one = Frees-row popped cut row c.cut_row-cut.result e.only.others e.freed (λ q there. sym (e.only.rows q) ∙ there) in
     let none = Frees-none cut new same (λ q there.
     ⊎_elim
     (λ here. ap (has_row cut) here

@@ -41,13 +41,13 @@ loop-done-preserved c =
     let aligned = c.loop-done.invariant.aligned in
     let e = c.put_in_row.ensures in
     let step = Puts-row c.loop-done.rows c.put_in_row.new.rows (here / ROW_SIZE) (here % ROW_SIZE)
-    part (omega arith) (omega arith) e.others c.loop-done.spare
+    part (omega arith) (omega arith) e.only.others c.loop-done.spare
     c.put_in_row.new.spare e.puts in
     record {
       puts = Puts-next _ _ _ _ _ _ _ _ _ c.args.off done m _ _ input part c.loop-done.invariant.puts step c.part.ensures
           (omega arith) (omega arith) (omega arith) (omega arith)
           (λ some. let even = aligned some (omega arith) in omega arith);
-      rows = λ q. e.rows q ∙ c.loop-done.invariant.rows q;
+      rows = λ q. e.only.rows q ∙ c.loop-done.invariant.rows q;
       within = omega arith;
       aligned = λ _ less. omega arith;
     }

@@ -1,4 +1,4 @@
-use Rattle.std.proofs.Common.{◌≡◌, ◌+◌, ◌≤◌, length}
+use Rattle.std.proofs.Common.{◌≡◌, ◌≤◌, length}
 use Rattle.std.specs.Vec.{vec_capacity, vec_len}
 use Rattle.qshare.proofs.Placing.{StandTo}
 use Rattle.qshare.proofs.on_demand.place_each.Given as goal

@@ -37,7 +37,7 @@ returns-in_default c S is lawful can =
     (sym target ∙ c.in_default.is)
     (moved-tree S x.tree.now.room lawful x.dir (name_in x.path.now) x.number x.to_dir to_name can x.tree.now c.move_node.new.tree c.move_name.new.self
     c.led_to-replaced.result c.is_some.result c.last_of.result.now is target c.is_some.ensures (c.last_of.ensures ∙ ap name_in c.text.ensures)
-    n.inodes n.names n.file n.directory m.inodes m.links m.names)
+    n.rest.inodes n.rest.names n.file n.directory m.inodes m.links m.names)
 
 pub drop_replaced-requires : goal.drop_replaced-requires
 drop_replaced-requires c stands other =
@@ -55,7 +55,7 @@ drop_replaced-requires c stands other =
     let m = c.move_name.ensures in
     let moved = moved-tree S x.tree.now.room r.2 x.dir name x.number x.to_dir to_name r.3 x.tree.now c.move_node.new.tree c.move_name.new.self
     c.led_to-replaced.result c.is_some.result c.last_of.result.now is target c.is_some.ensures (c.last_of.ensures ∙ ap name_in c.text.ensures)
-    n.inodes n.names n.file n.directory m.inodes m.links m.names in
+    n.rest.inodes n.rest.names n.file n.directory m.inodes m.links m.names in
     ap (lookup (is_at (name_key_cmp (c.in-Some.target, other)))) moved.names
     ∙ no-names S x.tree.now.room r.2 x.dir name x.number x.to_dir to_name r.3 c.in-Some.target replaced.0 led_to replaced.1 other
 
@@ -73,6 +73,6 @@ returns-in-Some c S is lawful can =
     let d = c.drop_replaced.ensures in
     let moved = moved-tree S x.tree.now.room lawful x.dir name x.number x.to_dir to_name can x.tree.now c.move_node.new.tree c.move_name.new.self
     c.led_to-replaced.result c.is_some.result c.last_of.result.now is target c.is_some.ensures (c.last_of.ensures ∙ ap name_in c.text.ensures)
-    n.inodes n.names n.file n.directory m.inodes m.links m.names in
+    n.rest.inodes n.rest.names n.file n.directory m.inodes m.links m.names in
     tree-onto S x.tree.now.room lawful x.dir name x.number x.to_dir to_name can c.in-Some.target replaced.0 led_to replaced.1
     c.move_name.new.self c.drop_replaced.new.tree moved d.names d.directory d.last d.more

@@ -1,13 +1,11 @@
 use Rattle.qsession.proofs.Committing.{made_journaled, made_plain}
 use Rattle.qsession.proofs.kept.Kept.commit.Goals as goal
 
-pub returns-in-Ready : goal.returns-in-Ready
-returns-in-Ready c =
-    made_plain c.args.self.now c.args.ready c.in-Plain.store c.commit.new.self c.in-Ready.ready c.commit.result c.in-Plain.is c.in-Ready.is
-    c.commit.ensures
+pub returns-in-Plain : goal.returns-in-Plain
+returns-in-Plain c = made_plain c.args.self.now c.in-Plain.store c.commit.new.self c.in-Plain.is c.commit.ensures
 
-pub returns-in-Next : goal.returns-in-Next
-returns-in-Next c =
+pub returns-in-Journaled : goal.returns-in-Journaled
+returns-in-Journaled c =
     let done = c.commit-in-Journaled in
-    made_journaled c.args.self.now c.args.ready c.in-Journaled.store done.new.self c.in-Next.next done.result c.in-Journaled.is c.in-Next.is
-    c.requires done.ensures.setting done.ensures.journal done.ensures.reply done.ensures.played
+    made_journaled c.args.self.now c.in-Journaled.store done.new.self c.in-Journaled.is c.requires done.ensures.setting done.ensures.journal
+    done.ensures.played

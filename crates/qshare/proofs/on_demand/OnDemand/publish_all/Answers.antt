@@ -1,4 +1,4 @@
-use Rattle.std.proofs.Common.{◌≡◌, length, refl, ap, subst, ◌∙◌}
+use Rattle.std.proofs.Common.{length, refl, ap, subst, ◌∙◌}
 use Rattle.qrules.specs.Sort.{Blocks, Inodes}
 use Rattle.qplain.specs.Boards.{rows_of}
 use Rattle.qplain.specs.Use.{total_of}

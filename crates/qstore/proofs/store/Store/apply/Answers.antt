@@ -9,5 +9,5 @@ pub returns-clause-limits : goal.returns-clause-limits
 returns-clause-limits c other =
     let x = c.args in
     let S = x.self.now.state in
-    let after = sym (ap (λ (told : State × Reply). told.0) (c.commit.ensures ∙ c.in-Ok.ensures.step)) in
+    let after = sym (c.commit.ensures ∙ ap (λ (told : State × Reply). told.0) c.in_ok-reply.ensures.step) in
     subst (λ T. All (PassesNoLimit S T x.moment) S.holders) after (limits_hold S x.cred.now x.moment x.call.now other)

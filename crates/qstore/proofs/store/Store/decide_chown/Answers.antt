@@ -8,15 +8,16 @@ use Rattle.qstore_tree.specs.Nodes.{inode_of}
 use Rattle.qstore.specs.Decided.{IsAsked}
 use Rattle.qstore.specs.Requests.{are_declared}
 use Rattle.qstore.proofs.Calls.{altered-there, changed-asked, give-becomes, give-refused, known-declared, named-declared}
-use Rattle.qstore.proofs.Deciding.{decision-along, decision-refused, same-store}
+use Rattle.qstore.proofs.Deciding.{decision-along, refused-here}
 use Rattle.qstore.proofs.store.Store.decide_chown.Goals as goal
 
 pub returns-in-Err : goal.returns-in-Err
 returns-in-Err c =
     let x = c.args in
     let s = x.self.now in
-    decision-refused s s (same-store s) x.request.now _ c.refused.result c.in-Err.refusal
-    (c.in-Err.ensures.fault s.state c.tree.ensures (chown_at s.state x.request.now.cred.now x.uid x.gid x.project)) c.refused.ensures
+    refused-here s c.refused.new.self x.request.now _ c.refused.result c.in-Err.refusal
+    (c.in-Err.ensures.fault s.state c.tree.ensures (chown_at s.state x.request.now.cred.now x.uid x.gid x.project)) c.refused.ensures.plan
+    c.refused.ensures.reply
 
 pub returns-then-not-may_give : goal.returns-then-not-may_give
 returns-then-not-may_give c =
@@ -30,8 +31,9 @@ returns-then-not-may_give c =
     let owners : chown_at S cred x.uid x.gid x.project number inode ≡ give S cred c.renewed-owners.result number inode =
     λ i. give S cred (sym c.renewed-owners.ensures i) number inode in
     let may : may_give cred inode c.renewed-owners.result ≡ false = search rules in
-    decision-refused s s (same-store s) x.request.now _ c.refused-then-not-may_give.result EPERM
-    (found ∙ owners ∙ give-refused S cred c.renewed-owners.result number inode may) c.refused-then-not-may_give.ensures
+    refused-here s c.refused-then-not-may_give.new.self x.request.now _ c.refused-then-not-may_give.result EPERM
+    (found ∙ owners ∙ give-refused S cred c.renewed-owners.result number inode may)
+    c.refused-then-not-may_give.ensures.plan c.refused-then-not-may_give.ensures.reply
 
 pub claim-to-requires-clause-declared : goal.claim-to-requires-clause-declared
 claim-to-requires-clause-declared c =

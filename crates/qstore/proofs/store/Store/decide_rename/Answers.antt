@@ -8,7 +8,7 @@ use Rattle.qplain.specs.Step.{settle}
 use Rattle.qplain.specs.Walk.{components}
 use Rattle.qstore_walk.specs.Paths.{name_in}
 use Rattle.qstore_walk.proofs.Renamed.{rename-own, some-inode}
-use Rattle.qstore.proofs.Deciding.{decision-along, decision-answered, same-store}
+use Rattle.qstore.proofs.Deciding.{answered-here, decision-along}
 use Rattle.qstore.proofs.store.Store.decide_rename.Goals as goal
 
 pub returns-then-is_its_own : goal.returns-then-is_its_own
@@ -26,7 +26,7 @@ returns-then-is_its_own c =
     let is = ap (in_parent S EBUSY (rename_from S cred x.to.now)) (sym c.text.ensures)
     ∙ e.found S is_tree cred inode.0 inode.1
     ∙ rename-own S cred (components x.to.now) new.dir (name_in c.text.result.now) new.number inode.0 new.to.dir new.to.name.now own in
-    decision-answered s s (same-store s) q _ c.answer.result (Done new.number no_change) (ap (settle S cred q.moment) is) c.answer.ensures
+    answered-here s c.clear_plan.new.self q _ (Done new.number no_change) (ap (settle S cred q.moment) is) c.clear_plan.ensures
 
 pub returns : goal.returns
 returns c =

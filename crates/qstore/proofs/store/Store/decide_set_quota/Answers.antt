@@ -3,7 +3,7 @@ use Rattle.qplain.specs.declared.reply.Reply.TheVariants.{Done}
 use Rattle.qplain.specs.Arguments.{is_declared}
 use Rattle.qplain.specs.Attempt.{no_change}
 use Rattle.qplain.specs.Quotas.{set_quota}
-use Rattle.qstore.specs.declared.ready.Plan.TheVariants.{Limits}
+use Rattle.qstore.specs.declared.plan.Plan.TheVariants.{Limits}
 use Rattle.qstore.specs.Decided.{IsDecision}
 use Rattle.qstore.specs.Kept.{state_of, stored_of}
 use Rattle.qstore.specs.Stored.{IsSameStore, Stored}
@@ -19,10 +19,10 @@ returns-in-Some c =
     let cred = q.cred.now in
     let super : (cred.uid == 0) ≡ true = let uid = c.uid.ensures in let same = c.if-uid-ne0.false in grind (arith, tests, uid, same) in
     let declared : is_declared (state_of a) x.kind x.id ≡ true = sym (c.slot.ensures.declared (state_of a) inv.books) ∙ ap (λ o. is_some o) c.in-Some.is in
-    let new = stored_of (record a { bill = c.bill_of_limits.new.bill }) in
+    let new = stored_of (record a { bill = c.bill_of_limits.new.bill; plan = Limits }) in
     let bill = c.bill_of_limits.ensures in
     let same : IsSameStore (stored_of a) new = record { state = refl; books = refl } in
     subst (λ (v : Stored). IsDecision v new q (set_quota v.state cred x.kind x.id x.limits)
-    (Ok (record { reply = Done 0 no_change; plan = Limits }))) c.self.view_is
+    (Ok (Done 0 no_change))) c.self.view_is
     (decision-limits (stored_of a) new same q x.kind x.id x.limits inv.sound.lawful super declared
     (bill.books (state_of a) x.id c.in-Some.ensures.slot inv.sound.lawful inv.books) bill.placed)

@@ -8,7 +8,7 @@ use Rattle.qplain.specs.Rights.{may_write}
 use Rattle.qstore_tree.specs.Nodes.{file_in, inode_of, is_dir_content}
 use Rattle.qstore.specs.Stored.{Stored}
 use Rattle.qstore.proofs.Calls.{altered-there, resized-asked, truncate-becomes}
-use Rattle.qstore.proofs.Deciding.{decision-along, decision-refused, same-store}
+use Rattle.qstore.proofs.Deciding.{decision-along, refused-here}
 use Rattle.qstore.proofs.store.Store.decide_truncate.Goals as goal
 
 pub returns-in-Err : goal.returns-in-Err
@@ -16,8 +16,9 @@ returns-in-Err c =
     let x = c.args in
     let s = x.self.now in
     let cred = x.request.now.cred.now in
-    decision-refused s s (same-store s) x.request.now _ c.refused.result c.in-Err.refusal
-    (c.in-Err.ensures.fault s.state c.tree.ensures (truncate_at s.state cred x.size)) c.refused.ensures
+    refused-here s c.refused.new.self x.request.now _ c.refused.result c.in-Err.refusal
+    (c.in-Err.ensures.fault s.state c.tree.ensures (truncate_at s.state cred x.size))
+    c.refused.ensures.plan c.refused.ensures.reply
 
 pub returns-in_default : goal.returns-in_default
 returns-in_default c =
@@ -26,8 +27,9 @@ returns-in_default c =
     let cred = x.request.now.cred.now in
     let found = c.in-Ok.ensures.found s.state c.tree.ensures (truncate_at s.state cred x.size) in
     let dir : (inode_of c.in-Ok.found.node.now).dir ≡ true = ap is_dir_content c.in_default.is in
-    decision-refused s s (same-store s) x.request.now _ c.refused-in_default.result EISDIR
-    (found ∙ search (rules, dir)) c.refused-in_default.ensures
+    refused-here s c.refused-in_default.new.self x.request.now _ c.refused-in_default.result EISDIR
+    (found ∙ search (rules, dir))
+    c.refused-in_default.ensures.plan c.refused-in_default.ensures.reply
 
 pub returns-then-not-may_write : goal.returns-then-not-may_write
 returns-then-not-may_write c =
@@ -37,8 +39,9 @@ returns-then-not-may_write c =
     let found = c.in-Ok.ensures.found s.state c.tree.ensures (truncate_at s.state cred x.size) in
     let file : (inode_of c.in-Ok.found.node.now).dir ≡ false = ap is_dir_content c.in-File.is in
     let may : may_write cred (inode_of c.in-Ok.found.node.now) ≡ false = search rules in
-    decision-refused s s (same-store s) x.request.now _ c.refused-then-not-may_write.result EACCES
-    (found ∙ search (rules, file, may)) c.refused-then-not-may_write.ensures
+    refused-here s c.refused-then-not-may_write.new.self x.request.now _ c.refused-then-not-may_write.result EACCES
+    (found ∙ search (rules, file, may))
+    c.refused-then-not-may_write.ensures.plan c.refused-then-not-may_write.ensures.reply
 
 pub returns-then-size-limit : goal.returns-then-size-limit
 returns-then-size-limit c =
@@ -52,8 +55,9 @@ returns-then-size-limit c =
     let limit = ap (λ (v : Stored). v.state.file_limit) c.self.view_is in
     let long = c.if-size-limit.true in
     let past : nat_lt S.file_limit x.size ≡ true = grind (arith, tests, limit, long) in
-    decision-refused s s (same-store s) x.request.now _ c.refused-then-size-limit.result EFBIG
-    (found ∙ search (rules, file, may, past)) c.refused-then-size-limit.ensures
+    refused-here s c.refused-then-size-limit.new.self x.request.now _ c.refused-then-size-limit.result EFBIG
+    (found ∙ search (rules, file, may, past))
+    c.refused-then-size-limit.ensures.plan c.refused-then-size-limit.ensures.reply
 
 pub grant-requires-clause-asked : goal.grant-requires-clause-asked
 grant-requires-clause-asked c =

@@ -2,7 +2,7 @@ use Rattle.std.proofs.Common.{ℕ, List, sym, ap, ◌∙◌}
 use Rattle.qplain.specs.declared.call.Call.TheVariants.{Write}
 use Rattle.qplain.specs.Calls.{attempt_of}
 use Rattle.qplain.specs.Step.{settle}
-use Rattle.qstore.proofs.Deciding.{decision-answered, same-store}
+use Rattle.qstore.proofs.Deciding.{answered-here}
 use Rattle.qstore.proofs.store.Store.decide_write.Goals as goal
 
 pub returns-in-Err : goal.returns-in-Err
@@ -13,4 +13,4 @@ returns-in-Err c =
     let cred = x.request.now.cred.now in
     let refused = ap (λ (bytes : List ℕ). settle s.state cred moment (attempt_of s.state cred (Write x.path.now x.off bytes)))
     (sym c.input-input.ensures) ∙ c.in-Err.ensures.refused moment in
-    decision-answered s s (same-store s) x.request.now _ c.answer.result c.in-Err.reply refused c.answer.ensures
+    answered-here s c.clear_plan.new.self x.request.now _ c.in-Err.reply refused c.clear_plan.ensures

@@ -3,7 +3,7 @@ use Rattle.qplain.specs.Names.{swept, without_name}
 use Rattle.qplain.specs.State.{State}
 use Rattle.qstore_walk.specs.Paths.{name_in}
 use Rattle.qstore_change.specs.FileTypes.{CanRemove}
-use Rattle.qstore.proofs.Deciding.{decision-billed, decision-unbilled, decision-unmade}
+use Rattle.qstore.proofs.Deciding.{decision-billed, decision-unbilled, decision-unmade, kept}
 use Rattle.qstore.proofs.store.Store.grant_removal.Goals as goal
 
 pub admit-requires-clause-asked : goal.admit-requires-clause-asked
@@ -12,8 +12,9 @@ admit-requires-clause-asked c = (swept (without_name c.args.self.now.state c.arg
 pub returns-in-Err : goal.returns-in-Err
 returns-in-Err c =
     let x = c.args in
-    decision-unbilled x.self.now c.admit.new.self c.admit.ensures.same x.request.now _ x.number 0 _ _ c.requires.asked refl c.refused.result
-    c.in-Err.refusal c.in-Err.ensures.refused c.refused.ensures
+    kept _ _ c.refused.ensures.plan
+    (decision-unbilled x.self.now c.admit.new.self c.admit.ensures.same x.request.now _ x.number 0 _ _ c.requires.asked refl c.refused.result
+    c.in-Err.refusal c.in-Err.ensures.refused c.refused.ensures.reply)
 
 pub returns-in_err-path : goal.returns-in_err-path
 returns-in_err-path c =
@@ -27,9 +28,10 @@ returns c =
     let s = x.self.now in
     let same = c.admit.ensures.same in
     let name = ap name_in c.in_ok-path.ensures in
-    decision-billed s c.admit.new.self same x.request.now _ x.number 0 _ _ c.requires.asked refl _ c.granted.result c.in-Ok.ensures.granted
+    kept _ _ c.granted.ensures.plan
+    (decision-billed s c.admit.new.self same x.request.now _ x.number 0 _ _ c.requires.asked refl _ c.granted.result c.in-Ok.ensures.granted
     (c.removal-change.ensures.made s.state ∙ ap (λ n. swept (without_name s.state x.dir n)) name)
     (c.removal-change.ensures.can c.admit.new.self.state c.admit.new.self.room
     (subst (λ (S : State). CanRemove x.sort S x.dir x.number (name_in c.in_ok-path.path)) (sym same.state)
     (subst (CanRemove x.sort s.state x.dir x.number) (sym name) c.requires.can)))
-    c.granted.ensures
+    c.granted.ensures.reply)

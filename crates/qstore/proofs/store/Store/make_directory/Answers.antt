@@ -1,6 +1,6 @@
 use Rattle.qplain.specs.declared.refusal.Refusal.TheVariants.{EMLINK}
 use Rattle.qplain.specs.Names.{owners_by}
-use Rattle.qstore.proofs.Deciding.{decision-along, decision-refused, same-store}
+use Rattle.qstore.proofs.Deciding.{decision-along, refused-here}
 use Rattle.qstore.proofs.Directories.{mkdir-attempt}
 use Rattle.qstore.proofs.store.Store.make_directory.Goals as goal
 
@@ -10,10 +10,10 @@ returns-then-has_all_links c =
     let s = x.self.now in
     let cred = x.request.now.cred.now in
     let free = c.requires.free in
-    decision-refused s s (same-store s) x.request.now _ c.refused.result EMLINK
+    refused-here s c.refused.new.self x.request.now _ c.refused.result EMLINK
     (mkdir-attempt s.state (owners_by s.state cred x.dir) x.dir x.name.now _ c.requires.can.whole.sound.lawful free.absent free.directory
     (c.if-has_all_links.ensures s.state c.tree.ensures free.directory))
-    c.refused.ensures
+    c.refused.ensures.plan c.refused.ensures.reply
 
 pub returns : goal.returns
 returns c =

@@ -1,10 +1,8 @@
-use Rattle.std.proofs.Common.{rules, ◌≡◌, ℕ, string_bytes, None, Some, refl, sym, ap, subst, ◌∙◌}
+use Rattle.std.proofs.Common.{rules, ◌≡◌, string_bytes, None, Some, refl, sym, ap, subst, ◌∙◌}
 use Rattle.qplain.specs.declared.reply.Reply.TheVariants.{Done}
 use Rattle.qplain.specs.Names.{created, owners_by}
 use Rattle.qplain.specs.State.{State, is_directory, named}
 use Rattle.qstore.specs.declared.request.Exchange.{Exchange}
-use Rattle.qstore.specs.declared.ready.Plan.TheVariants.{Change}
-use Rattle.qstore.specs.declared.ready.Ready.{Ready}
 use Rattle.qstore.specs.Decided.{IsBilled}
 use Rattle.qstore_walk.specs.Owners.{caller_owners}
 use Rattle.qstore.specs.Requests.{are_declared}
@@ -13,7 +11,7 @@ use Rattle.qstore.specs.Kept.{stored_of}
 use Rattle.qstore.specs.Stored.{Stored}
 use Rattle.qstore.specs.Told.{told}
 use Rattle.qstore.proofs.Calls.{created-asked, made-declared, same-with_room}
-use Rattle.qstore.proofs.Deciding.{decision-billed, decision-unbilled, decision-unmade}
+use Rattle.qstore.proofs.Deciding.{decision-billed, decision-unbilled, decision-unmade, kept}
 use Rattle.qstore.proofs.store.Store.make_inode.Goals as goal
 
 pub admit-requires-clause-asked : goal.admit-requires-clause-asked
@@ -44,8 +42,9 @@ returns-in-Err c =
     let can = c.requires.can in
     let own = c.caller_owners-owners.ensures ∙ ap (caller_owners cred) c.project_of.ensures in
     let asked = created-asked s can.whole cred x.dir x.name.now x.sort _ own c.claim.result c.claim.ensures.claimed in
-    decision-unbilled s c.admit.new.self c.admit.ensures.same q _ s.state.next 1 _ _ asked refl c.refused.result c.in-Err.refusal
-    c.in-Err.ensures.refused c.refused.ensures
+    kept _ _ c.refused.ensures.plan
+    (decision-unbilled s c.admit.new.self c.admit.ensures.same q _ s.state.next 1 _ _ asked refl c.refused.result c.in-Err.refusal
+    c.in-Err.ensures.refused c.refused.ensures.reply)
 
 pub returns-in_err-name : goal.returns-in_err-name
 returns-in_err-name c =
@@ -86,8 +85,8 @@ returns c =
     let name : string_bytes c.in_ok-name.name ≡ x.name.now = search rules in
     let room = c.in_ok-make_room.ensures.room in
     let number = ap (λ (v : Stored). v.state.next) c.self.view_is ∙ ap (λ (S : State). S.next) c.admit.ensures.same.state in
-    let numbered : ℕ → Ready = λ n. record { reply = Done n (told exchange); plan = Change c.creation-change.result } in
-    decision-billed s (stored_of (record a { tree = tree })) same q _ s.state.next 1 exchange _ asked refl _ c.granted.result
+    kept _ _ c.granted.ensures.plan
+    (decision-billed s (stored_of (record a { tree = tree })) same q _ s.state.next 1 exchange _ asked refl _ c.granted.result
     (subst (λ (v : Stored). IsBilled s v.bill q exchange 1) (sym c.self.view_is) c.in-Ok.ensures.granted)
     (c.creation-change.ensures.made s.state
     ∙ (λ i. created s.state (inode_new x.sort (own i)) x.dir (name i)))
@@ -97,4 +96,4 @@ returns c =
       inode_room = room.inode;
       name_room = room.name;
     }))
-    (c.granted.ensures ∙ ap numbered number)
+    (c.granted.ensures.reply ∙ ap (λ n. Done n (told exchange)) number))

@@ -17,13 +17,13 @@ decide_mkdir-requires c =
     let x = c.args in
     can-now x.self.now c.check.new.self c.check.ensures.same x.cred.now x.moment false c.path_fault.result c.in-Ok.request c.in-Ok.ensures.checked
 
-pub returns-in_err-ready : goal.returns-in_err-ready
-returns-in_err-ready c =
+pub returns-in_err-reply : goal.returns-in_err-reply
+returns-in_err-reply c =
     let x = c.args in
     let call = Mkdir x.path.now in
     let written : IsWritten x.self.now.state false c.path_fault.result call = record { numbers = refl; paths = sym c.path_fault.ensures } in
     unapplied-now x.self.now x.cred.now x.moment false c.path_fault.result c.in-Ok.request c.in-Ok.ensures.checked call written
-    c.check.new.self c.decide_mkdir.new.self c.check.ensures.same _ _ refl c.from_residual.ensures.0 c.in_err-ready.ensures
+    c.check.new.self c.decide_mkdir.new.self c.check.ensures.same _ _ _ refl c.from_residual.ensures.0 c.in_err-reply.ensures
 
 pub commit-requires : goal.commit-requires
 commit-requires c =
@@ -31,7 +31,7 @@ commit-requires c =
     let call = Mkdir x.path.now in
     let written : IsWritten x.self.now.state false c.path_fault.result call = record { numbers = refl; paths = sym c.path_fault.ensures } in
     ready-now x.self.now x.cred.now x.moment false c.path_fault.result c.in-Ok.request c.in-Ok.ensures.checked call written
-    c.check.new.self c.decide_mkdir.new.self c.check.ensures.same c.in_ok-ready.ready c.in_ok-ready.ensures
+    c.check.new.self c.decide_mkdir.new.self c.check.ensures.same c.in_ok-reply.reply c.in_ok-reply.ensures
 
 pub returns : goal.returns
 returns c =
@@ -39,5 +39,5 @@ returns c =
     let call = Mkdir x.path.now in
     let written : IsWritten x.self.now.state false c.path_fault.result call = record { numbers = refl; paths = sym c.path_fault.ensures } in
     applied-now x.self.now x.cred.now x.moment false c.path_fault.result c.in-Ok.request c.in-Ok.ensures.checked call written
-    c.check.new.self c.decide_mkdir.new.self c.check.ensures.same c.commit.new.self.state c.in_ok-ready.ready c.commit.result c.in_ok-ready.ensures
-    c.commit.ensures
+    c.check.new.self c.decide_mkdir.new.self c.check.ensures.same c.decide_mkdir.new.self.plan c.in_ok-reply.reply c.in_ok-reply.ensures
+    c.commit.new.self.state c.commit.ensures

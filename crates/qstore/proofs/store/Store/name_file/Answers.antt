@@ -7,7 +7,7 @@ use Rattle.qstore.specs.Decided.{IsBilled}
 use Rattle.qstore.specs.Kept.{stored_of}
 use Rattle.qstore.specs.Stored.{Stored}
 use Rattle.qstore.proofs.Calls.{same-with_room}
-use Rattle.qstore.proofs.Deciding.{decision-billed, decision-unbilled, decision-unmade}
+use Rattle.qstore.proofs.Deciding.{decision-billed, decision-unbilled, decision-unmade, kept}
 use Rattle.qstore.proofs.FurtherNames.{linked-asked}
 use Rattle.qstore.proofs.store.Store.name_file.Goals as goal
 
@@ -22,8 +22,9 @@ returns-in-Err c =
     let s = c.args.self.now in
     let new = c.args.new.now in
     let asked = linked-asked s c.requires.can.whole new.dir new.name.now new.number in
-    decision-unbilled s c.admit.new.self c.admit.ensures.same c.args.request.now _ new.number 0 _ _ asked refl c.refused.result c.in-Err.refusal
-    c.in-Err.ensures.refused c.refused.ensures
+    kept _ _ c.refused.ensures.plan
+    (decision-unbilled s c.admit.new.self c.admit.ensures.same c.args.request.now _ new.number 0 _ _ asked refl c.refused.result c.in-Err.refusal
+    c.in-Err.ensures.refused c.refused.ensures.reply)
 
 pub returns-in_err-name : goal.returns-in_err-name
 returns-in_err-name c =
@@ -52,7 +53,8 @@ returns c =
     let tree = c.make_name_room.new.self in
     let same = same-with_room s c.admit.new.self a tree c.admit.ensures.same c.self.view_is c.make_name_room.ensures.same in
     let name : string_bytes c.in_ok-name.name ≡ new.name.now = search rules in
-    decision-billed s (stored_of (record a { tree = tree })) same x.request.now _ new.number 0 exchange _
+    kept _ _ c.granted.ensures.plan
+    (decision-billed s (stored_of (record a { tree = tree })) same x.request.now _ new.number 0 exchange _
     (linked-asked s c.requires.can.whole new.dir new.name.now new.number) refl _ c.granted.result
     (subst (λ (v : Stored). IsBilled s v.bill x.request.now exchange 0) (sym c.self.view_is) c.in-Ok.ensures.granted)
     (λ i. with_name s.state new.dir (name i) new.number)
@@ -62,4 +64,4 @@ returns c =
       absent = (λ i. named (same.state i) new.dir (name i)) ∙ c.requires.free.absent;
       name_room = c.in_ok-make_name_room.ensures.room;
     })
-    c.granted.ensures
+    c.granted.ensures.reply)

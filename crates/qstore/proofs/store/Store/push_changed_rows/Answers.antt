@@ -1,4 +1,4 @@
-use Rattle.std.proofs.Common.{◌≡◌, List, [], ◌⊎◌, inl, inr, refl, sym, subst, arith}
+use Rattle.std.proofs.Common.{◌≡◌, List, [], ◌⊎◌, inl, inr, refl, sym, ap, subst, arith}
 use Rattle.std.proofs.lemmas.List.{append-nil}
 use Rattle.std.proofs.lemmas.List.Elements.{All-nil}
 use Rattle.qrules.specs.declared.graces.Graces.{Graces}
@@ -10,8 +10,8 @@ use Rattle.qstore_change.specs.Changes.{changed}
 use Rattle.qstore_accounts.specs.Bills.{settled}
 use Rattle.qstore_accounts.specs.Books.{AreBooksOf}
 use Rattle.qstore_accounts.specs.Pushed.{IsPushed}
-use Rattle.qstore.specs.declared.ready.Plan.{Plan}
-use Rattle.qstore.specs.declared.ready.Plan.TheVariants.{Nothing, Change, Limits, SetGraces}
+use Rattle.qstore.specs.declared.plan.Plan.{Plan}
+use Rattle.qstore.specs.declared.plan.Plan.TheVariants.{Nothing, Change, Limits, SetGraces}
 use Rattle.qstore.specs.declared.store.Store.TheInside.{Inside}
 use Rattle.qstore.specs.Kept.{IsCounted, state_of, stored_of}
 use Rattle.qstore.specs.Ready.{CanCarryOut, CanSettle, billed, effect}
@@ -40,7 +40,9 @@ module _ (s : Stored) (a : Inside) (is : s ≡ stored_of a) (counted : IsCounted
 pub returns-in-Change : goal.returns-in-Change
 returns-in-Change c =
     of-plan c.args.self.now c.self.inside (sym c.self.view_is) c.self.invariant c.args.rows.now.items c.push_changed_rows.new.rows.items
-    c.push_changed_rows.ensures c.args.ready.now.plan c.in-Change.is c.requires.ready.can
+    c.push_changed_rows.ensures c.args.self.now.plan
+    (subst (λ (p : Plan). ((change : TreeChange) × p ≡ Change change) ⊎ (p ≡ Limits)) (ap (λ (v : Stored). v.plan) c.self.view_is) c.in-Change.is)
+    c.requires.ready.can
 
 -- where no row changes none is pushed
 none-pushed : (S S1 : State) (rows : List PlacedRow) → rows_of S ≡ rows_of S1 → IsPushed S rows rows S1
@@ -60,4 +62,6 @@ of-no-bill s rows plan (inr (graces, same)) =
     (none-pushed s.state (record s.state { graces = graces }) rows refl)
 
 pub returns-in-Nothing : goal.returns-in-Nothing
-returns-in-Nothing c = of-no-bill c.args.self.now c.args.rows.now.items c.args.ready.now.plan c.in-Nothing.is
+returns-in-Nothing c =
+    of-no-bill c.args.self.now c.args.rows.now.items c.args.self.now.plan
+    (subst (λ (p : Plan). (p ≡ Nothing) ⊎ ((graces : Graces) × p ≡ SetGraces graces)) (ap (λ (v : Stored). v.plan) c.self.view_is) c.in-Nothing.is)

@@ -6,7 +6,7 @@ use Rattle.qplain.specs.Walk.{components}
 use Rattle.qstore_tree.specs.Nodes.{inode_of}
 use Rattle.qstore_walk.specs.Paths.{name_in}
 use Rattle.qstore_walk.proofs.Renamed.{rename-becomes, rename-refused, tests-passed}
-use Rattle.qstore.proofs.Deciding.{decision-along, decision-refused, same-store}
+use Rattle.qstore.proofs.Deciding.{decision-along, refused-here}
 use Rattle.qstore.proofs.store.Store.rename_over.Goals as goal
 
 pub returns-in-Some-rename_fault : goal.returns-in-Some-rename_fault
@@ -17,11 +17,11 @@ returns-in-Some-rename_fault c inode there =
     let r = c.requires.renaming in
     let found = inode_of c.in-Some.node.now in
     let found_there : inode_at s.state new.number ≡ Some found = sym (c.in-Some.ensures.there s.state c.tree-tree.ensures) in
-    decision-refused s s (same-store s) x.request.now _ c.refused.result c.in-Some-rename_fault.refusal
+    refused-here s c.refused.new.self x.request.now _ c.refused.result c.in-Some-rename_fault.refusal
     (rename-refused s.state c.requires.can.whole.sound.lawful x.request.now.cred.now (components x.to.now) new.dir (name_in x.from.now) new.number
     inode found new.to.dir new.to.name.now new.to.leads_to r.led there found_there r.directory r.leads_to r.other c.in-Some-rename_fault.refusal
     (sym (c.rename_fault.ensures s.state c.tree-tree.ensures found_there r.directory) ∙ c.in-Some-rename_fault.is))
-    c.refused.ensures
+    c.refused.ensures.plan c.refused.ensures.reply
 
 pub grant_rename-requires-clause-asked : goal.grant_rename-requires-clause-asked
 grant_rename-requires-clause-asked c = c.replaced-exchange.ensures (name_in c.args.from.now) c.requires.renaming

@@ -1,4 +1,4 @@
-use Rattle.std.proofs.Common.{ℕ, List, Result, Ok, Err, refl, sym, ap, subst, ◌∙◌, arith}
+use Rattle.std.proofs.Common.{ℕ, Result, Ok, Err, refl, sym, ap, subst, ◌∙◌, arith}
 use Rattle.std.specs.Option.{IfSome}
 use Rattle.std.specs.Result.{IsErr}
 use Rattle.std.specs.declared.alloc.AllocError.{AllocError}
@@ -14,15 +14,14 @@ use Rattle.qstore.specs.declared.store.write.Target.{Target}
 use Rattle.qstore.specs.Decided.{IsBilled}
 use Rattle.qstore.specs.Kept.{stored_of}
 use Rattle.qstore.specs.Stored.{Stored}
-use Rattle.qstore.specs.Targets.{put_decision}
+use Rattle.qstore.specs.Targets.{put_reply}
 use Rattle.qstore.proofs.Calls.{altered-there, same-with_room, target-asked}
 use Rattle.qstore.proofs.Deciding.{decision-billed, decision-unbilled, decision-unmade}
 use Rattle.qstore.proofs.store.Store.room_for_put.Goals as goal
 
-unmade : (target : Target) (off : ℕ) (bytes : List ℕ) (result : Result (Result ℕ Refusal) AllocError) → IsErr result
-    → IsErr (put_decision target off bytes result)
-unmade target off bytes (Ok made) wanting = cc
-unmade target off bytes (Err lack) wanting = refl
+unmade : (target : Target) (result : Result (Result ℕ Refusal) AllocError) → IsErr result → IsErr (put_reply target result)
+unmade target (Ok made) wanting = cc
+unmade target (Err lack) wanting = refl
 
 pub admit-requires-clause-asked : goal.admit-requires-clause-asked
 admit-requires-clause-asked c =
@@ -50,7 +49,7 @@ returns-in_err-spare c =
     let asked = target-asked s c.requires.can.whole x.request.now.cred.now x.path.now x.off (input_bytes x.bytes) x.target.now t in
     let same = same-with_room s c.admit.new.self c.self.inside c.ready_write.new.self c.admit.ensures.same c.self.view_is c.ready_write.ensures.same in
     decision-unmade s _ same x.request.now _ x.target.now.number 0 _ _ asked t.becomes _ _ c.in-Ok.ensures.granted
-    (unmade x.target.now x.off (input_bytes x.bytes) _ c.from_residual.ensures.0)
+    (unmade x.target.now _ c.from_residual.ensures.0)
 
 pub returns : goal.returns
 returns c =
@@ -75,7 +74,6 @@ returns c =
       inode = t.inode;
       there = ap (λ (S : State). inode_at S number) same.state ∙ t.there;
       bound = omega (arith, limit, low);
-      file_there = c.ready_write.ensures.there;
-      file_room = subst Fits c.len.ensures c.in_ok-spare.ensures.room;
+      file = record { there = c.ready_write.ensures.there; ready = subst Fits c.len.ensures c.in_ok-spare.ensures.room };
     })
     refl

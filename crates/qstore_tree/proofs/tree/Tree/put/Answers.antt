@@ -3,10 +3,10 @@ use Rattle.std.specs.Map.{set_value}
 use Rattle.std.specs.Ordering.{nat_cmp}
 use Rattle.std.specs.BTreeMap.{is_at}
 use Rattle.std.specs.Option.{option_map, unwrap_or}
-use Rattle.std.specs.Option.{IfSome, is_some}
+use Rattle.std.specs.Option.{is_some}
 use Rattle.qblocks.specs.File.{MoreBlocks, after_write}
 use Rattle.qblocks.specs.Input.{input_bytes}
-use Rattle.qblocks.specs.WriteRoom.{IsReadyToPut, RoomyFile}
+use Rattle.qblocks.specs.WriteRoom.{IsThereToPut, RoomyFile}
 use Rattle.qplain.specs.State.{Inode}
 use Rattle.qstore_tree.specs.Nodes.{inode_of, roomy_file_in}
 use Rattle.qstore_tree.specs.Tree.{file_room}
@@ -20,19 +20,16 @@ file_before c =
     file_seen c.self.inside.nodes.entries _ c.args.self.now c.self.view_is c.args.number
     ∙ ap (λ o. unwrap_or (option_map (λ n. roomy_file_in n.content) o) None) (sym c.in-Some.ensures.value)
 
-pub put-requires-clause-there : goal.put-requires-clause-there
-put-requires-clause-there c = sym (ap is_some (file_before c)) ∙ c.requires.there
-
-pub put-requires-clause-ready : goal.put-requires-clause-ready
-put-requires-clause-ready c =
-    subst (λ (o : Option RoomyFile). IfSome o (λ f. IsReadyToPut f c.args.off (length (input_bytes c.args.input)) c.args.spare)) (file_before c)
-    c.requires.ready
+pub put-requires-clause-file : goal.put-requires-clause-file
+put-requires-clause-file c =
+    subst (λ (o : Option RoomyFile). IsThereToPut o c.args.off (length (input_bytes c.args.input)) c.args.spare) (file_before c)
+    c.requires.file
 
 pub unreachable-requires : goal.unreachable-requires
 unreachable-requires c =
     let none = file_seen c.self.inside.nodes.entries _ c.args.self.now c.self.view_is c.args.number
     ∙ ap (λ o. unwrap_or (option_map (λ n. roomy_file_in n.content) o) None) (sym c.in-None.ensures.value) in
-    let no = sym (ap is_some none) ∙ c.requires.there in
+    let no = sym (ap is_some none) ∙ c.requires.file.there in
     cc
 
 -- the table after the call

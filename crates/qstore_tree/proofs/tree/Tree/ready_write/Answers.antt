@@ -8,23 +8,16 @@ use Rattle.qblocks.specs.WriteRoom.{IsReadyToPut, RoomyFile}
 use Rattle.qplain.specs.State.{Inode}
 use Rattle.qstore_tree.specs.Nodes.{inode_of, roomy_file_in}
 use Rattle.qstore_tree.specs.Tree.{file_room, tree_of}
-use Rattle.qstore_tree.proofs.TreeChanges.{adds_in, file_is, file_seen, inode_seen, put-writes, put_here, same_tree}
+use Rattle.qstore_tree.proofs.TreeChanges.{adds_there, file_seen, inode_seen, put-writes, put_here, same_tree}
 use Rattle.qstore_tree.proofs.Numbered.{IsPut}
 use Rattle.qstore_tree.proofs.tree.Tree.ready_write.Goals as goal
-
-pub ready_write-requires-clause-file : goal.ready_write-requires-clause-file
-ready_write-requires-clause-file c =
-    let seen = inode_seen c.self.inside.nodes.entries _ c.args.self.now c.self.view_is c.args.number in
-    let is : Some (inode_of c.in-Some.node.now) ≡ Some c.requires.file.0 = ap (option_map inode_of) c.in-Some.ensures.value ∙ sym seen ∙ c.requires.file.1 in
-    let same : inode_of c.in-Some.node.now ≡ c.requires.file.0 = cc in
-    file_is c.in-Some.node.now.content (ap (λ i. i.dir) same ∙ c.requires.file.2)
 
 pub ready_write-requires-clause-missing : goal.ready_write-requires-clause-missing
 ready_write-requires-clause-missing c =
     let seen = inode_seen c.self.inside.nodes.entries _ c.args.self.now c.self.view_is c.args.number in
     let is : Some (inode_of c.in-Some.node.now) ≡ Some c.requires.file.0 = ap (option_map inode_of) c.in-Some.ensures.value ∙ sym seen ∙ c.requires.file.1 in
     let same : c.requires.file.0 ≡ inode_of c.in-Some.node.now = cc in
-    adds_in c.in-Some.node.now.content c.args.off c.args.len c.args.missing
+    adds_there c.in-Some.node.now.content c.args.off c.args.len c.args.missing (ap (λ i. i.dir) (sym same) ∙ c.requires.file.2)
     (subst (λ (i : Inode). Adds i.file c.args.off c.args.len c.args.missing) same c.requires.file.3)
 
 pub unreachable-requires : goal.unreachable-requires
