@@ -3,8 +3,8 @@
 --     filled m k     its block is allocated
 --     byte_at m o    the byte at the offset o, or 0
 --     FieldsFit ..   what is always true of a file's fields
-use Rattle.std.specs.Prelude.{◌≡◌, ◌≢◌, ℕ, ◌+◌, ◌-◌, ◌*◌, ◌/◌, ◌%◌, ◌<◌, ◌≤◌, ◌^◌, Bool, true, false, ◌||◌, nat_lt, List}
-use Rattle.std.specs.Prelude.{[], length, map, filter, is_some, Option, Some, None, Box}
+use Rattle.std.specs.Prelude.{◌≡◌, ◌≢◌, ℕ, ◌+◌, ◌-◌, ◌*◌, ◌/◌, ◌%◌, ◌<◌, ◌≤◌, ◌^◌, Bool, true, false, ◌||◌, nat_lt}
+use Rattle.std.specs.Prelude.{List, [], length, map, filter, is_some, Option, Some, None, Box}
 use Rattle.std.specs.Ordering.{nat_cmp}
 use Rattle.std.specs.BTreeMap as tree
 use Rattle.std.specs.BTreeMap.{BTreeMap}

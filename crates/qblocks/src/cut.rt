@@ -6,7 +6,8 @@ ghost use Rattle.std.specs.BTreeMap as tree;
 ghost use Rattle.std.specs.BTreeMap.{btree_map_len};
 ghost use Rattle.qblocks.specs.declared.block.TheConstants.{BLOCK_SIZE};
 ghost use Rattle.qblocks.specs.Row.{CutsOff, LosesBlocks, row_filled, row_byte};
-ghost use Rattle.qblocks.specs.Rows.{AreRows, ChangesRow, Frees, HasFrom, IsNextRow, IsThereIfUsed, has_row, row_of, filled, byte_at};
+ghost use Rattle.qblocks.specs.Rows.{AreRows, ChangesRow, Frees, HasFrom, IsNextRow, IsThereIfUsed};
+ghost use Rattle.qblocks.specs.Rows.{has_row, row_of, filled, byte_at};
 
 use crate::block::BLOCK_SIZE;
 use crate::room::forget_row;

@@ -3,8 +3,8 @@ ghost use Rattle.std.specs.Prelude.{◌≡◌, ◌≢◌, true, false, ℕ, ◌+
 ghost use Rattle.std.specs.Prelude.{length, is_some, IfOk, OnOk, None, if◌then◌else◌, ◌++◌, map, vec_len};
 ghost use Rattle.std.specs.List.{range_with_len};
 ghost use Rattle.qblocks.specs.Input.{input_bytes};
-ghost use Rattle.qblocks.specs.Row.{CutsOff, PutsInRow, PutsInSlot, LosesBlocks, byte_of, slot_at, row_filled, row_byte, gaps};
-ghost use Rattle.qblocks.specs.Row.{gaps_in};
+ghost use Rattle.qblocks.specs.Row.{CutsOff, PutsInRow, PutsInSlot, LosesBlocks, byte_of, slot_at, row_filled};
+ghost use Rattle.qblocks.specs.Row.{row_byte, gaps, gaps_in};
 
 use crate::block::{BLOCK_SIZE, Block};
 use crate::input::Input;

@@ -112,8 +112,8 @@ impl Kept {
         }
     }
 
-    /// `call` of a borrowed call, of which nothing is copied unless a journal keeps it. An Err is JournalFull, where the
-    /// journal is full, or Memory, also of a copy, which comes before refusals and JournalFull; it changes nothing.
+    /// `call` of a borrowed call, of which nothing is copied unless a journal keeps it. An Err is JournalFull, where
+    /// the journal is full, or Memory, also of a copy, which comes before refusals and JournalFull; it changes nothing.
     #[inline(always)]
     pub fn ask(
         &mut self,

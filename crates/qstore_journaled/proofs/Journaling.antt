@@ -1,8 +1,8 @@
 -- A journaled store that makes one call more is again what its journal leaves.
-use Rattle.std.proofs.Common.{◌≡◌, ℕ, ◌+◌, ◌<◌, ◌≤◌, refl, List, [], ◌∷◌, ◌++◌, length, take, slice_get, sym, ap, ◌∙◌, arith, Option, Some, subst}
+use Rattle.std.proofs.Common.{◌≡◌, ℕ, ◌+◌, ◌<◌, List, [], ◌∷◌, ◌++◌, length, take, slice_get, sym, ap, ◌∙◌, arith, Option, Some, subst}
 use Rattle.std.specs.Option.{unwrap_or}
-use Rattle.std.proofs.lemmas.List.{get_or_push, length-append, length-take-le, take_more}
-use Rattle.std.proofs.lemmas.Option.{get_or_from_slice_get, slice_get_read, slice_get_within}
+use Rattle.std.proofs.lemmas.List.{length-append, take_more}
+use Rattle.std.proofs.lemmas.Option.{get_or_from_slice_get, slice_get_within}
 use Rattle.qplain.specs.declared.bounds.TheConstants.{MAX_ENTRIES}
 use Rattle.qplain.specs.declared.entry.Entry.{Entry}
 use Rattle.qplain.specs.declared.line.Line.{Line}
@@ -16,7 +16,7 @@ use Rattle.qplain_laws.proofs.Start.{start_is_lawful}
 use Rattle.qplain_laws.proofs.Tallying.{tallies_have_room}
 use Rattle.qstore.specs.Ready.{committed}
 use Rattle.qstore_journaled.specs.Journaled.{IsPlayed, IsSameJournaled, Journaled}
-use Rattle.qstore_journaled.specs.Next.{IsNext}
+use Rattle.qstore_journaled.specs.Next.{HasNext, IsNext}
 
 -- a new store is what the empty journal leaves
 pub begins : (j : Journaled) → IsLawfulSetup j.setting → j.stored.state ≡ start j.setting → j.journal ≡ [] → IsPlayed j
@@ -82,6 +82,11 @@ taken-next j e taken next is = subst (IsNext j) (sym same) next
   where
     same : taken ≡ e
     same = ap (λ (o : Option Entry). unwrap_or o e) (sym is ∙ next.is)
+
+-- so it is of what is seen of the same store
+pub told-next : (j seen : Journaled) (e : Entry) → HasNext seen → j ≡ seen → seen.next ≡ Some e → IsNext j e
+told-next j seen e has same is =
+    taken-next j has.0 e (subst (λ (s : Journaled). IsNext s has.0) (sym same) has.1) (ap (λ s. s.next) same ∙ is)
 
 -- the entry behind the first N of a list makes them one more
 pub one_more : (entries : List Entry) (n : ℕ) (e : Entry) → slice_get entries n ≡ Some e → take (n + 1) entries ≡ take n entries ++ e ∷ []

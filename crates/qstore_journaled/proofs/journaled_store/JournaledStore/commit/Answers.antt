@@ -3,8 +3,7 @@ use Rattle.std.proofs.lemmas.Option.{slice_get_within}
 use Rattle.qplain.specs.Journal.{CanCount, counted, tally_of}
 use Rattle.qplain_laws.proofs.Tallying.{tally-one_more}
 use Rattle.qstore_journaled.specs.KeptJournaled.{journaled_of}
-use Rattle.qstore_journaled.specs.Next.{IsNext}
-use Rattle.qstore_journaled.proofs.Journaling.{next-counts, next-played, one_more, taken-next}
+use Rattle.qstore_journaled.proofs.Journaling.{next-counts, next-played, one_more, told-next}
 use Rattle.qstore_journaled.proofs.journaled_store.JournaledStore.commit.Goals as goal
 
 pub with_call-self-inside-requires : goal.with_call-self-inside-requires
@@ -12,8 +11,7 @@ with_call-self-inside-requires c =
     let a = c.self.inside in
     let j = journaled_of a in
     let e = c.next.result.now in
-    let next = taken-next j c.requires.0 e (subst (λ j. IsNext j c.requires.0) (sym c.self.view_is) c.requires.1)
-    (ap (λ j. j.next) c.self.view_is ∙ c.next.ensures) in
+    let next = told-next j _ e c.requires c.self.view_is c.next.ensures in
     record {
       room = subst (λ t. CanCount t c.change-change.result) (sym c.self.invariant.tallies)
           (subst (CanCount (tally_of j.journal)) (sym c.change-change.ensures) (next-counts j e c.self.invariant.played next));
@@ -24,8 +22,7 @@ invariant_of-self c =
     let a = c.self.inside in
     let j = journaled_of a in
     let e = c.next.result.now in
-    let next = taken-next j c.requires.0 e (subst (λ j. IsNext j c.requires.0) (sym c.self.view_is) c.requires.1)
-    (ap (λ j. j.next) c.self.view_is ∙ c.next.ensures) in
+    let next = told-next j _ e c.requires c.self.view_is c.next.ensures in
     let entries = one_more a.entries.items a.len e next.is in
     record {
       played = next-played j _ e c.self.invariant.played next refl entries c.commit.ensures;
@@ -44,6 +41,5 @@ returns-clause-played c =
     let a = c.self.inside in
     let j = journaled_of a in
     let e = c.next.result.now in
-    let next = taken-next j c.requires.0 e (subst (λ j. IsNext j c.requires.0) (sym c.self.view_is) c.requires.1)
-    (ap (λ j. j.next) c.self.view_is ∙ c.next.ensures) in
+    let next = told-next j _ e c.requires c.self.view_is c.next.ensures in
     next-played j _ e c.self.invariant.played next refl (one_more a.entries.items a.len e next.is) c.commit.ensures
