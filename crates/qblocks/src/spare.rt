@@ -27,15 +27,22 @@ impl Model for Spare {
 }
 
 impl Spare {
+    /// No block. It takes no memory.
+    pub fn none(alloc: Global) -> Spare
+        ensures { result ≡ 0 }
+    {
+        Spare {
+            first: None,
+            more: Vec::new(alloc),
+        }
+    }
+
     pub(crate) fn new(alloc: Global, count: u64) -> Result<Spare, NoMemory>
         requires { count ≤ 2 ^ 28 }
         ensures { IfOk result (λ spare. spare ≡ count) }
     {
         if count == 0 {
-            return Ok(Spare {
-                first: None,
-                more: Vec::new(alloc),
-            });
+            return Ok(Spare::none(alloc));
         }
         let more = empty_blocks(alloc, count - 1)?;
         Ok(Spare {

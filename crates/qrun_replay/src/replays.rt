@@ -35,11 +35,10 @@ fn replay_entry(store: &mut JournaledStore, entry: &Entry) -> Result<(), ReplayF
     ensures mismatch { (place : ℕ) → result ≡ Err (Mismatch place)
         → IsMismatchAfter (start store.old.setting) store.old.journal entry.now place }
 {
-    // A reply is large: a `?` would move it once more.
-    let Ok(reply) = store.ready(entry.worker, &entry.cred, entry.moment, &entry.call) else {
+    let Ok(()) = store.ready(entry.worker, &entry.cred, entry.moment, &entry.call) else {
         return Err(ReplayFault::Memory);
     };
-    if !are_same(&reply, &entry.reply) {
+    if !are_same(&store.next().reply, &entry.reply) {
         return Err(ReplayFault::Mismatch(store.entries().len() as u64 + 1));
     }
     let _place = store.commit();

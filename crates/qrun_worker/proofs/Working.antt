@@ -15,7 +15,7 @@ use Rattle.qplain.specs.declared.bounds.TheConstants.{MAX_ENTRIES}
 use Rattle.qshare_history.proofs.Prefixes.{prefix_length}
 use Rattle.qplain.specs.Setups.{Setting}
 use Rattle.qshare_history.specs.Shares.{HandedIn}
-use Rattle.qshare.specs.Calls.{IsAt, IsCalled, IsHeldCall, StaysHeld}
+use Rattle.qshare.specs.Calls.{IsAt, IsCalled, IsCalledAt, IsHeldCall, IsHeldCallAt, IsToldOf, StaysHeld}
 use Rattle.qshare.specs.Holds.{Holding}
 use Rattle.qshare.specs.Seats.{HasSeenOn, Seated}
 use Rattle.qrun_worker.specs.Work.{AreAnswers, ArePlaces, HasAnswers, HasPlaces, HasSeenFull, IsPlaced, IsSubsequence, place_of}
@@ -124,8 +124,8 @@ pub one_more_held : (setting : Setting) (lines : List Line) (old new : Holding) 
     (answers after : List (Result Receipt CallFault)) (line : Line) (answer : Result Receipt CallFault)
     → AreAnswers before.worker lines old.journal before.tally.calls answers → slice_get lines (length answers) ≡ Some line
     → IfOk answer (IsHeldCall line old new before behind) → StaysHeld setting old new
-    → OnErr answer ((new ≡ old) × (behind ≡ before))
-    → ((answer ≡ Err JournalFull) ↔ (length old.journal ≡ MAX_ENTRIES)) → after ≡ answers ++ answer ∷ []
+    → OnErr answer ((new ≡ old) × (behind ≡ before)) → (answer ≡ Err JournalFull → length old.journal ≡ MAX_ENTRIES)
+    → after ≡ answers ++ answer ∷ []
     → AreAnswers behind.worker lines new.journal behind.tally.calls after
 one_more_held setting lines old new before behind answers after line (Ok r) so_far there called held same full is =
     let journal = called.journaled.journal in
@@ -137,19 +137,19 @@ one_more_held setting lines old new before behind answers after line (Err fault)
     let as_was : new.journal ≡ old.journal = ap (λ h. h.journal) same.0 in
     subst (λ s. AreAnswers s.worker lines new.journal s.tally.calls after) (sym same.1)
     (one_more before.worker lines old.journal new.journal before.tally.calls before.tally.calls answers after line (Err fault) so_far there
-    ([], append-nil old.journal ∙ sym as_was) tt tt tt refl (λ told. ap length as_was ∙ full.0 (ap Err told)) is)
+    ([], append-nil old.journal ∙ sym as_was) tt tt tt refl (λ told. ap length as_was ∙ full (ap Err told)) is)
 
 -- there is room for all further lines
-pub room_left : (old new : Holding) (before behind : Seated) (line : Line) (answer : Result Receipt CallFault) (lines made : ℕ)
-    → IfOk answer (IsHeldCall line old new before behind) → OnErr answer ((new ≡ old) × (behind ≡ before))
+pub room_left : (old new : Holding) (before behind : Seated) (line : Line) (place : Result ℕ CallFault) (lines made : ℕ)
+    → IfOk place (IsHeldCallAt line old new before behind) → OnErr place ((new ≡ old) × (behind ≡ before))
     → lines ≤ old.room + made → lines ≤ new.room + (made + 1)
-room_left old new before behind line (Ok r) lines made called same few = omega (arith, called.room, few)
+room_left old new before behind line (Ok n) lines made called same few = omega (arith, called.2.room, few)
 room_left old new before behind line (Err fault) lines made called same few = omega (arith, ap (λ h. h.room) same.0, few)
 
 -- the seat is the same worker's
-pub same_worker : (old new : Holding) (before behind : Seated) (line : Line) (answer : Result Receipt CallFault)
-    → IfOk answer (IsHeldCall line old new before behind) → OnErr answer ((new ≡ old) × (behind ≡ before)) → behind.worker ≡ before.worker
-same_worker old new before behind line (Ok r) called same = ap (λ s. s.worker) called.seat
+pub same_worker : (old new : Holding) (before behind : Seated) (line : Line) (place : Result ℕ CallFault)
+    → IfOk place (IsHeldCallAt line old new before behind) → OnErr place ((new ≡ old) × (behind ≡ before)) → behind.worker ≡ before.worker
+same_worker old new before behind line (Ok n) called same = ap (λ s. s.worker) called.2.seat
 same_worker old new before behind line (Err fault) called same = ap (λ s. s.worker) same.1
 
 -- who sees more has seen all that was told
@@ -193,12 +193,12 @@ one_more_place places after answers answer place so_far same is =
     is ∙ ap (λ ps. ps ++ place ∷ []) so_far ∙ ap (λ p. map place_of answers ++ p ∷ []) same ∙ sym (map_push place_of answers answer)
 
 -- where one more answer stands, to a call that waits for the lock
-pub one_more_called_place : (setting : Setting) (lines : List Line) (old new : Seated) (places after : List (Result ℕ CallFault))
+answered_place : (setting : Setting) (lines : List Line) (old new : Seated) (places after : List (Result ℕ CallFault))
     (line : Line) (answer : Result Receipt CallFault) (place : Result ℕ CallFault) → HasPlaces lines old places
     → slice_get lines (length places) ≡ Some line → HasSeenOn setting old new → IfOk answer (IsCalled line old new)
     → OnErr answer (new.tally ≡ old.tally) → IfErr answer (λ f. (f ≡ JournalFull) ↔ (length new.seen ≡ MAX_ENTRIES))
     → place ≡ place_of answer → after ≡ places ++ place ∷ [] → HasPlaces lines new after
-one_more_called_place setting lines old new places after line answer place so_far there seen called kept full same is =
+answered_place setting lines old new places after line answer place so_far there seen called kept full same is =
     let answers = so_far.answers in
     let many = as_many old.worker lines old.seen old.tally.calls places so_far in
     let at : slice_get lines (length answers) ≡ Some line = subst (λ n. slice_get lines n ≡ Some line) many there in
@@ -208,24 +208,46 @@ one_more_called_place setting lines old new places after line answer place so_fa
       are = one_more_called setting lines old new answers (answers ++ answer ∷ []) line answer so_far.are at seen called kept full refl;
     }
 
--- and under a lock that is held
-pub one_more_held_place : (setting : Setting) (lines : List Line) (old new : Holding) (before behind : Seated)
+-- so it is where the place alone is told
+pub one_more_called_place : (setting : Setting) (lines : List Line) (old new : Seated) (places after : List (Result ℕ CallFault))
+    (line : Line) (place : Result ℕ CallFault) → HasPlaces lines old places → slice_get lines (length places) ≡ Some line
+    → HasSeenOn setting old new → IfOk place (IsCalledAt line old new) → OnErr place (new.tally ≡ old.tally)
+    → IfErr place (λ f. (f ≡ JournalFull) ↔ (length new.seen ≡ MAX_ENTRIES)) → after ≡ places ++ place ∷ [] → HasPlaces lines new after
+one_more_called_place setting lines old new places after line (Ok n) so_far there seen called kept full is =
+    answered_place setting lines old new places after line (Ok called.0) (Ok n) so_far there seen called.2 tt tt (ap (λ p. Ok p) called.1) is
+one_more_called_place setting lines old new places after line (Err fault) so_far there seen called kept full is =
+    answered_place setting lines old new places after line (Err fault) (Err fault) so_far there seen tt kept full refl is
+
+-- the same under a lock that is held
+held_place : (setting : Setting) (lines : List Line) (old new : Holding) (before behind : Seated)
     (places after : List (Result ℕ CallFault)) (line : Line) (answer : Result Receipt CallFault) (place : Result ℕ CallFault)
     → ArePlaces before.worker lines old.journal before.tally.calls places → slice_get lines (length places) ≡ Some line
     → IfOk answer (IsHeldCall line old new before behind) → StaysHeld setting old new
-    → OnErr answer ((new ≡ old) × (behind ≡ before))
-    → ((answer ≡ Err JournalFull) ↔ (length old.journal ≡ MAX_ENTRIES)) → place ≡ place_of answer → after ≡ places ++ place ∷ []
-    → ArePlaces behind.worker lines new.journal behind.tally.calls after
-one_more_held_place setting lines old new before behind places after line answer place so_far there called held stays full same is =
+    → OnErr answer ((new ≡ old) × (behind ≡ before)) → (answer ≡ Err JournalFull → length old.journal ≡ MAX_ENTRIES)
+    → place ≡ place_of answer → after ≡ places ++ place ∷ [] → ArePlaces behind.worker lines new.journal behind.tally.calls after
+held_place setting lines old new before behind places after line answer place so_far there called stays held full same is =
     let answers = so_far.answers in
     let many = as_many before.worker lines old.journal before.tally.calls places so_far in
     let at : slice_get lines (length answers) ≡ Some line = subst (λ n. slice_get lines n ≡ Some line) many there in
     record {
       answers = answers ++ answer ∷ [];
       placed = one_more_place places after answers answer place so_far.placed same is;
-      are = one_more_held setting lines old new before behind answers (answers ++ answer ∷ []) line answer so_far.are at called held stays
-          full refl;
+      are = one_more_held setting lines old new before behind answers (answers ++ answer ∷ []) line answer so_far.are at called stays held full
+          refl;
     }
+
+pub one_more_held_place : (setting : Setting) (lines : List Line) (old new : Holding) (before behind : Seated)
+    (places after : List (Result ℕ CallFault)) (line : Line) (place : Result ℕ CallFault)
+    → ArePlaces before.worker lines old.journal before.tally.calls places → slice_get lines (length places) ≡ Some line
+    → IfOk place (IsHeldCallAt line old new before behind) → StaysHeld setting old new
+    → OnErr place ((new ≡ old) × (behind ≡ before)) → ((place ≡ Err JournalFull) ↔ (length old.journal ≡ MAX_ENTRIES))
+    → after ≡ places ++ place ∷ [] → ArePlaces behind.worker lines new.journal behind.tally.calls after
+one_more_held_place setting lines old new before behind places after line (Ok n) so_far there called stays held full is =
+    held_place setting lines old new before behind places after line (Ok called.0) (Ok n) so_far there called.2 stays tt (λ e. absurd (cc e))
+    (ap (λ p. Ok p) called.1) is
+one_more_held_place setting lines old new before behind places after line (Err fault) so_far there called stays held full is =
+    held_place setting lines old new before behind places after line (Err fault) (Err fault) so_far there tt stays held
+    (λ e. full.0 (ap place_of e)) refl is
 
 -- who has an answer to each line has played them
 pub played_whole : (lines : List Line) (seat : Seated) (places : List (Result ℕ CallFault)) (worker : ℕ) (share : HandedIn)

@@ -5,7 +5,7 @@ ghost use Rattle.qshare.specs.declared.held.TheConstants.{MAX_BATCH};
 ghost use Rattle.qrun_worker.specs.Work.{HasPlaces, IsPlaced, IsPrepared, MayMake};
 
 use crate::gate::Gate;
-use crate::place::{Place, place_of};
+use crate::place::Place;
 use qplain::{Line, NoMemory};
 use qshare::{Boards, Held, Seat, Shared};
 use qshare_history::{Share, StoreId};
@@ -135,9 +135,9 @@ fn play_lines<S: StoreId, B: Boards<S>, V: Drop, G: Gate, R: Wait>(
     for line in lines {
         let number = places.len() + 1;
         gate.before(worker, number);
-        let answer = shared.call(rt, &mut seat, &line.cred, line.moment, &line.call);
+        let place = shared.place(rt, &mut seat, &line.cred, line.moment, &line.call);
         gate.after(worker, number);
-        places.push_reserved(place_of(answer));
+        places.push_reserved(place);
     }
     Work {
         share: seat.finish(),
@@ -165,8 +165,8 @@ fn play_held<S: StoreId, B: Boards<S>, V: Drop, R: Wait>(
     let mut held = held;
     for _ in 0..many {
         let line = &lines[places.len()];
-        let answer = held.apply(rt, seat, &line.cred, line.moment, &line.call);
-        places.push_reserved(place_of(answer));
+        let place = held.place(rt, seat, &line.cred, line.moment, &line.call);
+        places.push_reserved(place);
     }
     held.release(rt, seat);
 }

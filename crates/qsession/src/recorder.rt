@@ -85,7 +85,11 @@ impl Recorder {
         ensures full { (result ≡ Err JournalFull) ↔ (length self.old.journal ≡ MAX_ENTRIES) }
         ensures played { IsPlayed self.new }
     {
-        self.store.ready(WORKER, cred, moment, call)
+        self.store.ready(WORKER, cred, moment, call)?;
+        match self.store.next().reply.copy() {
+            Ok(reply) => Ok(reply),
+            Err(_) => Err(CallFault::OutOfMemory),
+        }
     }
 
     /// Makes the call that is ready, and journals it. It takes no memory and always succeeds.

@@ -1,5 +1,5 @@
 -- What a call leaves of a journal.
-use Rattle.std.proofs.Common.{◌≡◌, List, [], ◌∷◌, Result, Ok, Err, IfOk, OnErr, ap, sym, subst, ◌∙◌, append-nil}
+use Rattle.std.proofs.Common.{◌≡◌, ℕ, List, [], ◌∷◌, Result, Ok, Err, IfOk, OnErr, ap, sym, subst, ◌∙◌, append-nil}
 use mathlib.Core.List.{IsPrefix}
 use Rattle.qplain.specs.declared.entry.Entry.{Entry}
 use Rattle.qplain.specs.declared.call_fault.CallFault.{CallFault}
@@ -9,7 +9,7 @@ use Rattle.qplain.specs.declared.tallies.Tallies.{Tallies}
 use Rattle.qplain.specs.Journal.{entry_of}
 use Rattle.qshare_history.specs.Histories.{Recorded, recorded}
 use Rattle.qshare_history.proofs.Prefixes.{prefix_trans}
-use Rattle.qshare.specs.Calls.{IsJournaled}
+use Rattle.qshare.specs.Calls.{IsJournaled, IsToldOf}
 use Rattle.qshare.specs.Locked.{Locked}
 
 -- a journal that begins with what is published begins with what was seen of that
@@ -18,8 +18,8 @@ pub seen_of : {seen published journal : List Entry} {history : _} {p : Recorded}
 seen_of {seen} {published} {journal} is begins on = prefix_trans _ _ _ (subst (λ p. IsPrefix p.entries published) is begins) on
 
 -- it goes on with the journal, by an entry or by none
-pub goes_on : (Kept : Type 0) (worker : _) (line : Line) (answer : Result Receipt CallFault) (old new : Locked) (before after : Tallies)
-    → IfOk answer (IsJournaled worker line old.journal new.journal before after) → OnErr answer ((new ≡ old) × Kept)
-    → IsPrefix old.journal new.journal
-goes_on Kept worker line (Ok r) old new before after ok err = (entry_of worker line r.reply ∷ [], sym ok.journal)
-goes_on Kept worker line (Err fault) old new before after ok err = ([], append-nil old.journal ∙ sym (ap (λ s. s.journal) err.0))
+pub goes_on : {A : Type 0} (told : Receipt → A) (Kept : Type 0) (worker : ℕ) (line : Line) (answer : Result A CallFault) (old new : Locked)
+    (before after : Tallies) → IfOk answer (IsToldOf told (IsJournaled worker line old.journal new.journal before after))
+    → OnErr answer ((new ≡ old) × Kept) → IsPrefix old.journal new.journal
+goes_on told Kept worker line (Ok t) old new before after ok err = (entry_of worker line ok.0.reply ∷ [], sym ok.2.journal)
+goes_on told Kept worker line (Err fault) old new before after ok err = ([], append-nil old.journal ∙ sym (ap (λ s. s.journal) err.0))

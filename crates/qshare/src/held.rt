@@ -5,13 +5,14 @@ ghost use Rattle.qplain.specs.declared.bounds.TheConstants.{MAX_ENTRIES};
 ghost use Rattle.qplain.specs.declared.call_fault.CallFault.TheVariants.{JournalFull};
 ghost use Rattle.qstore_journaled.specs.Lines.{line_of};
 ghost use Rattle.qshare.specs.declared.held.TheConstants.{MAX_BATCH};
-ghost use Rattle.qshare.specs.Calls.{IsHeldCall, StaysHeld};
+ghost use Rattle.qshare.specs.Calls.{IsHeldCall, IsHeldCallAt, IsToldOf, StaysHeld};
 ghost use Rattle.qshare.specs.Seats.{HasSeenOn};
 
 use crate::boards::Boards;
 use crate::locked_store::LockedStore;
 use crate::seat::Seat;
 use crate::shared::Shared;
+use crate::told::Told;
 use qplain::{Call, CallFault, Cred, Receipt};
 use qshare_history::StoreId;
 use std::marker::Model;
@@ -76,6 +77,31 @@ impl<'a, S: StoreId, B: Boards<S>> Held<'a, S, B> {
         self.room
     }
 
+    /// Makes a call of the worker that holds the lock, and tells what it is asked for.
+    #[inline(always)]
+    fn make<T: Told, V: Drop, W: Wait>(
+        &mut self,
+        rt: &W,
+        seat: &mut Seat<S, V>,
+        cred: &Cred,
+        moment: u64,
+        call: &Call,
+    ) -> Result<T, CallFault>
+        requires room { 0 < self.old.room }
+        requires by { seat.old.worker ≡ self.old.by }
+        ensures ok { IfOk result (IsToldOf T.told
+            (IsHeldCall (line_of cred.now moment call.now) self.old self.new seat.old seat.new)) }
+        ensures stays { StaysHeld S.id.setting self.old self.new }
+        ensures err { OnErr result ((self.new ≡ self.old) × (seat.new ≡ seat.old)) }
+        ensures full { (result ≡ Err JournalFull) ↔ (length self.old.journal ≡ MAX_ENTRIES) }
+    {
+        let worker = seat.worker;
+        let store = &mut *self.store;
+        let told = store.apply(rt, worker, &mut seat.tally, cred, moment, call)?;
+        self.room -= 1;
+        Ok(told)
+    }
+
     /// Makes a call of the worker that holds the lock and journals it; what it does to the boards waits for the
     /// release.
     ///
@@ -97,11 +123,27 @@ impl<'a, S: StoreId, B: Boards<S>> Held<'a, S, B> {
         ensures err { OnErr result ((self.new ≡ self.old) × (seat.new ≡ seat.old)) }
         ensures full { (result ≡ Err JournalFull) ↔ (length self.old.journal ≡ MAX_ENTRIES) }
     {
-        let worker = seat.worker;
-        let store = &mut *self.store;
-        let receipt = store.apply(rt, worker, &mut seat.tally, cred, moment, call)?;
-        self.room -= 1;
-        Ok(receipt)
+        self.make(rt, seat, cred, moment, call)
+    }
+
+    /// `apply`, of which the place is told alone: the reply stands in the journal, and is not copied.
+    pub fn place<V: Drop, W: Wait>(
+        &mut self,
+        rt: &W,
+        seat: &mut Seat<S, V>,
+        cred: &Cred,
+        moment: u64,
+        call: &Call,
+    ) -> Result<u64, CallFault>
+        requires room { 0 < self.old.room }
+        requires by { seat.old.worker ≡ self.old.by }
+        ensures ok { IfOk result
+            (IsHeldCallAt (line_of cred.now moment call.now) self.old self.new seat.old seat.new) }
+        ensures stays { StaysHeld S.id.setting self.old self.new }
+        ensures err { OnErr result ((self.new ≡ self.old) × (seat.new ≡ seat.old)) }
+        ensures full { (result ≡ Err JournalFull) ↔ (length self.old.journal ≡ MAX_ENTRIES) }
+    {
+        self.make(rt, seat, cred, moment, call)
     }
 
     /// Publishes all that waits, lets the seat see it, and gives the lock back.

@@ -30,3 +30,4 @@ mod seat;
 mod seating;
 mod share_fault;
 mod shared;
+mod told;

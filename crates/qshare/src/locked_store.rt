@@ -8,11 +8,12 @@ ghost use Rattle.qplain.specs.State.{start};
 ghost use Rattle.qshare_history.specs.Histories.{recorded};
 ghost use Rattle.qstore_journaled.specs.Journaled.{IsStoreOf};
 ghost use Rattle.qstore_journaled.specs.Lines.{line_of};
-ghost use Rattle.qshare.specs.Calls.{IsJournaled};
+ghost use Rattle.qshare.specs.Calls.{IsJournaled, IsToldOf};
 ghost use Rattle.qshare.specs.Ends.{IsEndOf};
 
 use crate::boards::Boards;
-use qplain::{Call, CallFault, Cred, Receipt};
+use crate::told::Told;
+use qplain::{Call, CallFault, Cred};
 use qshare_history::{History, Prefix, SeatTally, Share, StoreId, TallyPart, TallyTotal, together};
 use qstore_journaled::JournaledStore;
 use std::marker::Model;
@@ -79,12 +80,13 @@ impl<S: StoreId, B: Boards<S>> LockedStore<S, B> {
         self.seats
     }
 
-    /// Makes a call and journals it; what it does to the boards waits to be published.
+    /// Makes a call and journals it, and tells what it is asked for; what the call does to the boards waits to be
+    /// published.
     ///
     /// Err is JournalFull, reported first, where the journal has its 1,048,576 entries, or OutOfMemory; it changes
     /// nothing.
     #[inline(always)]
-    pub(crate) fn apply<W: Wait>(
+    pub(crate) fn apply<T: Told, W: Wait>(
         &mut self,
         rt: &W,
         worker: u64,
@@ -92,28 +94,28 @@ impl<S: StoreId, B: Boards<S>> LockedStore<S, B> {
         cred: &Cred,
         moment: u64,
         call: &Call,
-    ) -> Result<Receipt, CallFault>
+    ) -> Result<T, CallFault>
         requires parts { 0 < mine.old.parts }
-        ensures ok { IfOk result (IsJournaled worker (line_of cred.now moment call.now) self.old.journal
-            self.new.journal mine.old.tally mine.new.tally) }
+        ensures ok { IfOk result (IsToldOf T.told (IsJournaled worker (line_of cred.now moment call.now)
+            self.old.journal self.new.journal mine.old.tally mine.new.tally)) }
         ensures stays { (mine.new.parts ≡ mine.old.parts) × (self.new.published ≡ self.old.published) }
         ensures err { OnErr result ((self.new ≡ self.old) × (mine.new ≡ mine.old)) }
         ensures full { (result ≡ Err JournalFull) ↔ (length self.old.journal ≡ MAX_ENTRIES) }
         ensures legal { IsLegal (start S.id.setting) self.new.journal × (length self.new.journal ≤ MAX_ENTRIES) }
     {
-        // A reply is large: a `?` would move it once more.
-        let reply = match self.store.ready(worker, cred, moment, call) {
-            Ok(reply) => reply,
-            Err(fault) => return Err(fault),
+        self.store.ready(worker, cred, moment, call)?;
+        let reply = &self.store.next().reply;
+        let change = reply.change();
+        let Ok(told) = T::of(self.store.entries().len() as u64 + 1, reply) else {
+            return Err(CallFault::OutOfMemory);
         };
         let Ok(()) = self.boards.note(&self.store) else {
             return Err(CallFault::OutOfMemory);
         };
         self.history.add(rt, self.store.next());
-        let place = self.store.commit();
-        self.tally
-            .count_call(mine, reply.change(), self.store.tallies());
-        Ok(Receipt { place, reply })
+        let _place = self.store.commit();
+        self.tally.count_call(mine, change, self.store.tallies());
+        Ok(told)
     }
 
     /// Publishes the whole journal, with its board where somebody can look at it. It takes no memory but for the log of

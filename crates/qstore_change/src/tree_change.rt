@@ -10,6 +10,7 @@ use qblocks::Spare;
 use qplain::{Data, Owners, Path};
 use qstore_tree::Tree;
 use std::alloc::Global;
+use std::mem::replace;
 
 /// A change of inodes and names, for which all room is made.
 #[derive(Drop)]
@@ -75,18 +76,20 @@ pub enum TreeChange {
 /// Makes a change of inodes and names in a tree, and gives the number of the next inode.
 ///
 /// It takes no memory and always succeeds: all room is made beforehand, and `alloc` is what a new directory keeps for
-/// its later growth. What a use of blocks or inodes comes to is not its business.
-pub fn make(tree: &mut Tree, next: u64, alloc: Global, change: TreeChange) -> u64
+/// its later growth. A name and blocks that come to stand in the tree are taken out of the change, where it stands, so
+/// that it is not moved. What a use of blocks or inodes comes to is not its business.
+pub fn make(tree: &mut Tree, next: u64, alloc: Global, change: &mut TreeChange) -> u64
     requires can { (S : State) × IsTreeOf S tree.old × (S.next ≡ next) × IsLawful S
-        × CanChange S tree.old.room change }
+        × CanChange S tree.old.room change.old }
     ensures tree { (S : State) → IsTreeOf S tree.old → S.next ≡ next → IsLawful S
-        → CanChange S tree.old.room change → IsTreeOf (changed S change) tree.new }
-    ensures next { (S : State) → S.next ≡ next → CanChange S tree.old.room change
-        → (changed S change).next ≡ result }
+        → CanChange S tree.old.room change.old → IsTreeOf (changed S change.old) tree.new }
+    ensures next { (S : State) → S.next ≡ next → CanChange S tree.old.room change.old
+        → (changed S change.old).next ≡ result }
 {
     match change {
         TreeChange::Create { dir, name, owners } => {
-            tree.add_file(next, dir, name, owners, alloc);
+            let name = replace(name, String::new(alloc));
+            tree.add_file(next, *dir, name, *owners, alloc);
             return next + 1;
         }
         TreeChange::Write {
@@ -94,25 +97,35 @@ pub fn make(tree: &mut Tree, next: u64, alloc: Global, change: TreeChange) -> u6
             off,
             bytes,
             spare,
-        } => write(tree, number, off, bytes.input(), spare),
+        } => {
+            let spare = replace(spare, Spare::none(alloc));
+            write(tree, *number, *off, bytes.input(), spare);
+        }
         TreeChange::Truncate { number, size } => {
-            tree.truncate(number, size);
+            tree.truncate(*number, *size);
         }
         TreeChange::Mkdir { dir, name, owners } => {
-            add_directory(tree, next, alloc, dir, name, owners);
+            let name = replace(name, String::new(alloc));
+            add_directory(tree, next, alloc, *dir, name, *owners);
             return next + 1;
         }
-        TreeChange::Unlink { dir, path, number } => take_name(tree, dir, &path, number),
-        TreeChange::Rmdir { dir, path, number } => take_directory(tree, dir, &path, number),
-        TreeChange::Link { dir, name, number } => add_name(tree, dir, name, number),
+        TreeChange::Unlink { dir, path, number } => take_name(tree, *dir, path, *number),
+        TreeChange::Rmdir { dir, path, number } => take_directory(tree, *dir, path, *number),
+        TreeChange::Link { dir, name, number } => {
+            let name = replace(name, String::new(alloc));
+            add_name(tree, *dir, name, *number);
+        }
         TreeChange::Rename {
             dir,
             path,
             to_dir,
             to_name,
             number,
-        } => rename(tree, dir, &path, to_dir, to_name, number),
-        TreeChange::Chown { number, owners } => tree.set_owners(number, owners),
+        } => {
+            let to_name = replace(to_name, String::new(alloc));
+            rename(tree, *dir, path, *to_dir, to_name, *number);
+        }
+        TreeChange::Chown { number, owners } => tree.set_owners(*number, *owners),
     }
     next
 }

@@ -1,18 +1,18 @@
 //! A store with the journal of its calls.
-ghost use Rattle.std.specs.Prelude.{◌≡◌, ◌<◌, ◌+◌, ◌++◌, ◌∷◌, ◌↔◌, [], length, Some, Err, IfOk};
+ghost use Rattle.std.specs.Prelude.{◌≡◌, ◌<◌, ◌+◌, ◌++◌, ◌∷◌, ◌↔◌, [], length, Some, Err, IfOk, OnOk};
 ghost use Rattle.std.specs.Bool.{Decides};
 ghost use Rattle.qplain.specs.declared.bounds.TheConstants.{MAX_ENTRIES};
 ghost use Rattle.qplain.specs.declared.call_fault.CallFault.TheVariants.{JournalFull};
 ghost use Rattle.qplain.specs.declared.entry.Entry.{Entry as EntryValue};
-ghost use Rattle.qplain.specs.Journal.{entry_of, tally_of};
+ghost use Rattle.qplain.specs.Journal.{tally_of};
 ghost use Rattle.qstore_journaled.specs.Journaled.{IsPlayed, IsSameJournaled};
 ghost use Rattle.qstore_journaled.specs.Lines.{line_of};
-ghost use Rattle.qstore_journaled.specs.Next.{HasNext, IsNext};
+ghost use Rattle.qstore_journaled.specs.Next.{HasNext, HasNextOf};
 ghost use Rattle.qstore_journaled.specs.Taken.{AreItsParts};
 
 use crate::ended::Ended;
 use crate::entry::entry_for;
-use qplain::{Call, CallFault, Cred, Entry, MAX_ENTRIES, NoMemory, Reply, Setup, Tallies};
+use qplain::{Call, CallFault, Cred, Entry, MAX_ENTRIES, NoMemory, Setup, Tallies};
 use qstore::Store;
 use std::alloc::Global;
 use std::marker::Model;
@@ -94,8 +94,8 @@ impl JournaledStore {
         self.tallies
     }
 
-    /// Decides a call, makes every growth that it needs, keeps the entry by which the journal will grow, and gives its
-    /// reply; setup, state and journal stay as they were.
+    /// Decides a call, makes every growth that it needs, and keeps the entry by which the journal will grow, with the
+    /// reply (`next`); setup, state and journal stay as they were.
     ///
     /// Err is JournalFull, reported first, where the journal has its 1,048,576 entries, or OutOfMemory. Moments,
     /// refusals and costs are those of `Store::ready`. What is ready is for `commit`, and may be left: the next `ready`
@@ -107,17 +107,19 @@ impl JournaledStore {
         cred: &Cred,
         moment: u64,
         call: &Call,
-    ) -> Result<Reply, CallFault>
+    ) -> Result<(), CallFault>
         ensures same { IsSameJournaled self.old self.new }
-        ensures next { IfOk result (λ reply.
-            IsNext self.new (entry_of worker (line_of cred.now moment call.now) reply)) }
+        ensures next { OnOk result (HasNextOf worker (line_of cred.now moment call.now) self.new) }
         ensures full { (result ≡ Err JournalFull) ↔ (length self.old.journal ≡ MAX_ENTRIES) }
         ensures played { IsPlayed self.new }
     {
         if self.len >= MAX_ENTRIES {
             return Err(CallFault::JournalFull);
         }
-        self.entries.truncate(self.len);
+        // Mostly no entry is ready any more, and `truncate` is out of line.
+        if self.entries.len() > self.len {
+            self.entries.truncate(self.len);
+        }
         // A reply and an entry are large: a `?` would move them once more.
         let Ok(()) = self.entries.reserve(1) else {
             return Err(CallFault::OutOfMemory);
@@ -125,14 +127,11 @@ impl JournaledStore {
         let Ok(reply) = self.store.ready(cred, moment, call) else {
             return Err(CallFault::OutOfMemory);
         };
-        let Ok(told) = reply.copy() else {
-            return Err(CallFault::OutOfMemory);
-        };
-        let Ok(entry) = entry_for(worker, cred, moment, call, told) else {
+        let Ok(entry) = entry_for(worker, cred, moment, call, reply) else {
             return Err(CallFault::OutOfMemory);
         };
         self.entries.push_reserved(entry);
-        Ok(reply)
+        Ok(())
     }
 
     /// The entry that is ready.

@@ -30,6 +30,7 @@ fn fault_of_both(from: &str, to: &str) -> Option<Refusal>
 
 /// What is wrong with the paths of a call, where it has any: EINVAL of each comes before ENAMETOOLONG of each.
 /// O(bytes).
+#[inline(always)]
 pub fn paths_fault(call: &Call) -> Option<Refusal>
     ensures { result ≡ paths_fault (paths_of call.now) }
 {

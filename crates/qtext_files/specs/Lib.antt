@@ -1,5 +1,7 @@
--- In reading order: the lines of a text, what a script says, what a journal says, and how both are spelled out.
+-- In reading order: the lines of a text, what reading one adds, what a script says, what a journal says, and how both
+-- are spelled out.
 pub mod RawLines
+pub mod Added
 pub mod Scripts
 pub mod Journals
 pub mod Spelling

@@ -2,6 +2,7 @@
 ghost use Rattle.std.specs.Prelude.{◌+◌, map};
 ghost use Rattle.qtext.specs.Gives.{Gives};
 ghost use Rattle.qplain.specs.Editions.{max_entries_of};
+ghost use Rattle.qtext_files.specs.Added.{Adds};
 ghost use Rattle.qtext_files.specs.Journals.{answer_in, entry_in, journal_entry_of, worker_of};
 
 use crate::callers::Callers;
@@ -41,7 +42,7 @@ fn answer_in(alloc: Global, edition: Edition, words: &[&[u8]]) -> Result<Reply, 
     }
 }
 
-/// `WORKER MOMENT CALLER CALL => REPLY` in a journal with this head.
+/// `WORKER MOMENT CALLER CALL => REPLY` in a journal with this head, put behind other entries.
 #[tactic(auto, unfolding(crate::specs::Journals::entry_in))]
 fn entry_in<'a>(
     alloc: Global,
@@ -49,8 +50,9 @@ fn entry_in<'a>(
     paths: &mut Paths<'a>,
     head: Head,
     words: &[&'a [u8]],
-) -> Result<Entry, ReadFault>
-    ensures { Gives result (entry_in head (map (λ word. word.now) words.now)) }
+    entries: &mut Vec<Entry>,
+) -> Result<(), ReadFault>
+    ensures { Adds entries.old.items entries.new.items result (entry_in head (map (λ word. word.now) words.now)) }
 {
     match words {
         [] => Err(ReadFault::Fault(TextKind::BadNumber)),
@@ -69,13 +71,17 @@ fn entry_in<'a>(
             let cred = callers.read(alloc, cred)?;
             let (call, taken) = journaled_call_in(alloc, paths, head.edition, behind)?;
             let reply = answer_in(alloc, head.edition, behind.split_at(taken).1)?;
-            Ok(Entry {
+            let Ok(()) = entries.reserve(1) else {
+                return Err(ReadFault::Memory);
+            };
+            entries.push_reserved(Entry {
                 worker,
                 cred,
                 moment,
                 call,
                 reply,
-            })
+            });
+            Ok(())
         }
     }
 }
@@ -102,7 +108,8 @@ impl<'a> ReadLine<'a> for EntryReader<'a> {
         number: u64,
         line: &NextLine<'a>,
         words: &[&'a [u8]],
-    ) -> Result<Entry, ReadFault> {
+        entries: &mut Vec<Entry>,
+    ) -> Result<(), ReadFault> {
         if number > self.head.edition.max_entries() as u64 + 1 {
             return Err(ReadFault::Fault(TextKind::TooMany));
         }
@@ -119,6 +126,7 @@ impl<'a> ReadLine<'a> for EntryReader<'a> {
             &mut self.paths,
             self.head,
             words,
+            entries,
         )
     }
 }

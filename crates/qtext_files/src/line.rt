@@ -1,7 +1,7 @@
 //! One line of a script.
 ghost use Rattle.std.specs.Prelude.{map};
-ghost use Rattle.qtext.specs.Gives.{Gives};
 ghost use Rattle.qplain.specs.declared.bounds.TheConstants.{MAX_LINES};
+ghost use Rattle.qtext_files.specs.Added.{Adds};
 ghost use Rattle.qtext_files.specs.Scripts.{line_in, script_line_of};
 
 use crate::callers::Callers;
@@ -12,15 +12,16 @@ use qtext::{ReadFault, TextKind, number};
 use qtext_read::{Paths, call_in};
 use std::alloc::Global;
 
-/// `MOMENT CALLER CALL`.
+/// `MOMENT CALLER CALL`, put behind other lines.
 #[tactic(auto, unfolding(crate::specs::Scripts::line_in))]
 fn line_in<'a>(
     alloc: Global,
     callers: &mut Callers<'a>,
     paths: &mut Paths<'a>,
     words: &[&'a [u8]],
-) -> Result<Line, ReadFault>
-    ensures { Gives result (line_in (map (λ word. word.now) words.now)) }
+    lines: &mut Vec<Line>,
+) -> Result<(), ReadFault>
+    ensures { Adds lines.old.items lines.new.items result (line_in (map (λ word. word.now) words.now)) }
 {
     match words {
         [] => Err(ReadFault::Fault(TextKind::BadNumber)),
@@ -33,7 +34,13 @@ fn line_in<'a>(
             let cred = callers.read(alloc, cred)?;
             // A call is large, and a `?` would move it once more.
             match call_in(alloc, paths, call) {
-                Ok(call) => Ok(Line { cred, moment, call }),
+                Ok(call) => {
+                    let Ok(()) = lines.reserve(1) else {
+                        return Err(ReadFault::Memory);
+                    };
+                    lines.push_reserved(Line { cred, moment, call });
+                    Ok(())
+                }
                 Err(fault) => Err(fault),
             }
         }
@@ -61,7 +68,8 @@ impl<'a> ReadLine<'a> for LineReader<'a> {
         number: u64,
         line: &NextLine<'a>,
         words: &[&'a [u8]],
-    ) -> Result<Line, ReadFault> {
+        lines: &mut Vec<Line>,
+    ) -> Result<(), ReadFault> {
         if number > MAX_LINES as u64 {
             return Err(ReadFault::Fault(TextKind::TooMany));
         }
@@ -72,6 +80,6 @@ impl<'a> ReadLine<'a> for LineReader<'a> {
             return Err(ReadFault::Fault(TextKind::BadByte));
         }
         self.paths.begin_line(line.after);
-        line_in(self.alloc, &mut self.callers, &mut self.paths, words)
+        line_in(self.alloc, &mut self.callers, &mut self.paths, words, lines)
     }
 }

@@ -1,10 +1,11 @@
 //! The lines of a text, read one after the other: the loop of scripts and journals.
-ghost use Rattle.std.specs.Prelude.{◌≡◌, ◌≤◌, ◌<◌, ◌+◌, ◌^◌, ℕ, true, map, length, Result, IfOk};
+ghost use Rattle.std.specs.Prelude.{◌≡◌, ◌≤◌, ◌<◌, ◌+◌, ◌^◌, ℕ, true, map, length, Result, IfOk, OnOk};
 ghost use Rattle.std.specs.List.{list_all};
 ghost use Rattle.qtext.specs.declared.text_fault.TextKind.{TextKind};
-ghost use Rattle.qtext.specs.Gives.{Gives, Reads};
+ghost use Rattle.qtext.specs.Gives.{Reads};
 ghost use Rattle.qtext.specs.Reading.{each_of};
 ghost use Rattle.qtext.specs.Words.{is_text_byte, parts, words as words_of};
+ghost use Rattle.qtext_files.specs.Added.{Adds};
 ghost use Rattle.qtext_files.specs.RawLines.{RawLine, in_line, raw_lines_from};
 
 use crate::raw_line::{NextLine, next_line};
@@ -22,18 +23,20 @@ pub(crate) trait ReadLine<'a> {
     /// The number of the last line that there may be.
     ghost most: { Self → ℕ };
 
-    /// The line of that number, whose words these are.
+    /// Reads the line of that number, whose words these are, and puts it behind others. So it is put together where it
+    /// comes to stand.
     fn read(
         &mut self,
         number: u64,
         line: &NextLine<'a>,
         words: &[&'a [u8]],
-    ) -> Result<Self::Item, ReadFault>
+        items: &mut Vec<Self::Item>,
+    ) -> Result<(), ReadFault>
         requires bytes { line.now.is_text ≡ list_all is_text_byte line.now.bytes.now }
         requires words { line.now.is_text ≡ true → map (λ word. word.now) words.now ≡ words_of line.now.bytes.now }
-        ensures reads { Gives result
+        ensures reads { Adds items.old.items items.new.items result
             (says self.old (record { number = number; bytes = line.now.bytes.now; whole = line.now.whole })) }
-        ensures few { IfOk result (λ _. number ≤ most self.old) }
+        ensures few { OnOk result (number ≤ most self.old) }
         ensures same { (l : RawLine) → says self.new l ≡ says self.old l }
         ensures same_most { most self.new ≡ most self.old };
 }
@@ -66,11 +69,8 @@ pub(crate) fn read_lines<'a, R: ReadLine<'a>>(
         let Ok(next) = next_line(&mut room, rest) else {
             return Err(WANT_OF_MEMORY);
         };
-        match reader.read(number, &next, &room) {
-            Ok(item) => match items.push(item) {
-                Ok(()) => {}
-                Err(_) => return Err(WANT_OF_MEMORY),
-            },
+        match reader.read(number, &next, &room, &mut items) {
+            Ok(()) => {}
             Err(ReadFault::Memory) => return Err(WANT_OF_MEMORY),
             Err(ReadFault::Fault(kind)) => return Err(TextFault { line: number, kind }),
         }

@@ -2,15 +2,12 @@
 ghost use Rattle.std.specs.Prelude.{◌≡◌, ◌≤◌, ◌+◌, false, vec_len, vec_capacity};
 ghost use Rattle.qplain.specs.Journal.{board_of};
 ghost use Rattle.qplain.specs.declared.placed_row.TheConstants.{MAX_CHANGED_ROWS};
-ghost use Rattle.qstore.specs.Ready.{CanSettle, IsReady, billed, committed};
-ghost use Rattle.qstore_change.specs.Changes.{CanChange, changed};
+ghost use Rattle.qstore.specs.Ready.{IsReady, committed};
 ghost use Rattle.qstore_accounts.specs.Pushed.{IsPushed};
-ghost use Rattle.qstore.specs.Stored.{IsStorable};
 
 use crate::{Plan, Store};
 use qplain::PlacedRow;
-use qstore_change::{TreeChange, make};
-use std::mem::replace;
+use qstore_change::make;
 
 impl Store {
     /// Does what is ready. It is out of line, so that a call that only answers moves no plan.
@@ -19,23 +16,15 @@ impl Store {
         requires { IsReady self.old }
         ensures { self.new.state ≡ committed self.old }
     {
-        match replace(&mut self.plan, Plan::Nothing) {
+        match &mut self.plan {
             Plan::Nothing => {}
-            Plan::Change { change } => self.commit_change(change),
+            Plan::Change { change } => {
+                self.next = make(&mut self.tree, self.next, self.alloc, change);
+                self.accounts.settle(&self.bill);
+            }
             Plan::Limits => self.accounts.settle(&self.bill),
-            Plan::SetGraces { graces } => self.accounts.set_graces(graces),
+            Plan::SetGraces { graces } => self.accounts.set_graces(*graces),
         }
-    }
-
-    /// Makes a change of inodes and names, and settles the store's bill.
-    fn commit_change(&mut self, change: TreeChange)
-        requires can { CanChange self.old.state self.old.room change }
-        requires settles { CanSettle self.old (changed self.old.state change) }
-        requires sound { IsStorable (billed self.old (changed self.old.state change)) }
-        ensures { self.new.state ≡ billed self.old (changed self.old.state change) }
-    {
-        self.next = make(&mut self.tree, self.next, self.alloc, change);
-        self.accounts.settle(&self.bill);
     }
 
     /// Whether `commit` may change a row of a board. O(1).

@@ -16,23 +16,23 @@ loop-init g c = (
 pub loop-preserved : goal.loop-preserved
 loop-preserved g c =
     let so_far = c.loop.invariant in
-    let applied = c.apply-answer.ensures in
+    let applied = c.place-place.ensures in
     let pushed = c.push_reserved.ensures in
     let lines = c.args.lines.now in
     let line = c.index-lines-len.result in
-    let answer = c.apply-answer.result in
+    let place = c.place-place.result in
     let old = c.loop.held in
-    let new = c.apply-answer.new.self in
-    let seat = c.apply-answer.new.seat in
+    let new = c.place-place.new.self in
+    let seat = c.place-place.new.seat in
     let places = c.loop.places in (
-      one_more_held_place g.S.StoreId.id.setting lines old new c.loop.seat seat places.items c.push_reserved.new.self.items line answer
-          c.place_of.result so_far.0
+      one_more_held_place g.S.StoreId.id.setting lines old new c.loop.seat seat places.items c.push_reserved.new.self.items line place
+          so_far.0
           (next_line lines c.len.result (length places.items) line line c.index-lines-len.is
           (omega (arith, c.len.ensures, so_far.1, c.loop-test.true, c.requires.room.0)) (sym (c.len.ensures ∙ places.ok.0)))
-          applied.ok applied.stays applied.err applied.full c.place_of.ensures pushed.items,
+          applied.ok applied.stays applied.err applied.full pushed.items,
       omega (arith, pushed.len, so_far.1),
       pushed.capacity ∙ so_far.2,
-      room_left old new c.loop.seat seat line answer c.args.many c.loop.counter applied.ok applied.err so_far.3,
-      same_worker old new c.loop.seat seat line answer applied.ok applied.err ∙ so_far.4,
+      room_left old new c.loop.seat seat line place c.args.many c.loop.counter applied.ok applied.err so_far.3,
+      same_worker old new c.loop.seat seat line place applied.ok applied.err ∙ so_far.4,
       applied.stays.by ∙ so_far.5,
     )

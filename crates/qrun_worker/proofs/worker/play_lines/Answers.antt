@@ -13,19 +13,19 @@ loop-line-init g c = (
 pub loop-line-preserved : goal.loop-line-preserved
 loop-line-preserved g c =
     let so_far = c.loop-line.invariant in
-    let called = c.call-answer.ensures in
+    let called = c.place-place.ensures in
     let pushed = c.push_reserved.ensures in
     let lines = c.args.lines.now in
     let line = c.line-item.result in
-    let answer = c.call-answer.result in
+    let place = c.place-place.result in
     let old = c.loop-line.seat in
-    let new = c.call-answer.new.seat in
+    let new = c.place-place.new.seat in
     let places = c.loop-line.places in (
-      one_more_called_place g.S.StoreId.id.setting lines old new places.items c.push_reserved.new.self.items line answer c.place_of.result
+      one_more_called_place g.S.StoreId.id.setting lines old new places.items c.push_reserved.new.self.items line place
           so_far.0
           (next_line lines c.loop-line.line-index (length places.items) line line c.line-item.is c.loop-line-test.true
           (sym places.ok.0 ∙ so_far.1))
-          called.seen called.called called.kept called.full c.place_of.ensures pushed.items,
+          called.seen called.called called.kept called.full pushed.items,
       omega (arith, pushed.len, so_far.1),
       omega (arith, pushed.capacity, so_far.2),
       called.seen.worker ∙ so_far.3,

@@ -23,14 +23,16 @@ returns-in-Create-clause-tree c S is next lawful =
     let m = c.in-Create in
     let e = c.add_file.ensures in
     subst (λ (change : TreeChange). CanChange S x.tree.now.room change → IsTreeOf (changed S change) c.add_file.new.self) (sym m.is)
-    (λ can. tree-created S x.tree.now c.add_file.new.self m.owners m.dir x.next (string_bytes m.name) is next lawful can.absent e.inodes e.names e.links)
+    (λ can. tree-created S x.tree.now c.add_file.new.self m.owners m.dir x.next (string_bytes m.name) is next lawful can.absent e.inodes
+    (rw c.replace-name.ensures.value at e.names) e.links)
 
 pub write-requires : goal.write-requires
 write-requires c =
     let can = c.requires.can in
     let m = c.in-Write in
     let here = subst (λ (change : TreeChange). CanChange can.0 c.args.tree.now.room change) m.is can.4 in
-    (can.0, can.1, subst (CanWrite can.0 c.args.tree.now.room m.number m.off m.spare) (sym c.input.ensures) here)
+    let read = subst (CanWrite can.0 c.args.tree.now.room m.number m.off m.spare) (sym c.input.ensures) here in
+    (can.0, can.1, rw c.replace-spare.ensures.value read)
 
 pub returns-in-Write-clause-tree : goal.returns-in-Write-clause-tree
 returns-in-Write-clause-tree c S is next lawful =
@@ -38,7 +40,8 @@ returns-in-Write-clause-tree c S is next lawful =
     let m = c.in-Write in
     subst (λ (change : TreeChange). CanChange S x.tree.now.room change → IsTreeOf (changed S change) c.write.new.tree) (sym m.is)
     (subst (λ (bytes : List ℕ). CanWrite S x.tree.now.room m.number m.off m.spare bytes
-    → IsTreeOf (changed S (Write m.number m.off bytes m.spare)) c.write.new.tree) c.input.ensures (c.write.ensures S is))
+    → IsTreeOf (changed S (Write m.number m.off bytes m.spare)) c.write.new.tree) c.input.ensures
+    (rw c.replace-spare.ensures.value at (c.write.ensures S is)))
 
 pub returns-in-Truncate-clause-tree : goal.returns-in-Truncate-clause-tree
 returns-in-Truncate-clause-tree c S is next lawful =
@@ -63,11 +66,11 @@ returns-in-Link-clause-tree c S is next lawful =
     let x = c.args in
     let m = c.in-Link in
     subst (λ (change : TreeChange). CanChange S x.tree.now.room change → IsTreeOf (changed S change) c.add_name.new.tree) (sym m.is)
-    (λ can. c.add_name.ensures S is lawful can)
+    (rw c.replace-name-in-Link.ensures.value at (c.add_name.ensures S is lawful))
 
 pub returns-in-Rename-clause-tree : goal.returns-in-Rename-clause-tree
 returns-in-Rename-clause-tree c S is next lawful =
     let x = c.args in
     let m = c.in-Rename in
     subst (λ (change : TreeChange). CanChange S x.tree.now.room change → IsTreeOf (changed S change) c.rename.new.tree) (sym m.is)
-    (λ can. c.rename.ensures S is lawful can)
+    (rw c.replace-to_name.ensures.value at (c.rename.ensures S is lawful))
