@@ -21,7 +21,7 @@ use Rattle.qrun_replay.specs.Placed.{transcript_from}
 use Rattle.qrun_replay.specs.Runs.{lines_of}
 use Rattle.qrun_worker.specs.Work.{Attending, IsServed, Serving}
 use Rattle.qrun.specs.Serving.{AreServed, CanServe, HasSeatIn, IsOfClients, IsStaff}
-use Rattle.qrun.specs.Told.{AreAllPlaced, AreAllTold, AreTold, AreToldFrom, placed_of}
+use Rattle.qrun.specs.Told.{AreAllPlaced, AreAllTold, AreTold, AreToldFrom, CanBePlaced, placed_of}
 use Rattle.qrun.specs.Watching.{IsWatchOf, Watched, looks_in, seats_for, shares_in, watcher_for}
 use Rattle.qrun.proofs.Attending.{clients_in}
 use Rattle.qrun.proofs.Naming.{scripts_fit, watcher_fits}
@@ -96,6 +96,13 @@ served_told scripts all own ts served own_is ts_is =
 pub as_many_served : (scripts : List (Option (List Line))) (all : List Serving) (ts : List Transcript) → AreServed scripts all
     → ts ≡ map (λ s. s.transcript) all → length ts ≡ length scripts
 as_many_served scripts all ts served is = ap length is ∙ length-map all (λ (s : Serving). s.transcript) ∙ served.many
+
+-- what they were answered can be told by its places
+pub can_be_placed : (scripts : List (Option (List Line))) (all : List Serving) → AreServed scripts all
+    → All (λ s. CanBePlaced s.transcript.lines s.transcript.answers) all
+can_be_placed scripts all served k d less =
+    let one = served.each k None d (omega (arith, less, served.many)) in
+    record { each = one.work.each; few = one.few; low = one.work.are.low }
 
 -- the outcome is of these clients
 pub of_clients : (scripts : List (Option (List Line))) (all : List Serving) (ends : ℕ) (o : Outcome) → AreServed scripts all

@@ -1,8 +1,9 @@
--- When journals are full, transcripts put together, what stands in a journal, receipts counted, seats by their places, the watcher's share, what
--- faults tell, ends of workers, and what a run comes to.
+-- When journals are full, transcripts put together, where answers stand, what stands in a journal, receipts counted, seats by their places, the
+-- watcher's share, what faults tell, ends of workers, and what a run comes to.
 pub mod NeverFull
 pub mod Told
 pub mod ToldSoFar
+pub mod AnswersTold
 pub mod Placing
 pub mod Counting
 pub mod Seating

@@ -11,9 +11,10 @@ use Rattle.qplain.specs.Journal.{entries_of, entry_of}
 use Rattle.qplain.specs.Transcripts.{journaled_lines}
 use Rattle.qshare_history.specs.Shares.{HandedIn}
 use Rattle.qrun_replay.specs.declared.answered.Answered.{Answered}
-use Rattle.qrun_replay.specs.Placed.{answer_at, answer_in, HoldsPlace, HoldsPlaces, transcript_from}
+use Rattle.qrun_replay.specs.declared.failed_line.FailedLine.{FailedLine}
+use Rattle.qrun_replay.specs.Placed.{answer_at, answer_in, HoldsPlace, HoldsPlaces, line_at, line_in, transcript_from}
 use Rattle.qrun_replay.proofs.Placing.{own_stand, place_there, Stands}
-use Rattle.qrun_worker.specs.Work.{IsSubsequence, place_of}
+use Rattle.qrun_worker.specs.Work.{IsSubsequence, stands_of}
 use Rattle.qrun.specs.Told.{AreAllPlaced, AreAllTold, AreTold, AreToldFrom, IsTold, placed_of}
 
 -- what holds of each of these holds of those that stand among them
@@ -38,23 +39,32 @@ stands_longer : (old new : List Entry) → IsPrefix old new → (x : ℕ × Entr
 stands_longer old new more x stands =
     (stands.0, subst (λ es. slice_get es (x.0 - 1) ≡ Some x.1) more.1 (get_longer old more.0 (x.0 - 1) x.1 stands.1))
 
--- answers whose receipts stand in a journal are there at their places
+-- lines and answers that a journal has at these places
+abbrev AreSeenAt : List Entry → List Line → List (Result Receipt CallFault) → Type 0
+AreSeenAt journal lines answers = (map (line_in journal) (stands_of lines answers) ≡ lines)
+    × (map (answer_in journal) (stands_of lines answers) ≡ answers) × All (HoldsPlace journal) (stands_of lines answers)
+
+-- answers whose receipts stand in a journal are there at their places, and so are their lines
 placed_again : (worker : ℕ) (journal : List Entry) (lines : List Line) (answers : List (Result Receipt CallFault))
-    → length answers ≡ length lines → All (Stands journal) (journaled_lines worker lines answers)
-    → (map (answer_in journal) (map place_of answers) ≡ answers) × All (HoldsPlace journal) (map place_of answers)
-unfolding journaled_lines
-placed_again worker journal [] [] each stand = (refl, All-nil (HoldsPlace journal))
+    → length answers ≡ length lines → All (Stands journal) (journaled_lines worker lines answers) → AreSeenAt journal lines answers
+unfolding journaled_lines stands_of
+placed_again worker journal [] [] each stand = (refl, refl, All-nil (HoldsPlace journal))
 placed_again worker journal (line ∷ lines) (Ok r ∷ answers) each stand =
     let x : ℕ × Entry = (r.place, entry_of worker line r.reply) in
     let rest = journaled_lines worker lines answers in
     let here = All-head (Stands journal) x rest stand in
     let behind = placed_again worker journal lines answers (omega (arith, each)) (All-tail (Stands journal) x rest stand) in (
-      ap (λ e. answer_at r.place e ∷ map (answer_in journal) (map place_of answers)) here.1 ∙ ap (λ told. Ok r ∷ told) behind.0,
-      All-cons (HoldsPlace journal) (Ok r.place) (map place_of answers) (place_there journal x here) behind.1,
+      ap (λ e. line_at e ∷ map (line_in journal) (stands_of lines answers)) here.1 ∙ ap (λ ls. line ∷ ls) behind.0,
+      ap (λ e. answer_at r.place e ∷ map (answer_in journal) (stands_of lines answers)) here.1 ∙ ap (λ told. Ok r ∷ told) behind.1,
+      All-cons (HoldsPlace journal) (Ok r.place) (stands_of lines answers) (place_there journal x here) behind.2,
     )
 placed_again worker journal (line ∷ lines) (Err fault ∷ answers) each stand =
     let behind = placed_again worker journal lines answers (omega (arith, each)) stand in
-    (ap (λ told. Err fault ∷ told) behind.0, All-cons (HoldsPlace journal) (Err fault) (map place_of answers) tt behind.1)
+    let failed : FailedLine = record { line = line; fault = fault } in (
+      ap (λ ls. line ∷ ls) behind.0,
+      ap (λ told. Err fault ∷ told) behind.1,
+      All-cons (HoldsPlace journal) (Err failed) (stands_of lines answers) tt behind.2,
+    )
 placed_again worker journal [] (answer ∷ answers) each stand = absurd (omega (arith, each))
 placed_again worker journal (line ∷ lines) [] each stand = absurd (omega (arith, each))
 
@@ -66,7 +76,8 @@ one_again worker lines share t journal told seen =
     let stand = All-weaker (Stands share.seen) (Stands journal) (stands_longer share.seen journal seen) own (own_stand share.seen worker) in
     let back = placed_again worker journal lines t.answers told.work.each
     (among_all (Stands journal) (journaled_lines worker lines t.answers) own told.work.are.own stand) in
-    (ap (λ answers. record { worker = t.worker; lines = t.lines; answers = answers }) back.0, back.1)
+    let whole = subst (λ ls. AreSeenAt journal ls t.answers) (sym told.lines_are) back in
+    ((λ i. record { worker = t.worker; lines = whole.0 i; answers = whole.1 i }), whole.2)
 
 -- and so are those of all workers
 again_from : (worker : ℕ) (scripts : List (List Line)) (shares : List HandedIn) (ts : List Transcript) (journal : List Entry)

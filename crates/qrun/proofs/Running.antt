@@ -29,10 +29,9 @@ is_run setting scripts boards ts looks (Ok o) lines never many service told none
 is_run setting scripts boards ts looks (Err fault) lines never many service told none = fault_of_any (seats_for (length scripts) boards) fault none
 
 -- what was performed, once it is taken apart
-pub played_of : (setting : Setting) (given scripts : List (List Line)) (boards : ℕ) (p done : Performed) → given ≡ scripts → done ≡ p
-    → ArePlayed setting given boards (Ok p) → ArePlayed setting scripts boards (Ok done)
-played_of setting given scripts boards p done same is played =
-    subst (λ ls. ArePlayed setting ls boards (Ok done)) same (subst (λ (q : Performed). ArePlayed setting given boards (Ok q)) (sym is) played)
+pub played_of : (setting : Setting) (scripts : List (List Line)) (boards : ℕ) (p done : Performed) → done ≡ p
+    → ArePlayed setting scripts boards (Ok p) → ArePlayed setting scripts boards (Ok done)
+played_of setting scripts boards p done is played = subst (λ (q : Performed). ArePlayed setting scripts boards (Ok q)) (sym is) played
 
 -- a fault that is handed on
 pub not_played : (setting : Setting) (scripts : List (List Line)) (boards : ℕ) (r : Result Performed RunFault) (fault : RunFault)

@@ -1,5 +1,5 @@
 -- Transcripts put together one after the other, and what all of them say.
-use Rattle.std.proofs.Common.{◌≡◌, ℕ, suc, ◌+◌, ◌<◌, ◌≤◌, ◌==◌, ◌||◌, true, false, Bool, List, [], ◌∷◌, ◌++◌, length, map, sum_by, All, Result, refl, sym, ap, subst, ◌∙◌, arith, tests}
+use Rattle.std.proofs.Common.{◌≡◌, ℕ, suc, ◌+◌, ◌<◌, ◌≤◌, ◌==◌, ◌||◌, true, false, Bool, List, [], ◌∷◌, length, map, sum_by, All, Result, refl, sym, ap, subst, ◌∙◌, arith, tests}
 use Rattle.std.proofs.lemmas.List.Elements.{All-cons, All-contains, All-head, All-nil, All-tail}
 use Rattle.std.specs.List.{list_any, AllByRecursion, IsDistinct}
 use mathlib.Core.List.{IsPrefix}
@@ -21,27 +21,9 @@ use Rattle.qrun_replay.specs.Left.{IsLeftOf, IsOneOf}
 use Rattle.qrun_replay.proofs.Coming.{left_by_workers}
 use Rattle.qplain.specs.declared.bounds.TheConstants.{MAX_ENTRIES}
 use Rattle.qshare.specs.declared.opening.TheConstants.{MAX_SEATS}
-use Rattle.qrun.specs.Told.{AreAllTold, AreTold, AreToldFrom, IsTold}
+use Rattle.qrun.specs.Told.{AreAllTold, AreTold, AreToldFrom}
 use Rattle.qrun.proofs.Counting.{all_gathered}
 use Rattle.qrun.proofs.NeverFull.{only_at_full}
-
-pub none_told : (worker : ℕ) → AreToldFrom worker [] [] []
-unfolding AreToldFrom
-none_told worker = tt
-
--- one transcript more
-pub one_more_told : (worker : ℕ) (scripts : List (List Line)) (shares : List HandedIn) (ts : List Transcript) (lines : List Line)
-    (share : HandedIn) (t : Transcript)
-    → AreToldFrom worker scripts shares ts → IsTold (worker + length scripts) lines share t
-    → AreToldFrom worker (scripts ++ lines ∷ []) (shares ++ share ∷ []) (ts ++ t ∷ [])
-unfolding AreToldFrom
-one_more_told worker [] [] [] lines share t told one = (subst (λ w. IsTold w lines share t) (omega arith) one, tt)
-one_more_told worker (l ∷ scripts) (s ∷ shares) (u ∷ ts) lines share t told one =
-    (told.0, one_more_told (worker + 1) scripts shares ts lines share t told.1 (subst (λ w. IsTold w lines share t) (omega arith) one))
-one_more_told worker [] (s ∷ shares) ts lines share t told one = absurd told
-one_more_told worker [] [] (u ∷ ts) lines share t told one = absurd told
-one_more_told worker (l ∷ scripts) [] ts lines share t told one = absurd told
-one_more_told worker (l ∷ scripts) (s ∷ shares) [] lines share t told one = absurd told
 
 -- there are as many shares and transcripts as scripts
 pub as_many : (worker : ℕ) (scripts : List (List Line)) (shares : List HandedIn) (ts : List Transcript) → AreToldFrom worker scripts shares ts

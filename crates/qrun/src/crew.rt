@@ -1,7 +1,6 @@
 //! All threads of a run: one for each worker, and one that looks at the boards.
-ghost use Rattle.std.specs.Prelude.{◌≡◌, ◌<◌, ◌≤◌, List, length, slice_index_or, vec_capacity, vec_len, IfOk};
+ghost use Rattle.std.specs.Prelude.{◌≡◌, ◌<◌, ◌≤◌, length, vec_capacity, vec_len, IfOk};
 ghost use denote.Param.Send.{IsSend, IsSync};
-ghost use Rattle.qplain.specs.declared.line.Line.{Line};
 ghost use Rattle.qshare.specs.declared.held.TheConstants.{MAX_BATCH};
 ghost use Rattle.qshare.specs.Seats.{seats_of};
 ghost use Rattle.qrun.specs.Crews.{ArePlayed, AreReady, IsCrew};
@@ -12,13 +11,14 @@ use crate::run_fault::RunFault;
 use crate::watcher::{Watch, watch_all};
 use crate::worker_end::{WorkerEnd, first_refused};
 use core::thread::Stack;
-use qplain::{Line, NoMemory, Script};
+use qplain::{NoMemory, Script};
 use qrun_worker::{Gate, Work, Worker, play, worker_of};
 use qshare::{Boards, Seat, Shared};
 use qshare_boards::Viewer;
 use qshare_history::StoreId;
 use std::alloc::Global;
 use std::marker::Model;
+use std::snapshot::Snapshot;
 use std::sync::Wait;
 use std::thread;
 use std::thread::Threads;
@@ -41,14 +41,6 @@ impl<S: StoreId> Model for Played<S> {
     ghost view = { λ p. record { works = p.works.items; watch = p.watch } };
 }
 
-/// The lines of the script of this index, which there is.
-fn script_at(scripts: &[Script], index: usize) -> &[Line]
-    requires { index < length scripts.now }
-    ensures { (default : List Line) → result.now ≡ slice_index_or scripts.now index default }
-{
-    scripts[index].lines()
-}
-
 /// How many lines the scripts have together. It says when looks are due, and stands in no clause.
 fn lines_in(scripts: &[Script]) -> u64 {
     let mut lines = 0u64;
@@ -64,18 +56,21 @@ fn crew_of<'a, S: StoreId, B: Boards<S>, V: Drop, G: Gate, R: Wait>(
     rt: &'a R,
     shared: &'a Shared<S, B>,
     gate: &'a G,
-    scripts: &'a [Script],
+    scripts: Vec<Script>,
     batch: u64,
     seats: Vec<Seat<S, V>>,
-) -> Result<Vec<Worker<'a, 'a, 'a, 'a, S, B, V, G, R>>, NoMemory>
-    requires seats { seats.items ≡ seats_of (length scripts.now) }
+) -> Result<Vec<Worker<'a, 'a, 'a, S, B, V, G, R>>, NoMemory>
+    requires seats { seats.items ≡ seats_of (length scripts.items) }
     requires batch { (0 < batch) × (batch ≤ MAX_BATCH) }
-    ensures { IfOk result (λ workers. ArePrepared scripts.now workers.items) }
+    ensures { IfOk result (λ workers. ArePrepared scripts.items workers.items) }
 {
-    let mut workers = Vec::with_capacity(alloc, seats.len())?;
-    for seat in seats {
-        let lines = script_at(scripts, workers.len());
-        let worker = worker_of(alloc, rt, shared, gate, lines, batch, seat)?;
+    let mut workers = Vec::with_capacity(alloc, scripts.len())?;
+    let mut free = seats.into_iter();
+    for script in scripts {
+        let Some(seat) = free.next() else {
+            unreachable!();
+        };
+        let worker = worker_of(alloc, rt, shared, gate, script, batch, seat)?;
         workers.push_reserved(worker);
     }
     Ok(workers)
@@ -93,7 +88,7 @@ pub(crate) fn play_all<S, B, V, G, R>(
     options: Options,
     seats: Vec<Seat<S, V>>,
     watcher: Option<Seat<S, Viewer<S>>>,
-    scripts: &[Script],
+    scripts: Vec<Script>,
 ) -> Result<Played<S>, RunFault>
 where
     S: StoreId + Send + Sync + 'static,
@@ -101,9 +96,11 @@ where
     V: Drop + Send,
     G: Gate + Sync,
     R: Threads + Wait + Sync,
-    requires { IsCrew (length scripts.now) options seats.items watcher }
-    ensures { ArePlayed S.id.setting scripts.now options.boards result }
+    requires { IsCrew (length scripts.items) options seats.items watcher }
+    ensures { ArePlayed S.id.setting scripts.items options.boards result }
 {
+    let given = Snapshot::of(&scripts);
+    let lines = lines_in(&scripts);
     let looks = Vec::with_capacity(alloc, options.boards as usize)?;
     let workers = crew_of(alloc, rt, shared, gate, scripts, options.batch, seats)?;
     thread::scope(
@@ -111,9 +108,9 @@ where
         rt,
         |scope| -> Result<Played<S>, RunFault>
             requires marks { IsSync R.row × IsSync G.row × IsSend S.row × IsSync S.row × IsSend B.row × IsSend V.row }
-            requires ready { AreReady scripts.now options.boards workers.items watcher (vec_len looks)
+            requires ready { AreReady given.value.items options.boards workers.items watcher (vec_len looks)
                 (vec_capacity looks) }
-            ensures { ArePlayed S.id.setting scripts.entry.now options.boards result }
+            ensures { ArePlayed S.id.setting given.value.items options.boards result }
         {
             let many = workers.len();
             let mut running = Vec::with_capacity(alloc, many)?;
@@ -132,7 +129,9 @@ where
                     }
                 }
             }
-            let watch = watch_all(rt, watcher, looks, lines_in(scripts), options.boards)?;
+            // The closure's contract speaks of the scripts as they were.
+            let _ = &given;
+            let watch = watch_all(rt, watcher, looks, lines, options.boards)?;
             match thread::join_promised(rt, running) {
                 Ok(works) => Ok(Played { works, watch }),
                 Err(_) => Err(RunFault::Memory),

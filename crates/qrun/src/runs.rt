@@ -12,7 +12,7 @@ use crate::concluding::make_outcome;
 use crate::crew::{Played, play_all};
 use crate::options::Options;
 use crate::run_fault::RunFault;
-use crate::telling::{hand_in, tell_all};
+use crate::telling::{hand_in, part_works};
 use crate::watcher::part_watcher;
 use qplain::{Script, Setup};
 use qrun_replay::Outcome;
@@ -60,9 +60,9 @@ where
     ensures { IsRun S.id.setting scripts.items options.boards result }
 {
     let Played { works, watch } = play_all(
-        rt, alloc, &shared, gate, options, seats, watcher, &scripts,
+        rt, alloc, &shared, gate, options, seats, watcher, scripts,
     )?;
-    let (own, answered) = tell_all(alloc, scripts, works)?;
+    let (own, answered) = part_works(alloc, works)?;
     let (shares, looks) = hand_in(alloc, own, watch)?;
     match shared.end(rt, shares) {
         Ok(store) => make_outcome(alloc, store, answered, looks, seed),

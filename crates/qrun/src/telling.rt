@@ -1,49 +1,69 @@
 //! What workers have done, told by the places of their answers.
-ghost use Rattle.std.specs.Prelude.{◌≡◌, ◌++◌, map, vec_len, IfOk};
-ghost use Rattle.qrun.specs.Told.{AreShort, ArePlaced, placed_of};
+ghost use Rattle.std.specs.Prelude.{◌≡◌, ◌+◌, ◌<◌, ◌++◌, ◌∷◌, [], map, vec_len, All, IfOk};
+ghost use Rattle.qrun.specs.Told.{CanBePlaced, answered_of, placed_of};
 ghost use Rattle.qrun.specs.Watching.{looks_in, shares_in};
-ghost use Rattle.qrun_worker.specs.Work.{AreWorks};
+ghost use Rattle.qrun_replay.specs.Places.{stand_at};
+ghost use Rattle.qrun_worker.specs.Work.{HasLowPlace, place_of, standing_of};
 
 use crate::watcher::{Look, Watch};
-use qplain::{NoMemory, Script, Transcript};
-use qrules::Items;
-use qrun_client::ClientEnd;
-use qrun_replay::Answered;
-use qrun_worker::{Served, Work, places_of};
+use qplain::{Line, NoMemory, Transcript};
+use qrun_client::{Answer, ClientEnd};
+use qrun_replay::{Answered, Places};
+use qrun_worker::{Served, Work};
 use qshare_history::{Share, StoreId};
 use std::alloc::Global;
 
-/// The shares of the workers, and what each was answered: it has its script, which was lent to its thread.
-#[tactic(auto, using(crate::proofs::ToldSoFar::told_first))]
-pub(crate) fn tell_all<S: StoreId>(
+/// What the workers of a run have done, taken apart: their shares, and what each was answered.
+pub(crate) fn part_works<S: StoreId>(
     alloc: Global,
-    scripts: Vec<Script>,
     works: Vec<Work<S>>,
 ) -> Result<(Vec<Share<S>>, Vec<Answered>), NoMemory>
-    requires { AreWorks scripts.items works.items }
-    ensures told { IfOk result (λ told. ArePlaced scripts.items told.0.items told.1.items) }
-    ensures short { IfOk result (λ _. AreShort scripts.items) }
+    ensures shares { IfOk result (λ r. r.0.items ≡ map (λ w. w.share) works.items) }
+    ensures answered { IfOk result (λ r. r.1.items ≡ map answered_of works.items) }
 {
     let mut shares = Vec::with_capacity(alloc, works.len())?;
     let mut all = Vec::with_capacity(alloc, works.len())?;
-    let mut rest = scripts.into_iter();
     for work in works {
-        let Some(script) = rest.next() else {
-            break;
-        };
         let Work { share, places } = work;
-        all.push_reserved(Answered {
-            worker: share.worker(),
-            lines: script.into_lines(),
-            places: Items::new(places),
-        });
+        let worker = share.worker();
         shares.push_reserved(share);
+        all.push_reserved(Answered { worker, places });
     }
     Ok((shares, all))
 }
 
+/// Keeps where the answer to a line stands, and the line where it is in no journal.
+fn keep_answer(places: &mut Places, line: Line, answer: Answer)
+    requires room { 0 < places.old.room }
+    requires low { HasLowPlace answer }
+    ensures stands { places.new.stands ≡ places.old.stands ++ stand_at line (place_of answer) ∷ [] }
+    ensures room { places.new.room + 1 ≡ places.old.room }
+{
+    match answer {
+        Ok(receipt) => places.push(receipt.place),
+        Err(fault) => places.push_failed(line, fault),
+    }
+}
+
+/// Where these answers to the lines stand. The lines are kept that stand in no journal.
+fn places_of(alloc: Global, lines: Vec<Line>, answers: Vec<Answer>) -> Result<Places, NoMemory>
+    requires { CanBePlaced lines.items answers.items }
+    ensures { IfOk result (λ places. places ≡ standing_of lines.items answers.items) }
+{
+    let mut places = Places::new(alloc, lines.len())?;
+    let mut rest = answers.into_iter();
+    for line in lines {
+        let Some(answer) = rest.next() else {
+            unreachable!();
+        };
+        keep_answer(&mut places, line, answer);
+    }
+    Ok(places.close())
+}
+
 /// What a worker was answered, by its transcript.
 fn answered_by(alloc: Global, transcript: Transcript) -> Result<Answered, NoMemory>
+    requires { CanBePlaced transcript.lines transcript.answers }
     ensures { IfOk result (λ answered. answered ≡ placed_of transcript) }
 {
     let Transcript {
@@ -51,11 +71,9 @@ fn answered_by(alloc: Global, transcript: Transcript) -> Result<Answered, NoMemo
         lines,
         answers,
     } = transcript;
-    let places = places_of(alloc, answers.into_vec())?;
     Ok(Answered {
         worker,
-        lines,
-        places: Items::new(places),
+        places: places_of(alloc, lines.into_vec(), answers.into_vec())?,
     })
 }
 
@@ -65,6 +83,7 @@ pub(crate) fn part_served<S: StoreId>(
     alloc: Global,
     served: Vec<Served<S>>,
 ) -> Result<(Vec<Share<S>>, Vec<Answered>, Vec<ClientEnd>), NoMemory>
+    requires { All (λ s. CanBePlaced s.transcript.lines s.transcript.answers) served.items }
     ensures shares { IfOk result (λ r. r.0.items ≡ map (λ s. s.share) served.items) }
     ensures answered { IfOk result (λ r. r.1.items ≡ map (λ s. placed_of s.transcript) served.items) }
     ensures ends { IfOk result (λ r. vec_len r.2 ≡ vec_len served) }

@@ -1,5 +1,5 @@
 //! Who hands lines to a worker, one after the other, and is told what each was answered.
-ghost use Rattle.std.specs.Prelude.{◌≡◌, ◌<◌, ◌++◌, ◌∷◌, [], List, Option, Some, None, Result, IfSome, false};
+ghost use Rattle.std.specs.Prelude.{◌≡◌, ◌<◌, ◌≤◌, ◌++◌, ◌∷◌, [], List, Option, Some, None, Result, IfSome, false};
 ghost use Rattle.std.specs.Prelude.{length, slice_get};
 ghost use Rattle.qplain.specs.declared.call_fault.CallFault.{CallFault};
 ghost use Rattle.qplain.specs.declared.line.Line.{Line};
@@ -7,6 +7,10 @@ ghost use Rattle.qplain.specs.declared.receipt.Receipt.{Receipt};
 ghost use Rattle.qrun_client.specs.Clients.{HandsOut};
 
 use qplain::{CallFault, Line, Receipt, Transcript};
+
+/// As many lines as a client hands out at most: twice as many as a journal has entries, so that a full journal is told
+/// of first.
+pub const MAX_GIVEN: usize = 2_097_152;
 
 /// What a worker was answered to a line: its place in the journal and the reply, or why it is in no journal.
 pub type Answer = Result<Receipt, CallFault>;
@@ -65,6 +69,7 @@ pub trait KeepsLines: Client {
     fn into_parts(self, worker: u64) -> (Transcript, ClientEnd)
     where
         Self: Sized,
-        ensures { result.0
-            ≡ record { worker = worker; lines = Self.given self; answers = Self.told self } };
+        ensures transcript { result.0
+            ≡ record { worker = worker; lines = Self.given self; answers = Self.told self } }
+        ensures few { length (Self.given self) ≤ MAX_GIVEN };
 }

@@ -18,7 +18,8 @@ use Rattle.qrun_replay.specs.declared.replay_fault.ReplayFault.{ReplayFault}
 use Rattle.qrun_replay.specs.declared.replay_fault.ReplayFault.TheVariants.{Memory, Mismatch}
 use Rattle.qplain.specs.Transcripts.{journaled_lines}
 use Rattle.qrun_replay.specs.Runs.{AreTranscriptsOf, IsLeftByWorkers, IsTranscriptOf}
-use Rattle.qrun_replay.specs.Replays.{GivesBack, IsAsBefore, IsFirstMismatch, IsReplayOf, answer_of, granted_lines, line_of_entry, transcript_in, without_failed}
+use Rattle.qrun_replay.specs.Replays.{GivesBack, IsAsBefore, IsFirstMismatch, IsReplayOf, answer_of, granted_lines, transcript_in, without_failed}
+use Rattle.qrun_replay.specs.Placed.{line_of_entry}
 
 -- in a legal journal each reply is the plain machine's
 legal-at : (S : State) (before : List Entry) (e : Entry) (after : List Entry) → IsLegal S (before ++ e ∷ after)

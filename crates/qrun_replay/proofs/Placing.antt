@@ -1,6 +1,6 @@
 -- What a journal has at the places of its own entries.
 use Rattle.std.proofs.Common.{◌≡◌, ℕ, zero, suc, ◌+◌, ◌-◌, ◌<◌, ◌≤◌, ◌==◌, List, [], ◌∷◌, length, map, All, get_or, slice_get, Some, Result, Ok, refl, sym, ap, subst, ◌∙◌, arith}
-use Rattle.std.proofs.lemmas.List.{get_or-map}
+use Rattle.std.proofs.lemmas.List.{get_or-map, length-map}
 use Rattle.std.proofs.lemmas.List.Elements.{All-cons, All-filter, All-head, All-map, All-nil, All-tail, All-weaker}
 use Rattle.std.proofs.lemmas.Option.{slice_get-get_or, slice_get_within}
 use Rattle.std.specs.List.{enumerate_from}
@@ -8,7 +8,11 @@ use Rattle.qplain.specs.declared.call_fault.CallFault.{CallFault}
 use Rattle.qplain.specs.declared.entry.Entry.{Entry}
 use Rattle.qplain.specs.declared.receipt.Receipt.{Receipt}
 use Rattle.qplain.specs.Journal.{entries_of}
-use Rattle.qrun_replay.specs.Placed.{answer_at, answer_in, HoldsPlace, HoldsPlaces, transcript_from}
+use Rattle.qplain.specs.declared.line.Line.{Line}
+use Rattle.qplain.specs.declared.transcript.Transcript.{Transcript}
+use Rattle.qrun_replay.specs.declared.answered.Answered.{Answered}
+use Rattle.qrun_replay.specs.declared.failed_line.FailedLine.{FailedLine}
+use Rattle.qrun_replay.specs.Placed.{answer_at, answer_in, HoldsPlace, HoldsPlaces, line_at, line_in, line_of_entry, transcript_from}
 use Rattle.qrun_replay.specs.Replays.{answer_of, answered_in, transcript_in}
 
 -- an entry stands at its place
@@ -58,9 +62,21 @@ answers_seen journal ((place, e) ∷ own) each =
     ap (λ at. answer_at place at ∷ map (answer_in journal) (map (λ (x : ℕ × Entry). Ok x.0) own)) here.1
     ∙ ap (λ rest. answer_of (place, e) ∷ rest) (answers_seen journal own (All-tail (Stands journal) (place, e) own each))
 
+-- and their lines
+lines_seen : (journal : List Entry) (own : List (ℕ × Entry)) → All (Stands journal) own
+    → map (line_in journal) (map (λ (x : ℕ × Entry). Ok x.0) own) ≡ map (λ (x : ℕ × Entry). line_of_entry x.1) own
+lines_seen journal [] each = refl
+lines_seen journal ((place, e) ∷ own) each =
+    let here = All-head (Stands journal) (place, e) own each in
+    ap (λ at. line_at at ∷ map (line_in journal) (map (λ (x : ℕ × Entry). Ok x.0) own)) here.1
+    ∙ ap (λ rest. line_of_entry e ∷ rest) (lines_seen journal own (All-tail (Stands journal) (place, e) own each))
+
 -- so a worker's own entries, seen in the journal, are its transcript
 transcript_seen : (journal : List Entry) (worker : ℕ) → transcript_from journal (answered_in journal worker) ≡ transcript_in journal worker
-transcript_seen journal worker = rw (answers_seen journal (entries_of journal worker) (own_stand journal worker)) refl
+transcript_seen journal worker =
+    let own = entries_of journal worker in
+    let stand = own_stand journal worker in
+    rw (lines_seen journal own stand, answers_seen journal own stand) refl
 
 -- those of all these workers
 pub transcripts_seen : (journal : List Entry) (workers : List ℕ)
@@ -71,16 +87,41 @@ transcripts_seen journal (worker ∷ workers) = rw (transcript_seen journal work
 pub all_places : (journal : List Entry) (workers : List ℕ) → All (HoldsPlaces journal) (map (answered_in journal) workers)
 all_places journal workers = All-map (HoldsPlaces journal) (answered_in journal) workers (λ k d less. own_places journal (get_or workers k d))
 
--- the answer to the line of this index
-pub answer_there : (journal : List Entry) (places : List (Result ℕ CallFault)) (i : ℕ) (place : Result ℕ CallFault)
-    (default : Result Receipt CallFault) → i < length places → place ≡ get_or places i place
-    → get_or (map (answer_in journal) places) i default ≡ answer_in journal place
-answer_there journal places i place default less is =
-    get_or-map (answer_in journal) places i place default less ∙ ap (answer_in journal) (sym is)
+-- the answer to the line of this index, and the line
+pub answer_there : (journal : List Entry) (stands : List (Result ℕ FailedLine)) (i : ℕ) (stand : Result ℕ FailedLine)
+    (default : Result Receipt CallFault) → i < length stands → stand ≡ get_or stands i stand
+    → get_or (map (answer_in journal) stands) i default ≡ answer_in journal stand
+answer_there journal stands i stand default less is =
+    get_or-map (answer_in journal) stands i stand default less ∙ ap (answer_in journal) (sym is)
 
--- is that of the entry there
-pub entry_there : (journal : List Entry) (place : ℕ) (e d : Entry) → (0 < place) × (place ≤ length journal) → e ≡ get_or journal (place - 1) d
-    → answer_in journal (Ok place) ≡ Ok (record { place = place; reply = e.reply })
-entry_there journal place e d there is =
-    let less : place - 1 < length journal = omega (arith, there.0, there.1) in
-    ap (answer_at place) (slice_get-get_or journal (place - 1) d less ∙ ap (λ x. Some x) (sym is))
+pub line_there : (journal : List Entry) (stands : List (Result ℕ FailedLine)) (i : ℕ) (stand : Result ℕ FailedLine) (default : Line)
+    → i < length stands → stand ≡ get_or stands i stand → get_or (map (line_in journal) stands) i default ≡ line_in journal stand
+line_there journal stands i stand default less is =
+    get_or-map (line_in journal) stands i stand default less ∙ ap (line_in journal) (sym is)
+
+module _ (journal : List Entry) (place : ℕ) (e d : Entry) (there : (0 < place) × (place ≤ length journal))
+    (is : e ≡ get_or journal (place - 1) d) where
+  stands_there : slice_get journal (place - 1) ≡ Some e
+  stands_there =
+      let less : place - 1 < length journal = omega (arith, there.0, there.1) in
+      slice_get-get_or journal (place - 1) d less ∙ ap (λ x. Some x) (sym is)
+
+  -- are those of the entry there
+  pub answer_of_entry : answer_in journal (Ok place) ≡ Ok (record { place = place; reply = e.reply })
+  answer_of_entry = ap (answer_at place) stands_there
+
+  pub line_of_place : line_in journal (Ok place) ≡ line_of_entry e
+  line_of_place = ap line_at stands_there
+
+-- where the journal has an entry at each place, it has one at this
+pub holds_there : (journal : List Entry) (stands : List (Result ℕ FailedLine)) (i : ℕ) (stand : Result ℕ FailedLine) → i < length stands
+    → All (HoldsPlace journal) stands → stand ≡ get_or stands i stand → HoldsPlace journal stand
+holds_there journal stands i stand less all is = subst (HoldsPlace journal) (sym is) (all i stand less)
+
+-- a line of a transcript is one of those whose answers stand somewhere
+module _ (journal : List Entry) (a : Answered) (t : Transcript) (i : ℕ) (is : transcript_from journal a ≡ t) where
+  pub low_answer : i < length t.answers → i < length a.places.stands
+  low_answer less = subst (λ n. i < n) (ap (λ u. length u.answers) (sym is) ∙ length-map a.places.stands (answer_in journal)) less
+
+  pub low_line : i < length t.lines → i < length a.places.stands
+  low_line less = subst (λ n. i < n) (ap (λ u. length u.lines) (sym is) ∙ length-map a.places.stands (line_in journal)) less

@@ -14,20 +14,16 @@ use Rattle.qstore.specs.Rows.{record_row_of}
 use Rattle.qaudit_checks.specs.OwnRows.{differences_in}
 use Rattle.qplain.specs.Journals.{Written}
 use Rattle.qrun_replay.specs.declared.answered.Answered.{Answered}
+use Rattle.qrun_replay.specs.Placed.{line_of_entry}
 use Rattle.qrun_replay.specs.declared.outcome.Outcome.{Outcome}
 use Rattle.qrun_replay.specs.declared.replay_fault.ReplayFault.{ReplayFault}
 use Rattle.qrun_replay.specs.declared.replay_fault.ReplayFault.TheVariants.{Memory, Mismatch}
 
--- the line of an entry
-abbrev pub line_of_entry : Entry → Line
-line_of_entry e = record { cred = e.cred; moment = e.moment; call = e.call }
-
--- what a worker was answered: its own entries, each with its line and its place
+-- what a worker was answered: its own entries, each at its place
 abbrev pub answered_in : List Entry → ℕ → Answered
 answered_in journal worker = record {
   worker = worker;
-  lines = map (λ x. line_of_entry x.1) (entries_of journal worker);
-  places = map (λ x. Ok x.0) (entries_of journal worker);
+  places = record { stands = map (λ x. Ok x.0) (entries_of journal worker); room = 0 };
 }
 
 -- the answer to an entry with its place

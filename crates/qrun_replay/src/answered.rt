@@ -1,12 +1,9 @@
-use qplain::{CallFault, Line};
-use qrules::Items;
+use crate::places::Places;
 
-/// What a worker was answered, where the replies stand in a journal alone: the lines of its script, and for each of
-/// them, in order, its place in the journal, from 1, or why it is in none.
+/// What a worker was answered: for each of its lines, in order, where the answer stands.
 #[derive(Drop)]
 pub struct Answered {
     /// The worker's number, from 1.
     pub worker: u64,
-    pub lines: Items<Line>,
-    pub places: Items<Result<u64, CallFault>>,
+    pub places: Places,
 }

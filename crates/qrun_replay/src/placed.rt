@@ -1,46 +1,20 @@
-//! Transcripts whose replies stand in a journal alone.
+//! Transcripts whose lines and replies stand in a journal alone, but for the lines that failed.
 ghost use Rattle.std.specs.Prelude.{◌≡◌, ◌<◌, length, slice_index_or, Result};
 ghost use Rattle.qplain.specs.declared.call_fault.CallFault.{CallFault};
+ghost use Rattle.qplain.specs.declared.line.Line.{Line};
 ghost use Rattle.qplain.specs.declared.receipt.Receipt.{Receipt};
 ghost use Rattle.qrun_replay.specs.Placed.{HoldsPlaces, transcript_from};
 
 use crate::answered::Answered;
+use crate::placed_line::PlacedLine;
+use crate::placed_reply::PlacedReply;
+use crate::places::Stand;
 use crate::shared_journal::SharedJournal;
-use qplain::{CallFault, Line, Reply};
+use qplain::CallFault;
 use std::marker::Model;
 
-/// What a line was answered, as a journal has it. Contracts see a receipt.
-#[derive(Drop)]
-pub struct PlacedReply<'a> {
-    place: u64,
-    reply: &'a Reply,
-}
-
-impl<'a> Model for PlacedReply<'a> {
-    ghost use Rattle.qplain.specs.declared.receipt.Receipt.{Receipt};
-
-    ghost Value = { Receipt };
-
-    ghost view = { λ r. record { place = r.place; reply = r.reply.now } };
-}
-
-impl<'a> PlacedReply<'a> {
-    /// The call's place in the journal, from 1.
-    pub fn place(&self) -> u64
-        ensures { result ≡ self.now.place }
-    {
-        self.place
-    }
-
-    /// The reply.
-    pub fn reply(&self) -> &'a Reply
-        ensures { result.now ≡ self.now.reply }
-    {
-        self.reply
-    }
-}
-
-/// The transcript of a worker, whose replies stand in a journal alone. Contracts see a transcript.
+/// The transcript of a worker, whose lines and replies stand in a journal alone, but for the lines that failed.
+/// Contracts see a transcript.
 #[derive(Drop)]
 pub struct PlacedTranscript {
     answered: Answered,
@@ -59,7 +33,7 @@ impl Model for PlacedTranscript {
 }
 
 impl PlacedTranscript {
-    /// The transcript of who was answered so, in whose places the journal has the replies.
+    /// The transcript of who was answered so, in whose places the journal has the lines and the replies.
     pub fn new(answered: Answered, journal: SharedJournal) -> Self
         requires { HoldsPlaces journal.entries answered }
         ensures { result ≡ transcript_from journal.entries answered }
@@ -74,18 +48,24 @@ impl PlacedTranscript {
         self.answered.worker
     }
 
-    /// The lines of its script, in order.
-    pub fn lines(&self) -> &[Line]
-        ensures { result.now ≡ self.now.lines }
+    /// How many lines there are, and answers to them.
+    pub fn len(&self) -> usize
+        ensures lines { result ≡ length self.now.lines }
+        ensures answers { result ≡ length self.now.answers }
     {
-        self.answered.lines.as_slice()
+        self.answered.places.len()
     }
 
-    /// How many answers there are.
-    pub fn len(&self) -> usize
-        ensures { result ≡ length self.now.answers }
+    /// The line of this index, from 0.
+    #[inline(always)]
+    pub fn line(&self, index: usize) -> PlacedLine<'_>
+        requires { index < length self.now.lines }
+        ensures { (default : Line) → result ≡ slice_index_or self.now.lines index default }
     {
-        self.answered.places.as_slice().len()
+        match self.answered.places.get(index) {
+            Stand::Journaled(place) => PlacedLine::of_entry(self.journal.entry(place)),
+            Stand::Failed(failed) => PlacedLine::of_line(&failed.line),
+        }
     }
 
     /// The answer to the line of this index, from 0.
@@ -94,15 +74,12 @@ impl PlacedTranscript {
         requires { index < length self.now.answers }
         ensures { (default : Result Receipt CallFault) → result ≡ slice_index_or self.now.answers index default }
     {
-        match &self.answered.places.as_slice()[index] {
-            Ok(place) => {
-                let entry = &self.journal.get().entries()[*place as usize - 1];
-                Ok(PlacedReply {
-                    place: *place,
-                    reply: &entry.reply,
-                })
+        match self.answered.places.get(index) {
+            Stand::Journaled(place) => {
+                let entry = self.journal.entry(place);
+                Ok(PlacedReply::new(place, &entry.reply))
             }
-            Err(fault) => Err(*fault),
+            Stand::Failed(failed) => Err(failed.fault),
         }
     }
 }

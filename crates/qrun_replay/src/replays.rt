@@ -10,11 +10,10 @@ ghost use Rattle.qrun_replay.specs.declared.outcome.Outcome.{Outcome};
 ghost use Rattle.qrun_replay.specs.declared.replay_fault.ReplayFault.TheVariants.{Mismatch};
 ghost use Rattle.qrun_replay.specs.Runs.{IsLeftByWorkers};
 ghost use Rattle.qrun_replay.specs.Replays.{GivesBack, IsFirstMismatch, IsMismatchAfter, IsReplayOf, answered_in};
-ghost use Rattle.qrun_replay.specs.Replays.{line_of_entry};
 
 use crate::outcome::outcome_of;
-use crate::{Answered, Outcome, ReplayFault};
-use qplain::{Entry, Journal, Line, NoMemory, Reply, Setup};
+use crate::{Answered, Outcome, Places, ReplayFault};
+use qplain::{Entry, Journal, NoMemory, Reply, Setup};
 use qrules::Items;
 use qstore_journaled::JournaledStore;
 use std::alloc::Global;
@@ -61,36 +60,22 @@ fn replay_all(store: &mut JournaledStore, entries: &[Entry]) -> Result<(), Repla
     Ok(())
 }
 
-/// The line of an entry, which shares what its call has.
-fn line_of_entry(entry: &Entry) -> Result<Line, NoMemory>
-    ensures { IfOk result (λ line. line ≡ line_of_entry entry.now) }
-{
-    Ok(Line {
-        cred: entry.cred.copy()?,
-        moment: entry.moment,
-        call: entry.call.copy()?,
-    })
-}
-
-/// What a worker was answered: its own entries, of which nothing is copied, and no others.
+/// What a worker was answered: the places of its own entries, and no others.
 fn answered_of(alloc: Global, worker: u64, entries: &[Entry]) -> Result<Answered, NoMemory>
     requires few { length entries.now ≤ MAX_ENTRIES }
     ensures { IfOk result (λ answered. answered ≡ answered_in entries.now worker) }
 {
-    let mut lines = Vec::new(alloc);
-    let mut places = Vec::new(alloc);
+    let mut places = Places::new(alloc, 0)?;
     let mut place = 0u64;
     for entry in entries {
         place += 1;
         if entry.worker == worker {
-            lines.push(line_of_entry(entry)?)?;
-            places.push(Ok(place))?;
+            places.add(place)?;
         }
     }
     Ok(Answered {
         worker,
-        lines: Items::new(lines),
-        places: Items::new(places),
+        places: places.close(),
     })
 }
 

@@ -1,7 +1,8 @@
 //! Journals that have several owners.
-ghost use Rattle.std.specs.Prelude.{◌≡◌, IfOk};
+ghost use Rattle.std.specs.Prelude.{◌≡◌, ◌<◌, ◌≤◌, ◌-◌, length, slice_index_or, IfOk};
+ghost use Rattle.qplain.specs.declared.entry.Entry.{Entry as EntryValue};
 
-use qplain::{Journal, NoMemory};
+use qplain::{Entry, Journal, NoMemory};
 use std::alloc::Global;
 use std::marker::Model;
 use std::sync::Arc;
@@ -45,5 +46,14 @@ impl SharedJournal {
         ensures { result.now ≡ self.now }
     {
         &self.journal
+    }
+
+    /// The entry at a place, from 1.
+    #[inline(always)]
+    pub(crate) fn entry(&self, place: u64) -> &Entry
+        requires { (0 < place) × (place ≤ length self.now.entries) }
+        ensures { (default : EntryValue) → result.now ≡ slice_index_or self.now.entries (place - 1) default }
+    {
+        &self.get().entries()[place as usize - 1]
     }
 }

@@ -29,6 +29,7 @@ one_line_more worker lines after line seen calls answers is so_far =
     subst (λ ls. AreAnswers worker ls seen calls answers) (sym is) (record {
       few = omega (arith, length-append lines (line ∷ []), so_far.few);
       full = so_far.full;
+      low = so_far.low;
       own = subst (λ told. IsSubsequence told (entries_of seen worker)) (sym same) so_far.own;
       counted = so_far.counted ∙ ap length (sym same);
     })

@@ -1,2 +1,3 @@
--- What workers have done.
+-- What workers have done, and how they keep the lines that they have not.
 pub mod Work
+pub mod LinesLeft

@@ -1,6 +1,6 @@
 -- What workers have done, of whom each plays a script or serves a client.
-use Rattle.std.specs.Prelude.{◌≡◌, ℕ, ◌+◌, ◌<◌, ◌≤◌, ◌⊎◌, List, [], ◌∷◌, length, map, All, slice_index_or}
-use Rattle.std.specs.Prelude.{Option, IfSome, Result, Ok, Err}
+use Rattle.std.specs.Prelude.{◌≡◌, ℕ, ◌+◌, ◌<◌, ◌≤◌, ◌⊎◌, List, [], ◌∷◌, length, All, slice_index_or}
+use Rattle.std.specs.Prelude.{Option, IfSome, Result, Ok, Err, IfOk}
 use Rattle.qplain.specs.declared.call_fault.CallFault.{CallFault}
 use Rattle.qplain.specs.declared.call_fault.CallFault.TheVariants.{JournalFull}
 use Rattle.qplain.specs.declared.entry.Entry.{Entry}
@@ -9,11 +9,14 @@ use Rattle.qplain.specs.declared.receipt.Receipt.{Receipt}
 use Rattle.qplain.specs.declared.transcript.Transcript.{Transcript}
 use Rattle.qplain.specs.Journal.{entries_of}
 use Rattle.qplain.specs.Transcripts.{journaled_lines}
-use Rattle.qplain.specs.declared.bounds.TheConstants.{MAX_ENTRIES}
+use Rattle.qplain.specs.declared.bounds.TheConstants.{MAX_ENTRIES, MAX_LINES}
 use mathlib.Core.List.{IsPrefix}
 use Rattle.qshare_history.specs.Shares.{HandedIn}
 use Rattle.qshare.specs.Holds.{Holding}
 use Rattle.qshare.specs.Seats.{Seated}
+use Rattle.qrun_client.specs.declared.client.TheConstants.{MAX_GIVEN}
+use Rattle.qrun_replay.specs.declared.failed_line.FailedLine.{FailedLine}
+use Rattle.qrun_replay.specs.Places.{Standing, stand_at}
 
 -- a worker's share, and its answers
 pub record Done : Type 0 where
@@ -46,12 +49,17 @@ IsSubsequence [] ys = Unit {0}
 IsSubsequence (x ∷ xs) [] = ⊥
 IsSubsequence (x ∷ xs) (y ∷ ys) = ((x ≡ y) × IsSubsequence xs ys) ⊎ IsSubsequence (x ∷ xs) ys
 
+-- the call's place is one that a journal may have
+abbrev pub HasLowPlace : Result Receipt CallFault → Type 0
+HasLowPlace answer = IfOk answer (λ r. r.place ≤ MAX_ENTRIES)
+
 -- the answers to the first lines of a worker who has seen this much: the receipts are entries of its own, in their
 -- order, and as many calls were counted
 pub record AreAnswers (worker : ℕ) (lines : List Line) (seen : List Entry) (calls : ℕ)
     (answers : List (Result Receipt CallFault)) : Type 0 where
   pub few : length answers ≤ length lines
   pub full : All (HasSeenFull seen) answers
+  pub low : All HasLowPlace answers
   pub own : IsSubsequence (journaled_lines worker lines answers) (entries_of seen worker)
   pub counted : calls ≡ length (journaled_lines worker lines answers)
 
@@ -59,21 +67,41 @@ pub record AreAnswers (worker : ℕ) (lines : List Line) (seen : List Entry) (ca
 abbrev pub HasAnswers : List Line → Seated → List (Result Receipt CallFault) → Type 0
 HasAnswers lines seat answers = AreAnswers seat.worker lines seat.seen seat.tally.calls answers
 
--- where an answer stands: its place in the journal, or why it is in none
+-- the place of an answer in the journal, or why it is in none
 abbrev pub place_of : Result Receipt CallFault → Result ℕ CallFault
 place_of (Ok receipt) = Ok receipt.place
 place_of (Err fault) = Err fault
 
+-- where the answers to the first lines stand
+unfoldable pub stands_of : List Line → List (Result Receipt CallFault) → List (Result ℕ FailedLine)
+stands_of (line ∷ lines) (answer ∷ answers) = stand_at line (place_of answer) ∷ stands_of lines answers
+stands_of [] answers = []
+stands_of (line ∷ lines) [] = []
+
 -- these are where the answers to the first lines of a worker stand, who has seen this much
 pub record ArePlaces (worker : ℕ) (lines : List Line) (seen : List Entry) (calls : ℕ)
-    (places : List (Result ℕ CallFault)) : Type 0 where
+    (stands : List (Result ℕ FailedLine)) : Type 0 where
   pub answers : List (Result Receipt CallFault)
-  pub placed : places ≡ map place_of answers
+  pub placed : stands ≡ stands_of lines answers
   pub are : AreAnswers worker lines seen calls answers
 
--- so they are of the worker who has this seat
-abbrev pub HasPlaces : List Line → Seated → List (Result ℕ CallFault) → Type 0
-HasPlaces lines seat places = ArePlaces seat.worker lines seat.seen seat.tally.calls places
+-- the lines of a script, and how many of them were taken
+pub record Taking : Type 0 where
+  pub all : List Line
+  pub taken : ℕ
+
+-- no line of a script was taken, no answer stands anywhere, and there is room for all
+pub record IsNew (lines : Taking) (places : Standing) : Type 0 where
+  pub short : length lines.all ≤ MAX_LINES
+  pub none : (lines.taken ≡ 0) × (places.stands ≡ [])
+  pub room : length lines.all ≤ places.room
+
+-- the worker of this seat, who has seen this much, was answered each line that was taken, and there is room for all
+pub record IsUnderWay (lines : Taking) (seen : List Entry) (seat : Seated) (places : Standing) : Type 0 where
+  pub placed : ArePlaces seat.worker lines.all seen seat.tally.calls places.stands
+  pub each : length places.stands ≡ lines.taken
+  pub few : lines.taken ≤ length lines.all
+  pub room : length lines.all ≤ lines.taken + places.room
 
 -- the worker who has this seat holds the lock, may make N calls under it, and has seen a prefix of the journal
 pub record MayMake (many : ℕ) (held : Holding) (seat : Seated) : Type 0 where
@@ -87,15 +115,20 @@ pub record IsWork (worker : ℕ) (lines : List Line) (d : Done) : Type 0 where
   pub each : length d.answers ≡ length lines
   pub are : AreAnswers worker lines d.share.seen d.share.tally.calls d.answers
 
--- a worker's share, and the places of its answers
+-- a worker's share, and where its answers stand
 pub record Placed : Type 0 where
   pub share : HandedIn
-  pub places : List (Result ℕ CallFault)
+  pub places : Standing
 
--- the share of the worker who has played this script, and the place of an answer to each line
+-- where these answers stand, and there are no more
+abbrev pub standing_of : List Line → List (Result Receipt CallFault) → Standing
+standing_of lines answers = record { stands = stands_of lines answers; room = 0 }
+
+-- the share of the worker who has played this script, and where an answer to each line stands
 pub record IsPlaced (worker : ℕ) (lines : List Line) (p : Placed) : Type 0 where
+  pub short : length lines ≤ MAX_LINES
   pub answers : List (Result Receipt CallFault)
-  pub placed : p.places ≡ map place_of answers
+  pub placed : p.places ≡ standing_of lines answers
   pub work : IsWork worker lines (record { share = p.share; answers = answers })
 
 -- each worker, from 1, has played its script
@@ -115,8 +148,9 @@ pub record Serving : Type 0 where
   pub transcript : Transcript
 
 -- the share and the transcript of this worker, with an answer to each line, which are those of the script, where that
--- is known
+-- is known, and no more than a client may hand out
 pub record IsServed (worker : ℕ) (script : Option (List Line)) (s : Serving) : Type 0 where
   pub worker_is : s.transcript.worker ≡ worker
   pub work : IsWork worker s.transcript.lines (record { share = s.share; answers = s.transcript.answers })
   pub script_is : IfSome script (λ lines. s.transcript.lines ≡ lines)
+  pub few : length s.transcript.lines ≤ MAX_GIVEN

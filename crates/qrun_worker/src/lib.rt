@@ -4,11 +4,10 @@
 
 pub use attending::{Attendant, Served, Serves, attend};
 pub use gate::{Gate, NoGate};
-pub use place::{Place, places_of};
 pub use worker::{Plays, Work, Worker, play, worker_of};
 
 mod attending;
 mod gate;
-mod place;
+mod lines;
 mod serving;
 mod worker;

@@ -16,11 +16,12 @@ abbrev pub IsAt : List Entry → ℕ → Entry → Type 0
 IsAt xs place e =
     (before : List Entry) × (after : List Entry) × (xs ≡ before ++ e ∷ after) × (place ≡ length before + 1)
 
--- the line stands in what the seat has seen, at the receipt's place and with its reply, after all that it had seen; it
--- is counted once
+-- the line stands in what the seat has seen, at the receipt's place, which a journal may have, with its reply, after
+-- all that it had seen; and it is counted once
 pub record IsCalled (line : Line) (old new : Seated) (receipt : Receipt) : Type 0 where
   pub stands : IsAt new.seen receipt.place (entry_of old.worker line receipt.reply)
   pub later : length old.seen < receipt.place
+  pub few : receipt.place ≤ MAX_ENTRIES
   pub tally : new.tally ≡ counted old.tally (change_of receipt.reply)
 
 -- the journal has one entry more, which is this worker's line with the receipt's reply, at its place; and it is counted

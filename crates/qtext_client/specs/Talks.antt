@@ -1,6 +1,6 @@
 -- What a client and a store have said to each other.
 use Rattle.std.specs.Prelude.{◌≤◌, ℕ, List, Option, IfSome, Result}
-use Rattle.qtext_client.specs.declared.stream_client.TheConstants.{MAX_GIVEN}
+use Rattle.qrun_client.specs.declared.client.TheConstants.{MAX_GIVEN}
 use Rattle.qplain.specs.declared.call_fault.CallFault.{CallFault}
 use Rattle.qplain.specs.declared.line.Line.{Line}
 use Rattle.qplain.specs.declared.receipt.Receipt.{Receipt}

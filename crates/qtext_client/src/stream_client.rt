@@ -2,7 +2,7 @@
 ghost use Rattle.std.specs.Prelude.{◌≡◌, ◌<◌, ◌≤◌, ◌∷◌, ◌++◌, [], true, false, Some, IfSome, cond, length};
 ghost use Rattle.std.specs.Prelude.{vec_capacity, vec_len};
 ghost use Rattle.qtext_client.specs.BoundedLines.{IsOneLine};
-ghost use Rattle.qtext_client.specs.declared.stream_client.TheConstants.{MAX_GIVEN};
+ghost use Rattle.qrun_client.specs.declared.client.TheConstants.{MAX_GIVEN};
 ghost use Rattle.qtext_client.specs.Hearings.{HearsText, IsLine};
 ghost use Rattle.qtext_client.specs.Talks.{HasRoom};
 ghost use Rattle.qtext_client.specs.Tellings.{AreTold, answer_in};
@@ -15,14 +15,10 @@ use crate::streams::Streams;
 use crate::telling::{LineFault, Telling};
 use qplain::{Line, Transcript};
 use qrules::Items;
-use qrun_client::{Answer, Client, ClientEnd, KeepsLines};
+use qrun_client::{Answer, Client, ClientEnd, KeepsLines, MAX_GIVEN};
 use qtext::TextKind;
 use std::alloc::Global;
 use std::marker::Model;
-
-/// As many lines a client hands out at most: they are held to its end. Twice as many as a journal has entries, so a
-/// full one is told first.
-const MAX_GIVEN: usize = 2_097_152;
 
 /// What came of the next line.
 #[derive(Drop)]

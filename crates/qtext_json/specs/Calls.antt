@@ -3,10 +3,10 @@ use Rattle.std.specs.Prelude.{ℕ, List, [], ◌∷◌, Option, codes, decimal}
 use Rattle.std.specs.List.{concat}
 use Rattle.json.specs.Print.{quoted}
 use Rattle.qrules.specs.declared.limits.Limits.{Limits}
+use Rattle.qplain.specs.Caller.{Caller}
 use Rattle.qplain.specs.declared.call.Call.{Call}
 use Rattle.qplain.specs.declared.call.Call.TheVariants.{Create, Mkdir, Write, Truncate, Read, Stat, Link, Unlink}
 use Rattle.qplain.specs.declared.call.Call.TheVariants.{Rmdir, Rename, Chown, SetQuota, SetGrace, Quota}
-use Rattle.qplain.specs.declared.line.Line.{Line}
 use Rattle.qtext.specs.RuleWords.{kind_text}
 use Rattle.qtext_read.specs.Spelling.{caller_text}
 use Rattle.qtext_json.specs.Values.{digits_text, member, nested, or_null}
@@ -68,6 +68,6 @@ call_members (Quota kind id) = concat (nested (codes "call") (codes "quota")
     ∷ member (codes "kind") (quoted (kind_text kind)) ∷ member (codes "id") (decimal id) ∷ codes "}" ∷ [])
 
 -- the moment and the caller of a line
-abbrev pub caller_members : Line → List ℕ
-caller_members l = concat (member (codes "moment") (decimal l.moment)
-    ∷ member (codes "caller") (quoted (caller_text l.cred)) ∷ [])
+abbrev pub caller_members : ℕ → Caller → List ℕ
+caller_members moment caller = concat (member (codes "moment") (decimal moment)
+    ∷ member (codes "caller") (quoted (caller_text caller)) ∷ [])

@@ -9,7 +9,7 @@ ghost use Rattle.qtext_json.specs.Calls.{on_path, on_paths, setquota_members, wr
 use crate::part::{Part, put_parts};
 use crate::value::{Value, id_or_null};
 use qblocks::Input;
-use qplain::{Call, Line, Path};
+use qplain::{Call, Cred, Path};
 use qrules::{Graces, Kind, Limits};
 use qtext::{RefusedWrite, TextLine, kind_word};
 use qtext_write::put_caller;
@@ -206,13 +206,17 @@ pub fn put_call<W: Write>(out: &mut W, call: &Call) -> Result<(), RefusedWrite>
 }
 
 /// Writes a line's moment and caller as members.
-pub fn put_caller_members<W: Write>(out: &mut W, line: &Line) -> Result<(), RefusedWrite>
-    ensures { Writes (W.contents out.old) (W.contents out.new) result (caller_members line.now) }
+pub fn put_caller_members<W: Write>(
+    out: &mut W,
+    moment: u64,
+    cred: &Cred,
+) -> Result<(), RefusedWrite>
+    ensures { Writes (W.contents out.old) (W.contents out.new) result (caller_members moment cred.now) }
 {
     let mut caller = TextLine::new();
-    put_caller(&mut caller, &line.cred);
+    put_caller(&mut caller, cred);
     let parts = [
-        Part::Member(b"moment", Value::Number(line.moment)),
+        Part::Member(b"moment", Value::Number(moment)),
         Part::Member(b"caller", Value::Text(caller.as_slice())),
     ];
     put_parts(out, &parts)

@@ -1,9 +1,8 @@
 -- Lines and what they were answered, one after the other.
-use Rattle.std.proofs.Common.{◌≡◌, ◌+◌, ◌<◌, ◌≤◌, ◌∙◌, ℕ, ap, add-one, append_assoc, codes, decimal, drop-cons, drop, get_or, length, List, [], ◌∷◌, ◌++◌, Result, refl, sym, min, inl, inr, arith, tests, zero, suc, true, Some, ◌==◌}
+use Rattle.std.proofs.Common.{◌≡◌, ◌+◌, ◌<◌, ◌≤◌, ◌∙◌, ℕ, ap, add-one, append_assoc, codes, decimal, drop-cons, drop, get_or, length, List, [], ◌∷◌, ◌++◌, Result, refl, sym, arith, tests, zero, suc, true, Some, ◌==◌}
 use Rattle.std.specs.Prelude.{nat_lt, replicate}
 use Rattle.std.specs.List.{list_all}
 use Rattle.hex.specs.Hex.{encode_lower}
-use Rattle.std.proofs.lemmas.Bool.{cases_lt}
 use Rattle.std.proofs.lemmas.List.{drop_all, length-replicate}
 use Rattle.qtext_read.specs.Spelling.{caller_text}
 use Rattle.qplain.specs.declared.call_fault.CallFault.{CallFault}
@@ -22,32 +21,14 @@ called_next place i ls answers l a line answer few many =
     let told : drop i answers ≡ a ∷ drop (i + 1) answers = rw (answer, add-one) (drop-cons answers i a many) in
     rw (lines, told) refl
 
-no_answer : (place : ℕ) (ls : List Line) → called_lines place ls [] ≡ []
-unfolding called_lines
-no_answer place [] = refl
-no_answer place (l ∷ ls) = refl
-
 no_line : (place : ℕ) (answers : List (Result Receipt CallFault)) → called_lines place [] answers ≡ []
 unfolding called_lines
 no_line place answers = refl
 
 -- none is left where the lines have come to their end
-lines_over : (place i : ℕ) (ls : List Line) (answers : List (Result Receipt CallFault)) → length ls ≤ i
+pub over : (place i : ℕ) (ls : List Line) (answers : List (Result Receipt CallFault)) → length ls ≤ i
     → called_lines place (drop i ls) (drop i answers) ≡ []
-lines_over place i ls answers over = rw (drop_all i ls over) (no_line place (drop i answers))
-
--- or the answers
-answers_over : (place i : ℕ) (ls : List Line) (answers : List (Result Receipt CallFault)) → length answers ≤ i
-    → called_lines place (drop i ls) (drop i answers) ≡ []
-answers_over place i ls answers over = rw (drop_all i answers over) (no_answer place (drop i ls))
-
--- or either
-pub over : (place i : ℕ) (ls : List Line) (answers : List (Result Receipt CallFault)) → min (length ls) (length answers) ≤ i
-    → called_lines place (drop i ls) (drop i answers) ≡ []
-over place i ls answers least = elim (cases_lt i (length ls)) [
-  | inl more ↦ answers_over place i ls answers (omega arith)
-  | inr none ↦ lines_over place i ls answers none
-]
+over place i ls answers end = rw (drop_all i ls end) (no_line place (drop i answers))
 
 -- what stands before a call, from its parts
 pub head_parts : (place : ℕ) (l : Line) → line_head place l

@@ -1,2 +1,3 @@
--- Lines beside what they were answered.
+-- Lines beside what they were answered, and the greatest moment of lines.
 pub mod CalledLines
+pub mod LastMoments

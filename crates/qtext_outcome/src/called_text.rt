@@ -9,8 +9,8 @@ ghost use Rattle.qtext_outcome.specs.Calls.{shown_call};
 
 use crate::transcript_text::{put_answer, put_worker};
 use qblocks::Input;
-use qplain::{Call, CallFault, Line, Path};
-use qrun_replay::{PlacedReply, PlacedTranscript};
+use qplain::{Call, CallFault, Path};
+use qrun_replay::{PlacedLine, PlacedReply, PlacedTranscript};
 use qtext::{RefusedWrite, TextLine};
 use qtext_write::{CALL_PLACE, CALL_ROOM, put_call, put_caller};
 use std::io::Write;
@@ -98,18 +98,18 @@ fn put_called<W: Write>(
     out: &mut W,
     text: &mut TextLine,
     place: u64,
-    line: &Line,
+    line: &PlacedLine<'_>,
     answer: Result<PlacedReply<'_>, CallFault>,
 ) -> Result<(), RefusedWrite>
     ensures { Writes (W.contents out.old) (W.contents out.new) result (called_text place line.now answer.entry) }
 {
     text.clear();
     text.number(place);
-    text.field(line.moment);
+    text.field(line.moment());
     text.byte(b' ');
-    put_caller(text, &line.cred);
+    put_caller(text, line.cred());
     text.byte(b' ');
-    put_shown_call(out, text, &line.call)?;
+    put_shown_call(out, text, line.call())?;
     text.text(b" => ");
     text.put_all(out)?;
     put_answer(out, text, answer)
@@ -123,11 +123,11 @@ fn put_called_lines<W: Write>(
     ensures { Writes (W.contents out.old) (W.contents out.new) result
         (called_lines 1 transcript.now.lines transcript.now.answers) }
 {
-    let lines = transcript.lines();
     let mut text = TextLine::new();
-    for at in 0..lines.len().min(transcript.len()) {
+    for at in 0..transcript.len() {
+        let line = transcript.line(at);
         let answer = transcript.answer(at);
-        put_called(out, &mut text, at as u64 + 1, &lines[at], answer)?;
+        put_called(out, &mut text, at as u64 + 1, &line, answer)?;
     }
     Ok(())
 }

@@ -2,17 +2,16 @@
 ghost use Rattle.std.specs.Prelude.{◌≡◌, fold, map, max};
 ghost use Rattle.qtext_outcome.specs.Moments.{moment_of, moments_in};
 
-use qplain::Line;
 use qrun_replay::PlacedTranscript;
 use qtext_view::ReportMoment;
 
-/// The greatest of a moment and those of the lines.
-fn last_of(lines: &[Line], least: u64) -> u64
-    ensures { result ≡ fold max least (map (λ l. l.moment) lines.now) }
+/// The greatest of a moment and those of a transcript's lines.
+fn last_of(transcript: &PlacedTranscript, least: u64) -> u64
+    ensures { result ≡ fold max least (map (λ l. l.moment) transcript.now.lines) }
 {
     let mut last = least;
-    for line in lines {
-        last = last.max(line.moment);
+    for at in 0..transcript.len() {
+        last = last.max(transcript.line(at).moment());
     }
     last
 }
@@ -23,7 +22,7 @@ fn last_moment(transcripts: &[PlacedTranscript]) -> u64
 {
     let mut last = 0;
     for transcript in transcripts {
-        last = last_of(transcript.lines(), last);
+        last = last_of(transcript, last);
     }
     last
 }

@@ -1,6 +1,5 @@
 -- The objects of lines, one after the other.
-use Rattle.std.proofs.Common.{◌≡◌, ◌+◌, ◌<◌, ◌≤◌, ℕ, Bool, add-one, drop-cons, drop, get_or, length, List, [], ◌∷◌, ◌++◌, Result, refl, min, inl, inr, arith}
-use Rattle.std.proofs.lemmas.Bool.{cases_lt}
+use Rattle.std.proofs.Common.{◌≡◌, ◌+◌, ◌<◌, ◌≤◌, ℕ, Bool, add-one, drop-cons, drop, get_or, length, List, [], ◌∷◌, ◌++◌, Result, refl}
 use Rattle.std.proofs.lemmas.List.{drop_all}
 use Rattle.qplain.specs.declared.call_fault.CallFault.{CallFault}
 use Rattle.qplain.specs.declared.line.Line.{Line}
@@ -18,30 +17,11 @@ next_line calls worker place i ls answers l a line answer few many =
     let told : drop i answers ≡ a ∷ drop (i + 1) answers = rw (answer, add-one) (drop-cons answers i a many) in
     rw (lines, told) refl
 
-no_answer : (calls : Bool) (worker place : ℕ) (ls : List Line) → line_objects calls worker place ls [] ≡ []
-unfolding line_objects
-no_answer calls worker place [] = refl
-no_answer calls worker place (l ∷ ls) = refl
-
 no_line : (calls : Bool) (worker place : ℕ) (answers : List (Result Receipt CallFault)) → line_objects calls worker place [] answers ≡ []
 unfolding line_objects
 no_line calls worker place answers = refl
 
 -- none is left where the lines have come to their end
-lines_over : (calls : Bool) (worker place i : ℕ) (ls : List Line) (answers : List (Result Receipt CallFault)) → length ls ≤ i
+pub over : (calls : Bool) (worker place i : ℕ) (ls : List Line) (answers : List (Result Receipt CallFault)) → length ls ≤ i
     → line_objects calls worker place (drop i ls) (drop i answers) ≡ []
-lines_over calls worker place i ls answers over = rw (drop_all i ls over) (no_line calls worker place (drop i answers))
-
--- or the answers
-answers_over : (calls : Bool) (worker place i : ℕ) (ls : List Line) (answers : List (Result Receipt CallFault)) → length answers ≤ i
-    → line_objects calls worker place (drop i ls) (drop i answers) ≡ []
-answers_over calls worker place i ls answers over = rw (drop_all i answers over) (no_answer calls worker place (drop i ls))
-
--- or either
-pub over : (calls : Bool) (worker place i : ℕ) (ls : List Line) (answers : List (Result Receipt CallFault))
-    → min (length ls) (length answers) ≤ i
-    → line_objects calls worker place (drop i ls) (drop i answers) ≡ []
-over calls worker place i ls answers least = elim (cases_lt i (length ls)) [
-  | inl more ↦ answers_over calls worker place i ls answers (omega arith)
-  | inr none ↦ lines_over calls worker place i ls answers none
-]
+over calls worker place i ls answers end = rw (drop_all i ls end) (no_line calls worker place (drop i answers))

@@ -30,7 +30,7 @@ shown_call call = call_members call
 
 -- the moment, the caller and the call of a line
 abbrev pub asked_members : Line → List ℕ
-asked_members l = caller_members l ++ shown_call l.call
+asked_members l = caller_members l.moment l.cred ++ shown_call l.call
 
 -- a line's object: whose it is, what it asked for where calls are to be shown, and what it was answered
 abbrev pub line_object : Bool → ℕ → ℕ → Line → Result Receipt CallFault → List ℕ

@@ -5,8 +5,8 @@ ghost use Rattle.qtext_rows.specs.Lines.{asked_members, line_object, line_start,
 ghost use Rattle.qtext_rows.specs.Lines.{transcript_objects, transcripts_objects};
 ghost use Rattle.qtext_json.specs.Replies.{answer_members};
 
-use qplain::{Call, CallFault, Line};
-use qrun_replay::{PlacedReply, PlacedTranscript};
+use qplain::{Call, CallFault};
+use qrun_replay::{PlacedLine, PlacedReply, PlacedTranscript};
 use qtext::RefusedWrite;
 use qtext_json::{
     Part, Value, put_call, put_caller_members, put_failed, put_fill, put_parts, put_receipt,
@@ -38,16 +38,15 @@ fn put_shown_call<W: Write>(out: &mut W, call: &Call) -> Result<(), RefusedWrite
     }
 }
 
-#[tactic(auto, using(qtext::proofs::Fronts::front_of_first, qtext::proofs::Fronts::writes_then))]
-fn put_asked<W: Write>(out: &mut W, line: &Line) -> Result<(), RefusedWrite>
+fn put_asked<W: Write>(out: &mut W, line: &PlacedLine<'_>) -> Result<(), RefusedWrite>
     ensures { Writes (W.contents out.old) (W.contents out.new) result (asked_members line.now) }
 {
-    put_caller_members(out, line)?;
-    put_shown_call(out, &line.call)
+    put_caller_members(out, line.moment(), line.cred())?;
+    put_shown_call(out, line.call())
 }
 
 /// Writes what a line asked for, where calls are to be shown.
-fn put_shown<W: Write>(out: &mut W, calls: bool, line: &Line) -> Result<(), RefusedWrite>
+fn put_shown<W: Write>(out: &mut W, calls: bool, line: &PlacedLine<'_>) -> Result<(), RefusedWrite>
     ensures { Writes (W.contents out.old) (W.contents out.new) result (if calls then asked_members line.now else []) }
 {
     if calls { put_asked(out, line) } else { Ok(()) }
@@ -70,7 +69,7 @@ fn put_answer<W: Write>(
 fn put_rest<W: Write>(
     out: &mut W,
     calls: bool,
-    line: &Line,
+    line: &PlacedLine<'_>,
     answer: Result<PlacedReply<'_>, CallFault>,
 ) -> Result<(), RefusedWrite>
     ensures { Writes (W.contents out.old) (W.contents out.new) result
@@ -87,7 +86,7 @@ fn put_line<W: Write>(
     calls: bool,
     worker: u64,
     place: u64,
-    line: &Line,
+    line: &PlacedLine<'_>,
     answer: Result<PlacedReply<'_>, CallFault>,
 ) -> Result<(), RefusedWrite>
     ensures { Writes (W.contents out.old) (W.contents out.new) result
@@ -106,10 +105,10 @@ fn put_transcript<W: Write>(
     ensures { Writes (W.contents out.old) (W.contents out.new) result (transcript_objects calls transcript.now) }
 {
     let worker = transcript.worker();
-    let lines = transcript.lines();
-    for at in 0..lines.len().min(transcript.len()) {
+    for at in 0..transcript.len() {
+        let line = transcript.line(at);
         let answer = transcript.answer(at);
-        put_line(out, calls, worker, at as u64 + 1, &lines[at], answer)?;
+        put_line(out, calls, worker, at as u64 + 1, &line, answer)?;
     }
     Ok(())
 }

@@ -1,6 +1,7 @@
 //! Clients served by workers, beside a monitor.
 ghost use Rattle.std.specs.Prelude.{◌≡◌, ◌+◌, ◌≤◌, [], IfOk, vec_len, vec_capacity};
 ghost use Rattle.std.specs.Vec.Iter.{into_iter_len};
+ghost use Rattle.qplain.specs.declared.bounds.TheConstants.{MAX_LINES};
 
 use crate::given::{FIRST_FILES, OTHER_FILES, script, setup};
 use qplain::{Board, Edition, Line, NoMemory, Script, Transcript};
@@ -23,6 +24,7 @@ struct Prepared {
     ghost room: { vec_len given + into_iter_len rest ≤ vec_capacity given },
     ghost answered: { vec_len answers ≤ vec_len given },
     ghost place: { vec_capacity given ≤ vec_capacity answers },
+    ghost few: { vec_len given + into_iter_len rest ≤ MAX_LINES },
 }
 
 impl Prepared {
@@ -123,7 +125,7 @@ fn the_last_board_of_a_service_is_shown(rt: HostRuntime) -> Result<(), Fail> {
         return Err(Fail::from("an outcome"));
     };
     let entries = service.outcome.journal.get().entries().len();
-    let lines = service.outcome.transcripts.as_slice()[0].lines().len();
+    let lines = service.outcome.transcripts.as_slice()[0].len();
     assert_eq!(rt; (entries, lines, service.ends.len()), (6, 3, 2));
     assert_eq!(rt; version.load(SeqCst), 6);
     assert!(rt; boards.load(SeqCst) > 0);

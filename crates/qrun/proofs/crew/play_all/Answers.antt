@@ -9,7 +9,7 @@ pub scoped-requires : goal.scoped-requires
 scoped-requires g c =
     let looks = c.in_ok-looks.looks in
     let room : c.args.options.boards ≤ vec_capacity looks = omega (arith, c.in_ok-looks.ensures.capacity) in
-    let ready : AreReady c.args.scripts.now c.args.options.boards c.in_ok-workers.workers.items c.args.watcher (vec_len looks) (vec_capacity looks) =
-    all_ready c.args.scripts.now c.args.options.boards c.in_ok-workers.workers.items c.args.watcher (vec_len looks) (vec_capacity looks)
+    let ready : AreReady c.args.scripts.items c.args.options.boards c.in_ok-workers.workers.items c.args.watcher (vec_len looks) (vec_capacity looks) =
+    all_ready c.args.scripts.items c.args.options.boards c.in_ok-workers.workers.items c.args.watcher (vec_len looks) (vec_capacity looks)
     c.in_ok-workers.ensures c.requires.watcher_is c.in_ok-looks.ensures.len room in
     grind (serving, ready)

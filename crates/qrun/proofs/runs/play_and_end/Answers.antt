@@ -10,17 +10,19 @@ use Rattle.qrun.proofs.NeverFull.{never_full}
 use Rattle.qrun.proofs.Placing.{all_placed}
 use Rattle.qrun.proofs.Running.{is_run, played_of}
 use Rattle.qrun.proofs.Told.{all_there, all_told, lines_told}
+use Rattle.qrun.proofs.ToldSoFar.{works_placed}
 use Rattle.qrun.proofs.Watched.{all_front, all_seats_there, as_many_looks, calls_counted, looks_lawful}
 use Rattle.qrun.proofs.runs.play_and_end.Goals as goal
 
 pub make_outcome-requires-clause-told : goal.make_outcome-requires-clause-told
 make_outcome-requires-clause-told g c =
     let played =
-    played_of g.S.StoreId.id.setting c.deref.result.now c.args.scripts.items c.args.options.boards c.in_ok-works.field-0
-    (record { works = c.works.inside.works.items; watch = c.works.inside.watch }) c.deref.ensures.value c.works.view_is c.in_ok-works.ensures in
+    played_of g.S.StoreId.id.setting c.args.scripts.items c.args.options.boards c.in_ok-works.field-0
+    (record { works = c.works.inside.works.items; watch = c.works.inside.watch }) c.works.view_is c.in_ok-works.ensures in
     let own = c.in_ok-own.own.items in
     let all = c.in_ok-own.answered.items in
-    let placed = c.in_ok-own.ensures.told in
+    let placed = works_placed c.args.scripts.items c.works.inside.works.items c.in_ok-own.own.items c.in_ok-own.answered.items played.0
+    c.in_ok-own.ensures.shares c.in_ok-own.ensures.answered in
     let scripts = c.args.scripts.items in
     let journal = c.in-Ok.store.journal in
     let watch = c.works.inside.watch in
@@ -37,8 +39,8 @@ make_outcome-requires-clause-told g c =
 pub make_outcome-requires-clause-lawful : goal.make_outcome-requires-clause-lawful
 make_outcome-requires-clause-lawful g c =
     let played =
-    played_of g.S.StoreId.id.setting c.deref.result.now c.args.scripts.items c.args.options.boards c.in_ok-works.field-0
-    (record { works = c.works.inside.works.items; watch = c.works.inside.watch }) c.deref.ensures.value c.works.view_is c.in_ok-works.ensures in
+    played_of g.S.StoreId.id.setting c.args.scripts.items c.args.options.boards c.in_ok-works.field-0
+    (record { works = c.works.inside.works.items; watch = c.works.inside.watch }) c.works.view_is c.in_ok-works.ensures in
     let journal = c.in-Ok.store.journal in
     let looks = c.in_ok-shares.looks.items in
     subst (λ s. AreLawful (start s) journal (boards_in looks)) (sym c.in-Ok.ensures.setting)
@@ -49,15 +51,17 @@ make_outcome-requires-clause-lawful g c =
 pub unreachable-requires : goal.unreachable-requires
 unreachable-requires g c =
     let played =
-    played_of g.S.StoreId.id.setting c.deref.result.now c.args.scripts.items c.args.options.boards c.in_ok-works.field-0
-    (record { works = c.works.inside.works.items; watch = c.works.inside.watch }) c.deref.ensures.value c.works.view_is c.in_ok-works.ensures in
+    played_of g.S.StoreId.id.setting c.args.scripts.items c.args.options.boards c.in_ok-works.field-0
+    (record { works = c.works.inside.works.items; watch = c.works.inside.watch }) c.works.view_is c.in_ok-works.ensures in
     let own = c.in_ok-own.own.items in
+    let placed = works_placed c.args.scripts.items c.works.inside.works.items c.in_ok-own.own.items c.in_ok-own.answered.items played.0
+    c.in_ok-own.ensures.shares c.in_ok-own.ensures.answered in
     let scripts = c.args.scripts.items in
     let boards = c.args.options.boards in
     let watch = c.works.inside.watch in
     let there : AreThere (own ++ shares_in watch) (seats_for (length scripts) boards) =
     all_seats_there (start g.S.StoreId.id.setting) (length scripts) boards own watch
-    (all_there scripts own c.in_ok-own.ensures.told.ts c.in_ok-own.ensures.told.told) played.1 in
+    (all_there scripts own placed.ts placed.told) played.1 in
     let all : AreThere c.in_ok-shares.shares.items g.S.StoreId.id.counters.parts =
     subst (AreThere c.in_ok-shares.shares.items) (sym c.requires.seats)
     (subst (λ xs. AreThere xs (seats_for (length scripts) boards)) (sym c.in_ok-shares.ensures.shares) there) in
@@ -67,14 +71,15 @@ unreachable-requires g c =
 pub returns : goal.returns
 returns g c =
     let played =
-    played_of g.S.StoreId.id.setting c.deref.result.now c.args.scripts.items c.args.options.boards c.in_ok-works.field-0
-    (record { works = c.works.inside.works.items; watch = c.works.inside.watch }) c.deref.ensures.value c.works.view_is c.in_ok-works.ensures in
+    played_of g.S.StoreId.id.setting c.args.scripts.items c.args.options.boards c.in_ok-works.field-0
+    (record { works = c.works.inside.works.items; watch = c.works.inside.watch }) c.works.view_is c.in_ok-works.ensures in
     let setting = g.S.StoreId.id.setting in
     let S = start setting in
     let scripts = c.args.scripts.items in
     let boards = c.args.options.boards in
     let own = c.in_ok-own.own.items in
-    let placed = c.in_ok-own.ensures.told in
+    let placed = works_placed c.args.scripts.items c.works.inside.works.items c.in_ok-own.own.items c.in_ok-own.answered.items played.0
+    c.in_ok-own.ensures.shares c.in_ok-own.ensures.answered in
     let ts = placed.ts in
     let looks = c.in_ok-shares.looks.items in
     let journal = c.in-Ok.store.journal in
@@ -88,7 +93,7 @@ returns g c =
     let whole = all_told scripts own ts journal c.requires.few placed.told seen counted c.in-Ok.ensures.end.played.few in
     let same = (all_placed scripts own c.in_ok-own.answered.items ts journal placed.placed placed.told seen whole).1 in
     is_run setting scripts boards ts looks c.make_outcome.result lines
-    (never_full journal ts whole (subst AreShort (sym lines) c.in_ok-own.ensures.short)) many
+    (never_full journal ts whole (subst AreShort (sym lines) placed.short)) many
     (subst (λ s. IfOk c.make_outcome.result (IsServiceOf s)) c.in-Ok.ensures.setting c.make_outcome.ensures.outcome)
     (subst (λ xs. IfOk c.make_outcome.result (λ o. (o.transcripts ≡ xs) × (o.boards ≡ looks))) same c.make_outcome.ensures.told)
     c.make_outcome.ensures.fault

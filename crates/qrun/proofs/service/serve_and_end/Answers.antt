@@ -3,9 +3,12 @@ use Rattle.std.proofs.lemmas.List.{length-map}
 use Rattle.qplain.specs.State.{start}
 use Rattle.qaudit_checks.specs.LawfulBoards.{AreLawful, boards_in}
 use Rattle.qrun.specs.Serving.{HasSeatIn}
-use Rattle.qrun.proofs.Attended.{all_shares_there, attended_by, no_looks, of_clients, served_placed, shown_lawful, staff_fits}
+use Rattle.qrun.proofs.Attended.{all_shares_there, attended_by, can_be_placed, no_looks, of_clients, served_placed, shown_lawful, staff_fits}
 use Rattle.qrun.proofs.Naming.{names_on}
 use Rattle.qrun.proofs.service.serve_and_end.Goals as goal
+
+pub part_served-requires : goal.part_served-requires
+part_served-requires g c = can_be_placed _ c.in_ok-served.served.items c.in_ok-served.ensures.0
 
 pub make_outcome-requires-clause-told : goal.make_outcome-requires-clause-told
 make_outcome-requires-clause-told g c =

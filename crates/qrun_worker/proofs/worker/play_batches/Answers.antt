@@ -1,17 +1,15 @@
-use Rattle.std.proofs.Common.{arith, refl, sym, ◌∙◌}
-use Rattle.qrun_worker.proofs.Working.{none_placed_yet, played_whole}
+use Rattle.std.proofs.Common.{arith, refl, subst, sym}
+use Rattle.qrun_replay.specs.Places.{Standing}
+use Rattle.qrun_worker.specs.Work.{IsPlaced}
+use Rattle.qrun_worker.proofs.UnderWay.{none_yet, played_whole}
 use Rattle.qrun_worker.proofs.worker.play_batches.Goals as goal
 
-pub loop-places-init : goal.loop-places-init
-loop-places-init g c = (
-  none_placed_yet c.args.lines.now c.args.seat c.args.places.items c.requires.seat (sym c.args.places.ok.0 ∙ c.requires.room.0),
-  omega (arith, c.requires.room.0),
-  c.requires.room.1,
-  refl,
-)
+pub loop-lines-init : goal.loop-lines-init
+loop-lines-init g c = (none_yet c.args.lines c.args.seat c.args.places c.requires.new c.requires.seat, refl, refl)
 
 pub returns : goal.returns
 returns g c =
-    let so_far = c.loop-places.invariant in
-    played_whole c.args.lines.now c.loop-places.seat c.loop-places.places.items c.args.seat.worker c.finish.result so_far.0
-    (omega (arith, c.loop-places-test.false, c.loop-places.places.ok.0)) so_far.3 c.finish.ensures
+    let so_far = c.loop-lines.invariant in
+    subst (λ (p : Standing). IsPlaced c.args.seat.worker c.args.lines.all (record { share = c.finish.result; places = p })) (sym c.close.ensures)
+    (played_whole c.loop-lines.lines c.loop-lines.seat c.loop-lines.places c.args.seat.worker c.args.lines.all c.finish.result so_far.0
+    (omega (arith, c.loop-lines-test.false, c.len.ensures)) c.requires.new.short so_far.2 so_far.1 c.finish.ensures)

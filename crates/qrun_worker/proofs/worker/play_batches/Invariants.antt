@@ -1,11 +1,10 @@
-use Rattle.std.proofs.Common.{◌≡◌, ◌-◌, ◌≤◌, length}
-use Rattle.std.specs.Vec.{vec_capacity, vec_len}
-use Rattle.qrun_worker.specs.Work.{HasPlaces}
+use Rattle.std.proofs.Common.{◌≡◌, ◌-◌, length}
+use Rattle.qrun_worker.specs.Work.{IsUnderWay}
 use Rattle.qrun_worker.proofs.worker.play_batches.Given as goal
 
-abbrev pub invariant-loop-places : goal.invariant-loop-places
-invariant-loop-places g l = HasPlaces l.lines l.seat l.places.items × (vec_len l.places ≤ length l.lines)
-    × (length l.lines ≤ vec_capacity l.places) × (l.seat.worker ≡ l.fn.seat.worker)
+abbrev pub invariant-loop-lines : goal.invariant-loop-lines
+invariant-loop-lines g l = IsUnderWay l.lines l.seat.seen l.seat l.places × (l.lines.all ≡ l.fn.lines.all)
+    × (l.seat.worker ≡ l.fn.seat.worker)
 
-abbrev pub decreases-loop-places : goal.decreases-loop-places
-decreases-loop-places g l = length l.lines - vec_len l.places
+abbrev pub decreases-loop-lines : goal.decreases-loop-lines
+decreases-loop-lines g l = length l.lines.all - l.lines.taken

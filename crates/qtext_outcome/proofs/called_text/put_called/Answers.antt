@@ -1,6 +1,7 @@
-use Rattle.std.proofs.Common.{◌++◌, List, ℕ, codes, refl}
+use Rattle.std.proofs.Common.{◌++◌, List, ℕ, ap, codes, refl}
 use Rattle.qtext.proofs.Fronts.{ends_refused, partly_done, partly_on, partly_then, writes_then}
 use Rattle.qtext_write.proofs.Behind.{behind, refused_whole}
+use Rattle.qtext_read.specs.Spelling.{caller_text}
 use Rattle.qtext_write.specs.Answers.{answer_text}
 use Rattle.qtext_outcome.specs.Calls.{line_head, shown_call}
 use Rattle.qtext_outcome.proofs.CalledLines.{called_joined, head_parts}
@@ -10,10 +11,13 @@ pub returns-in_err-put_shown_call : goal.returns-in_err-put_shown_call
 returns-in_err-put_shown_call g c =
     refused_whole _ _ _ (line_head c.args.place c.args.line.now) _ _ c.from_residual.ensures.0
     (rw (
+      c.call.ensures,
       c.byte-2.ensures.byte,
       c.put_caller.ensures.text,
+      ap caller_text c.cred.ensures,
       c.byte.ensures.byte,
       c.field.ensures.text,
+      c.moment.ensures,
       c.number.ensures.text,
       c.clear.ensures,
       ← head_parts c.args.place c.args.line.now,
@@ -25,10 +29,13 @@ returns-in_err-put_all g c =
     let call : List ℕ = shown_call c.args.line.now.call in
     let answer : List ℕ = answer_text c.args.answer in
     let passes = rw (
+      c.call.ensures,
       c.byte-2.ensures.byte,
       c.put_caller.ensures.text,
+      ap caller_text c.cred.ensures,
       c.byte.ensures.byte,
       c.field.ensures.text,
+      c.moment.ensures,
       c.number.ensures.text,
       c.clear.ensures,
       ← head_parts c.args.place c.args.line.now,
@@ -44,10 +51,13 @@ returns g c =
     let call : List ℕ = shown_call c.args.line.now.call in
     let answer : List ℕ = answer_text c.args.answer in
     let passes = rw (
+      c.call.ensures,
       c.byte-2.ensures.byte,
       c.put_caller.ensures.text,
+      ap caller_text c.cred.ensures,
       c.byte.ensures.byte,
       c.field.ensures.text,
+      c.moment.ensures,
       c.number.ensures.text,
       c.clear.ensures,
       ← head_parts c.args.place c.args.line.now,

@@ -9,7 +9,7 @@ loop-at-preserved c =
     let at = c.loop-at.at in
     let told = c.args.transcript.now.answers in
     let more = length-filter_more (λ answer. denial_number answer == c.args.number) told at c.answer.result
-    (omega (arith, c.len-at-end.ensures, c.loop-at-test.true)) in
+    (omega (arith, c.len-at-end.ensures.answers, c.loop-at-test.true)) in
     let counted = rw (← c.answer.ensures c.answer.result, ← c.denial_number.ensures) at more in
     elim c.if-denial_number-number.branch [
       | then-denial_number-number w ↦

@@ -1,4 +1,4 @@
-use Rattle.std.proofs.Common.{◌≡◌, ◌++◌, ◌∷◌, [], ap, subst, sym, ◌∙◌}
+use Rattle.std.proofs.Common.{◌++◌, ◌∷◌, [], ap, subst, sym, ◌∙◌}
 use Rattle.qplain.specs.Journal.{counted, tally_of}
 use Rattle.qplain_laws.proofs.Tallying.{tally-one_more}
 use Rattle.qshare_history.specs.Histories.{recorded, with_entry}

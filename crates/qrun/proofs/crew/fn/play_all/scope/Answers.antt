@@ -16,7 +16,7 @@ pub loop-worker-init : goal.loop-worker-init
 loop-worker-init g c =
     let room = c.in_ok-running.ensures in
     let all = c.into_iter-worker-iterator.ensures.into_iter_gives in (
-      ready_first c.captures.scripts.now c.in_ok-running.running.len (into_iter_items c.into_iter-worker-iterator.result)
+      ready_first c.captures.given.value.items c.in_ok-running.running.len (into_iter_items c.into_iter-worker-iterator.result)
           c.captures.workers.items room.len all.0 c.requires.ready.workers_are,
       omega (arith, room.len, room.capacity, all.1, c.len-many.ensures, c.captures.workers.ok.0),
       λ k d lines less. absurd (omega (arith, less, room.len)),
@@ -31,7 +31,7 @@ pub loop-worker-preserved : goal.loop-worker-preserved
 loop-worker-preserved g c =
     let running = c.loop-worker.running in
     let handle = c.in-Ok.handle in
-    let scripts = c.captures.scripts.now in
+    let scripts = c.captures.given.value.items in
     let pushed = c.push_reserved.ensures in
     let ready = ready_here scripts running.len (into_iter_items c.loop-worker.worker-iterator) c.in-Some.worker (into_iter_items c.next.new.self)
     c.in-Some.ensures.steps.0 c.loop-worker.invariant.0 in
@@ -41,17 +41,17 @@ loop-worker-preserved g c =
       λ k d lines less.
           let own = next.1 lines in
           subst (λ hs. ((slice_index_or hs k d).promise.worker ≡ k + 1)
-          × ((slice_index_or hs k d).promise.lines.now ≡ slice_index_or scripts k lines)) (sym pushed.items)
+          × ((slice_index_or hs k d).promise.lines.value.items ≡ slice_index_or scripts k lines)) (sym pushed.items)
           (below_more
           (λ i. ((slice_index_or (running.items ++ handle ∷ []) i d).promise.worker ≡ i + 1)
-          × ((slice_index_or (running.items ++ handle ∷ []) i d).promise.lines.now ≡ slice_index_or scripts i lines))
+          × ((slice_index_or (running.items ++ handle ∷ []) i d).promise.lines.value.items ≡ slice_index_or scripts i lines))
           (length running.items)
-          (λ i low. subst (λ h. (h.promise.worker ≡ i + 1) × (h.promise.lines.now ≡ slice_index_or scripts i lines))
+          (λ i low. subst (λ h. (h.promise.worker ≡ i + 1) × (h.promise.lines.value.items ≡ slice_index_or scripts i lines))
           (sym (get_or_append_left running.items (handle ∷ []) d i low)) (c.loop-worker.invariant.2 i d lines (omega (arith, low, running.ok.0))))
-          (subst (λ h. (h.promise.worker ≡ length running.items + 1) × (h.promise.lines.now ≡ slice_index_or scripts (length running.items) lines))
+          (subst (λ h. (h.promise.worker ≡ length running.items + 1) × (h.promise.lines.value.items ≡ slice_index_or scripts (length running.items) lines))
           (sym (get_or_push running.items handle d (length running.items) refl)) (
             omega (arith, ap (λ p. p.worker) c.in-Ok.ensures.ok, c.plays-plays.ensures.0, own.worker_is, running.ok.0),
-            ap (λ p. p.lines.now) c.in-Ok.ensures.ok ∙ c.plays-plays.ensures.1 ∙ own.lines_are ∙ ap (λ i. slice_index_or scripts i lines) running.ok.0,
+            ap (λ p. p.lines.value.items) c.in-Ok.ensures.ok ∙ c.plays-plays.ensures.1 ∙ own.lines_are ∙ ap (λ i. slice_index_or scripts i lines) running.ok.0,
           ))
           k (omega (arith, less, pushed.len, running.ok.0))),
       c.loop-worker.invariant.3,
@@ -63,7 +63,7 @@ loop-worker-preserved g c =
 
 pub returns-in-Ok-join_promised : goal.returns-in-Ok-join_promised
 returns-in-Ok-join_promised g c =
-    let scripts = c.captures.scripts.now in
+    let scripts = c.captures.given.value.items in
     let boards = c.captures.options-boards in
     let left : length (into_iter_items c.loop-worker.worker-iterator) ≡ 0 = sym c.loop-worker.worker-iterator.rest.ok.0 ∙ c.in-None.ensures.steps.0 in
     let all : c.loop-worker.running.len ≡ length scripts = omega (arith, left, c.loop-worker.invariant.0.many) in
@@ -77,9 +77,9 @@ returns-in-Ok-join_promised g c =
             let h = at.1.handle in
             let inv = c.loop-worker.invariant.2 k h lines low in
             let worker : h.promise.worker ≡ k + 1 = ap (λ x. x.promise.worker) at.1.handle_is ∙ inv.0 in
-            let script : h.promise.lines.now ≡ slice_index_or scripts k lines = ap (λ x. x.promise.lines.now) at.1.handle_is ∙ inv.1 in
+            let script : h.promise.lines.value.items ≡ slice_index_or scripts k lines = ap (λ x. x.promise.lines.value.items) at.1.handle_is ∙ inv.1 in
             subst (λ ls. IsPlaced (k + 1) ls (slice_index_or works.items k d)) script
-            (subst (λ m. IsPlaced m h.promise.lines.now (slice_index_or works.items k d)) worker at.1.kept);
+            (subst (λ m. IsPlaced m h.promise.lines.value.items (slice_index_or works.items k d)) worker at.1.kept);
       },
       subst (λ w. IsWatchOf (start g.S.StoreId.id.setting) boards w c.in_ok-watch.watch) c.requires.ready.watcher_is looked,
     )
@@ -90,7 +90,7 @@ first_refused-requires g c done =
 
 pub returns-in-Err : goal.returns-in-Err
 returns-in-Err g c =
-    let scripts = c.captures.scripts.now in
+    let scripts = c.captures.given.value.items in
     let n = length scripts in
     let ready = ready_here scripts c.loop-worker.running.len (into_iter_items c.loop-worker.worker-iterator) c.in-Some.worker
     (into_iter_items c.next.new.self) c.in-Some.ensures.steps.0 c.loop-worker.invariant.0 in
@@ -111,11 +111,11 @@ returns-in-Err g c =
 pub watch_all-requires-clause-seat : goal.watch_all-requires-clause-seat
 watch_all-requires-clause-seat g c κs within =
     subst (λ w. IfSome w (λ s. s.tally ≡ no_tally)) (sym (c.loop-worker.invariant.3 ∙ c.requires.ready.watcher_is))
-    (watcher_idle (length c.captures.scripts.now) c.captures.options-boards)
+    (watcher_idle (length c.captures.given.value.items) c.captures.options-boards)
 
 pub returns-in_err-watch : goal.returns-in_err-watch
 returns-in_err-watch g c =
-    let scripts = c.captures.scripts.now in
+    let scripts = c.captures.given.value.items in
     let boards = c.captures.options-boards in
     let seats = seats_for (length scripts) boards in
     let there = subst (λ w. IfSome w (λ s. (0 < s.worker) × (s.worker ≤ seats))) (sym (c.loop-worker.invariant.3 ∙ c.requires.ready.watcher_is))
