@@ -49,7 +49,8 @@ impl Model for Places {
 
 impl Places {
     /// Room for the places of the answers to N lines, of which none is told yet, and for as many that fail: 104 bytes
-    /// each, of which those of the lines that fail are written only where one does. Their places are counted by 32 bits.
+    /// each, of which the 96 of a line that fails are written only where one does. Lines that fail are numbered in 32
+    /// bits, so N is below 2^32. An Err is out of memory.
     pub fn new(alloc: Global, many: usize) -> Result<Self, NoMemory>
         requires { many < 2 ^ 32 }
         ensures { IfOk result (λ p. p ≡ record { stands = []; room = many }) }

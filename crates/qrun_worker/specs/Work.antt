@@ -90,7 +90,8 @@ pub record Taking : Type 0 where
   pub all : List Line
   pub taken : ℕ
 
--- no line of a script was taken, no answer stands anywhere, and there is room for all
+-- of a script, which is no longer than it may be, no line was taken; no answer stands anywhere, and there is room for
+-- all
 pub record IsNew (lines : Taking) (places : Standing) : Type 0 where
   pub short : length lines.all ≤ MAX_LINES
   pub none : (lines.taken ≡ 0) × (places.stands ≡ [])
@@ -124,7 +125,8 @@ pub record Placed : Type 0 where
 abbrev pub standing_of : List Line → List (Result Receipt CallFault) → Standing
 standing_of lines answers = record { stands = stands_of lines answers; room = 0 }
 
--- the share of the worker who has played this script, and where an answer to each line stands
+-- the share of the worker who has played this script, which is no longer than it may be, and where an answer to each
+-- line stands
 pub record IsPlaced (worker : ℕ) (lines : List Line) (p : Placed) : Type 0 where
   pub short : length lines ≤ MAX_LINES
   pub answers : List (Result Receipt CallFault)
