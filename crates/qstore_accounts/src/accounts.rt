@@ -289,6 +289,7 @@ impl Accounts {
 
     /// Makes the changes of a bill where the records stand, and puts its totals in their places. It takes no memory and
     /// always succeeds.
+    #[inline(always)]
     pub fn settle(&mut self, bill: &Bill)
         requires { IsBillFor self.old bill.now }
         ensures { self.new ≡ settled bill.now self.old }

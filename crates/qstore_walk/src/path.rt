@@ -64,7 +64,7 @@ fn is_name(name: &str) -> bool
 }
 
 /// Whether each of these components is a name. O(bytes).
-#[inline(never)]
+#[inline(always)]
 fn are_names(all: &str) -> bool
     ensures { result ≡ list_all is_name (parts_in (Some all.now)) }
 {

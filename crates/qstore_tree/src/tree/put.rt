@@ -29,6 +29,7 @@ impl Tree {
     }
 
     /// Makes room for one more name in this directory. The room for inodes stays.
+    #[inline(always)]
     pub fn make_name_room(&mut self, dir: u64) -> Result<(), NoMemory>
         requires { is_dir (lookup (is_at (nat_cmp dir)) self.old.inodes) ≡ true }
         ensures same { IsSameTree self.old self.new }
@@ -60,6 +61,7 @@ impl Tree {
 
     /// Puts a new inode, with no name in it, under a number for which there is room. It takes no memory
     /// and always succeeds.
+    #[inline(always)]
     fn put_node(&mut self, number: u64, node: Node)
         requires room { 0 < self.old.room.inodes }
         requires absent { lookup (is_at (nat_cmp number)) self.old.inodes ≡ None }
