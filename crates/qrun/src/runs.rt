@@ -13,7 +13,6 @@ use crate::crew::{Played, play_all};
 use crate::options::Options;
 use crate::run_fault::RunFault;
 use crate::telling::{hand_in, part_works};
-use crate::watcher::part_watcher;
 use qplain::{Script, Setup};
 use qrun_replay::Outcome;
 use qrun_worker::Gate;
@@ -91,11 +90,11 @@ where
     requires seats { S.id.counters.parts ≡ seats_for (length scripts.items) options.boards }
     ensures { IsRun S.id.setting scripts.items options.boards result }
 {
-    let (shared, seats) = match opened.with_viewers::<S, &R>(rt) {
+    let (shared, seats, last) = match opened.with_observer::<S, &R>(rt) {
         Ok(made) => made,
         Err(fault) => return Err(fault_of(fault)),
     };
-    let (seats, watcher) = part_watcher(seats, scripts.len());
+    let watcher = Some(last);
     play_and_end(
         rt, alloc, shared, seats, watcher, scripts, options, seed, gate,
     )

@@ -1,8 +1,7 @@
 //! Who looks at the boards of a run: a seat, and the thread in which it looks.
-ghost use Rattle.std.specs.Prelude.{◌≡◌, ◌+◌, ◌<◌, ◌≤◌, ℕ, Some, vec_len, vec_capacity, IfErr, IfOk, IfSome};
+ghost use Rattle.std.specs.Prelude.{◌≡◌, ◌<◌, ◌≤◌, ℕ, vec_len, vec_capacity, IfErr, IfOk, IfSome};
 ghost use Rattle.qplain.specs.Journal.{no_tally};
 ghost use Rattle.qplain.specs.State.{start};
-ghost use Rattle.qshare.specs.Seats.{new_seat, seats_of};
 ghost use Rattle.qrun.specs.RunFaults.{IsFaultOf};
 ghost use Rattle.qrun.specs.Watching.{IsWatch, IsWatchOf};
 
@@ -61,20 +60,6 @@ impl<S: StoreId> Promise<Watch<S>> for Watches<S> {
     ghost use Rattle.qrun.specs.Watching.{IsWatch};
 
     ghost kept_by = { λ p w. IsWatch (start S.id.setting) p.worker p.boards w };
-}
-
-/// The seats of the workers of N scripts, and that of who looks at the boards, which is the last.
-pub(crate) fn part_watcher<S: StoreId>(
-    seats: Vec<Seat<S, Viewer<S>>>,
-    scripts: usize,
-) -> (Vec<Seat<S, Viewer<S>>>, Option<Seat<S, Viewer<S>>>)
-    requires { seats.items ≡ seats_of (scripts + 1) }
-    ensures workers { result.0.items ≡ seats_of scripts }
-    ensures watcher { result.1 ≡ Some (new_seat (scripts + 1)) }
-{
-    let mut seats = seats;
-    let watcher = seats.pop();
-    (seats, watcher)
 }
 
 /// Looks N times, one after the other, spread over the calls of a run. No look waits for anybody.

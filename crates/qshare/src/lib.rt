@@ -19,6 +19,7 @@ pub use shared::Shared;
 
 mod boards;
 mod end_fault;
+mod first_boards;
 mod held;
 mod locked_store;
 mod no_boards;

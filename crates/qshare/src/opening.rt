@@ -1,13 +1,10 @@
 //! How a shared store is made: first a store, then its identity, then its seats.
-ghost use Rattle.std.specs.Prelude.{◌≡◌, ◌<◌, ◌≤◌, ◌⊎◌, ◌-◌, [], Err, IfOk, IfErr};
-ghost use Rattle.qplain.specs.Journal.{board_of};
-ghost use Rattle.qplain.specs.Setups.{IsLawfulSetup};
-ghost use Rattle.qshare_history.specs.Histories.{recorded};
-ghost use Rattle.qstore_journaled.specs.Journaled.{IsStoreOf};
+ghost use Rattle.std.specs.Prelude.{◌≡◌, ◌<◌, ◌≤◌, ◌⊎◌, ◌-◌, Err, IfOk, IfErr};
 ghost use Rattle.qshare.specs.Seats.{new_seat, seats_of};
 ghost use Rattle.qshare.specs.declared.share_fault.ShareFault.TheVariants.{Seats};
 
 use crate::boards::Boards;
+use crate::first_boards::{first_publisher, observed};
 use crate::locked_store::LockedStore;
 use crate::no_boards::NoBoards;
 use crate::on_demand::OnDemand;
@@ -16,11 +13,9 @@ use crate::seat::{Blind, Seat};
 use crate::seating::{blind_seats, viewing_seats};
 use crate::share_fault::ShareFault;
 use crate::shared::Shared;
-use qplain::{Board, NoMemory, Setup};
-use qrules::Items;
-use qshare_boards::{Publisher, Viewer};
-use qshare_history::{BlankCounters, History, Prefix, StoreId};
-use qstore::Store;
+use qplain::{NoMemory, Setup};
+use qshare_boards::Viewer;
+use qshare_history::{BlankCounters, History, StoreId};
 use qstore_journaled::JournaledStore;
 use std::alloc::Global;
 use std::marker::Model;
@@ -56,36 +51,6 @@ impl Model for Opened {
 
     ghost invariant = { λ o. IsPlayed o.store × (o.store.journal ≡ []) × (o.history.entries ≡ [])
         × (0 < o.seats) × (o.seats ≤ 16) × (o.counters.parts ≡ o.seats) };
-}
-
-/// The board of a new store.
-fn first_board(store: &Store) -> Result<Board, NoMemory>
-    ensures { IfOk result (λ board. board ≡ board_of store.now.state 0) }
-{
-    Ok(Board {
-        version: 0,
-        rows: Items::new(store.board_rows()?),
-        blocks: store.blocks(),
-        inodes: store.inodes(),
-    })
-}
-
-/// The writing side of the boards of a new store, with a place for each seat's reader.
-fn first_publisher<S: StoreId, R: Wait + Drop>(
-    alloc: Global,
-    rt: R,
-    store: &JournaledStore,
-    prefix: &Prefix,
-    seats: u64,
-) -> Result<Publisher<S, R>, NoMemory>
-    requires store { IsStoreOf S.id.setting store.now × (store.now.journal ≡ []) }
-    requires prefix { prefix.now ≡ recorded S.id.history [] }
-    requires seats { (0 < seats) × (seats ≤ MAX_SEATS) }
-    ensures published { IfOk result (λ p. p ≡ []) }
-    ensures setup { IsLawfulSetup S.id.setting }
-{
-    let board = first_board(store.store())?;
-    Publisher::new(alloc, rt, &board, prefix, seats as usize)
 }
 
 /// A new store of the setup, for N seats.
@@ -186,6 +151,50 @@ impl Opened {
     }
 
     /// The store under its identity, behind its lock, the seats of its workers, which are numbered from 1, and the last
+    /// seat, which alone can look at the boards. They are published at each call, as with viewers, but a publication
+    /// has one reader to serve, whatever the number of seats.
+    ///
+    /// `rt` is how a drop of the store waits for who looks. An Err is OutOfMemory, or NoReader where the last seat got
+    /// no reader of the boards; then nothing is left.
+    pub fn with_observer<S: StoreId, R: Wait + Drop>(
+        self,
+        rt: R,
+    ) -> Result<
+        (
+            Shared<S, Published<S, R>>,
+            Vec<Seat<S, Blind>>,
+            Seat<S, Viewer<S>>,
+        ),
+        ShareFault,
+    >
+        requires { self ≡ S.id }
+        ensures workers { IfOk result (λ r. r.1.items ≡ seats_of (S.id.counters.parts - 1)) }
+        ensures observer { IfOk result (λ r. r.2 ≡ new_seat S.id.counters.parts) }
+        ensures few { result ≡ Err Seats → ⊥ }
+    {
+        let Opened {
+            alloc,
+            store,
+            history,
+            counters,
+            seats,
+        } = self;
+        let (tally, mut all) = counters.open::<S>();
+        let rest = all.empty();
+        let prefix = history.prefix();
+        let (publisher, workers, observer) = observed::<S, R>(
+            alloc, rt, &store, &prefix, seats, all,
+        )?;
+        let boards = Published {
+            alloc,
+            publisher,
+            waiting: Vec::new(alloc),
+        };
+        let locked = LockedStore::new(store, history, tally, seats, rest, boards);
+        Ok((Shared::over(locked), workers, observer))
+    }
+
+    /// The store under its identity, behind its lock, the seats of its workers, which are numbered from 1, and the last
     /// seat, which alone can look at the boards. A board is published where `wanted` is set when a worker has made a
     /// call, or by `Shared::try_publish`, and then `wanted` is cleared; else a call takes as long as without viewers.
     ///
@@ -217,16 +226,10 @@ impl Opened {
         } = self;
         let (tally, mut all) = counters.open::<S>();
         let rest = all.empty();
-        let last = all.split_off();
         let prefix = history.prefix();
-        let Ok(mut publisher) = first_publisher::<S, R>(alloc, rt, &store, &prefix, 1) else {
-            return Err(ShareFault::OutOfMemory);
-        };
-        let Ok(viewer) = Viewer::new(alloc, &mut publisher, prefix.again()) else {
-            return Err(ShareFault::NoReader);
-        };
-        let observer = Seat::new(seats, prefix.again(), last, viewer);
-        let workers = blind_seats(alloc, &prefix, seats - 1, all)?;
+        let (publisher, workers, observer) = observed::<S, R>(
+            alloc, rt, &store, &prefix, seats, all,
+        )?;
         let boards = OnDemand {
             alloc,
             publisher,

@@ -20,7 +20,7 @@ use Rattle.qplain.specs.declared.principal.Principal.{Principal}
 use Rattle.qplain.specs.State.{Holder, State, declared_in, holder_of, start}
 use Rattle.qplain.specs.Use.{total_of, use_of}
 use Rattle.qplain.specs.Journal.{play, played, row_of}
-use Rattle.qplain_laws.specs.Laws.{IsLawful, has_kind, uses_of}
+use Rattle.qplain_laws.specs.Laws.{IsLawful, has_kind}
 use Rattle.qplain_laws.proofs.Balance.{users_and_groups_stand, uses_add_up}
 use Rattle.qplain_laws.proofs.Undeclared.{kinds_stay}
 use Rattle.qplain_laws.proofs.Tallying.{journals_stay_lawful, size-played}

@@ -72,8 +72,10 @@ fn put<S: StoreId, R: Wait>(writer: &mut BoardWriter<S>, rt: &R, batch: Batch)
     unreachable!()
 }
 
-/// Publishes what waits in the log, with which the board is that of this history.
-fn show<S: StoreId, R: Wait>(writer: BoardWriter<S>, rt: &R, prefix: &Prefix) -> BoardWriter<S>
+/// A writer that has published what waits in the log, with which the board is that of this history. It stands in line,
+/// so that `left_right` does not move the writer into this call and back.
+#[inline(always)]
+fn shown<S: StoreId, R: Wait>(writer: BoardWriter<S>, rt: &R, prefix: &Prefix) -> BoardWriter<S>
     requires leads { LeadsTo S.id writer.desk.shown.value (drop writer.behind writer.log.items) prefix.now }
     ensures published { IsPublished S.id result.desk.shown.value (known result.desk.place).seen
         (drop result.behind result.log.items) }
@@ -81,6 +83,18 @@ fn show<S: StoreId, R: Wait>(writer: BoardWriter<S>, rt: &R, prefix: &Prefix) ->
 {
     let _prefix = prefix;
     writer.publish_as::<Sees<S>, R>(rt).0
+}
+
+/// Publishes what waits in the log, with which the board is that of this history.
+fn show<S: StoreId, R: Wait>(rt: &R, writer: &mut BoardWriter<S>, prefix: &Prefix)
+    requires { LeadsTo S.id writer.old.desk.shown.value (drop writer.old.behind writer.old.log.items) prefix.now }
+    ensures published { IsPublished S.id writer.new.desk.shown.value (known writer.new.desk.place).seen
+        (drop writer.new.behind writer.new.log.items) }
+    ensures prefix { writer.new.desk.shown.value.prefix ≡ prefix.now }
+{
+    replace_with(writer, (rt, prefix), |writer, (rt, prefix)| {
+        (shown::<S, R>(writer, rt, prefix), ())
+    });
 }
 
 /// Publishes a batch, with which the board is that of the batch's history.
@@ -94,9 +108,7 @@ fn publish_batch<S: StoreId, R: Wait>(rt: &R, writer: &mut BoardWriter<S>, batch
 {
     let prefix = batch.prefix.again();
     put::<S, R>(writer, rt, batch);
-    replace_with(writer, (rt, &prefix), |writer, (rt, prefix)| {
-        (show::<S, R>(writer, rt, prefix), ())
-    });
+    show::<S, R>(rt, writer, &prefix);
 }
 
 /// A writer through whose log one batch has gone, so that it has room for all later ones. An Err leaves nothing made.
@@ -115,7 +127,10 @@ fn primed<S: StoreId, R: Wait>(
     let prefix = batch.prefix.again();
     let mut writer = writer;
     match writer.append(batch) {
-        Ok(()) => Ok(show::<S, R>(writer, rt, &prefix)),
+        Ok(()) => {
+            show::<S, R>(rt, &mut writer, &prefix);
+            Ok(writer)
+        }
         Err(_) => {
             drop(writer.take(rt));
             Err(NoMemory)

@@ -7,7 +7,7 @@ use Rattle.qshare_boards.specs.declared.sheet.Sealed.{Sealed}
 use Rattle.qshare_boards.specs.Boards.{shown_of}
 use Rattle.qshare_boards.specs.Sheets.{board_and, board_in, sealed_in}
 use Rattle.qshare_boards.proofs.Rules.{brings}
-use Rattle.qshare_boards.proofs.publisher.show.Goals as goal
+use Rattle.qshare_boards.proofs.publisher.shown.Goals as goal
 
 pub publish_as-requires : goal.publish_as-requires
 publish_as-requires g c next is =
