@@ -44,10 +44,13 @@ def checks(work):
     """Each check's name, and whether what it says holds."""
     library = built(work)
     for scripts, boards in [(1, 0), (3, 0), (3, 2), (15, 1), (16, 0)]:
-        threads = scripts + (boards > 0)
-        answers = [refused(library, scripts, boards, number) for number in range(1, threads + 1)]
-        wanted = [((3, b"", b"quotafs: worker %d not started\n" % worker), b"x") for worker in range(1, threads + 1)]
+        # Each text but the last is read in a thread of its own, or where that cannot be started by who would start it.
+        readers, threads = scripts - 1, scripts + (boards > 0)
+        starts = readers + threads
+        ever, told = refused(library, scripts, boards, starts + 1)
+        yield f"{scripts} scripts, {boards} boards: no start more", (ever[0], ever[2], told), (0, b"", b"")
+        answers = [refused(library, scripts, boards, number) for number in range(1, starts + 1)]
+        wanted = [(ever, b"x" + b"y" * (starts - number)) for number in range(1, readers + 1)]
+        wanted += [((3, b"", b"quotafs: worker %d not started\n" % worker), b"x") for worker in range(1, threads + 1)]
         yield f"{scripts} scripts, {boards} boards: each start refused", answers, wanted
-        (status, _, err), told = refused(library, scripts, boards, threads + 1)
-        yield f"{scripts} scripts, {boards} boards: no start more", (status, err, told), (0, b"", b"")
     yield from with_little_space(work)

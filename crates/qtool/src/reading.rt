@@ -2,8 +2,10 @@
 ghost use Rattle.std.specs.Prelude.{◌≡◌, length, IfOk};
 
 use crate::ending::Ending;
-use crate::{Config, ConfigFault, FileFault, Files, FromText, Script, TextFault, TextKind};
+use crate::{Config, ConfigFault, FileFault, Files, Script, TextKind};
+use qtool_runs::{ScriptFault, ScriptReader, finish_all};
 use std::alloc::Global;
+use std::thread::Threads;
 
 /// The ending of a file that cannot be read.
 fn unreadable(alloc: Global, name: &str, fault: FileFault) -> Ending {
@@ -47,42 +49,39 @@ pub(crate) fn configuration<F: Files>(
     }
 }
 
-/// Reads the script of that number.
-fn script<F: Files>(
-    alloc: Global,
-    files: &mut F,
-    number: u64,
-    name: &str,
-) -> Result<Script, Ending> {
-    let bytes = load(alloc, files, name)?;
-    match Script::read(alloc, &bytes) {
-        Ok(script) => Ok(script),
-        Err(
-            TextFault {
-                kind: TextKind::Memory,
-                ..
-            },
-        ) => Err(Ending::Memory),
-        Err(fault) => Err(Ending::Script(number, fault)),
+/// The ending of a run one of whose scripts is at fault.
+fn misread(script: ScriptFault) -> Ending {
+    match script.fault.kind {
+        TextKind::Memory => Ending::Memory,
+        _ => Ending::Script(script.number, script.fault),
     }
 }
 
-/// Reads the scripts, each before the next file is opened.
-pub(crate) fn read_scripts<F: Files>(
+/// Reads the scripts. Their files are opened in order, and each text but the last is read in a thread of its own as
+/// soon as its file is. The ending is that of the first file or script that has one.
+pub(crate) fn read_scripts<F: Files, R: Threads>(
+    rt: &R,
     alloc: Global,
     files: &mut F,
     names: &[String],
 ) -> Result<Vec<Script>, Ending>
     ensures each { IfOk result (λ scripts. length scripts.items ≡ length names.now) }
 {
-    let mut scripts = Vec::new(alloc);
-    let mut number = 0u64;
+    let mut readers = Vec::new(alloc);
     for name in names {
-        number += 1;
-        let script = script(alloc, files, number, name.as_str())?;
-        if scripts.push(script).is_err() {
-            return Err(Ending::Memory);
-        }
+        let text = match load(alloc, files, name.as_str()) {
+            Ok(text) => text,
+            Err(ending) => {
+                finish_all(rt, alloc, readers).map_err(misread)?;
+                return Err(ending);
+            }
+        };
+        let reader = if readers.len() + 1 < names.len() {
+            ScriptReader::beside(rt, alloc, text)
+        } else {
+            ScriptReader::here(alloc, text)
+        };
+        readers.push(reader).map_err(|_| Ending::Memory)?;
     }
-    Ok(scripts)
+    finish_all(rt, alloc, readers).map_err(misread)
 }

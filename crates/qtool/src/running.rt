@@ -57,7 +57,7 @@ fn run_of<F: Files, R: Threads + Wait + Sync>(
 {
     let config = configuration(alloc, files, config)?;
     test_seats(names.len() as u64, options.boards)?;
-    let scripts = read_scripts(alloc, files, names)?;
+    let scripts = read_scripts(rt, alloc, files, names)?;
     let Some(progress) = files.progress(&scripts) else {
         return run_with(rt, alloc, config, scripts, options, seed, &NoGate).map_err(ending_of_run);
     };

@@ -1,2 +1,4 @@
+-- The first text that is no script.
+pub mod Readers
 -- What is answered for a text that is replayed.
 pub mod TextReplays

@@ -2,7 +2,9 @@
 #![tactic(auto)]
 
 pub use runs::{check_boards, replay, run, run_with, serve};
+pub use script_reader::{ScriptFault, ScriptReader, finish_all};
 pub use text_replay::{TextReplayFault, replay_text};
 
 mod runs;
+mod script_reader;
 mod text_replay;
