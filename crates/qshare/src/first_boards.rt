@@ -33,7 +33,7 @@ fn first_board(store: &Store) -> Result<Board, NoMemory>
     })
 }
 
-/// The writing side of the boards of a new store, with a place for each seat's reader.
+/// The writing side of the boards of a new store, with a place for the reader of each of N seats.
 pub(crate) fn first_publisher<S: StoreId, R: Wait + Drop>(
     alloc: Global,
     rt: R,
@@ -65,8 +65,7 @@ pub(crate) fn observed<S: StoreId, R: Wait + Drop>(
     requires prefix { prefix.now ≡ recorded S.id.history [] }
     requires all { (0 < seats) × (all ≡ record { tally = no_tally; parts = seats }) }
     ensures publisher { IfOk result (λ r. r.0 ≡ []) }
-    ensures workers { IfOk result (λ r. r.1.items ≡ seats_of (seats - 1)) }
-    ensures observer { IfOk result (λ r. r.2 ≡ new_seat seats) }
+    ensures seats { IfOk result (λ r. (r.1.items ≡ seats_of (seats - 1)) × (r.2 ≡ new_seat seats)) }
     ensures few { result ≡ Err Seats → ⊥ }
 {
     let last = all.split_off();
