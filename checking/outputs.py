@@ -1,11 +1,14 @@
 """How the program uses its outputs: by how many calls of write, and what becomes of a run, and of its journal, where a
 limit or a device stops it."""
+import os
 import subprocess
 
 from rows import BUILT, CHECKING, EMPTY, EXAMPLE, ROOT, call, command_lines, journal_of, preloaded
 
 FULL = (4, b"quotafs: output\n")
 FIRST = CHECKING / "a0/create_write_stat"
+# KiB of stack in which the configuration that is nested deepest has to be read: the tried program is given more.
+STACK = int(os.environ.get("QUOTAFS_STACK", 2048))
 
 
 def long_lines(work):
@@ -57,7 +60,7 @@ def limits(work):
     yield "an outcome with 256 KiB of stack", limited("-s 256", [BUILT, *outcome]), (0, b"")
     words = [BUILT, "run", "--config", deepest(work), EMPTY]
     field = (2, b"quotafs: config: field size\n")
-    yield "the deepest configuration with 2 MiB of stack", limited("-s 2048", words), field
+    yield f"the deepest configuration with {STACK} KiB of stack", limited(f"-s {STACK}", words), field
 
 
 def content(file):
