@@ -1,0 +1,105 @@
+"""The functions of a crate as its sources have them: where each stands, its name as the prover prints it, what it names."""
+import re
+from dataclasses import dataclass
+from pathlib import Path
+
+FUNCTION = re.compile(r"( *)(?:pub(?:\([\w ]+\))? )?(?:const |unsafe |extern \S+ )*fn (\w+)")
+OWNER = re.compile(r"(?:unsafe )?(?:impl\b|(?:pub(?:\([\w ]+\))? )?(?:unsafe )?trait (\w+))")
+
+
+@dataclass(frozen=True)
+class Function:
+    """A function: its file, its first and its last line from 1, its name below the crate, and the words of its text."""
+
+    file: str
+    first: int
+    last: int
+    path: str
+    has_contract: bool
+    words: frozenset
+
+    @property
+    def name(self):
+        return self.path.rpartition("::")[2]
+
+    def holds(self, place):
+        file, line = place
+        return file == self.file and self.first <= line <= self.last
+
+    def is_called(self, name):
+        """Whether the prover calls it so, or a closure in it: `crate::module::fn::name::closure`."""
+        return f"::{self.path}::" in name.replace("::fn::", "::") + "::"
+
+    def names(self, other):
+        return self != other and other.name in self.words
+
+
+def cut_arguments(text):
+    """What stands before the angle brackets with which a text begins or ends, in them, and behind them."""
+    if "<" not in text:
+        return text, "", ""
+    start, depth = text.index("<"), 0
+    for at in range(start, len(text)):
+        is_arrow = text[at] == ">" and text[at - 1] in "-="
+        depth += (text[at] == "<") - (text[at] == ">" and not is_arrow)
+        if depth == 0:
+            return text[:start], text[start + 1 : at], text[at + 1 :]
+    return text[:start], text[start + 1 :], ""
+
+
+def name_of(kind, parameters, between="+"):
+    """What the prover calls a type: `Seat`, or `Seat+S+Viewer+S` of `Seat<S, Viewer<S>>`, and `U64` of `u64`."""
+    before, arguments, _ = cut_arguments(kind)
+    name = before.rpartition("::")[2].strip(" &")
+    words = re.findall(r"\w+", arguments)
+    name = name[0].upper() + name[1:]
+    return name if set(words) <= parameters else between.join([name, *words])
+
+
+def owner_of(header):
+    """What the name of a method begins with: of a type `Type`, of a trait for it `TypeTrait`; and whether of a trait."""
+    trait = OWNER.match(header)[1]
+    if trait:
+        return trait, True
+    text = header.partition("{")[0].partition(" where ")[0].removeprefix("unsafe ").removeprefix("impl")
+    declared, rest = "", text
+    if text.startswith("<"):
+        _, declared, rest = cut_arguments(text)
+    parameters = {it for part in declared.split(",") for it in re.findall(r"'?(\w+)", part)[:1]} | {"_"}
+    of, _, kind = rest.strip().rpartition(" for ")
+    name = name_of(kind.strip(), parameters)
+    # of a trait the arguments follow at once, as in `ReplayFaultFromTextFault`
+    return (name + name_of(of.strip(), parameters, ""), True) if of else (name, False)
+
+
+def functions_of(file, text):
+    """The functions of a file that `rt fmt` has laid out, by which what is begun is ended in the same column."""
+    lines = text.split("\n")
+    module = "" if file in ("src/lib.rt", "src/main.rt") else Path(file).stem
+    owner, is_of_trait = "", False
+    for at, line in enumerate(lines):
+        if OWNER.match(line):
+            end = next(it for it in range(at, len(lines)) if "{" in lines[it])
+            owner, is_of_trait = owner_of(" ".join(lines[at : end + 1]))
+        elif line == "}":
+            owner, is_of_trait = "", False
+        found = FUNCTION.match(line)
+        if found:
+            ending = re.compile(re.escape(found[1]) + r"(\S.*)?[};]")
+            last = next((it for it in range(at, len(lines)) if ending.fullmatch(lines[it])), at)
+            body = lines[at : last + 1]
+            path = "::".join(part for part in (owner or module, found[2]) if part)
+            has_contract = is_of_trait or any(re.match(r" *ensures\b", it) for it in body)
+            words = re.findall(r"\w+", re.sub(r"//.*", "", "\n".join(body)))
+            yield Function(file, at + 1, last + 1, path, has_contract, frozenset(words))
+
+
+def standing_on(function, functions):
+    """The function and, as long as one has no contract, those that name it, since its proof is a part of theirs."""
+    standing, left = [], [function]
+    while left:
+        below = left.pop()
+        if below not in standing:
+            standing.append(below)
+            left += [] if below.has_contract else [it for it in functions if it.names(below)]
+    return standing
