@@ -183,7 +183,7 @@ enum {
 
 /* Opens a session with a new store of the configuration, a text in TOML. The hashes of names begin at the seed, any
  * number. At QFS_CONFIG_FIELD the buffer `key` holds the key that is missing, wrong or not known, if it has room; *len
- * says how long it is, 0 where it is none. */
+ * says how long it is in any case, and is 0 at the other numbers of a configuration. */
 uint32_t qfs_open(qfs_session *session, const uint8_t *config, size_t config_len, uint64_t seed, uint8_t *key,
                   size_t key_len, size_t *len);
 
@@ -227,6 +227,11 @@ uint32_t qfs_setgrace(qfs_session *session, const qfs_caller *caller, uint64_t m
                       qfs_done_reply *done);
 uint32_t qfs_quota(qfs_session *session, const qfs_caller *caller, uint64_t moment, uint32_t kind, uint32_t id,
                    qfs_quota_reply *quota);
+
+/* What follows tells of a session. At QFS_OK *len or *count is at most the buffer or the list; QFS_FAULT_ROOM says that
+ * this is too short, and *len or *count how much room it takes. Each fault comes for its cause alone, of several for the
+ * first: a closed session, no line, a full journal or none, too little room. QFS_FAULT_MEMORY may come in place of all
+ * but the first of them, or of QFS_OK. */
 
 /* Makes the call of a line of a script, "MOMENT UID:GID CALL\n", and writes its reply as a line of text; a refusal is
  * such a reply. At QFS_FAULT_ROOM, as at any fault, no call was made, and *len says how much room it takes. */

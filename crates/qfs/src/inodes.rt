@@ -1,7 +1,8 @@
 //! The inodes of a session.
-ghost use Rattle.std.specs.Prelude.{◌≡◌, take};
+ghost use Rattle.std.specs.Prelude.{◌≡◌, map};
 ghost use Rattle.qsession.specs.Holdings.{held_in};
-ghost use Rattle.qsession_list.specs.Inodes.{AreInodesOf};
+ghost use Rattle.qsession.specs.Tellings.{IsToldIn, UnlessMemory};
+ghost use Rattle.qsession_list.specs.Inodes.{inode_in, inodes_in};
 
 use qsession::{Fault, Session};
 use qsession_list::{ListedInode, list_inodes};
@@ -17,16 +18,17 @@ pub extern "C" fn qfs_inodes(
     list: &mut [ListedInode],
     count: &mut usize,
 ) -> u32
-    ensures rows { result ≡ 0 → AreInodesOf (held_in session.old.slot.kept) (take count.new list.new) }
+    ensures rows { UnlessMemory (held_in session.old.slot.kept) result
+        (IsToldIn (inodes_in (held_in session.old.slot.kept)) (map inode_in list.new) count.new result) }
     ensures same { session.new.slot.kept ≡ session.old.slot.kept }
 {
     let Some(kept) = session.take(alloc) else {
         return Fault::Closed.code();
     };
-    let rows = kept.store().inode_rows();
-    *session = Session::of(kept);
-    match rows {
+    let told = match kept.store().inode_rows() {
         Ok(rows) => list_inodes(&rows, list, count),
         Err(_) => Fault::Memory.code(),
-    }
+    };
+    *session = Session::of(kept);
+    told
 }

@@ -1,17 +1,18 @@
 //! Sessions that keep a journal: how they are opened, and what it says.
-ghost use Rattle.std.specs.Prelude.{◌≡◌, ◌≢◌, Some, IsSome, IfOk, length, take};
-ghost use Rattle.qtext_config.specs.Configs.{setting_in};
-ghost use Rattle.qsession.specs.Holdings.{HoldsTrue, held_in, holding_of, new_journaled};
+ghost use Rattle.std.specs.Prelude.{◌≡◌, ◌≢◌, ◌↔◌, IsSome};
+ghost use Rattle.qsession.specs.Holdings.{HoldsTrue, held_in, new_journaled};
 ghost use Rattle.qsession.specs.Replies.{tallies_in};
-ghost use Rattle.qsession_text.specs.Journals.{IsJournalOf, IsTallyOf};
-ghost use Rattle.qsession_text.specs.Openings.{IsOpened, IsRefused};
+ghost use Rattle.qsession.specs.Tellings.{IsToldAs, IsToldIn, UnlessMemory};
+ghost use Rattle.qsession_text.specs.Journals.{IsReadAgain, journal_in, tallied, text_of};
+ghost use Rattle.qsession_text.specs.Openings.{IsOpened, IsReadingTold, config_in};
 
-use qsession::{Fault, Kept, Session, TallyReply};
-use qsession_text::{journal_text, keep_journaled, put_text, tell_config_fault};
+use qsession::{Fault, Session, TallyReply};
+use qsession_text::{keep_journaled, tell_config_fault, tell_journal, tell_tally};
 use std::alloc::Global;
 
 /// Opens a session that keeps a journal of its calls, with a new store of a configuration. Numbers, key and length are
 /// as for `qfs_open`.
+#[tactic(auto, using(qsession_text::proofs::Reading::told_opened))]
 #[unsafe(no_mangle)]
 pub extern "C" fn qfs_open_journaled(
     alloc: Global,
@@ -21,9 +22,9 @@ pub extern "C" fn qfs_open_journaled(
     key: &mut [u8],
     len: &mut usize,
 ) -> u32
-    ensures opened { result ≡ 0 → IsOpened new_journaled (held_in session.new.slot.kept) (setting_in config.now) }
-    ensures open { IsSome session.old.slot.kept → result ≡ 68 }
-    ensures refused { IsRefused (setting_in config.now) (length key.old) result key.new len.new }
+    ensures opened { result ≡ 0 → IsOpened new_journaled (held_in session.new.slot.kept) (config_in config.now) }
+    ensures open { (result ≡ 68) ↔ IsSome session.old.slot.kept }
+    ensures told { result ≢ 65 → result ≢ 68 → IsReadingTold (config_in config.now) key.new len.new result }
     ensures fault { result ≢ 0 → session.new.slot.kept ≡ session.old.slot.kept }
 {
     if session.is_open() {
@@ -35,16 +36,6 @@ pub extern "C" fn qfs_open_journaled(
             0
         }
         Err(fault) => tell_config_fault(&fault, key, len),
-    }
-}
-
-/// What the journal of what is kept says.
-fn text_of(alloc: Global, kept: &Kept) -> Result<Vec<u8>, Fault>
-    ensures { IfOk result (λ text. IsJournalOf (Some (holding_of kept.now)) text.items) }
-{
-    match kept.recorder() {
-        Some(recorder) => journal_text(alloc, recorder),
-        None => Err(Fault::NoJournal),
     }
 }
 
@@ -60,7 +51,9 @@ pub extern "C" fn qfs_journal(
     buffer: &mut [u8],
     len: &mut usize,
 ) -> u32
-    ensures journal { result ≡ 0 → IsJournalOf (held_in session.old.slot.kept) (take len.new buffer.new) }
+    ensures journal { UnlessMemory (held_in session.old.slot.kept) result
+        (IsToldIn (text_of (journal_in (held_in session.old.slot.kept))) buffer.new len.new result) }
+    ensures again { result ≡ 0 → IsReadAgain (journal_in (held_in session.old.slot.kept)) }
     ensures played { HoldsTrue (held_in session.old.slot.kept) }
     ensures same { session.new.slot.kept ≡ session.old.slot.kept }
 {
@@ -68,22 +61,9 @@ pub extern "C" fn qfs_journal(
     let Some(kept) = session.take(alloc) else {
         return Fault::Closed.code();
     };
-    let text = text_of(alloc, &kept);
+    let told = tell_journal(alloc, &kept, buffer, len);
     *session = Session::of(kept);
-    match text {
-        Ok(text) => put_text(&text, buffer, len),
-        Err(fault) => fault.code(),
-    }
-}
-
-/// The tally of what is kept.
-fn tally_of(kept: &Kept) -> Result<TallyReply, Fault>
-    ensures { IfOk result (λ tally. IsTallyOf (Some (holding_of kept.now)) (tallies_in tally)) }
-{
-    match kept.recorder() {
-        Some(recorder) => Ok(TallyReply::of(recorder.tallies())),
-        None => Err(Fault::NoJournal),
-    }
+    told
 }
 
 /// Tells what the journaled calls did to the totals, added up.
@@ -91,19 +71,13 @@ fn tally_of(kept: &Kept) -> Result<TallyReply, Fault>
 /// Returns 0; 64 where the session is closed, 73 where no journal is kept.
 #[unsafe(no_mangle)]
 pub extern "C" fn qfs_tally(alloc: Global, session: &mut Session, tally: &mut TallyReply) -> u32
-    ensures tally { result ≡ 0 → IsTallyOf (held_in session.old.slot.kept) (tallies_in tally.new) }
+    ensures tally { IsToldAs (tallied (journal_in (held_in session.old.slot.kept))) (tallies_in tally.new) result }
     ensures same { session.new.slot.kept ≡ session.old.slot.kept }
 {
     let Some(kept) = session.take(alloc) else {
         return Fault::Closed.code();
     };
-    let told = tally_of(&kept);
+    let told = tell_tally(&kept, tally);
     *session = Session::of(kept);
-    match told {
-        Ok(told) => {
-            *tally = told;
-            0
-        }
-        Err(fault) => fault.code(),
-    }
+    told
 }

@@ -1,7 +1,8 @@
 //! The names of a session.
-ghost use Rattle.std.specs.Prelude.{◌≡◌, take};
+ghost use Rattle.std.specs.Prelude.{◌≡◌};
 ghost use Rattle.qsession.specs.Holdings.{held_in};
-ghost use Rattle.qsession_list.specs.Names.{AreNamesOf};
+ghost use Rattle.qsession.specs.Tellings.{UnlessMemory};
+ghost use Rattle.qsession_list.specs.Names.{AreNamesTold};
 
 use qsession::{Fault, Session};
 use qsession_list::{ListedName, list_names};
@@ -20,8 +21,8 @@ pub extern "C" fn qfs_names(
     text: &mut [u8],
     len: &mut usize,
 ) -> u32
-    ensures names { result ≡ 0
-        → AreNamesOf (held_in session.old.slot.kept) (take count.new list.new) text.new }
+    ensures names { UnlessMemory (held_in session.old.slot.kept) result
+        (AreNamesTold (held_in session.old.slot.kept) list.new text.new count.new len.new result) }
     ensures same { session.new.slot.kept ≡ session.old.slot.kept }
 {
     let Some(kept) = session.take(alloc) else {

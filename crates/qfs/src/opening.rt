@@ -1,8 +1,7 @@
 //! Sessions are opened and closed.
-ghost use Rattle.std.specs.Prelude.{◌≡◌, ◌≢◌, None, IsSome, length};
-ghost use Rattle.qtext_config.specs.Configs.{setting_in};
+ghost use Rattle.std.specs.Prelude.{◌≡◌, ◌≢◌, ◌↔◌, None, IsSome};
 ghost use Rattle.qsession.specs.Holdings.{held_in, new_plain};
-ghost use Rattle.qsession_text.specs.Openings.{IsOpened, IsRefused};
+ghost use Rattle.qsession_text.specs.Openings.{IsOpened, IsReadingTold, config_in};
 
 use qsession::{Fault, Session};
 use qsession_text::{keep_plain, tell_config_fault};
@@ -13,6 +12,7 @@ use std::alloc::Global;
 ///
 /// Returns 0; 68 where the session is open already; 51 to 55, why the text is no configuration, and at 52 the buffer
 /// holds the key that is at fault, if it has room, and the length is the key's in any case; 65 for want of memory.
+#[tactic(auto, using(qsession_text::proofs::Reading::told_opened))]
 #[unsafe(no_mangle)]
 pub extern "C" fn qfs_open(
     alloc: Global,
@@ -22,9 +22,9 @@ pub extern "C" fn qfs_open(
     key: &mut [u8],
     len: &mut usize,
 ) -> u32
-    ensures opened { result ≡ 0 → IsOpened new_plain (held_in session.new.slot.kept) (setting_in config.now) }
-    ensures open { IsSome session.old.slot.kept → result ≡ 68 }
-    ensures refused { IsRefused (setting_in config.now) (length key.old) result key.new len.new }
+    ensures opened { result ≡ 0 → IsOpened new_plain (held_in session.new.slot.kept) (config_in config.now) }
+    ensures open { (result ≡ 68) ↔ IsSome session.old.slot.kept }
+    ensures told { result ≢ 65 → result ≢ 68 → IsReadingTold (config_in config.now) key.new len.new result }
     ensures fault { result ≢ 0 → session.new.slot.kept ≡ session.old.slot.kept }
 {
     if session.is_open() {

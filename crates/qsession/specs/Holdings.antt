@@ -5,6 +5,7 @@ use Rattle.qplain.specs.declared.entry.Entry.{Entry}
 use Rattle.qplain.specs.Setups.{Setting}
 use Rattle.qplain.specs.State.{State, start}
 use Rattle.qplain.specs.Journal.{IsLegal, play}
+use Rattle.qplain_laws.specs.Laws.{IsLawful}
 use Rattle.qsession.specs.declared.kept.Kept.{Kept}
 use Rattle.qsession.specs.declared.kept.Kept.TheVariants.{Plain, Journaled}
 
@@ -53,3 +54,8 @@ IsLeftByJournal (Some journal) S = IsPlayedTo journal S
 abbrev pub HoldsTrue : Option Holding → Type 0
 HoldsTrue None = Unit {0}
 HoldsTrue (Some h) = IsLeftByJournal h.journal h.state
+
+-- what a session holds, if it is open, is a lawful state
+abbrev pub HoldsLawful : Option Holding → Type 0
+HoldsLawful None = Unit {0}
+HoldsLawful (Some h) = IsLawful h.state

@@ -1,5 +1,5 @@
--- In reading order: what a session holds, what a call makes of it, by which numbers that is told, and what the structs
--- that cross to other languages stand for. A module that no public clause cites says so.
+-- In reading order: what a session holds, what a call makes of it, by which numbers that is told, what the structs that
+-- cross to other languages stand for, and how a session tells of itself. A module that no public clause cites says so.
 pub mod Holdings
 pub mod Recorded
 pub mod Steps
@@ -12,4 +12,5 @@ pub mod Requests
 pub mod BorrowedCalls
 pub mod Replies
 pub mod ReadReplies
+pub mod Tellings
 pub mod Slots

@@ -4,7 +4,7 @@ ghost use Rattle.qplain.specs.declared.call.Call.TheVariants.{Read};
 ghost use Rattle.qsession.specs.BorrowedCalls.{call_of};
 ghost use Rattle.qsession.specs.Brought.{HasBadPath, HasTooManyGroups};
 ghost use Rattle.qsession.specs.Called.{IsCause, IsStepOf};
-ghost use Rattle.qsession.specs.Holdings.{HoldsTrue, held_in};
+ghost use Rattle.qsession.specs.Holdings.{HoldsLawful, HoldsTrue, held_in};
 ghost use Rattle.qsession.specs.ReadReplies.{answer_in, count_in};
 ghost use Rattle.qsession.specs.Requests.{line_by};
 ghost use Rattle.qsession.specs.Steps.{IsFull};
@@ -98,6 +98,18 @@ impl Session {
             return;
         };
         held.always_holds_true();
+        *self = Session::of(held);
+    }
+
+    /// A law: what a session holds is always lawful.
+    pub fn always_lawful(&mut self, alloc: Global)
+        ensures law { HoldsLawful (held_in self.old.slot.kept) }
+        ensures same { self.new.slot.kept ≡ self.old.slot.kept }
+    {
+        let Some(held) = self.take(alloc) else {
+            return;
+        };
+        held.store().always_lawful();
         *self = Session::of(held);
     }
 

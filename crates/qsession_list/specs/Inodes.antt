@@ -1,8 +1,10 @@
 -- What the struct that an inode is listed in stands for.
-use Rattle.std.specs.Prelude.{◌≡◌, List, map, Option, Some, None}
+use Rattle.std.specs.Prelude.{List, map, Option, Some, None, Result, Ok, Err}
 use Rattle.qrules.specs.declared.inode_row.InodeRow.{InodeRow}
 use Rattle.qstore.specs.Rows.{inode_row_of}
 use Rattle.qsession_list.specs.declared.inodes.ListedInode.{ListedInode}
+use Rattle.qsession.specs.declared.fault.Fault.{Fault}
+use Rattle.qsession.specs.declared.fault.Fault.TheVariants.{Closed}
 use Rattle.qsession.specs.Holdings.{Holding}
 use Rattle.qsession.specs.Requests.{named}
 
@@ -18,7 +20,7 @@ inode_in i = record {
   links = i.links;
 }
 
--- the session is open, and the list is the rows of its inodes, by number
-abbrev pub AreInodesOf : Option Holding → List ListedInode → Type 0
-AreInodesOf None list = ⊥
-AreInodesOf (Some h) list = map inode_in list ≡ map (inode_row_of h.state) h.state.inodes
+-- the rows of the inodes of a session, by number; a closed one has none to tell
+abbrev pub inodes_in : Option Holding → Result (List InodeRow) Fault
+inodes_in None = Err Closed
+inodes_in (Some h) = Ok (map (inode_row_of h.state) h.state.inodes)

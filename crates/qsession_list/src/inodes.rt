@@ -1,5 +1,6 @@
 //! Rows of inodes as structs that other languages know.
-ghost use Rattle.std.specs.Prelude.{◌≡◌, ◌≤◌, length, map, take};
+ghost use Rattle.std.specs.Prelude.{◌≡◌, map};
+ghost use Rattle.qsession.specs.Tellings.{IsPut};
 ghost use Rattle.qsession_list.specs.Inodes.{inode_in};
 
 use qrules::InodeRow;
@@ -41,9 +42,7 @@ impl ListedInode {
 ///
 /// Returns 0, or the number of Room.
 pub fn list_inodes(rows: &[InodeRow], list: &mut [ListedInode], count: &mut usize) -> u32
-    ensures rows { result ≡ 0 → map inode_in (take count.new list.new) ≡ rows.now }
-    ensures fits { length rows.now ≤ length list.old → result ≡ 0 }
-    ensures count { count.new ≡ length rows.now }
+    ensures { IsPut rows.now (map inode_in list.new) count.new result }
 {
     *count = rows.len();
     if rows.len() > list.len() {

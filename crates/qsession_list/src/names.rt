@@ -1,7 +1,7 @@
 //! Names as structs that other languages know, and a text of their bytes.
-ghost use Rattle.std.specs.Prelude.{◌≡◌, ◌≤◌, ◌<◌, ◌+◌, ◌^◌, ◌++◌, IfSome, IfNone, flat_map, length, map, take};
+ghost use Rattle.std.specs.Prelude.{◌≡◌, ◌≤◌, ◌+◌, ◌^◌, ◌++◌, IfSome, IfNone, flat_map, length, map, take};
 ghost use Rattle.qstore_tree.specs.Listed.{name_entry};
-ghost use Rattle.qsession_list.specs.Names.{bytes_of, name_in, row_at};
+ghost use Rattle.qsession_list.specs.Names.{AreNamesPut, bytes_of, row_at};
 
 use qsession::Fault;
 use qstore::Name;
@@ -53,7 +53,7 @@ fn put_at(text: &mut [u8], at: usize, bytes: &[u8]) -> usize
 }
 
 /// Puts names at the front of a list and their bytes at the front of a text, one after another, if both have room, and
-/// tells in any case how many names and how many bytes there are.
+/// tells in any case how many names and how many bytes there are; more bytes than a number holds are told as the greatest.
 ///
 /// Returns 0, or the number of Room.
 pub fn list_names(
@@ -63,11 +63,7 @@ pub fn list_names(
     text: &mut [u8],
     len: &mut usize,
 ) -> u32
-    ensures names { result ≡ 0 → map (name_in text.new) (take count.new list.new) ≡ map name_entry names.now }
-    ensures fits { length names.now ≤ length list.old → length (flat_map bytes_of names.now) ≤ length text.old
-        → result ≡ 0 }
-    ensures count { count.new ≡ length names.now }
-    ensures len { length (flat_map bytes_of names.now) < 2 ^ 64 → len.new ≡ length (flat_map bytes_of names.now) }
+    ensures { AreNamesPut (map name_entry names.now) list.new text.new count.new len.new result }
 {
     *count = names.len();
     let Some(bytes) = text_len(names) else {

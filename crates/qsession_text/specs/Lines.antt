@@ -1,16 +1,38 @@
--- What a line of a script does to a session.
-use Rattle.std.specs.Prelude.{◌≡◌, ℕ, List, [], ◌∷◌, ◌++◌, Option, Some, None, Result, Ok, Err, codes}
+-- What a line of a script does to a session, and how it is answered.
+use Rattle.std.specs.Prelude.{◌≡◌, ℕ, Bool, false, ◌==◌, if◌then◌else◌, List, [], ◌∷◌, ◌++◌, length, codes}
+use Rattle.std.specs.Prelude.{Option, Some, None, Result, Ok, Err}
+use Rattle.qplain.specs.declared.bounds.TheConstants.{MAX_ENTRIES}
 use Rattle.qplain.specs.declared.line.Line.{Line}
 use Rattle.qtext.specs.declared.text_fault.TextFault.{TextFault}
 use Rattle.qtext_read.specs.Replies.{reply_text}
-use Rattle.qsession.specs.Holdings.{Holding}
+use Rattle.qsession.specs.declared.fault.Fault.{Fault}
+use Rattle.qsession.specs.declared.fault.Fault.TheVariants as fault
+use Rattle.qsession.specs.Holdings.{Holding, KeptJournal}
 use Rattle.qsession.specs.Steps.{holding_after, reply_to}
 
--- the session is open, the script is one line, it holds what that line's call leaves, and the text is that of its reply
-abbrev pub IsAnswered : Option Holding → Option Holding → Result (List Line) TextFault → List ℕ → Type 0
-IsAnswered None new script text = ⊥
-IsAnswered (Some old) new (Err fault) text = ⊥
-IsAnswered (Some old) new (Ok []) text = ⊥
-IsAnswered (Some old) new (Ok (line ∷ [])) text =
-    (new ≡ Some (holding_after old line)) × (text ≡ reply_text (reply_to old line) ++ codes "\n")
-IsAnswered (Some old) new (Ok (line ∷ next ∷ more)) text = ⊥
+-- the line of a script that has no other
+abbrev pub only_line : Result (List Line) TextFault → Option Line
+only_line (Ok (line ∷ [])) = Some line
+only_line script = None
+
+-- a journal is kept, and has all the entries that it may have
+abbrev pub is_full : Option KeptJournal → Bool
+is_full None = false
+is_full (Some journal) = length journal.entries == MAX_ENTRIES
+
+-- the reply to a line's call as a line, or why the call is not made: there is no such line, or the journal is full
+abbrev pub answer_to : Holding → Option Line → Result (List ℕ) Fault
+answer_to h None = Err fault.Line
+answer_to h (Some line) =
+    if is_full h.journal then Err fault.JournalFull else Ok (reply_text (reply_to h line) ++ codes "\n")
+
+-- so it is of a session; of a closed one none is made
+abbrev pub answer_in : Option Holding → Result (List Line) TextFault → Result (List ℕ) Fault
+answer_in None script = Err fault.Closed
+answer_in (Some h) script = answer_to h (only_line script)
+
+-- the session is open, the script is one line, and it holds what that line's call leaves
+abbrev pub MakesCall : Option Holding → Option Holding → Option Line → Type 0
+MakesCall (Some old) new (Some line) = new ≡ Some (holding_after old line)
+MakesCall (Some old) new None = ⊥
+MakesCall None new line = ⊥

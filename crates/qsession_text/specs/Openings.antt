@@ -1,10 +1,14 @@
 -- What opening a session comes to.
-use Rattle.std.specs.Prelude.{◌≡◌, ◌≤◌, ℕ, List, Option, Some, None, Result, Ok, Err, string_bytes, length, take}
+use Rattle.std.specs.Prelude.{◌≡◌, ◌≤◌, ℕ, if◌then◌else◌, List, [], Option, Some, None, Result, Ok, Err, length, take}
+use Rattle.std.specs.Str.{is_utf8}
 use Rattle.qplain.specs.Setups.{IsSetupOf, Setting}
-use Rattle.qtext_config.specs.ConfigFaults.{Cause, Duplicate, Field, NoZero, Range}
-use Rattle.qtext_config.specs.declared.config_fault.ConfigFault.{ConfigFault}
-use Rattle.qtext_config.specs.declared.config_fault.ConfigFault.TheVariants as fault
+use Rattle.qtext_config.specs.ConfigFaults.{Cause, Duplicate, Field, NoZero, Range, Text}
+use Rattle.qtext_config.specs.Configs.{setting_in}
 use Rattle.qsession.specs.Holdings.{Holding}
+
+-- the setting that bytes write, or the first cause for which they write none; those that are no UTF-8 are no text
+abbrev pub config_in : List ℕ → Result Setting Cause
+config_in bytes = if is_utf8 bytes then setting_in bytes else Err Text
 
 -- the text writes a setting, and the setup is of it
 abbrev pub IsRead : Setting → Result Setting Cause → Type 0
@@ -23,20 +27,26 @@ IsOpened new (Some h) (Ok given) = IsBegun new given h
 IsOpened new (Some h) (Err cause) = ⊥
 IsOpened new None read = ⊥
 
--- the fault is why the text writes no setting: memory aside, and that it is no text, which it is not where it is no
--- UTF-8
-abbrev pub IsWhyNot : ConfigFault → Result Setting Cause → Type 0
-IsWhyNot fault.Text read = Unit {0}
-IsWhyNot (fault.Field key) read = read ≡ Err (Field (string_bytes key))
-IsWhyNot fault.Range read = read ≡ Err Range
-IsWhyNot fault.Duplicate read = read ≡ Err Duplicate
-IsWhyNot fault.NoZero read = read ≡ Err NoZero
-IsWhyNot fault.Memory read = Unit {0}
+-- the number of a cause
+abbrev pub cause_code : Cause → ℕ
+cause_code Text = 51
+cause_code (Field key) = 52
+cause_code Range = 53
+cause_code Duplicate = 54
+cause_code NoZero = 55
 
--- what a number from 52 to 55 tells of a text that writes no setting; of a field also which key it has, where there was
--- room for it
-pub record IsRefused (read : Result Setting Cause) (room number : ℕ) (key : List ℕ) (len : ℕ) : Type 0 where
-  pub field : number ≡ 52 → len ≤ room → read ≡ Err (Field (take len key))
-  pub range : number ≡ 53 → read ≡ Err Range
-  pub duplicate : number ≡ 54 → read ≡ Err Duplicate
-  pub no_zero : number ≡ 55 → read ≡ Err NoZero
+-- the key that a cause names: a field's, and else none
+abbrev pub key_of : Cause → List ℕ
+key_of (Field key) = key
+key_of cause = []
+
+-- a cause is told by its number, and its key at the front of a buffer that has room for it; how long it is, in any case
+pub record IsRefused (cause : Cause) (buffer : List ℕ) (len number : ℕ) : Type 0 where
+  pub number_is : number ≡ cause_code cause
+  pub len_is : len ≡ length (key_of cause)
+  pub key : len ≤ length buffer → take len buffer ≡ key_of cause
+
+-- the number tells what the text is read as: 0 a setting, and another the cause for which it writes none
+abbrev pub IsReadingTold : Result Setting Cause → List ℕ → ℕ → ℕ → Type 0
+IsReadingTold (Ok given) buffer len number = number ≡ 0
+IsReadingTold (Err cause) buffer len number = IsRefused cause buffer len number

@@ -1,15 +1,13 @@
 //! Buffers that a caller of another language lends.
-ghost use Rattle.std.specs.Prelude.{◌≡◌, ◌≤◌, length, take};
+ghost use Rattle.qsession.specs.Tellings.{IsPut};
 
 use qsession::Fault;
 
 /// Puts a text at the front of the buffer, if it has room, and tells in any case how many bytes there are.
 ///
 /// Returns 0, or the number of Room.
-pub fn put_text(text: &[u8], buffer: &mut [u8], len: &mut usize) -> u32
-    ensures text { result ≡ 0 → take len.new buffer.new ≡ text.now }
-    ensures fits { length text.now ≤ length buffer.old → result ≡ 0 }
-    ensures len { len.new ≡ length text.now }
+pub(crate) fn put_text(text: &[u8], buffer: &mut [u8], len: &mut usize) -> u32
+    ensures { IsPut text.now buffer.new len.new result }
 {
     let count = text.len();
     *len = count;

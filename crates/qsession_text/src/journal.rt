@@ -1,12 +1,15 @@
 //! The journal of a session.
-ghost use Rattle.std.specs.Prelude.{◌≡◌, ◌++◌, IfOk, map};
-ghost use Rattle.qplain.specs.declared.edition.Edition.TheVariants.{Two};
+ghost use Rattle.std.specs.Prelude.{◌≡◌, Some, IfOk, OnOk};
 ghost use Rattle.qtext_files.specs.Spelling.{CanBeRead, journal_spelling};
-ghost use Rattle.qsession_text.specs.Journals.{IsJournalText, journal_written};
+ghost use Rattle.qsession.specs.Holdings.{holding_of};
+ghost use Rattle.qsession.specs.Replies.{tallies_in};
+ghost use Rattle.qsession.specs.Tellings.{IsToldAs, IsToldIn, UnlessMemory};
+ghost use Rattle.qsession_text.specs.Journals.{IsReadAgain, journal_in, journal_written, tallied, text_of};
 
+use crate::buffer::put_text;
 use qplain::{Edition, Entry, Journal, NoMemory};
 use qrules::Items;
-use qsession::{Fault, Recorder};
+use qsession::{Fault, Kept, Recorder, TallyReply};
 use qtext_files::put_journal;
 use std::alloc::Global;
 
@@ -30,17 +33,47 @@ fn journal_of(alloc: Global, recorder: &Recorder) -> Result<Journal, NoMemory>
     Ok(Journal::new(Edition::Two, 1, Items::new(entries)))
 }
 
-/// The text of a session's journal, of edition 2 and one worker, which is read again as that journal, and which
-/// `quotafs replay` plays again. Err is Memory: beside the text each entry is copied, but not its path and its bytes.
-pub fn journal_text(alloc: Global, recorder: &Recorder) -> Result<Vec<u8>, Fault>
-    ensures { IfOk result (λ text. IsJournalText recorder.now.journal text.items) }
+/// The text of a session's journal, of edition 2 and one worker, which is read again as that journal. Beside the text
+/// each entry is copied, but not its path and its bytes.
+fn journal_text(alloc: Global, recorder: &Recorder) -> Result<Vec<u8>, NoMemory>
+    ensures spelled { IfOk result (λ text. text.items ≡ journal_spelling (journal_written recorder.now.journal)) }
+    ensures again { OnOk result (CanBeRead (journal_written recorder.now.journal)) }
 {
-    let Ok(journal) = journal_of(alloc, recorder) else {
-        return Err(Fault::Memory);
-    };
+    let journal = journal_of(alloc, recorder)?;
     let mut text = Vec::new(alloc);
     match put_journal(&mut text, &journal) {
         Ok(()) => Ok(text),
-        Err(_) => Err(Fault::Memory),
+        Err(_) => Err(NoMemory),
     }
+}
+
+/// Writes the journal of what is kept at the front of the buffer, as `quotafs replay` plays it again, and tells how
+/// long it is.
+///
+/// Returns 0; 65 for want of memory, 69 where the buffer has too few bytes, 73 where no journal is kept.
+pub fn tell_journal(alloc: Global, kept: &Kept, buffer: &mut [u8], len: &mut usize) -> u32
+    ensures journal { UnlessMemory (Some (holding_of kept.now)) result
+        (IsToldIn (text_of (journal_in (Some (holding_of kept.now)))) buffer.new len.new result) }
+    ensures again { result ≡ 0 → IsReadAgain (journal_in (Some (holding_of kept.now))) }
+{
+    let Some(recorder) = kept.recorder() else {
+        return Fault::NoJournal.code();
+    };
+    match journal_text(alloc, recorder) {
+        Ok(text) => put_text(&text, buffer, len),
+        Err(_) => Fault::Memory.code(),
+    }
+}
+
+/// Tells the tally of the journal of what is kept.
+///
+/// Returns 0, or 73 where no journal is kept.
+pub fn tell_tally(kept: &Kept, tally: &mut TallyReply) -> u32
+    ensures { IsToldAs (tallied (journal_in (Some (holding_of kept.now)))) (tallies_in tally.new) result }
+{
+    let Some(recorder) = kept.recorder() else {
+        return Fault::NoJournal.code();
+    };
+    *tally = TallyReply::of(recorder.tallies());
+    0
 }

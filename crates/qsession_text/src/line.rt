@@ -1,11 +1,13 @@
 //! A line of a script, as a call of a session.
-ghost use Rattle.std.specs.Prelude.{◌≡◌, ◌∷◌, ◌++◌, ◌≤◌, [], Ok, Some, IfOk, OnErr, length, codes};
+ghost use Rattle.std.specs.Prelude.{◌≡◌, ◌≢◌, ◌∷◌, ◌++◌, ◌⊎◌, [], None, Some, IfOk, IfErr, codes};
 ghost use Rattle.qtext_files.specs.Scripts.{script_of};
 ghost use Rattle.qtext_read.specs.Replies.{reply_text};
 ghost use Rattle.qsession.specs.Holdings.{holding_of};
-ghost use Rattle.qsession_text.specs.Lines.{IsAnswered};
+ghost use Rattle.qsession.specs.Tellings.{IsToldIn, UnlessMemory};
+ghost use Rattle.qsession_text.specs.Lines.{MakesCall, answer_in, only_line};
 
-use qplain::{Line, Reply, Script};
+use crate::buffer::put_text;
+use qplain::{Line, NoMemory, Reply, Script};
 use qsession::{Fault, Kept};
 use qtext::{TextKind, TextLine};
 use qtext_files::FromText;
@@ -14,7 +16,9 @@ use std::alloc::Global;
 
 /// The one line that the text says. Err is Memory, or Line where it says none, or more than one.
 fn line_in(alloc: Global, text: &[u8]) -> Result<Line, Fault>
-    ensures { IfOk result (λ line. script_of text.now ≡ Ok (line ∷ [])) }
+    ensures line { IfOk result (λ line. script_of text.now ≡ Ok (line ∷ [])) }
+    ensures fault { IfErr result (λ fault. (fault ≡ Fault.Memory)
+        ⊎ ((fault ≡ Fault.Line) × (only_line (script_of text.now) ≡ None))) }
 {
     match Script::read(alloc, text) {
         Ok(script) => only_line(script),
@@ -27,7 +31,8 @@ fn line_in(alloc: Global, text: &[u8]) -> Result<Line, Fault>
 
 /// The one line of a script. Err is Line where it has none, or more than one.
 fn only_line(script: Script) -> Result<Line, Fault>
-    ensures { IfOk result (λ line. script ≡ line ∷ []) }
+    ensures line { IfOk result (λ line. script ≡ line ∷ []) }
+    ensures fault { IfErr result (λ fault. (fault ≡ Fault.Line) × (only_line (Ok script) ≡ None)) }
 {
     let mut lines = script.into_lines().into_vec();
     if lines.len() > 1 {
@@ -39,50 +44,51 @@ fn only_line(script: Script) -> Result<Line, Fault>
     }
 }
 
-/// A reply as a line of text. Err is Memory.
-fn reply_line(alloc: Global, reply: &Reply) -> Result<Vec<u8>, Fault>
+/// A reply as a line of text.
+fn reply_line(alloc: Global, reply: &Reply) -> Result<Vec<u8>, NoMemory>
     ensures { IfOk result (λ out. out.items ≡ reply_text reply.now ++ codes "\n") }
 {
     let mut out = Vec::new(alloc);
     let mut line = TextLine::new();
     match put_reply(&mut out, &mut line, reply) {
         Ok(()) => Ok(out),
-        Err(_) => Err(Fault::Memory),
+        Err(_) => Err(NoMemory),
     }
 }
 
-/// Makes the call of a line, `MOMENT CALLER CALL` with a line end, once its reply stands as a line of at most `room`
-/// bytes; how many it has is told as soon as they are known.
+/// Makes the call of a line, `MOMENT CALLER CALL` with a line end, once its reply stands as a line at the front of the
+/// buffer; how long that is, is told as soon as it is known.
 ///
-/// Err is Line where the text is no such line, or more than one; JournalFull; Memory; or Room. Then no call was made.
+/// Returns 0; 65 for want of memory, 69 where the buffer has too few bytes, 70 where the text is no such line, or more
+/// than one, 71 where the journal is full: then no call was made.
 pub fn answer_line(
     alloc: Global,
     kept: &mut Kept,
     text: &[u8],
-    room: usize,
+    buffer: &mut [u8],
     len: &mut usize,
-) -> Result<Vec<u8>, Fault>
-    ensures answered { IfOk result (λ out.
-        IsAnswered (Some (holding_of kept.old)) (Some (holding_of kept.new)) (script_of text.now) out.items) }
-    ensures room { IfOk result (λ out. length out.items ≤ room) }
-    ensures err { OnErr result (holding_of kept.new ≡ holding_of kept.old) }
+) -> u32
+    ensures line { UnlessMemory (Some (holding_of kept.old)) result
+        (IsToldIn (answer_in (Some (holding_of kept.old)) (script_of text.now)) buffer.new len.new result) }
+    ensures made { result ≡ 0 → MakesCall (Some (holding_of kept.old)) (Some (holding_of kept.new))
+        (only_line (script_of text.now)) }
+    ensures fault { result ≢ 0 → holding_of kept.new ≡ holding_of kept.old }
 {
     let line = match line_in(alloc, text) {
         Ok(line) => line,
-        Err(fault) => return Err(fault),
+        Err(fault) => return fault.code(),
     };
     let reply = match kept.ready(&line.cred, line.moment, &line.call) {
         Ok(reply) => reply,
-        Err(fault) => return Err(fault),
+        Err(fault) => return fault.code(),
     };
-    let out = match reply_line(alloc, &reply) {
-        Ok(out) => out,
-        Err(fault) => return Err(fault),
+    let Ok(out) = reply_line(alloc, &reply) else {
+        return Fault::Memory.code();
     };
-    *len = out.len();
-    if out.len() > room {
-        return Err(Fault::Room);
+    let told = put_text(&out, buffer, len);
+    if told != 0 {
+        return told;
     }
     kept.commit();
-    Ok(out)
+    told
 }

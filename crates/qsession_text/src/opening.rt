@@ -1,10 +1,9 @@
 //! What a session opens with: a new store of a configuration.
-ghost use Rattle.std.specs.Prelude.{◌≡◌, ◌≢◌, Some, IfOk, IfErr, Result, length};
+ghost use Rattle.std.specs.Prelude.{◌≢◌, Some, IfOk, IfErr, Result};
 ghost use Rattle.qplain.specs.Setups.{Setting};
-ghost use Rattle.qtext_config.specs.ConfigFaults.{Cause};
-ghost use Rattle.qtext_config.specs.Configs.{setting_in};
+ghost use Rattle.qtext_config.specs.ConfigFaults.{Cause, EndsFor};
 ghost use Rattle.qsession.specs.Holdings.{holding_of, new_journaled, new_plain};
-ghost use Rattle.qsession_text.specs.Openings.{IsOpened, IsRead, IsRefused, IsWhyNot};
+ghost use Rattle.qsession_text.specs.Openings.{IsOpened, IsRead, IsReadingTold, config_in};
 
 use crate::buffer::put_text;
 use qsession::{Fault, Kept};
@@ -13,8 +12,8 @@ use std::alloc::Global;
 
 /// The configuration of a text in TOML. One that is not UTF-8 is no text.
 fn config_of(alloc: Global, text: &[u8]) -> Result<Config, ConfigFault>
-    ensures ok { IfOk result (λ config. IsRead config.setup (setting_in text.now)) }
-    ensures err { IfErr result (λ fault. IsWhyNot fault (setting_in text.now)) }
+    ensures ok { IfOk result (λ config. IsRead config.setup (config_in text.now)) }
+    ensures err { IfErr result (λ fault. EndsFor fault (config_in text.now)) }
 {
     match std::str::from_utf8(text) {
         Ok(text) => Config::read(alloc, text),
@@ -25,8 +24,8 @@ fn config_of(alloc: Global, text: &[u8]) -> Result<Config, ConfigFault>
 /// A new store of a configuration, a text in TOML, without a journal; or why there is none. The hashes of names begin
 /// at `seed`, any number.
 pub fn keep_plain(alloc: Global, text: &[u8], seed: u64) -> Result<Box<Kept>, ConfigFault>
-    ensures ok { IfOk result (λ kept. IsOpened new_plain (Some (holding_of kept.value)) (setting_in text.now)) }
-    ensures err { IfErr result (λ fault. IsWhyNot fault (setting_in text.now)) }
+    ensures ok { IfOk result (λ kept. IsOpened new_plain (Some (holding_of kept.value)) (config_in text.now)) }
+    ensures err { IfErr result (λ fault. EndsFor fault (config_in text.now)) }
 {
     let config = match config_of(alloc, text) {
         Ok(config) => config,
@@ -43,8 +42,8 @@ pub fn keep_plain(alloc: Global, text: &[u8], seed: u64) -> Result<Box<Kept>, Co
 
 /// A new store of a configuration, with an empty journal; or why there is none, as for `keep_plain`.
 pub fn keep_journaled(alloc: Global, text: &[u8], seed: u64) -> Result<Box<Kept>, ConfigFault>
-    ensures ok { IfOk result (λ kept. IsOpened new_journaled (Some (holding_of kept.value)) (setting_in text.now)) }
-    ensures err { IfErr result (λ fault. IsWhyNot fault (setting_in text.now)) }
+    ensures ok { IfOk result (λ kept. IsOpened new_journaled (Some (holding_of kept.value)) (config_in text.now)) }
+    ensures err { IfErr result (λ fault. EndsFor fault (config_in text.now)) }
 {
     let config = match config_of(alloc, text) {
         Ok(config) => config,
@@ -63,9 +62,10 @@ pub fn keep_journaled(alloc: Global, text: &[u8], seed: u64) -> Result<Box<Kept>
 /// another kind or form, or not known, at the front of the buffer, if it has room. How many bytes the key has is told
 /// in any case, 0 where it is no field. Want of memory has the number of Memory.
 pub fn tell_config_fault(fault: &ConfigFault, key: &mut [u8], len: &mut usize) -> u32
+    ensures told { (read : Result Setting Cause) → EndsFor fault.now read
+        → result ≢ 65 → IsReadingTold read key.new len.new result }
     ensures never_ok { result ≢ 0 }
-    ensures told { (read : Result Setting Cause) → IsWhyNot fault.now read
-        → IsRefused read (length key.old) result key.new len.new }
+    ensures never_open { result ≢ 68 }
 {
     *len = 0;
     match fault {
