@@ -206,7 +206,7 @@ uint32_t qfs_fill(qfs_session *session, const qfs_caller *caller, uint64_t momen
                   size_t path_len, uint64_t off, uint64_t count, uint8_t byte, qfs_done_reply *done);
 uint32_t qfs_truncate(qfs_session *session, const qfs_caller *caller, uint64_t moment, const uint8_t *path,
                       size_t path_len, uint64_t size, qfs_done_reply *done);
-/* Reads up to buffer_len bytes, at most 65,536; *len says how many there were. */
+/* Reads up to buffer_len bytes; *len says how many there were. A buffer_len above 65,536 is QFS_EINVAL. */
 uint32_t qfs_read(qfs_session *session, const qfs_caller *caller, uint64_t moment, const uint8_t *path,
                   size_t path_len, uint64_t off, uint8_t *buffer, size_t buffer_len, size_t *len);
 uint32_t qfs_stat(qfs_session *session, const qfs_caller *caller, uint64_t moment, const uint8_t *path,

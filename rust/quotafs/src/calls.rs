@@ -60,7 +60,8 @@ impl Session {
         Ok(done)
     }
 
-    /// Reads as many bytes as the buffer has, at most 65,536: what was there stands at its front, and is handed out.
+    /// Reads as many bytes as the buffer has: what was there stands at its front, and is handed out. A buffer of more
+    /// than 65,536 bytes is refused, as `EINVAL`.
     pub fn read<'b>(
         &mut self,
         caller: &Caller,
