@@ -1,5 +1,5 @@
-//! The one history of a store: what is published of its journal. It exists in the proofs alone: what is shared of it when a
-//! program runs is one word, its length.
+//! The one history of a store: what is published of its journal. It exists in the proofs alone: what is shared of it
+//! when a program runs is one word, its length.
 ghost use Rattle.std.specs.Prelude.{◌≡◌, ◌<◌, ◌^◌, length, []};
 ghost use mathlib.Core.List.{IsPrefix};
 ghost use Rattle.qshare_history.specs.Histories.{recorded, with_entry};
