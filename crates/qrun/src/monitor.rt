@@ -146,6 +146,19 @@ pub(crate) fn showing_of<'a, 'b, S: StoreId, B: Boards<S>, M: Monitor + Drop, R:
     }
 }
 
+/// Publishes what waits, and sees it, unless a worker has the lock just then.
+fn publish<S: StoreId, B: Boards<S>, R: Wait>(
+    rt: &R,
+    shared: &Shared<S, B>,
+    seat: &mut Seat<S, Viewer<S>>,
+)
+    ensures { HasWaited seat.old seat.new }
+{
+    if let Some(held) = shared.try_hold(seat) {
+        held.release(rt, seat);
+    }
+}
+
 /// Asks for a board, which the next call of a worker then publishes. Where none is made in a moment it is published
 /// here, unless a worker has the lock just then. It tells whether one was published.
 fn ask<S: StoreId, B: Boards<S>, M: Monitor, R: Wait>(
@@ -161,7 +174,7 @@ fn ask<S: StoreId, B: Boards<S>, M: Monitor, R: Wait>(
     wanted.store(true, Ordering::SeqCst);
     monitor.give_way();
     if wanted.load(Ordering::SeqCst) {
-        let _ = shared.try_publish(rt, seat);
+        publish(rt, shared, seat);
     }
     !wanted.load(Ordering::SeqCst)
 }

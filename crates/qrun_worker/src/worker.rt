@@ -190,7 +190,7 @@ fn play_held<S: StoreId, B: Boards<S>, V: Drop, R: Wait>(
     let mut held = held;
     for _ in 0..many {
         let line = lines.peek();
-        let place = held.place(rt, seat, &line.cred, line.moment, &line.call);
+        let place = held.place(seat, &line.cred, line.moment, &line.call);
         keep_place(lines, places, place);
     }
     held.release(rt, seat);

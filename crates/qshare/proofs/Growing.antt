@@ -1,12 +1,13 @@
--- What a call leaves of a journal.
-use Rattle.std.proofs.Common.{◌≡◌, ℕ, List, [], ◌∷◌, Result, Ok, Err, IfOk, OnErr, ap, sym, subst, ◌∙◌, append-nil}
+-- What a call leaves of a journal, and what a journal begins with.
+use Rattle.std.proofs.Common.{◌≡◌, ℕ, List, [], ◌∷◌, ◌++◌, Result, Ok, Err, IfOk, OnErr, ap, sym, subst, ◌∙◌, append-nil}
 use mathlib.Core.List.{IsPrefix}
 use Rattle.qplain.specs.declared.entry.Entry.{Entry}
 use Rattle.qplain.specs.declared.call_fault.CallFault.{CallFault}
 use Rattle.qplain.specs.declared.line.Line.{Line}
 use Rattle.qplain.specs.declared.receipt.Receipt.{Receipt}
 use Rattle.qplain.specs.declared.tallies.Tallies.{Tallies}
-use Rattle.qplain.specs.Journal.{entry_of}
+use Rattle.qplain.specs.Journal.{IsLegal, entry_of, played}
+use Rattle.qplain.specs.State.{State}
 use Rattle.qshare_history.specs.Histories.{Recorded, recorded}
 use Rattle.qshare_history.proofs.Prefixes.{prefix_trans}
 use Rattle.qshare.specs.Calls.{IsJournaled, IsToldOf}
@@ -23,3 +24,11 @@ pub goes_on : {A : Type 0} (told : Receipt → A) (Kept : Type 0) (worker : ℕ)
     → OnErr answer ((new ≡ old) × Kept) → IsPrefix old.journal new.journal
 goes_on told Kept worker line (Ok t) old new before after ok err = (entry_of worker line ok.0.reply ∷ [], sym ok.2.journal)
 goes_on told Kept worker line (Err fault) old new before after ok err = ([], append-nil old.journal ∙ sym (ap (λ s. s.journal) err.0))
+
+legal_first : (S : State) (xs ys : List Entry) → IsLegal S (xs ++ ys) → IsLegal S xs
+legal_first S [] ys legal = tt
+legal_first S (e ∷ xs) ys legal = (legal.0, legal_first (played S e).0 xs ys legal.1)
+
+-- what begins a legal journal is legal
+pub legal_begins : (S : State) (xs ys : List Entry) → IsPrefix xs ys → IsLegal S ys → IsLegal S xs
+legal_begins S xs ys begins legal = legal_first S xs begins.0 (subst (IsLegal S) (sym begins.1) legal)

@@ -5,7 +5,7 @@ use Rattle.qplain.specs.declared.entry.Entry.{Entry}
 use Rattle.qplain.specs.declared.tallies.Tallies.{Tallies}
 use Rattle.qplain.specs.Journal.{no_tally, tally_of}
 use Rattle.qshare_history.specs.Counted.{Counted}
-use Rattle.qshare_history.specs.Histories.{Recorded, recorded}
+use Rattle.qshare_history.specs.Histories.{Recorded}
 use Rattle.qshare_history.specs.StoreIds.{Identity}
 use Rattle.qstore_journaled.specs.Journaled.{IsStoreOf, Journaled}
 
@@ -14,12 +14,11 @@ pub record Locked : Type 0 where
   pub journal : List Entry
   pub published : List Entry
 
--- the history and the tally of the store are those of its journal, which begins with what is published, and nothing is
--- counted but by its seats
-pub record IsLockedOf (id : Identity) (j : Journaled) (history published : Recorded) (tally : Tallies) (rest : Counted)
+-- the journal begins with what is published, which is the history of the store; the tally is the journal's, and nothing
+-- is counted but by its seats
+pub record IsLockedOf (id : Identity) (j : Journaled) (published : Recorded) (tally : Tallies) (rest : Counted)
     (seats : ℕ) : Type 0 where
   pub of : IsStoreOf id.setting j
-  pub history_is : history ≡ recorded id.history j.journal
   pub published_of : published.history ≡ id.history
   pub begins : IsPrefix published.entries j.journal
   pub tally_is : tally ≡ tally_of j.journal

@@ -1,11 +1,10 @@
 //! Several calls under one taking of the lock, which are published together.
-ghost use Rattle.std.specs.Prelude.{◌≡◌, ◌<◌, ◌↔◌, length, Err, IfOk, OnErr};
-ghost use mathlib.Core.List.{IsPrefix};
+ghost use Rattle.std.specs.Prelude.{◌≡◌, ◌<◌, ◌↔◌, length, Err, IfOk, IfSome, OnErr};
 ghost use Rattle.qplain.specs.declared.bounds.TheConstants.{MAX_ENTRIES};
 ghost use Rattle.qplain.specs.declared.call_fault.CallFault.TheVariants.{JournalFull};
 ghost use Rattle.qstore_journaled.specs.Lines.{line_of};
-ghost use Rattle.qshare.specs.declared.held.TheConstants.{MAX_BATCH};
 ghost use Rattle.qshare.specs.Calls.{IsHeldCall, IsHeldCallAt, IsToldOf, StaysHeld};
+ghost use Rattle.qshare.specs.Holds.{IsHeldBy};
 ghost use Rattle.qshare.specs.Seats.{HasSeenOn};
 
 use crate::boards::Boards;
@@ -54,10 +53,7 @@ impl<S: StoreId, B: Boards<S>> Shared<S, B> {
     /// Takes the lock, for which it waits, for up to 64 calls of the seat's worker. What is published begins with what
     /// the seat has seen, and the journal with that.
     pub fn hold<V: Drop, W: Wait>(&self, rt: &W, seat: &Seat<S, V>) -> Held<'_, S, B>
-        ensures by { result.by ≡ seat.now.worker }
-        ensures room { result.room ≡ MAX_BATCH }
-        ensures seen { IsPrefix seat.now.seen result.published }
-        ensures published { IsPrefix result.published result.journal }
+        ensures { IsHeldBy seat.now result }
     {
         let store = self.lock.lock(rt);
         store.await_seen(rt, seat.prefix());
@@ -66,6 +62,24 @@ impl<S: StoreId, B: Boards<S>> Shared<S, B> {
             by: seat.worker(),
             room: MAX_BATCH,
         }
+    }
+
+    /// Takes the lock as `hold` does, where nobody has it. It waits for nobody, and may be given no lock also where
+    /// others wait for it.
+    ///
+    /// Who has it and releases it has published all that waited, and seen it.
+    pub fn try_hold<V: Drop>(&self, seat: &Seat<S, V>) -> Option<Held<'_, S, B>>
+        ensures { IfSome result (IsHeldBy seat.now) }
+    {
+        let store = self.lock.try_lock()?;
+        if !store.has_published(seat.prefix()) {
+            return None;
+        }
+        Some(Held {
+            store,
+            by: seat.worker(),
+            room: MAX_BATCH,
+        })
     }
 }
 
@@ -79,9 +93,8 @@ impl<'a, S: StoreId, B: Boards<S>> Held<'a, S, B> {
 
     /// Makes a call of the worker that holds the lock, and tells what it is asked for.
     #[inline(always)]
-    fn make<T: Told, V: Drop, W: Wait>(
+    fn make<T: Told, V: Drop>(
         &mut self,
-        rt: &W,
         seat: &mut Seat<S, V>,
         cred: &Cred,
         moment: u64,
@@ -97,7 +110,7 @@ impl<'a, S: StoreId, B: Boards<S>> Held<'a, S, B> {
     {
         let worker = seat.worker;
         let store = &mut *self.store;
-        let told = store.apply(rt, worker, &mut seat.tally, cred, moment, call)?;
+        let told = store.apply(worker, &mut seat.tally, cred, moment, call)?;
         self.room -= 1;
         Ok(told)
     }
@@ -108,9 +121,8 @@ impl<'a, S: StoreId, B: Boards<S>> Held<'a, S, B> {
     /// Places count on within one hold. Err is JournalFull, reported first, where the journal has its 1,048,576
     /// entries, or OutOfMemory; it changes nothing, the room included. Moments, refusals and costs are those of
     /// `Store::ready`.
-    pub fn apply<V: Drop, W: Wait>(
+    pub fn apply<V: Drop>(
         &mut self,
-        rt: &W,
         seat: &mut Seat<S, V>,
         cred: &Cred,
         moment: u64,
@@ -123,13 +135,12 @@ impl<'a, S: StoreId, B: Boards<S>> Held<'a, S, B> {
         ensures err { OnErr result ((self.new ≡ self.old) × (seat.new ≡ seat.old)) }
         ensures full { (result ≡ Err JournalFull) ↔ (length self.old.journal ≡ MAX_ENTRIES) }
     {
-        self.make(rt, seat, cred, moment, call)
+        self.make(seat, cred, moment, call)
     }
 
     /// `apply`, of which the place is told alone: the reply stands in the journal, and is not copied.
-    pub fn place<V: Drop, W: Wait>(
+    pub fn place<V: Drop>(
         &mut self,
-        rt: &W,
         seat: &mut Seat<S, V>,
         cred: &Cred,
         moment: u64,
@@ -143,7 +154,7 @@ impl<'a, S: StoreId, B: Boards<S>> Held<'a, S, B> {
         ensures err { OnErr result ((self.new ≡ self.old) × (seat.new ≡ seat.old)) }
         ensures full { (result ≡ Err JournalFull) ↔ (length self.old.journal ≡ MAX_ENTRIES) }
     {
-        self.make(rt, seat, cred, moment, call)
+        self.make(seat, cred, moment, call)
     }
 
     /// Publishes all that waits, lets the seat see it, and gives the lock back.
@@ -162,7 +173,7 @@ impl<'a, S: StoreId, B: Boards<S>> Held<'a, S, B> {
         } = self;
         let store = &mut *store;
         store.await_seen(rt, seat.prefix());
-        store.publish();
+        store.publish(rt);
         seat.catch_up(store);
     }
 }

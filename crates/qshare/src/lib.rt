@@ -26,7 +26,6 @@ mod no_boards;
 mod on_demand;
 mod opening;
 mod published;
-mod publishing;
 mod seat;
 mod seating;
 mod share_fault;

@@ -1,5 +1,6 @@
 //! The value under a shared store's lock.
 ghost use Rattle.std.specs.Prelude.{◌≡◌, ◌<◌, ◌≤◌, ◌↔◌, [], length, All, Err, IfOk, OnErr};
+ghost use Rattle.std.specs.Bool.{Decides};
 ghost use mathlib.Core.List.{IsPrefix};
 ghost use Rattle.qplain.specs.declared.bounds.TheConstants.{MAX_ENTRIES};
 ghost use Rattle.qplain.specs.declared.call_fault.CallFault.TheVariants.{JournalFull};
@@ -19,13 +20,12 @@ use qstore_journaled::JournaledStore;
 use std::marker::Model;
 use std::sync::Wait;
 
-/// A journaled store with its history, how much of that is published, the tally of it, and what is done for those who
-/// look at its boards: what lies under the lock. Contracts see the journal, and how much of it is published.
+/// A journaled store with its history, which is how much of its journal is published, its tally, and what is done for
+/// those who look at its boards: what lies under the lock. Contracts see the journal, and how much of it is published.
 #[derive(Drop)]
 pub(crate) struct LockedStore<S: StoreId, B: Boards<S>> {
     store: JournaledStore,
     history: History,
-    published: Prefix,
     tally: TallyTotal<S>,
     /// How many seats there are.
     seats: u64,
@@ -39,10 +39,10 @@ impl<S: StoreId, B: Boards<S>> Model for LockedStore<S, B> {
 
     ghost Value = { Locked };
 
-    ghost view = { λ d. record { journal = d.store.journal; published = d.published.entries } };
+    ghost view = { λ d. record { journal = d.store.journal; published = d.history.entries } };
 
-    ghost invariant = { λ d. IsLockedOf S.id d.store d.history d.published d.tally d.rest d.seats
-        × B.waits d.boards d.published.entries d.store.journal };
+    ghost invariant = { λ d. IsLockedOf S.id d.store d.history d.tally d.rest d.seats
+        × B.waits d.boards d.history.entries d.store.journal };
 }
 
 impl<S: StoreId, B: Boards<S>> LockedStore<S, B> {
@@ -63,7 +63,6 @@ impl<S: StoreId, B: Boards<S>> LockedStore<S, B> {
         ensures { (result.journal ≡ []) × (result.published ≡ []) }
     {
         LockedStore {
-            published: history.prefix(),
             store,
             history,
             tally,
@@ -80,15 +79,14 @@ impl<S: StoreId, B: Boards<S>> LockedStore<S, B> {
         self.seats
     }
 
-    /// Makes a call and journals it, and tells what it is asked for; what the call does to the boards waits to be
-    /// published.
+    /// Makes a call and journals it, and tells what it is asked for; entry and what the call does to the boards wait to
+    /// be published.
     ///
     /// Err is JournalFull, reported first, where the journal has its 1,048,576 entries, or OutOfMemory; it changes
     /// nothing.
     #[inline(always)]
-    pub(crate) fn apply<T: Told, W: Wait>(
+    pub(crate) fn apply<T: Told>(
         &mut self,
-        rt: &W,
         worker: u64,
         mine: &mut SeatTally<S>,
         cred: &Cred,
@@ -112,7 +110,6 @@ impl<S: StoreId, B: Boards<S>> LockedStore<S, B> {
         let Ok(()) = self.boards.note(&self.store) else {
             return Err(CallFault::OutOfMemory);
         };
-        self.history.add(rt, self.store.next());
         let _place = self.store.commit();
         self.tally.count_call(mine, change, self.store.tallies());
         Ok(told)
@@ -120,32 +117,41 @@ impl<S: StoreId, B: Boards<S>> LockedStore<S, B> {
 
     /// Publishes the whole journal, with its board where somebody can look at it. It takes no memory but for the log of
     /// the boards, which has its room.
-    pub(crate) fn publish(&mut self)
+    pub(crate) fn publish<W: Wait>(&mut self, rt: &W)
         ensures { (self.new.journal ≡ self.old.journal) × (self.new.published ≡ self.old.journal) }
     {
-        let history = self.history.prefix();
+        let published = self.history.prefix();
+        self.history.extend_to(rt, self.store.entries());
         self.boards
-            .publish(&self.store, &self.published, history.again());
-        self.published = history;
+            .publish(&self.store, &published, self.history.prefix());
     }
 
     /// What is published.
-    pub(crate) fn published(&self) -> &Prefix
-        ensures published { result.now ≡ recorded S.id.history self.now.published }
-        ensures legal { IsLegal (start S.id.setting) self.now.journal }
+    pub(crate) fn published(&self) -> Prefix
+        ensures published { result ≡ recorded S.id.history self.now.published }
+        ensures legal { IsLegal (start S.id.setting) self.now.published }
     {
-        &self.published
+        self.history.prefix()
     }
 
-    /// Waits until what is published begins with what a seat has seen, which it does: the loop ends at its first turn,
-    /// but no clause of `logbook` says that only what was published was seen.
+    /// Whether what is published begins with what a seat has seen, which it does: only what is published can be seen,
+    /// but no clause of `logbook` says that nobody else adds to the history.
+    pub(crate) fn has_published(&self, seen: &Prefix) -> bool
+        requires { seen.now.history ≡ S.id.history }
+        ensures seen { Decides result (IsPrefix seen.now.entries self.now.published) }
+        ensures journal { IsPrefix self.now.published self.now.journal }
+    {
+        self.history.prefix().begins_with(seen)
+    }
+
+    /// Waits until what is published begins with what a seat has seen, which it does: the loop ends at its first turn.
     pub(crate) fn await_seen<W: Wait>(&self, rt: &W, seen: &Prefix)
         requires { seen.now.history ≡ S.id.history }
         ensures published { IsPrefix seen.now.entries self.now.published }
         ensures journal { IsPrefix self.now.published self.now.journal }
     {
         for _ in rt.forever() {
-            if self.published.begins_with(seen) {
+            if self.has_published(seen) {
                 return;
             }
         }

@@ -196,7 +196,7 @@ impl Opened {
 
     /// The store under its identity, behind its lock, the seats of its workers, which are numbered from 1, and the last
     /// seat, which alone can look at the boards. A board is published where `wanted` is set when a worker has made a
-    /// call, or by `Shared::try_publish`, and then `wanted` is cleared; else a call takes as long as without viewers.
+    /// call, or when a hold is released, and then `wanted` is cleared; else a call takes as long as without viewers.
     ///
     /// `rt` is how a drop of the store waits for who looks. An Err is OutOfMemory, or NoReader where the last seat got
     /// no reader of the boards; then nothing is left.

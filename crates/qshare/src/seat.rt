@@ -21,7 +21,8 @@ use std::marker::Model;
 pub struct Blind;
 
 /// A worker's own access to a shared store, with a viewer of its boards where it can look at them. Contracts see the
-/// worker's number, the prefix of the history that the seat has seen, which is legal, and what it has counted.
+/// worker's number, the prefix of the history that the seat has seen, which is legal and published, and what it has
+/// counted.
 #[derive(Drop)]
 pub struct Seat<S: StoreId, V: Drop> {
     pub(crate) worker: u64,
@@ -72,13 +73,12 @@ impl<S: StoreId, V: Drop> Seat<S, V> {
         &self.prefix
     }
 
-    /// Sees the whole journal, all of which is published.
+    /// Sees all that is published.
     pub(crate) fn catch_up<B: Boards<S>>(&mut self, store: &LockedStore<S, B>)
-        requires { store.now.published ≡ store.now.journal }
-        ensures seat { self.new ≡ record self.old { seen = store.now.journal } }
-        ensures legal { IsLegal (start S.id.setting) store.now.journal }
+        ensures seat { self.new ≡ record self.old { seen = store.now.published } }
+        ensures legal { IsLegal (start S.id.setting) store.now.published }
     {
-        self.prefix = store.published().again();
+        self.prefix = store.published();
     }
 
     /// The seat's share: what it has seen and counted.

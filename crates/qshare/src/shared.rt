@@ -23,7 +23,8 @@ use std::sync::{Mutex, Wait};
 ///
 /// Whenever the lock is free the store is exactly what its journal leaves when one thread plays it on the plain
 /// machine, and each journaled reply is that machine's: this is the invariant of the `JournaledStore` that lies under
-/// it.
+/// it. What seats see of its journal is the history, which is what is published, with its board where boards are
+/// published at each call.
 #[derive(Drop)]
 pub struct Shared<S: StoreId, B: Boards<S>> {
     pub(crate) lock: Mutex<LockedStore<S, B>>,
@@ -50,8 +51,8 @@ fn call_locked<T: Told, S: StoreId, B: Boards<S>, V: Drop, W: Wait>(
 {
     store.await_seen(rt, seat.prefix());
     let worker = seat.worker;
-    let answer = store.apply(rt, worker, &mut seat.tally, cred, moment, call);
-    store.publish();
+    let answer = store.apply(worker, &mut seat.tally, cred, moment, call);
+    store.publish(rt);
     seat.catch_up(store);
     answer
 }
@@ -67,9 +68,9 @@ impl<S: StoreId, B: Boards<S>> Shared<S, B> {
     /// Makes a call of a seat's worker, which waits for the lock, and journals it.
     ///
     /// The seat has then seen a legal history that begins with all that it had seen and has this call at the receipt's
-    /// place, after all that it had seen. Err is JournalFull, reported first, where the journal has its 1,048,576
-    /// entries, or OutOfMemory; it changes nothing, and the call is in no journal. Moments, refusals and costs are
-    /// those of `Store::ready`.
+    /// place, after all that it had seen; so the call is published. Err is JournalFull, reported first, where the
+    /// journal has its 1,048,576 entries, or OutOfMemory; it changes nothing, and the call is in no journal. Moments,
+    /// refusals and costs are those of `Store::ready`.
     // Clients of streams have a loop around it: in its place it moves no reply from hand to hand.
     #[inline(always)]
     pub fn call<V: Drop, W: Wait>(

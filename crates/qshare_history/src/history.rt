@@ -1,7 +1,8 @@
-//! The one history of a store. It exists in the proofs alone: what is shared of it when a program runs is one word, its
-//! length.
+//! The one history of a store: what is published of its journal. It exists in the proofs alone: what is shared of it
+//! when a program runs is one word, its length.
 ghost use Rattle.std.specs.Prelude.{◌≡◌, ◌<◌, ◌^◌, length, []};
-ghost use Rattle.qshare_history.specs.Histories.{with_entry};
+ghost use mathlib.Core.List.{IsPrefix};
+ghost use Rattle.qshare_history.specs.Histories.{recorded, with_entry};
 ghost use Rattle.qshare_history.specs.Laws.{head_of};
 
 use crate::Prefix;
@@ -11,7 +12,7 @@ use qplain::Entry;
 use std::marker::Model;
 use std::sync::Wait;
 
-/// Adds an entry.
+/// Adds an entry. The first try does; no clause of `logbook` says that nobody else adds.
 fn add_to<R: Wait>(rt: &R, prefix: &mut Prefix, head: &Word<Entry, u64, Law>, entry: &Entry)
     requires head { head.now ≡ head_of prefix.old.history }
     requires room { length prefix.old.entries < 2 ^ 62 }
@@ -23,6 +24,18 @@ fn add_to<R: Wait>(rt: &R, prefix: &mut Prefix, head: &Word<Entry, u64, Law>, en
         }
     }
     unreachable!()
+}
+
+/// Adds each entry that the journal has more.
+fn add_rest<R: Wait>(rt: &R, prefix: &mut Prefix, head: &Word<Entry, u64, Law>, journal: &[Entry])
+    requires head { head.now ≡ head_of prefix.old.history }
+    requires begins { IsPrefix prefix.old.entries journal.now }
+    requires room { length journal.now < 2 ^ 62 }
+    ensures { prefix.new ≡ recorded prefix.old.history journal.now }
+{
+    for at in prefix.len as usize..journal.len() {
+        add_to(rt, prefix, head, &journal[at]);
+    }
 }
 
 /// The whole history, for who alone adds to it. Contracts see it as they see a `Prefix`.
@@ -63,11 +76,12 @@ impl History {
         self.prefix.again()
     }
 
-    /// Adds an entry. The first try does; no clause of `logbook` says that nobody else adds.
-    pub fn add<R: Wait>(&mut self, rt: &R, entry: &Entry)
-        requires { length self.old.entries < 2 ^ 62 }
-        ensures { self.new ≡ with_entry self.old entry.now }
+    /// Goes on to all of the journal, which begins with it. It takes no memory.
+    pub fn extend_to<R: Wait>(&mut self, rt: &R, journal: &[Entry])
+        requires begins { IsPrefix self.old.entries journal.now }
+        requires room { length journal.now < 2 ^ 62 }
+        ensures { self.new ≡ recorded self.old.history journal.now }
     {
-        add_to(rt, &mut self.prefix, &self.head, entry)
+        add_rest(rt, &mut self.prefix, &self.head, journal)
     }
 }

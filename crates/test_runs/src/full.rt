@@ -67,7 +67,7 @@ fn apply_is_full<S: StoreId, B: Boards<S>, W: Wait>(
     line: &Line,
 ) -> bool {
     let mut held = shared.hold(rt, seat);
-    let answer = held.apply(rt, seat, &line.cred, line.moment, &line.call);
+    let answer = held.apply(seat, &line.cred, line.moment, &line.call);
     let room = held.room();
     held.release(rt, seat);
     is_full(&answer) && room == 64

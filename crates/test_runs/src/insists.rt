@@ -90,7 +90,7 @@ pub(crate) fn insist_call<S: StoreId, B: Boards<S>, R: Wait + Print>(
 
 /// Makes a call of the first seat under the lock that it holds. Where an allocation is refused, nobody sees a change,
 /// the room is as before, and it is made once more.
-pub(crate) fn insist_apply<S: StoreId, B: Boards<S>, R: Wait + Print>(
+pub(crate) fn insist_apply<S: StoreId, B: Boards<S>, R: Print>(
     rt: &R,
     held: &mut Held<'_, S, B>,
     first: &mut Seat<S, Viewer<S>>,
@@ -102,13 +102,13 @@ pub(crate) fn insist_apply<S: StoreId, B: Boards<S>, R: Wait + Print>(
 {
     let before = shown(rt, second)?;
     let room = held.room();
-    let told = apply(rt, held, first, line);
+    let told = apply(held, first, line);
     if told.is_some() {
         return told;
     }
     tell_refused(rt);
     if held.room() == room && is_shown(rt, second, &before) {
-        apply(rt, held, first, line)
+        apply(held, first, line)
     } else {
         None
     }

@@ -67,8 +67,7 @@ pub(crate) fn call<S: StoreId, B: Boards<S>, W: Wait>(
 }
 
 /// Makes a call of a seat under the lock that is held, where there is room for it.
-pub(crate) fn apply<S: StoreId, B: Boards<S>, W: Wait>(
-    rt: &W,
+pub(crate) fn apply<S: StoreId, B: Boards<S>>(
     held: &mut Held<'_, S, B>,
     seat: &mut Seat<S, Viewer<S>>,
     line: &Line,
@@ -79,7 +78,7 @@ pub(crate) fn apply<S: StoreId, B: Boards<S>, W: Wait>(
     if held.room() == 0 {
         return None;
     }
-    let answer = held.apply(rt, seat, &line.cred, line.moment, &line.call);
+    let answer = held.apply(seat, &line.cred, line.moment, &line.call);
     told(&answer)
 }
 
@@ -111,7 +110,7 @@ fn hold_once<S: StoreId, B: Boards<S>, W: Wait>(
     line: &Line,
 ) -> (Option<(u64, bool)>, Result<(u64, u64, u64), LookFault>) {
     let mut held = shared.hold(rt, first);
-    let told = apply(rt, &mut held, first, line);
+    let told = apply(&mut held, first, line);
     let shown = board(second);
     held.release(rt, first);
     (told, shown)
@@ -136,8 +135,7 @@ fn tell_one_held<S: StoreId, B: Boards<S>, W: Wait>(
 }
 
 /// Makes two calls under a lock that is held, and the first once more.
-fn apply_three<S: StoreId, B: Boards<S>, W: Wait>(
-    rt: &W,
+fn apply_three<S: StoreId, B: Boards<S>>(
     held: &mut Held<'_, S, B>,
     first: &mut Seat<S, Viewer<S>>,
     lines: (&Line, &Line),
@@ -146,9 +144,9 @@ fn apply_three<S: StoreId, B: Boards<S>, W: Wait>(
     ensures by { (first.new.worker ≡ first.old.worker) × (held.new.by ≡ held.old.by) }
 {
     let (create, write) = lines;
-    let one = apply(rt, held, first, create);
-    let two = apply(rt, held, first, write);
-    [one, two, apply(rt, held, first, create)]
+    let one = apply(held, first, create);
+    let two = apply(held, first, write);
+    [one, two, apply(held, first, create)]
 }
 
 /// Three calls are published at once.
@@ -160,7 +158,7 @@ fn tell_three_held<S: StoreId, B: Boards<S>, W: Wait>(
     lines: (&Line, &Line),
 ) -> bool {
     let mut held = shared.hold(rt, first);
-    let told = apply_three(rt, &mut held, first, lines);
+    let told = apply_three(&mut held, first, lines);
     let room = held.room();
     let before = board(second);
     held.release(rt, first);
@@ -180,7 +178,7 @@ fn tell_dropped<S: StoreId, B: Boards<S>, W: Wait>(
 ) -> bool {
     let (create, stat) = lines;
     let mut held = shared.hold(rt, first);
-    let told = apply(rt, &mut held, first, create);
+    let told = apply(&mut held, first, create);
     drop(held);
     let before = board(second);
     let next = call(rt, shared, second, stat);

@@ -39,7 +39,7 @@ fn note<S: StoreId>(
 }
 
 /// Makes three calls under the lock.
-fn apply_three<S: StoreId, B: Boards<S>, R: Wait + Print>(
+fn apply_three<S: StoreId, B: Boards<S>, R: Print>(
     rt: &R,
     held: &mut Held<'_, S, B>,
     first: &mut Seat<S, Viewer<S>>,

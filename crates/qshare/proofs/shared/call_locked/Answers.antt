@@ -1,7 +1,5 @@
-use Rattle.std.proofs.Common.{◌≡◌, ap, subst, sym, ◌∙◌}
+use Rattle.std.proofs.Common.{◌≡◌, ap, rules, subst, sym, ◌∙◌}
 use mathlib.Core.List.{IsPrefix}
-use Rattle.qplain.specs.Journal.{IsLegal}
-use Rattle.qplain.specs.State.{start}
 use Rattle.qshare_history.proofs.Prefixes.{prefix_trans}
 use Rattle.qshare.proofs.Growing.{goes_on, seen_of}
 use Rattle.qshare.proofs.shared.call_locked.Goals as goal
@@ -12,9 +10,9 @@ returns-clause-seen g c =
     seen_of c.prefix.ensures.prefix c.await_seen.ensures.published c.await_seen.ensures.journal in
     let grown : IsPrefix c.args.store.now.journal c.apply-answer.new.self.journal =
     goes_on g.T.Told.told _ _ _ c.apply-answer.result _ _ _ _ c.apply-answer.ensures.ok c.apply-answer.ensures.err in
-    let left : c.catch_up.new.self.seen ≡ c.publish.new.self.journal = ap (λ s. s.seen) c.catch_up.ensures.seat in
+    let all : c.apply-answer.new.self.journal ≡ c.catch_up.new.self.seen = search rules in
     record {
       worker = ap (λ s. s.worker) c.catch_up.ensures.seat ∙ ap (λ s. s.worker) c.seat.view_is;
-      begins = subst (IsPrefix c.args.seat.now.seen) (sym (left ∙ c.publish.ensures.0)) (prefix_trans _ _ _ begins grown);
-      legal = subst (IsLegal (start g.S.StoreId.id.setting)) (sym left) c.catch_up.ensures.legal;
+      begins = subst (IsPrefix c.args.seat.now.seen) all (prefix_trans _ _ _ begins grown);
+      legal = search rules;
     }

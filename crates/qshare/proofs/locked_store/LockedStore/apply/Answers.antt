@@ -1,7 +1,6 @@
 use Rattle.std.proofs.Common.{◌++◌, ◌∷◌, [], ap, subst, sym, ◌∙◌}
 use Rattle.qplain.specs.Journal.{counted, tally_of}
 use Rattle.qplain_laws.proofs.Tallying.{tally-one_more}
-use Rattle.qshare_history.specs.Histories.{recorded, with_entry}
 use Rattle.qshare_history.proofs.Prefixes.{prefix_trans}
 use Rattle.qshare.proofs.locked_store.LockedStore.apply.Goals as goal
 
@@ -14,22 +13,21 @@ count_call-requires-clause-totals g c =
 
 pub invariant_of-self-2 : goal.invariant_of-self-2
 invariant_of-self-2 g c =
-    let e = c.next-2.result.now in
+    let e = c.next.result.now in
     let was = c.self.invariant.0 in
     let same = c.in_ok-ready.ensures.same in
     let left = c.commit-place.ensures in
-    let after = left.journal e c.next-2.ensures in
+    let after = left.journal e c.next.ensures in
     let journal = after ∙ ap (λ xs. xs ++ e ∷ []) same.journal in
-    let waited = subst (g.B.Boards.waits c.self.inside.boards c.self.inside.published.entries) (sym same.journal) c.self.invariant.1 in (
+    let waited = subst (g.B.Boards.waits c.self.inside.boards c.self.inside.history.entries) (sym same.journal) c.self.invariant.1 in (
       record {
         of = record { setting_is = left.setting ∙ same.setting ∙ was.of.setting_is; played = left.played };
-        history_is = c.add.ensures ∙ ap (λ r. with_entry r e) was.history_is ∙ ap (recorded g.S.StoreId.id.history) (sym journal);
         published_of = was.published_of;
         begins = prefix_trans _ _ _ was.begins (e ∷ [], sym journal);
         tally_is = c.count_call.ensures.total ∙ sym (count_call-requires-clause-totals g c.before) ∙ c.tallies.ensures;
         rest_is = was.rest_is;
         seats_are = was.seats_are;
       },
-      subst (g.B.Boards.waits c.note.new.self c.self.inside.published.entries) (sym after)
-          (c.in-Ok-note.ensures.ok c.self.inside.published.entries e c.next-2.ensures waited),
+      subst (g.B.Boards.waits c.note.new.self c.self.inside.history.entries) (sym after)
+          (c.in-Ok-note.ensures.ok c.self.inside.history.entries e c.next.ensures waited),
     )
