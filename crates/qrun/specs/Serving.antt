@@ -1,7 +1,7 @@
 -- What a service owes its caller, what its workers have done for their clients, and what is told of them.
 use Rattle.std.specs.Prelude.{◌≡◌, ℕ, ◌+◌, ◌<◌, ◌≤◌, List, [], length, map, slice_index_or, Option, None, Some, IfSome}
+use Rattle.qrun_client.specs.Clients.{Talk}
 use Rattle.qplain.specs.declared.edition.Edition.TheVariants.{Two}
-use Rattle.qplain.specs.declared.line.Line.{Line}
 use Rattle.qplain.specs.declared.transcript.Transcript.{Transcript}
 use Rattle.qplain.specs.Setups.{Setting}
 use Rattle.qshare.specs.declared.opening.TheConstants.{MAX_SEATS}
@@ -21,14 +21,18 @@ pub record CanServe (setting : Setting) (clients monitors : ℕ) : Type 0 where
   pub some : 0 < clients
   pub few : seats_for clients monitors ≤ MAX_SEATS
 
--- the lines of each transcript are those of its client's script, where that is known; no look was taken at the boards;
--- and so many ends are told, one of each client
-pub record IsOfClients (scripts : List (Option (List Line))) (ends : ℕ) (o : Outcome) : Type 0 where
-  pub many : length o.transcripts ≡ length scripts
-  pub each : (k : ℕ) (script : Option (List Line)) (t : Transcript) → k < length scripts
-      → IfSome (slice_index_or scripts k script) (λ lines. (slice_index_or o.transcripts k t).lines ≡ lines)
+-- a transcript tells what came of its client: the lines that it handed out, what it was told of them, and what is left
+abbrev pub Tells : {Left : Type 0} → Talk Left → Transcript → Left → Type 0
+Tells talk t left = talk t.lines t.answers left
+
+-- each client's transcript tells what came of it, in their order; and no look was taken at the boards
+pub record IsOfClients {C Left : Type 0} (talk : C → Talk Left) (clients : List C) (left : List Left) (o : Outcome)
+    : Type 0 where
+  pub many : length o.transcripts ≡ length clients
+  pub left_are : length left ≡ length clients
+  pub each : (k : ℕ) (c : C) (t : Transcript) (l : Left) → k < length clients
+      → Tells (talk (slice_index_or clients k c)) (slice_index_or o.transcripts k t) (slice_index_or left k l)
   pub boards : o.boards ≡ []
-  pub ends_are : ends ≡ length scripts
 
 -- ---- what no public clause cites
 
@@ -42,10 +46,11 @@ pub record IsStaff (setting : Setting) (clients parts : ℕ) (seats : List Seate
   pub observer_is : observer ≡ watcher_for clients monitors
 
 -- each worker, from 1, has served its client
-pub record AreServed (scripts : List (Option (List Line))) (all : List Serving) : Type 0 where
-  pub many : length all ≡ length scripts
-  pub each : (k : ℕ) (script : Option (List Line)) (s : Serving) → k < length scripts
-      → IsServed (k + 1) (slice_index_or scripts k script) (slice_index_or all k s)
+pub record AreServed {C Left : Type 0} (talk : C → Talk Left) (clients : List C) (all : List (Serving Left))
+    : Type 0 where
+  pub many : length all ≡ length clients
+  pub each : (k : ℕ) (c : C) (s : Serving Left) → k < length clients
+      → IsServed (k + 1) (talk (slice_index_or clients k c)) (slice_index_or all k s)
 
 -- each worker has the number of its place, from 1
 abbrev pub AreNumbered : {C : Type 0} → List (Attending C) → Type 0

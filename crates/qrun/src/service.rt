@@ -1,5 +1,5 @@
 //! Services: living clients served by workers on a shared store of their own.
-ghost use Rattle.std.specs.Prelude.{◌≡◌, ◌+◌, [], All, length, map, vec_len, IfErr, IfOk, IfSome};
+ghost use Rattle.std.specs.Prelude.{◌≡◌, ◌+◌, [], All, length, IfErr, IfOk, IfSome};
 ghost use Rattle.qrun_replay.specs.Runs.{IsServiceOf};
 ghost use Rattle.qrun.specs.RunFaults.{IsFaultOf};
 ghost use Rattle.qrun.specs.Serving.{CanServe, IsOfClients, IsStaff, monitors_in};
@@ -12,7 +12,7 @@ use crate::runs::fault_of;
 use crate::serving::{attend_all, attendants_of};
 use crate::telling::{hand_in, part_served};
 use qplain::Setup;
-use qrun_client::{ClientEnd, KeepsLines};
+use qrun_client::Client;
 use qrun_replay::Outcome;
 use qshare::{Boards, Opened, Seat, Shared};
 use qshare_history::StoreId;
@@ -22,11 +22,11 @@ use std::sync::Wait;
 use std::sync::atomic::AtomicBool;
 use std::thread::Threads;
 
-/// What a service leaves, and how each client has ended, in their order.
+/// What a service leaves, and what is left of each client, in their order.
 #[derive(Drop)]
-pub struct Service {
+pub struct Service<L: Drop> {
     pub outcome: Outcome,
-    pub ends: Vec<ClientEnd>,
+    pub left: Vec<L>,
 }
 
 /// Serves the clients on a shared store, ends it, and makes the outcome.
@@ -39,29 +39,29 @@ fn serve_and_end<S, B, V, C, M, R>(
     ended: &AtomicBool,
     clients: Vec<C>,
     seed: u64,
-) -> Result<Service, RunFault>
+) -> Result<Service<C::Left>, RunFault>
 where
     S: StoreId + Send + Sync + 'static,
     B: Boards<S> + Send,
     V: Drop + Send,
-    C: KeepsLines + Drop + Send,
+    C: Client + Drop + Send,
     M: Monitor + Drop + Send,
     R: Threads + Wait + Sync,
     requires staff { IsStaff S.id.setting (length clients.items) S.id.counters.parts seats.items observer }
     requires new { All (λ c. (C.given c ≡ []) × (C.told c ≡ [])) clients.items }
     ensures outcome { IfOk result (λ s. IsServiceOf S.id.setting s.outcome) }
-    ensures clients { IfOk result (λ s. IsOfClients (map C.script clients.items) (vec_len s.ends) s.outcome) }
+    ensures clients { IfOk result (λ s. IsOfClients C.talk clients.items s.left.items s.outcome) }
     ensures fault { IfErr result (IsFaultOf S.id.counters.parts) }
 {
     let showing = showing_of(rt, alloc, &shared, observer, ended);
     let attendants = attendants_of(alloc, rt, &shared, seats, clients)?;
     let (served, watch) = attend_all(rt, alloc, attendants, showing, ended)?;
-    let (own, answered, ends) = part_served(alloc, served)?;
+    let (own, answered, left) = part_served(alloc, served)?;
     let (shares, looks) = hand_in(alloc, own, watch)?;
     match shared.end(rt, shares) {
         Ok(store) => {
             let outcome = make_outcome(alloc, store, answered, looks, seed)?;
-            Ok(Service { outcome, ends })
+            Ok(Service { outcome, left })
         }
         Err(_) => unreachable!(),
     }
@@ -75,17 +75,17 @@ fn serve_shown<S, C, M, R>(
     clients: Vec<C>,
     monitor: M,
     seed: u64,
-) -> Result<Service, RunFault>
+) -> Result<Service<C::Left>, RunFault>
 where
     S: StoreId + Send + Sync + 'static,
-    C: KeepsLines + Drop + Send,
+    C: Client + Drop + Send,
     M: Monitor + Drop + Send,
     R: Threads + Wait + Sync,
     requires id { (opened ≡ S.id) × IfSome (M.setting monitor) (λ s. s ≡ S.id.setting) }
     requires can { CanServe S.id.setting (length clients.items) 1 × (S.id.counters.parts ≡ length clients.items + 1) }
     requires new { All (λ c. (C.given c ≡ []) × (C.told c ≡ [])) clients.items }
     ensures outcome { IfOk result (λ s. IsServiceOf S.id.setting s.outcome) }
-    ensures clients { IfOk result (λ s. IsOfClients (map C.script clients.items) (vec_len s.ends) s.outcome) }
+    ensures clients { IfOk result (λ s. IsOfClients C.talk clients.items s.left.items s.outcome) }
     ensures fault { IfErr result (IsFaultOf S.id.counters.parts) }
 {
     let wanted = AtomicBool::new(false);
@@ -105,17 +105,17 @@ fn serve_unshown<S, C, M, R>(
     opened: Opened,
     clients: Vec<C>,
     seed: u64,
-) -> Result<Service, RunFault>
+) -> Result<Service<C::Left>, RunFault>
 where
     S: StoreId + Send + Sync + 'static,
-    C: KeepsLines + Drop + Send,
+    C: Client + Drop + Send,
     M: Monitor + Drop + Send,
     R: Threads + Wait + Sync,
     requires id { opened ≡ S.id }
     requires can { CanServe S.id.setting (length clients.items) 0 × (S.id.counters.parts ≡ length clients.items) }
     requires new { All (λ c. (C.given c ≡ []) × (C.told c ≡ [])) clients.items }
     ensures outcome { IfOk result (λ s. IsServiceOf S.id.setting s.outcome) }
-    ensures clients { IfOk result (λ s. IsOfClients (map C.script clients.items) (vec_len s.ends) s.outcome) }
+    ensures clients { IfOk result (λ s. IsOfClients C.talk clients.items s.left.items s.outcome) }
     ensures fault { IfErr result (IsFaultOf S.id.counters.parts) }
 {
     let (shared, seats) = match opened.without_viewers::<S>() {
@@ -132,8 +132,9 @@ where
 /// whose number is theirs and 1, shows it the boards as they come, and the last one when all clients have ended; else
 /// nobody can look at boards, and calls take less.
 ///
-/// What is left is as of `run_scripts`, over the lines that the clients have handed out: worker k serves client k,
-/// whose transcript has its lines and what it was told. A line may fail with JournalFull, and does so only where the
+/// The outcome is as of `run_scripts`, over the lines that the clients have handed out: worker k serves client k, and
+/// its transcript has just the lines that this client has handed out and the answers that it was told, in their order,
+/// each with the reply of its entry in the journal. A line may fail with JournalFull, and does so only where the
 /// journal has its 1,048,576 entries. The outcome keeps no boards.
 ///
 /// This is promised if the service returns: a client that does not end holds it up, and no other client. The hashes of
@@ -147,16 +148,16 @@ pub fn serve<C, M, R>(
     clients: Vec<C>,
     monitor: Option<M>,
     seed: u64,
-) -> Result<Service, RunFault>
+) -> Result<Service<C::Left>, RunFault>
 where
-    C: KeepsLines + Drop + Send,
+    C: Client + Drop + Send,
     M: Monitor + Drop + Send,
     R: Threads + Wait + Sync,
     requires can { CanServe setup (length clients.items) (monitors_in monitor) }
     requires monitor { IfSome monitor (λ m. IfSome (M.setting m) (λ s. s ≡ setup)) }
     requires new { All (λ c. (C.given c ≡ []) × (C.told c ≡ [])) clients.items }
     ensures outcome { IfOk result (λ s. IsServiceOf setup s.outcome) }
-    ensures clients { IfOk result (λ s. IsOfClients (map C.script clients.items) (vec_len s.ends) s.outcome) }
+    ensures clients { IfOk result (λ s. IsOfClients C.talk clients.items s.left.items s.outcome) }
     ensures fault { IfErr result (IsFaultOf (seats_for (length clients.items) (monitors_in monitor))) }
 {
     match monitor {

@@ -1,5 +1,5 @@
 //! All threads of a service: one for each client, and one that shows the boards.
-ghost use Rattle.std.specs.Prelude.{◌≡◌, ◌≤◌, ℕ, [], All, length, map, IfOk, MatchResult};
+ghost use Rattle.std.specs.Prelude.{◌≡◌, ◌≤◌, ℕ, [], All, length, IfOk, MatchResult};
 ghost use denote.Param.Send.{IsSend, IsSync};
 ghost use Rattle.qplain.specs.State.{start};
 ghost use Rattle.qshare.specs.Seats.{seats_of};
@@ -13,7 +13,7 @@ use crate::run_fault::RunFault;
 use crate::watcher::Watch;
 use core::thread::Stack;
 use qplain::NoMemory;
-use qrun_client::KeepsLines;
+use qrun_client::Client;
 use qrun_worker::{Attendant, Served, attend};
 use qshare::{Boards, Seat, Shared};
 use qshare_history::StoreId;
@@ -35,7 +35,7 @@ where
     S: StoreId,
     B: Boards<S>,
     V: Drop,
-    C: KeepsLines + Drop,
+    C: Client + Drop,
     R: Wait,
     requires seats { seats.items ≡ seats_of (length clients.items) }
     requires new { All (λ c. (C.given c ≡ []) × (C.told c ≡ [])) clients.items }
@@ -63,29 +63,29 @@ pub(crate) fn attend_all<S, B, V, C, M, R>(
     attendants: Vec<Attendant<'_, '_, S, B, V, C, R>>,
     showing: Option<Showing<'_, '_, S, B, M, R>>,
     ended: &AtomicBool,
-) -> Result<(Vec<Served<S>>, Option<Watch<S>>), RunFault>
+) -> Result<(Vec<Served<S, C::Left>>, Option<Watch<S>>), RunFault>
 where
     S: StoreId + Send + Sync + 'static,
     B: Boards<S> + Send,
     V: Drop + Send,
-    C: KeepsLines + Drop + Send,
+    C: Client + Drop + Send,
     M: Monitor + Drop + Send,
     R: Threads + Wait + Sync,
     requires { AreNumbered attendants.items }
     ensures { MatchResult result
-        (λ r. AreServed (map (λ a. C.script a.client) attendants.entry.items) r.0.items
+        (λ r. AreServed (λ a. C.talk a.client) attendants.entry.items r.0.items
         × IsWatchOf (start S.id.setting) 0 showing.entry r.1)
         (λ fault. (n : ℕ) → length attendants.entry.items ≤ n → HasSeatIn n showing.entry → IsFaultOf n fault) }
 {
     thread::scope(
         thread::scope_env(),
         rt,
-        |scope| -> Result<(Vec<Served<S>>, Option<Watch<S>>), RunFault>
+        |scope| -> Result<(Vec<Served<S, C::Left>>, Option<Watch<S>>), RunFault>
             requires marks { IsSync R.row × IsSend S.row × IsSync S.row × IsSend B.row × IsSend V.row × IsSend C.row
-                × IsSend M.row }
+                × IsSend C.Left.row × IsSend M.row }
             requires numbered { AreNumbered attendants.items }
             ensures { MatchResult result
-                (λ r. AreServed (map (λ a. C.script a.client) attendants.entry.items) r.0.items
+                (λ r. AreServed (λ a. C.talk a.client) attendants.entry.items r.0.items
                 × IsWatchOf (start S.id.setting) 0 showing.entry r.1)
                 (λ fault. (n : ℕ) → length attendants.entry.items ≤ n → HasSeatIn n showing.entry
                 → IsFaultOf n fault) }

@@ -1,5 +1,5 @@
 //! What workers have done, told by the places of their answers.
-ghost use Rattle.std.specs.Prelude.{◌≡◌, ◌+◌, ◌<◌, ◌++◌, ◌∷◌, [], map, vec_len, All, IfOk};
+ghost use Rattle.std.specs.Prelude.{◌≡◌, ◌+◌, ◌<◌, ◌++◌, ◌∷◌, [], map, All, IfOk};
 ghost use Rattle.qrun.specs.Told.{CanBePlaced, answered_of, placed_of};
 ghost use Rattle.qrun.specs.Watching.{looks_in, shares_in};
 ghost use Rattle.qrun_replay.specs.Places.{stand_at};
@@ -7,7 +7,7 @@ ghost use Rattle.qrun_worker.specs.Work.{HasLowPlace, place_of, standing_of};
 
 use crate::watcher::{Look, Watch};
 use qplain::{Line, NoMemory, Transcript};
-use qrun_client::{Answer, ClientEnd};
+use qrun_client::Answer;
 use qrun_replay::{Answered, Places};
 use qrun_worker::{Served, Work};
 use qshare_history::{Share, StoreId};
@@ -77,32 +77,32 @@ fn answered_by(alloc: Global, transcript: Transcript) -> Result<Answered, NoMemo
     })
 }
 
-/// What the workers of a service have done, taken apart: their shares, what their clients were answered, and how each
-/// client has ended.
-pub(crate) fn part_served<S: StoreId>(
+/// What the workers of a service have done, taken apart: their shares, what their clients were answered, and what is
+/// left of each client.
+pub(crate) fn part_served<S: StoreId, L: Drop>(
     alloc: Global,
-    served: Vec<Served<S>>,
-) -> Result<(Vec<Share<S>>, Vec<Answered>, Vec<ClientEnd>), NoMemory>
+    served: Vec<Served<S, L>>,
+) -> Result<(Vec<Share<S>>, Vec<Answered>, Vec<L>), NoMemory>
     requires { All (λ s. CanBePlaced s.transcript.lines s.transcript.answers) served.items }
     ensures shares { IfOk result (λ r. r.0.items ≡ map (λ s. s.share) served.items) }
     ensures answered { IfOk result (λ r. r.1.items ≡ map (λ s. placed_of s.transcript) served.items) }
-    ensures ends { IfOk result (λ r. vec_len r.2 ≡ vec_len served) }
+    ensures left { IfOk result (λ r. r.2.items ≡ map (λ s. s.left) served.items) }
 {
     let mut shares = Vec::with_capacity(alloc, served.len())?;
     let mut all = Vec::with_capacity(alloc, served.len())?;
-    let mut ends = Vec::with_capacity(alloc, served.len())?;
+    let mut left = Vec::with_capacity(alloc, served.len())?;
     for one in served {
         let Served {
             share,
             transcript,
-            end,
+            left: rest,
         } = one;
         let answered = answered_by(alloc, transcript)?;
         shares.push_reserved(share);
         all.push_reserved(answered);
-        ends.push_reserved(end);
+        left.push_reserved(rest);
     }
-    Ok((shares, all, ends))
+    Ok((shares, all, left))
 }
 
 /// The shares of all seats, that of the watcher last, and what its looks were given.

@@ -1,6 +1,6 @@
 -- What workers have done, of whom each plays a script or serves a client.
 use Rattle.std.specs.Prelude.{◌≡◌, ℕ, ◌+◌, ◌<◌, ◌≤◌, ◌⊎◌, List, [], ◌∷◌, length, All, slice_index_or}
-use Rattle.std.specs.Prelude.{Option, IfSome, Result, Ok, Err, IfOk}
+use Rattle.std.specs.Prelude.{Result, Ok, Err, IfOk}
 use Rattle.qplain.specs.declared.call_fault.CallFault.{CallFault}
 use Rattle.qplain.specs.declared.call_fault.CallFault.TheVariants.{JournalFull}
 use Rattle.qplain.specs.declared.entry.Entry.{Entry}
@@ -14,6 +14,7 @@ use mathlib.Core.List.{IsPrefix}
 use Rattle.qshare_history.specs.Shares.{HandedIn}
 use Rattle.qshare.specs.Holds.{Holding}
 use Rattle.qshare.specs.Seats.{Seated}
+use Rattle.qrun_client.specs.Clients.{Talk}
 use Rattle.qrun_client.specs.declared.client.TheConstants.{MAX_GIVEN}
 use Rattle.qrun_replay.specs.declared.failed_line.FailedLine.{FailedLine}
 use Rattle.qrun_replay.specs.Places.{Standing, stand_at}
@@ -144,15 +145,16 @@ pub record Attending (C : Type 0) : Type 0 where
   pub worker : ℕ
   pub client : C
 
--- a worker's share, and its client's transcript
-pub record Serving : Type 0 where
+-- a worker's share, its client's transcript, and what is left of the client
+pub record Serving (Left : Type 0) : Type 0 where
   pub share : HandedIn
   pub transcript : Transcript
+  pub left : Left
 
--- the share and the transcript of this worker, with an answer to each line, which are those of the script, where that
--- is known, and no more than a client may hand out
-pub record IsServed (worker : ℕ) (script : Option (List Line)) (s : Serving) : Type 0 where
+-- this worker has played the lines of its client, with an answer to each, and no more than a client may hand out; and
+-- these lines and answers are what came of the client
+pub record IsServed {Left : Type 0} (worker : ℕ) (talk : Talk Left) (s : Serving Left) : Type 0 where
   pub worker_is : s.transcript.worker ≡ worker
   pub work : IsWork worker s.transcript.lines (record { share = s.share; answers = s.transcript.answers })
-  pub script_is : IfSome script (λ lines. s.transcript.lines ≡ lines)
+  pub talked : talk s.transcript.lines s.transcript.answers s.left
   pub few : length s.transcript.lines ≤ MAX_GIVEN

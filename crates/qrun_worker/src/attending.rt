@@ -5,7 +5,7 @@ ghost use Rattle.qrun_worker.specs.Work.{IsServed};
 
 use crate::serving::serve_lines;
 use qplain::Transcript;
-use qrun_client::{ClientEnd, KeepsLines};
+use qrun_client::Client;
 use qshare::{Boards, Seat, Shared};
 use qshare_history::{Share, StoreId};
 use std::marker::Model;
@@ -13,20 +13,20 @@ use std::snapshot::Snapshot;
 use std::sync::Wait;
 use std::thread::Promise;
 
-/// What a worker has done for its client: its share, the transcript of the client, and how that has ended.
+/// What a worker has done for its client: its share, the transcript of the client, and what is left of that.
 #[derive(Drop)]
-pub struct Served<S: StoreId> {
+pub struct Served<S: StoreId, L: Drop> {
     pub share: Share<S>,
     pub transcript: Transcript,
-    pub end: ClientEnd,
+    pub left: L,
 }
 
-impl<S: StoreId> Model for Served<S> {
+impl<S: StoreId, L: Drop> Model for Served<S, L> {
     ghost use Rattle.qrun_worker.specs.Work.{Serving};
 
-    ghost Value = { Serving };
+    ghost Value = { Serving L };
 
-    ghost view = { λ s. record { share = s.share; transcript = s.transcript } };
+    ghost view = { λ s. record { share = s.share; transcript = s.transcript; left = s.left } };
 }
 
 /// That this worker serves this client.
@@ -36,23 +36,23 @@ pub struct Serves<C> {
     pub client: Snapshot<C>,
 }
 
-impl<S: StoreId, C: KeepsLines> Promise<Served<S>> for Serves<C> {
+impl<S: StoreId, C: Client> Promise<Served<S, C::Left>> for Serves<C> {
     ghost use Rattle.qrun_worker.specs.Work.{IsServed};
 
-    ghost kept_by = { λ p s. IsServed p.worker (C.script p.client.value) s };
+    ghost kept_by = { λ p s. IsServed p.worker (C.talk p.client.value) s };
 }
 
 /// A worker that is ready to serve: its seat, which is new, and its client, which has handed out nothing. Contracts see
 /// its number and its client.
 #[derive(Drop)]
-pub struct Attendant<'a, 'b, S: StoreId, B: Boards<S>, V: Drop, C: KeepsLines + Drop, R: Wait> {
+pub struct Attendant<'a, 'b, S: StoreId, B: Boards<S>, V: Drop, C: Client + Drop, R: Wait> {
     rt: &'a R,
     shared: &'b Shared<S, B>,
     seat: Seat<S, V>,
     client: C,
 }
 
-impl<'a, 'b, S: StoreId, B: Boards<S>, V: Drop, C: KeepsLines + Drop, R: Wait> Model
+impl<'a, 'b, S: StoreId, B: Boards<S>, V: Drop, C: Client + Drop, R: Wait> Model
     for Attendant<'a, 'b, S, B, V, C, R> {
     ghost use Rattle.std.specs.Prelude.{◌≡◌, []};
     ghost use Rattle.qplain.specs.Journal.{no_tally};
@@ -65,7 +65,7 @@ impl<'a, 'b, S: StoreId, B: Boards<S>, V: Drop, C: KeepsLines + Drop, R: Wait> M
     ghost invariant = { λ a. (a.seat.tally ≡ no_tally) × (C.given a.client ≡ []) × (C.told a.client ≡ []) };
 }
 
-impl<'a, 'b, S: StoreId, B: Boards<S>, V: Drop, C: KeepsLines + Drop, R: Wait> Attendant<
+impl<'a, 'b, S: StoreId, B: Boards<S>, V: Drop, C: Client + Drop, R: Wait> Attendant<
     'a,
     'b,
     S,
@@ -105,10 +105,10 @@ impl<'a, 'b, S: StoreId, B: Boards<S>, V: Drop, C: KeepsLines + Drop, R: Wait> A
 }
 
 /// Serves a client, line by line, until it has no more lines.
-pub fn attend<S: StoreId, B: Boards<S>, V: Drop, C: KeepsLines + Drop, R: Wait>(
+pub fn attend<S: StoreId, B: Boards<S>, V: Drop, C: Client + Drop, R: Wait>(
     attendant: Attendant<'_, '_, S, B, V, C, R>,
-) -> Served<S>
-    ensures { IsServed attendant.entry.worker (C.script attendant.entry.client) result }
+) -> Served<S, C::Left>
+    ensures { IsServed attendant.entry.worker (C.talk attendant.entry.client) result }
 {
     let Attendant {
         rt,
@@ -118,10 +118,10 @@ pub fn attend<S: StoreId, B: Boards<S>, V: Drop, C: KeepsLines + Drop, R: Wait>(
     } = attendant;
     let worker = seat.worker();
     let share = serve_lines(rt, shared, &mut client, seat);
-    let (transcript, end) = client.into_parts(worker);
+    let (transcript, left) = client.into_parts(worker);
     Served {
         share,
         transcript,
-        end,
+        left,
     }
 }

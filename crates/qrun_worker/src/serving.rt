@@ -1,6 +1,7 @@
 //! The lines of a client, one after the other.
-ghost use Rattle.std.specs.Prelude.{◌≡◌, [], IfSome};
+ghost use Rattle.std.specs.Prelude.{◌≡◌, []};
 ghost use Rattle.qplain.specs.Journal.{no_tally};
+ghost use Rattle.qrun_client.specs.Clients.{ComesOf};
 ghost use Rattle.qrun_worker.specs.Work.{IsWork};
 
 use qrun_client::Client;
@@ -19,7 +20,7 @@ pub(crate) fn serve_lines<S: StoreId, B: Boards<S>, V: Drop, R: Wait, C: Client>
     requires new { (C.given client.old ≡ []) × (C.told client.old ≡ []) }
     ensures work { IsWork seat.worker (C.given client.new)
         (record { share = result; answers = C.told client.new }) }
-    ensures end { IfSome (C.script client.old) (λ lines. C.given client.new ≡ lines) }
+    ensures talk { ComesOf (C.talk client.old) (C.talk client.new) }
 {
     for _ in rt.forever() {
         if !client.next() {

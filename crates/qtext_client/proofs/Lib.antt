@@ -1,5 +1,6 @@
--- First lines and their parts, what they say, and what a client was told.
+-- First lines and their parts, what they say, and what comes of a client.
 pub mod FirstLines
 pub mod LineParts
 pub mod OneLine
-pub mod Told
+pub mod Talking
+pub mod Talked

@@ -1,7 +1,7 @@
 -- What a line gains of what a reader shows.
 use Rattle.std.proofs.Common.{◌≡◌, ◌≢◌, ◌⊎◌, inl, inr, ℕ, zero, suc, ◌+◌, ◌-◌, ◌<◌, eqb, false, List, [], ◌++◌}
 use Rattle.std.proofs.Common.{length, length-append, take, drop, get_or, Option, Some, None, IfSome, All, sym, ap}
-use Rattle.std.proofs.Common.{◌∙◌, subst, arith, append-nil}
+use Rattle.std.proofs.Common.{◌∙◌, ◌∷◌, subst, arith, append-nil, refl}
 use Rattle.std.specs.Io.{StartsWith}
 use Rattle.std.specs.Io.BufRead.{DropsThrough, drop_through, take_through}
 use Rattle.std.specs.Io.KnownBytes.{Consumes, Keeps}
@@ -9,8 +9,7 @@ use Rattle.std.proofs.lemmas.List.Elements.{All-append, All-nil}
 use Rattle.std.proofs.lemmas.List.{drop_at}
 use Rattle.std.proofs.KnownBytes.{Consumes-kept, Consumes-nil, Consumes-trans, starts_with_rest}
 use Rattle.std.proofs.BufReadLemmas.{take_through-append, drop_through-append, take_through-nil}
-use Rattle.qtext_client.specs.BoundedLines.{IsOneLine, IsTooLong, TakesLast, TakesMore}
-use Rattle.qtext_client.specs.declared.bounded_line.TheConstants.{MAX_LINE}
+use Rattle.qtext_client.specs.BoundedLines.{IsLonger, IsOneLine, Passes, TakesLast, TakesMore}
 use Rattle.qtext_client.proofs.FirstLines.{ended_line, open_line, taken_through, through_again, through_grows}
 
 -- nothing was taken
@@ -74,11 +73,20 @@ takes_last old new shown before after end is ends is_after front none taken =
       rest = last.1;
     }
 
--- with the shown part, the line is longer than the bound
-pub too_long : (old : Option (List ℕ)) (shown before : List ℕ) (end : ℕ) → end ≡ length (take_through 10 shown)
-    → MAX_LINE < length before + end → IfSome old (λ xs. StartsWith xs shown) → IsTooLong old before
-too_long None shown before end is long front = tt
-too_long (Some xs) shown before end is long front =
+-- nothing is shown, so nothing is left of the line
+pub takes_end : (old new : Option (List ℕ)) (shown line : List ℕ) (end : ℕ) → end ≡ length (take_through 10 shown) → end ≡ 0
+    → IfSome old (λ xs. StartsWith xs shown) → IfSome old (λ xs. length shown ≡ 0 → xs ≡ []) → Keeps old new
+    → TakesLast old new line line
+takes_end old new shown line end is ended front none kept =
+    let nothing : take end shown ≡ [] = ap (λ n. take n shown) ended in
+    takes_last old new shown line line end is (inl ended) (sym (append-nil line) ∙ ap (λ l. line ++ l) (sym nothing)) front none
+    (subst (Consumes old new) (sym nothing) (Consumes-kept old old new [] (Consumes-nil old) kept))
+
+-- with the shown part, the line has more than N bytes
+pub longer : (n : ℕ) (old : Option (List ℕ)) (shown before : List ℕ) (end : ℕ) → end ≡ length (take_through 10 shown)
+    → n < length before + end → IfSome old (λ xs. StartsWith xs shown) → IsLonger n old before
+longer n None shown before end is long front = tt
+longer n (Some xs) shown before end is long front =
     omega (arith, through_grows shown (drop (length shown) xs), ap (λ l. length (take_through 10 l)) (starts_with_rest xs shown front), is, long)
 
 -- a line that has no line end yet, and what a reader has lost for it
@@ -114,13 +122,33 @@ line_passed (Some xs) None new line goes_on lost passed = absurd lost
 line_passed (Some xs) (Some ys) new line goes_on lost passed =
     passed ∙ ap Some (sym (ap (drop_through 10) lost ∙ drop_through-append 10 line ys goes_on))
 
--- where it gets longer than the bound, so does the first line of all
-pub line_too_long : (old mid : Option (List ℕ)) (line : List ℕ) → All (λ x. x ≢ 10) line → Consumes old mid line
-    → IsTooLong mid line → IfSome old (λ xs. MAX_LINE < length (take_through 10 xs))
-line_too_long None mid line goes_on lost long = tt
-line_too_long (Some xs) None line goes_on lost long = absurd lost
-line_too_long (Some xs) (Some ys) line goes_on lost long =
+-- where it has more than N bytes, so has the first line of all
+pub line_longer : (n : ℕ) (old mid : Option (List ℕ)) (line : List ℕ) → All (λ x. x ≢ 10) line → Consumes old mid line
+    → IsLonger n mid line → IfSome old (λ xs. n < length (take_through 10 xs))
+line_longer n None mid line goes_on lost long = tt
+line_longer n (Some xs) None line goes_on lost long = absurd lost
+line_longer n (Some xs) (Some ys) line goes_on lost long =
     omega (arith, ap length (ap (take_through 10) lost ∙ take_through-append 10 line ys goes_on), length-append line (take_through 10 ys), long)
+
+-- a line of N bytes
+line_of : (n : ℕ) → (text : List ℕ) × (take_through 10 text ≡ text) × (length text ≡ n)
+line_of zero = ([], refl, refl)
+line_of (suc n) = let more = line_of n in (0 ∷ more.0, ap (λ l. 0 ∷ l) more.1, ap suc more.2)
+
+-- what was passed over was a line of more than N bytes
+pub passed_over : (n : ℕ) (old new : Option (List ℕ)) → IfSome old (λ xs. n < length (take_through 10 xs)) → DropsThrough old new 10
+    → (text : List ℕ) × Passes old new text × (n < length text)
+passed_over n None new long rest =
+    let line = line_of (suc n) in (
+      line.0,
+      record { one = (line.1, omega (arith, line.2)); first = tt; rest = tt },
+      omega (arith, line.2),
+    )
+passed_over n (Some xs) new long rest = (
+  take_through 10 xs,
+  record { one = (through_again xs, omega (arith, long)); first = refl; rest = rest },
+  long,
+)
 
 -- a line of no bytes is told at the end alone
 pub at_end : (old : Option (List ℕ)) (after : List ℕ) → IfSome old (λ xs. after ≡ take_through 10 xs) → length after ≡ 0 → IfSome old (λ xs. xs ≡ [])

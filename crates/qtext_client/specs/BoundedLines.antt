@@ -1,5 +1,5 @@
 -- How a reader's bytes become lines.
-use Rattle.std.specs.Prelude.{◌≡◌, ◌≢◌, ℕ, ◌<◌, ◌+◌, List, ◌++◌, length, Option, IfSome, ⊤}
+use Rattle.std.specs.Prelude.{◌≡◌, ◌≢◌, ℕ, ◌<◌, ◌+◌, List, [], ◌++◌, length, Option, IfSome, ⊤}
 use Rattle.std.specs.List.{All}
 use Rattle.std.specs.Io.BufRead.{DropsThrough, take_through}
 use Rattle.std.specs.Io.KnownBytes.{Consumes}
@@ -10,17 +10,25 @@ use Rattle.qtext_client.specs.declared.bounded_line.Part.{Part}
 use Rattle.qtext_client.specs.declared.bounded_line.Part.TheVariants.{Last, More, TooLong, NoMemory, Refused}
 use Rattle.qtext_client.specs.declared.bounded_line.TheConstants.{MAX_LINE}
 
--- a line was read, or passed over to its end
-abbrev pub HasPassed : Got → Type 0
-HasPassed Text = ⊤
-HasPassed LongLine = ⊤
-HasPassed Unread = ⊤
-HasPassed End = ⊥
-HasPassed Gone = ⊥
-
 -- a text of one line: one byte or more, and no line end but at its end
 abbrev pub IsOneLine : List ℕ → Type 0
 IsOneLine text = (take_through 10 text ≡ text) × (0 < length text)
+
+-- a reader has lost its next line, which is this text: all up to its first line end, or all that it had
+pub record Passes (old new : Option (List ℕ)) (text : List ℕ) : Type 0 where
+  pub one : IsOneLine text
+  pub first : IfSome old (λ xs. text ≡ take_through 10 xs)
+  pub rest : DropsThrough old new 10
+
+-- what came of a reader's next line: it stands in the room, or was passed over; or there is none
+abbrev pub Gets : Option (List ℕ) → Option (List ℕ) → List ℕ → Got → Type 0
+Gets old new room Text = Passes old new room
+Gets old new room LongLine = (text : List ℕ) × Passes old new text × (MAX_LINE < length text)
+Gets old new room Unread = (text : List ℕ) × Passes old new text
+Gets old new room End = IfSome old (λ xs. xs ≡ [])
+Gets old new room Gone = ⊤
+
+-- ---- what no public clause cites
 
 -- the line gained what the reader had up to its first line end, and the reader has lost just that
 pub record TakesLast (old new : Option (List ℕ)) (before after : List ℕ) : Type 0 where
@@ -34,14 +42,14 @@ abbrev pub TakesMore : Option (List ℕ) → Option (List ℕ) → List ℕ → 
 TakesMore old new before after =
     (part : List ℕ) × (after ≡ before ++ part) × All (λ x. x ≢ 10) part × Consumes old new part
 
--- up to the reader's first line end, the line is longer than the bound
-abbrev pub IsTooLong : Option (List ℕ) → List ℕ → Type 0
-IsTooLong old before = IfSome old (λ xs. MAX_LINE < length before + length (take_through 10 xs))
+-- up to the reader's first line end, the line has more than N bytes
+abbrev pub IsLonger : ℕ → Option (List ℕ) → List ℕ → Type 0
+IsLonger n old before = IfSome old (λ xs. n < length before + length (take_through 10 xs))
 
 -- what came of the part of a line that a reader shows
 abbrev pub TakesPart : Option (List ℕ) → Option (List ℕ) → List ℕ → List ℕ → Part → Type 0
 TakesPart old new before after Last = TakesLast old new before after
 TakesPart old new before after More = TakesMore old new before after
-TakesPart old new before after TooLong = TakesMore old new before after × IsTooLong old before
-TakesPart old new before after NoMemory = TakesMore old new before after
+TakesPart old new before after TooLong = TakesMore old new before after × IsLonger MAX_LINE old before
+TakesPart old new before after NoMemory = TakesMore old new before after × IsLonger 0 old before
 TakesPart old new before after Refused = TakesMore old new before after

@@ -1,17 +1,24 @@
--- What came of a text of one line.
-use Rattle.std.specs.Prelude.{◌≡◌, List, [], ◌∷◌, Result, Ok, Err, ⊤}
+-- What came of a text of one line. No public clause cites this module.
+use Rattle.std.specs.Prelude.{◌≡◌, Bool, true, false, ℕ, List, [], ◌∷◌, Result, Ok, Err, ⊤}
 use Rattle.qplain.specs.declared.line.Line.{Line as ScriptLine}
 use Rattle.qtext.specs.declared.text_fault.TextFault.{TextFault}
 use Rattle.qtext_client.specs.declared.stream_client.Heard.{Heard}
-use Rattle.qtext_client.specs.declared.stream_client.Heard.TheVariants.{Line, Fault, NoMemory, End}
+use Rattle.qtext_client.specs.declared.stream_client.Heard.TheVariants.{Line, None as NoLine, End}
+use Rattle.qtext_client.specs.declared.stream_client.Step.{Step}
+use Rattle.qtext_client.specs.declared.stream_client.Step.TheVariants.{HandedOut, Told, Ended}
 use Rattle.qtext_client.specs.declared.telling.LineFault.{LineFault}
 use Rattle.qtext_client.specs.declared.telling.LineFault.TheVariants.{Text, Length}
+use Rattle.qtext_client.specs.declared.telling.Telling.{Telling}
+use Rattle.qtext_client.specs.declared.telling.Telling.TheVariants.{Answer, Fault, NoMemory}
+use Rattle.qtext_files.specs.Scripts.{script_of}
+use Rattle.qtext_client.specs.Conversations.{IsToldOf, handed_out}
+use Rattle.qtext_client.specs.Tellings.{answer_in}
+use Rattle.qtext_client.specs.Wires.{HasEnded, Hears, Wire}
 
 -- a line of a script came
 abbrev pub IsLine : Heard → Type 0
 IsLine (Line line) = ⊤
-IsLine (Fault fault) = ⊥
-IsLine NoMemory = ⊥
+IsLine (NoLine telling) = ⊥
 IsLine End = ⊥
 
 -- the fault is the one that the script says
@@ -19,9 +26,32 @@ abbrev pub IsFaultIn : Result (List ScriptLine) TextFault → LineFault → Type
 IsFaultIn said (Text kind) = said ≡ Err (record { line = 1; kind = kind })
 IsFaultIn said Length = ⊥
 
+-- what is told of a line that is none, by what the script says that has this line alone
+abbrev pub IsToldIn : Result (List ScriptLine) TextFault → Telling → Type 0
+IsToldIn said (Answer answer) = ⊥
+IsToldIn said (Fault fault) = IsFaultIn said fault
+IsToldIn said NoMemory = ⊤
+
 -- the line, or the fault in it, is what the script says that has this line alone
 abbrev pub HearsText : Heard → Result (List ScriptLine) TextFault → Type 0
 HearsText (Line line) said = said ≡ Ok (line ∷ [])
-HearsText (Fault fault) said = IsFaultIn said fault
-HearsText NoMemory said = ⊤
+HearsText (NoLine telling) said = IsToldIn said telling
 HearsText End said = ⊥
+
+-- this may be told of a line of this text that is not handed out
+pub record IsToldAlone (given : ℕ) (text : List ℕ) (telling : Telling) : Type 0 where
+  pub is : IsToldOf given text telling
+  pub nothing : handed_out text telling ≡ []
+  pub none : answer_in telling ≡ []
+
+-- what came of a line of a client that has handed out N lines
+abbrev pub HearsLine : ℕ → Wire → Wire → Heard → Type 0
+HearsLine given old new (Line line) = (text : List ℕ) × Hears old new text × (script_of text ≡ Ok (line ∷ []))
+HearsLine given old new (NoLine telling) = (text : List ℕ) × Hears old new text × IsToldAlone given text telling
+HearsLine given old new End = HasEnded old new
+
+-- a line is handed out
+abbrev pub is_handed_out : Step → Bool
+is_handed_out HandedOut = true
+is_handed_out Told = false
+is_handed_out Ended = false

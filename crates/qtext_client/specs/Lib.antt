@@ -1,8 +1,10 @@
--- In reading order: lines of a reader, what they say, what clients are told, how that goes out, and all of a client.
+-- In reading order: lines of a reader, what they say, what clients are told, what is known of their streams, what a
+-- client says and is told in all; and what no public clause cites.
 pub mod BoundedLines
 pub mod ScriptLines
-pub mod Hearings
 pub mod Tellings
-pub mod Stages
 pub mod Wires
+pub mod Conversations
+pub mod Hearings
+pub mod Stages
 pub mod Talks

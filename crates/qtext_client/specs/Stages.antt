@@ -1,11 +1,22 @@
--- What is known of the bytes that a client's output holds.
+-- What is known of a client's streams at each stage. No public clause cites this module.
 use Rattle.std.specs.Prelude.{ℕ, List, [], Option, Some, None}
-use Rattle.std.specs.Io.Buffered.{writer_contents}
+use Rattle.std.specs.Io.Buffered.{reader_remaining, writer_contents}
 use Rattle.qtext_client.specs.declared.connection.Stage.{Stage}
 use Rattle.qtext_client.specs.declared.connection.Stage.TheVariants.{New, Open, Ended}
+use Rattle.qtext_client.specs.Wires.{Wire}
 
--- the bytes that were written: none before the streams are open, and unknown once they are let go of
-abbrev pub written_at : {I O : Type 0} → (O → Option (List ℕ)) → Stage I O → Option (List ℕ)
-written_at contents New = Some []
-written_at contents (Open pair) = writer_contents contents pair.output
-written_at contents (Ended end) = None
+-- what is known of streams: of those that are not open yet what their input will say, and of those that were let go of
+-- what their output took
+abbrev pub wire_at : {S I O : Type 0} → (says took : S → Option (List ℕ)) → (remaining : I → Option (List ℕ))
+    → (contents : O → Option (List ℕ)) → S → Stage I O → Wire
+wire_at says took remaining contents streams New = record { hears = says streams; wrote = Some []; end = None }
+wire_at says took remaining contents streams (Open pair) = record {
+  hears = reader_remaining remaining pair.input;
+  wrote = writer_contents contents pair.output;
+  end = None;
+}
+wire_at says took remaining contents streams (Ended end) = record {
+  hears = Some [];
+  wrote = took streams;
+  end = Some end;
+}

@@ -1,6 +1,6 @@
--- What a client is told, as text (profile).
-use Rattle.std.specs.Prelude.{◌≡◌, List, [], ◌∷◌, ℕ, codes, Result}
-use Rattle.std.specs.List.{concat, flat_map}
+-- What a client is told, as text.
+use Rattle.std.specs.Prelude.{List, [], ◌∷◌, ℕ, codes, Result}
+use Rattle.std.specs.List.{concat}
 use Rattle.qplain.specs.declared.call_fault.CallFault.{CallFault}
 use Rattle.qplain.specs.declared.receipt.Receipt.{Receipt}
 use Rattle.qtext.specs.TextFaults.{text_kind_words}
@@ -26,9 +26,3 @@ abbrev pub answer_in : Telling → List (Result Receipt CallFault)
 answer_in (Answer answer) = answer ∷ []
 answer_in (Fault fault) = []
 answer_in NoMemory = []
-
--- the bytes are the lines of tellings, and the answers among these are the ones that are given, in their order
-pub record AreTold (bytes : List ℕ) (answers : List (Result Receipt CallFault)) : Type 0 where
-  pub tellings : List Telling
-  pub text : bytes ≡ flat_map telling_text tellings
-  pub told : answers ≡ flat_map answer_in tellings

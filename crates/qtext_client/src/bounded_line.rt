@@ -1,9 +1,9 @@
 //! The lines of a reader, one after the other, each up to a bound.
-ghost use Rattle.std.specs.Prelude.{◌≡◌, [], ◌<◌, ◌≤◌, ◌+◌, ◌⊎◌, length, vec_len, IfSome};
+ghost use Rattle.std.specs.Prelude.{◌≡◌, ◌≤◌, ◌⊎◌, length, vec_len};
 ghost use Rattle.std.specs.Io.BufRead.{DropsThrough, take_through};
-ghost use Rattle.qtext_client.specs.BoundedLines.{HasPassed, IsOneLine, TakesPart};
+ghost use Rattle.qtext_client.specs.BoundedLines.{Gets, TakesPart};
 ghost use Rattle.qtext_client.specs.declared.bounded_line.TheConstants.{MAX_LINE};
-ghost use Rattle.qtext_client.specs.declared.bounded_line.Got.TheVariants.{End, Refused, Text, TooLong};
+ghost use Rattle.qtext_client.specs.declared.bounded_line.Got.TheVariants.{Refused};
 
 use std::io::{BufRead, ErrorKind};
 
@@ -63,21 +63,24 @@ fn take_part<R: BufRead>(reader: &mut R, line: &mut Vec<u8>) -> Part
         Err(_) => return Part::Refused,
     };
     let end = len_through(shown);
+    if end == 0 {
+        return Part::Last;
+    }
     if end > MAX_LINE - line.len() {
         return Part::TooLong;
     }
     if line.extend_from_slice(&shown[..end]).is_err() {
         return Part::NoMemory;
     }
-    let last = end == 0 || shown[end - 1] == b'\n';
+    let last = shown[end - 1] == b'\n';
     reader.consume(end);
     if last { Part::Last } else { Part::More }
 }
 
-/// Passes over the rest of a line.
+/// Passes over the rest of a line, of which this came, unless the reader refuses.
 fn pass<R: BufRead>(reader: &mut R, got: Got) -> Got
-    ensures rest { HasPassed result → DropsThrough (R.remaining reader.old) (R.remaining reader.new) 10 }
-    ensures got { (result ≡ got) ⊎ (result ≡ Refused) }
+    ensures { (result ≡ Refused)
+        ⊎ ((result ≡ got) × DropsThrough (R.remaining reader.old) (R.remaining reader.new) 10) }
 {
     match reader.skip_until(b'\n') {
         Ok(_) => got,
@@ -87,11 +90,7 @@ fn pass<R: BufRead>(reader: &mut R, got: Got) -> Got
 
 /// Reads the next line into the room, in place of what it holds.
 pub fn next_line<R: BufRead>(reader: &mut R, line: &mut Vec<u8>) -> Got
-    ensures one { result ≡ Text → IsOneLine line.new.items }
-    ensures text { result ≡ Text → IfSome (R.remaining reader.old) (λ xs. line.new.items ≡ take_through 10 xs) }
-    ensures long { result ≡ TooLong → IfSome (R.remaining reader.old) (λ xs. MAX_LINE < length (take_through 10 xs)) }
-    ensures end { result ≡ End → IfSome (R.remaining reader.old) (λ xs. xs ≡ []) }
-    ensures rest { HasPassed result → DropsThrough (R.remaining reader.old) (R.remaining reader.new) 10 }
+    ensures gets { Gets (R.remaining reader.old) (R.remaining reader.new) line.new.items result }
     ensures short { vec_len line.new ≤ MAX_LINE }
 {
     line.clear();

@@ -1,11 +1,12 @@
-//! A client's streams: not open yet, open, or done with.
-ghost use Rattle.std.specs.Prelude.{◌≡◌, [], None, Ok, Some};
-ghost use Rattle.std.specs.Io.Buffered.{writer_contents};
+//! A client's streams: not open yet, open, or let go of.
+ghost use Rattle.std.specs.Prelude.{◌≡◌, ◌≢◌, ◌⊎◌, [], None, Some, IfOk, IfSome};
+ghost use Rattle.std.specs.Io.Buffered.{reader_remaining, writer_contents};
 ghost use Rattle.std.specs.Io.KnownBytes.{Keeps};
-ghost use Rattle.qtext_client.specs.BoundedLines.{IsOneLine};
-ghost use Rattle.qtext_client.specs.declared.bounded_line.Got.TheVariants.{Text};
+ghost use Rattle.qrun_client.specs.declared.client.ClientEnd.TheVariants.{Served};
+ghost use Rattle.qtext_client.specs.BoundedLines.{Gets};
+ghost use Rattle.qtext_client.specs.declared.bounded_line.Got.TheVariants.{End};
 ghost use Rattle.qtext_client.specs.Tellings.{telling_text};
-ghost use Rattle.qtext_client.specs.Wires.{Tells, TellsNothing};
+ghost use Rattle.qtext_client.specs.Wires.{HasEnded, HasLetGo, HearsSome, IsClosed, IsTold, Stays};
 
 use crate::bounded_line::{Got, next_line};
 use crate::streams::{Pair, Streams};
@@ -14,6 +15,7 @@ use qrun_client::ClientEnd;
 use qtext::{RefusedWrite, TextLine};
 use std::io::{Read, Write};
 use std::marker::Model;
+use std::mem;
 
 /// How far a client's streams are.
 #[derive(Drop)]
@@ -23,8 +25,7 @@ enum Stage<I: Read + Drop, O: Write + Drop> {
     Ended(ClientEnd),
 }
 
-/// A client's streams. Contracts see the bytes that were written, where they are known: of an output that tells its
-/// bytes and has refused nothing.
+/// A client's streams. Contracts see what is known of them.
 #[derive(Drop)]
 pub(crate) struct Connection<S: Streams + Drop> {
     streams: S,
@@ -33,13 +34,19 @@ pub(crate) struct Connection<S: Streams + Drop> {
 }
 
 impl<S: Streams + Drop> Model for Connection<S> {
-    ghost use Rattle.std.specs.Prelude.{List, ℕ, Option};
+    ghost use Rattle.qtext_client.specs.Stages.{wire_at};
+    ghost use Rattle.qtext_client.specs.Wires.{Wire};
 
-    ghost Value = { Option (List ℕ) };
+    ghost Value = { Wire };
 
-    ghost use Rattle.qtext_client.specs.Stages.{written_at};
+    ghost view = { λ c. wire_at S.says S.took S.In.remaining S.Out.contents c.streams c.stage };
+}
 
-    ghost view = { λ c. written_at S.Out.contents c.stage };
+/// What is left of a client of streams: these, which were let go of, and how it has ended.
+#[derive(Drop)]
+pub struct EndedClient<S: Drop> {
+    pub streams: S,
+    pub end: ClientEnd,
 }
 
 /// Lets out what was told, where no whole line is at hand. Whether the output took it.
@@ -50,28 +57,25 @@ fn let_out<I: Read + Drop, O: Write + Drop>(pair: &mut Pair<I, O>) -> bool
     pair.input.buffer().contains(&b'\n') || pair.output.flush().is_ok()
 }
 
-/// Reads the next line into the text. What was told goes out before it is waited for. An Err says how the client ends.
+/// Reads the next line into the text. What was told goes out before it is waited for.
 fn line_from<I: Read + Drop, O: Write + Drop>(
     pair: &mut Pair<I, O>,
     text: &mut Vec<u8>,
-) -> Result<Got, ClientEnd>
+) -> Result<Got, RefusedWrite>
     ensures output { Keeps (writer_contents O.contents pair.old.output) (writer_contents O.contents pair.new.output) }
-    ensures one { result ≡ Ok Text → IsOneLine text.new.items }
+    ensures gets { IfOk result (Gets (reader_remaining I.remaining pair.old.input)
+        (reader_remaining I.remaining pair.new.input) text.new.items) }
 {
     if !let_out(pair) {
-        return Err(ClientEnd::Output);
+        return Err(RefusedWrite);
     }
-    match next_line(&mut pair.input, text) {
-        Got::End => Err(ClientEnd::Served),
-        Got::Refused => Err(ClientEnd::Input),
-        got => Ok(got),
-    }
+    Ok(next_line(&mut pair.input, text))
 }
 
 impl<S: Streams + Drop> Connection<S> {
     /// With streams that are not open yet.
     pub(crate) fn new(streams: S) -> Self
-        ensures { result ≡ Some [] }
+        ensures { result ≡ record { hears = S.says streams; wrote = Some []; end = None } }
     {
         Connection {
             streams,
@@ -80,65 +84,81 @@ impl<S: Streams + Drop> Connection<S> {
         }
     }
 
-    /// How it has ended. One that has not ends here.
-    pub(crate) fn into_end(self) -> ClientEnd {
+    /// Ends it, unless it has ended, and gives back what is left of it.
+    pub(crate) fn close(mut self, end: ClientEnd) -> EndedClient<S>
+        requires { end ≢ Served }
+        ensures { IsClosed self (S.took result.streams) result.end }
+    {
+        self.end(end);
         match self.stage {
-            Stage::Ended(end) => end,
-            Stage::New | Stage::Open(_) => ClientEnd::Served,
+            Stage::Ended(end) => EndedClient {
+                streams: self.streams,
+                end,
+            },
+            Stage::New | Stage::Open(_) => unreachable!(),
         }
     }
 
     /// Opens the streams, the first time.
     pub(crate) fn begin(&mut self)
-        ensures { TellsNothing self.old self.new }
+        ensures { Stays self.old self.new ⊎ HasEnded self.old self.new }
     {
         if let Stage::New = self.stage {
-            self.stage = match self.streams.open() {
-                Ok(pair) => Stage::Open(pair),
-                Err(end) => Stage::Ended(end),
-            };
+            match self.streams.open() {
+                Ok(pair) => self.stage = Stage::Open(pair),
+                Err(end) => self.end(end),
+            }
         }
     }
 
     /// Lets go of the streams. Of two ends the first stays.
     pub(crate) fn end(&mut self, end: ClientEnd)
-        ensures { self.new ≡ None }
+        ensures { HasLetGo end self.old self.new }
     {
-        if !matches!(self.stage, Stage::Ended(_)) {
-            self.stage = Stage::Ended(end);
-            self.streams.ended(end);
+        match mem::replace(&mut self.stage, Stage::Ended(end)) {
+            Stage::New => self.streams.ended(None, end),
+            Stage::Open(Pair { input, output }) => {
+                drop(input);
+                self.streams.ended(Some(output), end);
+            }
+            ended => self.stage = ended,
         }
+    }
+
+    /// Ends it where there is no line.
+    fn end_of_lines(&mut self, end: ClientEnd) -> Got
+        ensures got { result ≡ End }
+        ensures ended { HasLetGo end self.old self.new }
+    {
+        self.end(end);
+        Got::End
     }
 
     /// Reads the next line into the text. What was told goes out before it is waited for.
     pub(crate) fn next_line(&mut self, text: &mut Vec<u8>) -> Got
-        ensures wrote { TellsNothing self.old self.new }
-        ensures one { result ≡ Text → IsOneLine text.new.items }
+        ensures { HearsSome self.old self.new text.new.items result }
     {
-        let heard = match &mut self.stage {
-            Stage::Open(pair) => line_from(pair, text),
-            Stage::New | Stage::Ended(_) => Err(ClientEnd::Served),
+        let Stage::Open(pair) = &mut self.stage else {
+            return self.end_of_lines(ClientEnd::Input);
         };
-        match heard {
+        match line_from(pair, text) {
+            Ok(Got::End) => self.end_of_lines(ClientEnd::Served),
+            Ok(Got::Refused) => self.end_of_lines(ClientEnd::Input),
             Ok(got) => got,
-            Err(end) => {
-                self.end(end);
-                Got::End
-            }
+            Err(RefusedWrite) => self.end_of_lines(ClientEnd::Output),
         }
     }
 
     /// Tells the client of a line. One that cannot be told has ended.
     pub(crate) fn tell(&mut self, telling: &Telling)
-        ensures { Tells self.old self.new (telling_text telling.now) }
+        ensures { IsTold self.old self.new (telling_text telling.now) }
     {
-        let told = match &mut self.stage {
-            Stage::Open(pair) => put_telling(&mut pair.output, &mut self.line, telling),
-            Stage::New | Stage::Ended(_) => Err(RefusedWrite),
-        };
-        match told {
-            Ok(()) => {}
-            Err(RefusedWrite) => self.end(ClientEnd::Output),
+        match &mut self.stage {
+            Stage::Open(pair) => match put_telling(&mut pair.output, &mut self.line, telling) {
+                Ok(()) => {}
+                Err(RefusedWrite) => self.end(ClientEnd::Output),
+            },
+            Stage::New | Stage::Ended(_) => self.end(ClientEnd::Output),
         }
     }
 }

@@ -2,6 +2,7 @@
 #![tactic(auto)]
 
 pub use bounded_line::{Got, MAX_LINE, next_line};
+pub use connection::EndedClient;
 pub use stream_client::StreamClient;
 pub use streams::{Pair, Streams};
 pub use telling::{LineFault, Telling, put_telling};

@@ -1,21 +1,24 @@
 //! A client that writes script lines into a stream, and reads what it is told from another.
-ghost use Rattle.std.specs.Prelude.{◌≡◌, ◌<◌, ◌≤◌, ◌∷◌, ◌++◌, [], true, false, Some, IfSome, cond, length};
+ghost use Rattle.std.specs.Prelude.{◌≡◌, ◌<◌, ◌≤◌, ◌∷◌, ◌++◌, [], None, Some, cond, length};
 ghost use Rattle.std.specs.Prelude.{vec_capacity, vec_len};
-ghost use Rattle.qtext_client.specs.BoundedLines.{IsOneLine};
 ghost use Rattle.qrun_client.specs.declared.client.TheConstants.{MAX_GIVEN};
-ghost use Rattle.qtext_client.specs.Hearings.{HearsText, IsLine};
+ghost use Rattle.qtext_client.specs.BoundedLines.{IsOneLine};
+ghost use Rattle.qrun_client.specs.Clients.{ComesOf, HandsOut};
+ghost use Rattle.qtext_client.specs.Conversations.{comes_to};
+ghost use Rattle.qtext_client.specs.Hearings.{HearsLine, HearsText, IsLine, is_handed_out};
 ghost use Rattle.qtext_client.specs.Talks.{HasRoom};
-ghost use Rattle.qtext_client.specs.Tellings.{AreTold, answer_in};
+ghost use Rattle.qtext_client.specs.Tellings.{telling_text};
+ghost use Rattle.qtext_client.specs.Wires.{IsTold};
 ghost use Rattle.qtext_files.specs.Scripts.{script_of};
 
 use crate::bounded_line::Got;
-use crate::connection::Connection;
+use crate::connection::{Connection, EndedClient};
 use crate::script_line::script_line;
 use crate::streams::Streams;
 use crate::telling::{LineFault, Telling};
 use qplain::{Line, Transcript};
 use qrules::Items;
-use qrun_client::{Answer, Client, ClientEnd, KeepsLines, MAX_GIVEN};
+use qrun_client::{Answer, Client, ClientEnd, MAX_GIVEN};
 use qtext::TextKind;
 use std::alloc::Global;
 use std::marker::Model;
@@ -25,19 +28,27 @@ use std::marker::Model;
 enum Heard {
     /// A line of a script.
     Line(Line),
-    /// No line of a script.
-    Fault(LineFault),
-    /// Memory was wanting for it.
-    NoMemory,
+    /// None, of which this is told.
+    None(Telling),
     /// There is no more.
     End,
+}
+
+/// What was done with the next line.
+enum Step {
+    /// It is handed out.
+    HandedOut,
+    /// It is none of a script, and was told so.
+    Told,
+    /// There is no more.
+    Ended,
 }
 
 /// A client that writes script lines, and reads what it is told of each: an answer, or what is wrong with the line.
 ///
 /// A line that is none of a script is told as a fault: it is never handed out, and takes no place. From 2,097,152 lines
 /// on no line is handed out. A client ends where its lines end, where a stream is refused, or where it has gone away.
-/// Contracts see the lines, the answers, and what its output holds where that is known.
+/// Contracts see the lines, the answers, and what is known of its streams.
 #[derive(Drop)]
 pub struct StreamClient<S: Streams + Drop> {
     alloc: Global,
@@ -49,14 +60,15 @@ pub struct StreamClient<S: Streams + Drop> {
 
 impl<S: Streams + Drop> Model for StreamClient<S> {
     ghost use Rattle.std.specs.Prelude.{vec_capacity, vec_len};
-    ghost use Rattle.qtext_client.specs.Talks.{IsKept, Talk};
+    ghost use Rattle.qtext_client.specs.Conversations.{Progress};
+    ghost use Rattle.qtext_client.specs.Talks.{IsKept};
 
-    ghost Value = { Talk };
+    ghost Value = { Progress };
 
-    ghost view = { λ c. record { given = c.lines.items; told = c.answers.items; wrote = c.connection } };
+    ghost view = { λ c. record { given = c.lines.items; told = c.answers.items; wire = c.connection } };
 
     ghost invariant = { λ c.
-        IsKept (vec_len c.lines) (vec_len c.answers) (vec_capacity c.answers) c.answers.items c.connection };
+        IsKept (vec_len c.lines) (vec_len c.answers) (vec_capacity c.answers) c.connection.end };
 }
 
 /// What a text of one line comes to.
@@ -66,8 +78,8 @@ fn heard_in(alloc: Global, text: &[u8]) -> Heard
 {
     match script_line(alloc, text) {
         Ok(line) => Heard::Line(line),
-        Err(TextKind::Memory) => Heard::NoMemory,
-        Err(kind) => Heard::Fault(LineFault::Text(kind)),
+        Err(TextKind::Memory) => Heard::None(Telling::NoMemory),
+        Err(kind) => Heard::None(Telling::Fault(LineFault::Text(kind))),
     }
 }
 
@@ -89,7 +101,11 @@ fn keep_line(lines: &mut Vec<Line>, answers: &mut Vec<Answer>, line: Line) -> bo
 impl<S: Streams + Drop> StreamClient<S> {
     /// A client that has handed out no line, and whose streams are opened when the first is asked for.
     pub fn new(alloc: Global, streams: S) -> Self
-        ensures { result ≡ record { given = []; told = []; wrote = Some [] } }
+        ensures { result ≡ record {
+          given = [];
+          told = [];
+          wire = record { hears = S.says streams; wrote = Some []; end = None };
+        } }
     {
         StreamClient {
             alloc,
@@ -100,27 +116,22 @@ impl<S: Streams + Drop> StreamClient<S> {
         }
     }
 
-    /// What is written is told: where it is known, it is the lines of tellings, and the answers among these are the
-    /// ones that the client took, in their order. And it has handed out at most 2,097,152 lines.
-    pub fn written_is_told(&self)
-        ensures written { IfSome self.now.wrote (λ bytes. AreTold bytes self.now.told) }
-        ensures few { length self.now.given ≤ MAX_GIVEN }
-    {
-        let _ = &self.lines;
-    }
-
     /// Waits for a line, and reads it.
     fn hear(&mut self) -> Heard
+        requires answered { length self.old.told ≡ length self.old.given }
         ensures given { self.new.given ≡ self.old.given }
         ensures told { self.new.told ≡ self.old.told }
+        ensures heard { HearsLine (length self.old.given) self.old.wire self.new.wire result }
         ensures few { IsLine result → length self.new.given < MAX_GIVEN }
     {
         match self.connection.next_line(&mut self.text) {
             Got::End | Got::Refused => Heard::End,
-            _ if self.lines.len() >= MAX_GIVEN => Heard::Fault(LineFault::Text(TextKind::TooMany)),
+            _ if self.lines.len() >= MAX_GIVEN => Heard::None(Telling::Fault(LineFault::Text(
+                TextKind::TooMany,
+            ))),
             Got::Text => heard_in(self.alloc, &self.text),
-            Got::TooLong => Heard::Fault(LineFault::Length),
-            Got::NoMemory => Heard::NoMemory,
+            Got::TooLong => Heard::None(Telling::Fault(LineFault::Length)),
+            Got::NoMemory => Heard::None(Telling::NoMemory),
         }
     }
 
@@ -128,44 +139,70 @@ impl<S: Streams + Drop> StreamClient<S> {
     fn keep(&mut self, line: Line) -> bool
         requires answered { length self.old.told ≡ length self.old.given }
         requires few { length self.old.given < MAX_GIVEN }
+        requires open { self.old.wire.end ≡ None }
         ensures given { self.new.given ≡ cond result (self.old.given ++ line ∷ []) self.old.given }
         ensures told { self.new.told ≡ self.old.told }
+        ensures wire { self.new.wire ≡ self.old.wire }
     {
         keep_line(&mut self.lines, &mut self.answers, line)
     }
 
-    /// Tells that a line is none.
-    fn tell_fault(&mut self, telling: &Telling)
-        requires { answer_in telling.now ≡ [] }
+    /// Tells of a line that is not handed out.
+    fn tell_of(&mut self, telling: Telling)
+        requires answered { length self.old.told ≡ length self.old.given }
         ensures given { self.new.given ≡ self.old.given }
         ensures told { self.new.told ≡ self.old.told }
+        ensures wire { IsTold self.old.wire self.new.wire (telling_text telling) }
     {
-        self.connection.tell(telling);
+        self.connection.tell(&telling);
+    }
+
+    /// Waits for a line, and hands it out, or tells what is wrong with it.
+    fn step(&mut self) -> Step
+        requires answered { length self.old.told ≡ length self.old.given }
+        ensures given { HandsOut (is_handed_out result) self.old.given self.new.given }
+        ensures told { self.new.told ≡ self.old.told }
+        ensures talk { ComesOf (comes_to S.took self.old) (comes_to S.took self.new) }
+    {
+        match self.hear() {
+            Heard::Line(line) => {
+                if self.keep(line) {
+                    return Step::HandedOut;
+                }
+                self.tell_of(Telling::NoMemory);
+                Step::Told
+            }
+            Heard::None(telling) => {
+                self.tell_of(telling);
+                Step::Told
+            }
+            Heard::End => Step::Ended,
+        }
     }
 }
 
-impl<S: Streams + Drop> Client for StreamClient<S> {
+impl<S: Streams + Drop + Send> Client for StreamClient<S> {
+    ghost use Rattle.qtext_client.specs.Conversations.{comes_to};
+
+    type Left = EndedClient<S>;
+
     ghost given = { λ c. c.given };
 
     ghost told = { λ c. c.told };
 
+    ghost talk = { λ c. comes_to S.took c };
+
     fn next(&mut self) -> bool {
         self.connection.begin();
         for _ in 0..u64::MAX {
-            match self.hear() {
-                Heard::Line(line) => {
-                    if self.keep(line) {
-                        return true;
-                    }
-                    self.tell_fault(&Telling::NoMemory);
-                }
-                Heard::Fault(fault) => self.tell_fault(&Telling::Fault(fault)),
-                Heard::NoMemory => self.tell_fault(&Telling::NoMemory),
-                Heard::End => return false,
+            match self.step() {
+                Step::HandedOut => return true,
+                Step::Told => {}
+                Step::Ended => return false,
             }
         }
-        // So many lines that are none are not read in any time: then the client has no more.
-        self.connection.end(ClientEnd::Served);
+        // So many lines that are none are not read in any time.
+        self.connection.end(ClientEnd::Input);
         false
     }
 
@@ -181,10 +218,9 @@ impl<S: Streams + Drop> Client for StreamClient<S> {
             Telling::Fault(_) | Telling::NoMemory => unreachable!(),
         }
     }
-}
 
-impl<S: Streams + Drop> KeepsLines for StreamClient<S> {
-    fn into_parts(self, worker: u64) -> (Transcript, ClientEnd) {
+    // One that still has lines is not served to its end.
+    fn into_parts(self, worker: u64) -> (Transcript, EndedClient<S>) {
         let StreamClient {
             lines,
             answers,
@@ -196,6 +232,6 @@ impl<S: Streams + Drop> KeepsLines for StreamClient<S> {
             lines: Items::new(lines),
             answers: Items::new(answers),
         };
-        (transcript, connection.into_end())
+        (transcript, connection.close(ClientEnd::Input))
     }
 }

@@ -9,7 +9,7 @@ pub use qplain::{
     Transcript,
 };
 pub use qrun::{Gate, Monitor, NoGate, Options, RunFault, Service, WorkerEnd, conclude};
-pub use qrun_client::{Answer, Client, ClientEnd, KeepsLines};
+pub use qrun_client::{Answer, Client, ClientEnd};
 pub use qrun_replay::{Outcome, PlacedReply, PlacedTranscript, ReplayFault};
 pub use qstore::Store;
 pub use qtext::{TextFault, TextKind};

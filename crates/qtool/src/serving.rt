@@ -15,7 +15,7 @@ use crate::{Files, NamedStreams, Outcome, Setup, serve, write_service};
 use qplain::{MAX_WORKERS, NoMemory};
 use qrun::Service;
 use qrun_client::ClientEnd;
-use qtext_client::StreamClient;
+use qtext_client::{EndedClient, StreamClient};
 use qtool_files::BoardFile;
 use std::alloc::Global;
 use std::io::Write;
@@ -37,10 +37,14 @@ fn test_seats(clients: u64, board: Option<&str>) -> Result<(), Ending>
     }
 }
 
-/// A client over streams by name, of whose faults it is told at once.
-type NamedClient<F> = StreamClient<
-    ToldStreams<<F as NamedStreams>::Streams, <F as NamedStreams>::Faults>,
->;
+/// The streams of a client by name, of whose faults it is told at once.
+type ToldBy<F> = ToldStreams<<F as NamedStreams>::Streams, <F as NamedStreams>::Faults>;
+
+/// A client over such streams.
+type NamedClient<F> = StreamClient<ToldBy<F>>;
+
+/// What is left of a service over such streams.
+type NamedService<F> = Service<EndedClient<ToldBy<F>>>;
 
 /// The client of this number, none of whose streams is opened yet.
 fn client_of<F: NamedStreams>(
@@ -122,7 +126,7 @@ pub(crate) fn serve_of<F: Files + NamedStreams + Send, R: Threads + Wait + Clock
     seed: u64,
     names: ServiceNames<'_>,
     files: &mut F,
-) -> Result<(Service, bool), Ending>
+) -> Result<(NamedService<F>, bool), Ending>
     requires { 0 < length names.clients.now }
 {
     test_names(alloc, files, names)?;
@@ -139,11 +143,11 @@ pub(crate) fn serve_of<F: Files + NamedStreams + Send, R: Threads + Wait + Clock
 }
 
 /// The ending of a service of which some client was not served to its end: the first such one decides.
-fn test_ends(ends: &[ClientEnd]) -> Result<(), Ending> {
-    for end in ends {
-        match end {
+fn test_ends<S: Drop>(clients: &[EndedClient<S>]) -> Result<(), Ending> {
+    for client in clients {
+        match client.end {
             ClientEnd::Served => {}
-            end => return Err(Ending::NotServed(*end)),
+            end => return Err(Ending::NotServed(end)),
         }
     }
     Ok(())
@@ -192,12 +196,12 @@ where
     requires { 0 < length asked.names.clients.now }
 {
     let (service, refused) = serve_of(rt, alloc, seed, asked.names, files)?;
-    let Service { outcome, ends } = service;
+    let Service { outcome, left } = service;
     if is_output_taken(asked.names.clients) {
         finish_service(outcome, asked, files, err)?;
     } else {
         finish_service(outcome, asked, files, out)?;
     }
-    test_ends(&ends)?;
+    test_ends(&left)?;
     if refused { Err(Ending::Board) } else { Ok(()) }
 }

@@ -1,9 +1,11 @@
 //! The streams of a client, of which it is told at once when they cannot be opened or refuse.
+ghost use Rattle.std.specs.Prelude.{◌≡◌, IfSome};
+ghost use Rattle.qtext_client.specs.Wires.{HeldBy};
 
 use crate::fault_text::put_client_fault;
 use qrun_client::ClientEnd;
 use qtext_client::{Pair, Streams};
-use std::io::Write;
+use std::io::{BufWriter, Write};
 
 /// The streams of the client of this number, their names, and where their faults are told.
 #[derive(Drop)]
@@ -36,7 +38,9 @@ fn name_of<'a>(end: ClientEnd, input: &'a str, output: &'a str) -> &'a str {
 
 impl<S: Streams + Drop, E: Write + Drop> ToldStreams<S, E> {
     /// Writes and flushes a line, whatever becomes of it, where a client was not served to its end.
-    fn tell(&mut self, end: ClientEnd) {
+    fn tell(&mut self, end: ClientEnd)
+        ensures { self.new.streams ≡ self.old.streams }
+    {
         let Some(words) = words_of(end) else {
             return;
         };
@@ -51,16 +55,18 @@ impl<S: Streams + Drop, E: Write + Drop> Streams for ToldStreams<S, E> {
 
     type Out = S::Out;
 
+    ghost says = { λ t. S.says t.streams };
+
+    ghost took = { λ t. S.took t.streams };
+
     fn open(&mut self) -> Result<Pair<S::In, S::Out>, ClientEnd> {
-        let opened = self.streams.open();
-        if let Err(end) = &opened {
-            self.tell(*end);
-        }
-        opened
+        self.streams.open()
     }
 
-    fn ended(&mut self, end: ClientEnd) {
-        self.streams.ended(end);
+    fn ended(&mut self, output: Option<BufWriter<S::Out>>, end: ClientEnd)
+        ensures { IfSome (S.took self.new.streams) (HeldBy S.Out.contents output) }
+    {
+        self.streams.ended(output, end);
         self.tell(end);
     }
 

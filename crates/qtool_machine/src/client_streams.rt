@@ -1,6 +1,7 @@
 //! The streams of clients: FIFOs, files, standard input and output.
 
-ghost use Rattle.std.specs.Prelude.{refl};
+ghost use Rattle.std.specs.Prelude.{◌≢◌, refl, ⊤};
+ghost use Rattle.qrun_client.specs.declared.client.ClientEnd.TheVariants.{Served};
 
 use qrun_client::ClientEnd;
 use qtext_client::{Pair, Streams};
@@ -84,7 +85,10 @@ fn open_sink(rt: &HostRuntime, name: &str) -> io::Result<BufWriter<Sink>> {
 }
 
 /// How a client ends of whose streams one cannot be opened.
-fn unopened(error: &io::Error, end: ClientEnd) -> ClientEnd {
+fn unopened(error: &io::Error, end: ClientEnd) -> ClientEnd
+    requires { end ≢ Served }
+    ensures { result ≢ Served }
+{
     if error.kind() == ErrorKind::OutOfMemory {
         ClientEnd::Memory
     } else {
@@ -93,9 +97,15 @@ fn unopened(error: &io::Error, end: ClientEnd) -> ClientEnd {
 }
 
 impl Streams for ClientStreams<'_> {
+    ghost use Rattle.std.specs.Prelude.{None};
+
     type In = Source;
 
     type Out = Sink;
+
+    ghost says = { λ _. None };
+
+    ghost took = { λ _. None };
 
     fn open(&mut self) -> Result<Pair<Source, Sink>, ClientEnd> {
         let input = match open_source(self.rt, self.input.as_str()) {
@@ -108,7 +118,13 @@ impl Streams for ClientStreams<'_> {
         }
     }
 
-    fn ended(&mut self, _end: ClientEnd) {}
+    // The output is closed, and nothing is known of what it took.
+    fn ended(&mut self, output: Option<BufWriter<Sink>>, end: ClientEnd)
+        ensures { ⊤ }
+    {
+        drop(output);
+        let _ = end;
+    }
 
     ghost always_or_never = { λ one other none. refl };
 }

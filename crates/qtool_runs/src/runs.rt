@@ -1,5 +1,5 @@
 //! Runs of scripts, and replays of a journal and checks of boards against one, under a configuration.
-ghost use Rattle.std.specs.Prelude.{◌≡◌, ◌<◌, ◌≤◌, [], ℕ, All, List, Err, IfErr, IfOk, IfSome, length, map, vec_len};
+ghost use Rattle.std.specs.Prelude.{◌≡◌, ◌<◌, ◌≤◌, [], ℕ, All, List, Err, IfErr, IfOk, IfSome, length};
 ghost use Rattle.qplain.specs.declared.line.Line.{Line};
 ghost use Rattle.qplain.specs.Setups.{in_edition};
 ghost use Rattle.qplain.specs.State.{start};
@@ -17,7 +17,7 @@ ghost use Rattle.qrun.specs.Watching.{seats_for};
 use qaudit_checks::BoardFault;
 use qplain::{Board, Journal, Script};
 use qrun::{Gate, Monitor, NoGate, Options, RunFault, Service, run_scripts};
-use qrun_client::KeepsLines;
+use qrun_client::Client;
 use qrun_replay::{Outcome, ReplayFault};
 use qtext_config::Config;
 use std::alloc::Global;
@@ -80,16 +80,16 @@ pub fn serve<C, M, R>(
     clients: Vec<C>,
     monitor: Option<M>,
     seed: u64,
-) -> Result<Service, RunFault>
+) -> Result<Service<C::Left>, RunFault>
 where
-    C: KeepsLines + Drop + Send,
+    C: Client + Drop + Send,
     M: Monitor + Drop + Send,
     R: Threads + Wait + Sync,
     requires can { CanServe config.setup (length clients.items) (monitors_in monitor) }
     requires monitor { IfSome monitor (λ m. IfSome (M.setting m) (λ s. s ≡ config.setup)) }
     requires new { All (λ c. (C.given c ≡ []) × (C.told c ≡ [])) clients.items }
     ensures outcome { IfOk result (λ s. IsServiceOf config.setup s.outcome) }
-    ensures clients { IfOk result (λ s. IsOfClients (map C.script clients.items) (vec_len s.ends) s.outcome) }
+    ensures clients { IfOk result (λ s. IsOfClients C.talk clients.items s.left.items s.outcome) }
     ensures fault { IfErr result (IsFaultOf (seats_for (length clients.items) (monitors_in monitor))) }
 {
     qrun::serve(rt, alloc, config.setup, clients, monitor, seed)

@@ -7,7 +7,7 @@ use crate::given::{FIRST_FILES, OTHER_FILES, script, setup};
 use qplain::{Board, Edition, Line, NoMemory, Script, Transcript};
 use qrules::Items;
 use qrun::{Monitor, serve};
-use qrun_client::{Answer, Client, ClientEnd, KeepsLines};
+use qrun_client::{Answer, Client};
 use std::alloc::Global;
 use std::hint::spin_loop;
 use std::sync::atomic::AtomicU64;
@@ -44,9 +44,17 @@ impl Prepared {
 }
 
 impl Client for Prepared {
+    ghost use Rattle.std.specs.Prelude.{◌≡◌, ◌++◌};
+    ghost use Rattle.std.specs.Vec.Iter.{into_iter_items};
+
+    type Left = IntoIter<Line>;
+
     ghost given = { λ c. c.given.items };
 
     ghost told = { λ c. c.answers.items };
+
+    // What is left are the lines that were not handed out.
+    ghost talk = { λ c lines answers left. lines ++ into_iter_items left ≡ c.given.items ++ into_iter_items c.rest };
 
     fn next(&mut self) -> bool {
         match self.rest.next() {
@@ -65,12 +73,10 @@ impl Client for Prepared {
     fn tell(&mut self, answer: Answer) {
         self.answers.push_reserved(answer);
     }
-}
 
-impl KeepsLines for Prepared {
-    fn into_parts(self, worker: u64) -> (Transcript, ClientEnd) {
+    fn into_parts(self, worker: u64) -> (Transcript, IntoIter<Line>) {
         let Prepared {
-            rest: _,
+            rest,
             given,
             answers,
         } = self;
@@ -79,7 +85,7 @@ impl KeepsLines for Prepared {
             lines: Items::new(given),
             answers: Items::new(answers),
         };
-        (transcript, ClientEnd::Served)
+        (transcript, rest)
     }
 }
 
@@ -126,7 +132,7 @@ fn the_last_board_of_a_service_is_shown(rt: HostRuntime) -> Result<(), Fail> {
     };
     let entries = service.outcome.journal.get().entries().len();
     let lines = service.outcome.transcripts.as_slice()[0].len();
-    assert_eq!(rt; (entries, lines, service.ends.len()), (6, 3, 2));
+    assert_eq!(rt; (entries, lines, service.left.len()), (6, 3, 2));
     assert_eq!(rt; version.load(SeqCst), 6);
     assert!(rt; boards.load(SeqCst) > 0);
     Ok(())

@@ -1,6 +1,6 @@
 //! Streams of a client in memory.
 
-ghost use Rattle.std.specs.Prelude.{refl};
+ghost use Rattle.std.specs.Prelude.{refl, ⊤};
 
 use crate::short::Short;
 use qtext_client::{Pair, Streams};
@@ -20,9 +20,15 @@ pub(crate) struct MemoryStreams {
 }
 
 impl Streams for MemoryStreams {
+    ghost use Rattle.std.specs.Prelude.{None};
+
     type In = &'static [u8];
 
     type Out = Short;
+
+    ghost says = { λ _. None };
+
+    ghost took = { λ _. None };
 
     fn open(&mut self) -> Result<Pair<&'static [u8], Short>, ClientEnd> {
         let Some(lines) = self.lines else {
@@ -38,7 +44,13 @@ impl Streams for MemoryStreams {
         }
     }
 
-    fn ended(&mut self, _end: ClientEnd) {}
+    // Nothing is known of what it took.
+    fn ended(&mut self, output: Option<BufWriter<Short>>, end: ClientEnd)
+        ensures { ⊤ }
+    {
+        drop(output);
+        let _ = end;
+    }
 
     ghost always_or_never = { λ one other none. refl };
 }

@@ -8,29 +8,29 @@ use Rattle.qrun.proofs.Naming.{names_on}
 use Rattle.qrun.proofs.service.serve_and_end.Goals as goal
 
 pub part_served-requires : goal.part_served-requires
-part_served-requires g c = can_be_placed _ c.in_ok-served.served.items c.in_ok-served.ensures.0
+part_served-requires g c = can_be_placed _ _ c.in_ok-served.served.items c.in_ok-served.ensures.0
 
 pub make_outcome-requires-clause-told : goal.make_outcome-requires-clause-told
 make_outcome-requires-clause-told g c =
-    let at = attended_by g.C.Client.script _ _ _ _ _ _ _ _ _ _ _ _ c.requires.staff c.showing_of-showing.ensures
+    let at = attended_by g.C.Client.talk _ _ _ _ _ _ _ _ _ _ _ _ c.requires.staff c.showing_of-showing.ensures
     c.in_ok-attendants.ensures.clients_are c.in_ok-served.ensures c.in_ok-own.ensures.shares refl c.in_ok-shares.ensures.shares in
-    (served_placed _ _ _ _ _ _ _ _ at c.in-Ok.store.journal c.in-Ok.ensures.end.seen c.in_ok-own.answered.items c.in_ok-own.ensures.answered
+    (served_placed _ _ _ _ _ _ _ _ _ at c.in-Ok.store.journal c.in-Ok.ensures.end.seen c.in_ok-own.answered.items c.in_ok-own.ensures.answered
     (ap (λ t. t.calls) c.in-Ok.ensures.end.tally) c.in-Ok.ensures.end.played.few).0
 
 pub make_outcome-requires-clause-lawful : goal.make_outcome-requires-clause-lawful
 make_outcome-requires-clause-lawful g c =
     let looks = c.in_ok-shares.looks.items in
     let journal = c.in-Ok.store.journal in
-    let at = attended_by g.C.Client.script _ _ _ _ _ _ _ _ _ _ _ _ c.requires.staff c.showing_of-showing.ensures
+    let at = attended_by g.C.Client.talk _ _ _ _ _ _ _ _ _ _ _ _ c.requires.staff c.showing_of-showing.ensures
     c.in_ok-attendants.ensures.clients_are c.in_ok-served.ensures c.in_ok-own.ensures.shares refl c.in_ok-shares.ensures.shares in
     subst (λ s. AreLawful (start s) journal (boards_in looks)) (sym c.in-Ok.ensures.setting)
-    (shown_lawful _ _ _ _ _ _ _ _ at journal c.in-Ok.ensures.end.seen looks c.in_ok-shares.ensures.looks)
+    (shown_lawful _ _ _ _ _ _ _ _ _ at journal c.in-Ok.ensures.end.seen looks c.in_ok-shares.ensures.looks)
 
 pub unreachable-requires : goal.unreachable-requires
 unreachable-requires g c =
-    let at = attended_by g.C.Client.script _ _ _ _ _ _ _ _ _ _ _ _ c.requires.staff c.showing_of-showing.ensures
+    let at = attended_by g.C.Client.talk _ _ _ _ _ _ _ _ _ _ _ _ c.requires.staff c.showing_of-showing.ensures
     c.in_ok-attendants.ensures.clients_are c.in_ok-served.ensures c.in_ok-own.ensures.shares refl c.in_ok-shares.ensures.shares in
-    let wrong : false ≡ true = c.in-Err.ensures.all (all_shares_there _ _ _ _ _ _ _ _ at) in
+    let wrong : false ≡ true = c.in-Err.ensures.all (all_shares_there _ _ _ _ _ _ _ _ _ at) in
     absurd cc
 
 pub returns-in_err-served-clause-fault : goal.returns-in_err-served-clause-fault
@@ -45,11 +45,11 @@ returns-in_err-served-clause-fault g c =
 
 pub returns-clause-clients : goal.returns-clause-clients
 returns-clause-clients g c =
-    let at = attended_by g.C.Client.script _ _ _ _ _ _ _ _ _ _ _ _ c.requires.staff c.showing_of-showing.ensures
+    let at = attended_by g.C.Client.talk _ _ _ _ _ _ _ _ _ _ _ _ c.requires.staff c.showing_of-showing.ensures
     c.in_ok-attendants.ensures.clients_are c.in_ok-served.ensures c.in_ok-own.ensures.shares refl c.in_ok-shares.ensures.shares in
-    of_clients _ c.in_ok-served.served.items _ c.in_ok-outcome-in-Ok.outcome at.served
+    of_clients g.C.Client.talk _ c.in_ok-served.served.items at.served _ c.in_ok-outcome-in-Ok.outcome
     (c.in_ok-outcome-in-Ok.ensures.told.0
-    ∙ (served_placed _ _ _ _ _ _ _ _ at c.in-Ok.store.journal c.in-Ok.ensures.end.seen c.in_ok-own.answered.items c.in_ok-own.ensures.answered
+    ∙ (served_placed _ _ _ _ _ _ _ _ _ at c.in-Ok.store.journal c.in-Ok.ensures.end.seen c.in_ok-own.answered.items c.in_ok-own.ensures.answered
     (ap (λ t. t.calls) c.in-Ok.ensures.end.tally) c.in-Ok.ensures.end.played.few).1)
-    (c.in_ok-outcome-in-Ok.ensures.told.1 ∙ c.in_ok-shares.ensures.looks ∙ no_looks _ _ _ _ _ _ _ _ at)
-    (c.in_ok-own.ensures.ends ∙ c.in_ok-served.served.ok.0)
+    c.in_ok-own.ensures.left
+    (c.in_ok-outcome-in-Ok.ensures.told.1 ∙ c.in_ok-shares.ensures.looks ∙ no_looks _ _ _ _ _ _ _ _ _ at)

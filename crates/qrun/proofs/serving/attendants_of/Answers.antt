@@ -55,7 +55,7 @@ unreachable-requires g c =
     )
 
 pub new-attendant-requires-clause-seat : goal.new-attendant-requires-clause-seat
-new-attendant-requires-clause-seat g c =
+new-attendant-requires-clause-seat g c κs within =
     let seated = c.loop-client.invariant.0 in
     let seats = ap (λ xs. seated.0 ++ xs) (sym c.in-Some-next.ensures.cases.0) ∙ seated.1 in
     ap (λ s. s.tally)

@@ -1,4 +1,4 @@
-use Rattle.std.proofs.Common.{◌≡◌, ◌+◌, ◌≤◌, List, ◌++◌, length, map}
+use Rattle.std.proofs.Common.{◌≡◌, ◌+◌, ◌≤◌, List, ◌++◌, map}
 use Rattle.std.specs.Vec.{vec_capacity, vec_len}
 use Rattle.std.specs.Vec.Iter.{into_iter_items, into_iter_len}
 use Rattle.qrun_worker.specs.Work.{Serving}
@@ -7,9 +7,9 @@ use Rattle.qrun.proofs.telling.part_served.Given as goal
 
 abbrev pub invariant-loop-one : goal.invariant-loop-one
 invariant-loop-one g l =
-    ((done : List Serving) × (done ++ into_iter_items l.one-iterator ≡ l.fn.served.items)
-    × (l.shares.items ≡ map (λ s. s.share) done) × (l.all.items ≡ map (λ s. placed_of s.transcript) done)
-    × (vec_len l.ends ≡ length done))
+    ((done : List (Serving g.row.L.Denot)) × (done ++ into_iter_items l.one-iterator ≡ l.fn.served.items)
+    × (l.shares.items ≡ map (λ (s : Serving _). s.share) done) × (l.all.items ≡ map (λ (s : Serving _). placed_of s.transcript) done)
+    × (l.left.items ≡ map (λ (s : Serving _). s.left) done))
     × (vec_len l.shares + into_iter_len l.one-iterator ≤ vec_capacity l.shares)
     × (vec_len l.all + into_iter_len l.one-iterator ≤ vec_capacity l.all)
-    × (vec_len l.ends + into_iter_len l.one-iterator ≤ vec_capacity l.ends)
+    × (vec_len l.left + into_iter_len l.one-iterator ≤ vec_capacity l.left)

@@ -9,7 +9,7 @@ loop-init g c = (
   none_answered_yet (g.C.Client.given c.args.client.now) c.args.seat (g.C.Client.told c.args.client.now) c.requires.seat (ap length c.requires.new.1),
   ap length c.requires.new.1 ∙ sym (ap length c.requires.new.0),
   refl,
-  refl,
+  λ lines answers left comes. comes,
 )
 
 pub loop-preserved : goal.loop-preserved
@@ -43,5 +43,5 @@ loop-preserved g c =
         so_far.1,
       ),
       called.seen.worker ∙ so_far.2,
-      told.script ∙ asked.script ∙ so_far.3,
+      λ ls told_so left comes. so_far.3 ls told_so left (asked.talk ls told_so left (told.talk ls told_so left comes)),
     )

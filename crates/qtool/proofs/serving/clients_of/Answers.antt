@@ -1,5 +1,5 @@
 use Rattle.std.proofs.Common.{◌≡◌, [], ◌∷◌, ◌++◌, All, length, ap, sym, subst, length-append, arith}
-use Rattle.qtext_client.specs.Talks.{Talk}
+use Rattle.qtext_client.specs.Conversations.{Progress}
 use Rattle.qtool.proofs.Clients.{one_more_new}
 use Rattle.qtool.proofs.serving.clients_of.Goals as goal
 
@@ -9,6 +9,6 @@ loop-names-preserved g c =
     let before = c.loop-names.clients.items in
     let client = c.in_ok-client.client in (
       omega (arith, ap length pushed, length-append before (client ∷ []), c.loop-names.invariant.0),
-      subst (All (λ (c : Talk). (c.given ≡ []) × (c.told ≡ []))) (sym pushed)
+      subst (All (λ (c : Progress). (c.given ≡ []) × (c.told ≡ []))) (sym pushed)
           (one_more_new before client c.loop-names.invariant.1 c.in_ok-client.ensures),
     )

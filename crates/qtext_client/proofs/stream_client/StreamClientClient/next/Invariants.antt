@@ -1,9 +1,12 @@
 use Rattle.std.proofs.Common.{◌≡◌}
+use Rattle.qrun_client.specs.Clients.{ComesOf}
+use Rattle.qtext_client.specs.Conversations.{comes_to}
 use Rattle.qtext_client.proofs.stream_client.StreamClientClient.next.Given as goal
 
--- of lines that are none nothing is kept
+-- of lines that are none nothing is kept, and what comes of the client is what came of it before
 abbrev pub invariant-loop : goal.invariant-loop
 invariant-loop g l = record {
   given : l.self.given ≡ l.fn.self.given;
   told : l.self.told ≡ l.fn.self.told;
+  talk : ComesOf (comes_to g.S.Streams.took l.fn.self) (comes_to g.S.Streams.took l.self);
 }

@@ -4,8 +4,7 @@ use Rattle.std.specs.Vec.Iter.{into_iter_items}
 use Rattle.qrun.proofs.Attending.{at_place, number_is, place_low}
 use Rattle.qplain.specs.State.{start}
 use Rattle.qrun.specs.Watching.{IsWatch, IsWatchOf}
-use Rattle.qrun_worker.specs.Work.{Attending, IsServed}
-use Rattle.qrun.proofs.Attended.{all_served}
+use Rattle.qrun_worker.specs.Work.{IsServed}
 use Rattle.qrun.proofs.Naming.{names_seat}
 use Rattle.qrun.proofs.serving.fn.attend_all.scope.Goals as goal
 
@@ -74,21 +73,20 @@ returns-in-Ok-join_promised g c =
     let left : length rest ≡ 0 = sym c.loop-attendant.attendant-iterator.rest.ok.0 ∙ c.in-None.ensures.steps.0 in
     let all : c.loop-attendant.running.len ≡ length attendants =
     omega (arith, ap length held.1, length-append held.0 rest, left, held.2, ap length given0) in (
-      all_served (λ a. g.C.Client.script a.client) attendants served.items (omega (arith, served.ok.0, c.in-Ok-join_promised.ensures.len, all))
-          (λ k s less.
-          let low : k < c.loop-attendant.running.len = omega (arith, less, all) in
-          let at = c.in-Ok-join_promised.ensures.each k s low in
-          let h = at.1.handle in
-          let a : Attending _ = record { worker = 0; client = h.promise.client.value } in
-          let inv = c.loop-attendant.invariant.2 k h a low in
-          let worker : h.promise.worker ≡ k + 1 = ap (λ x. x.promise.worker) at.1.handle_is ∙ inv.0
-          ∙ ap (λ xs. (slice_index_or xs k a).worker) given0 ∙ c.requires.numbered k a less in
-          let client : h.promise.client.value ≡ (slice_index_or attendants k a).client = ap (λ x. x.promise.client.value) at.1.handle_is
-          ∙ inv.1 ∙ ap (λ xs. (slice_index_or xs k a).client) given0 in (
-            a,
-            subst (λ x. IsServed (k + 1) (g.C.Client.script x) (slice_index_or served.items k s)) client
-                (subst (λ m. IsServed m (g.C.Client.script h.promise.client.value) (slice_index_or served.items k s)) worker at.1.kept),
-          )),
+      record {
+        many = omega (arith, served.ok.0, c.in-Ok-join_promised.ensures.len, all);
+        each = λ k a s less.
+            let low : k < c.loop-attendant.running.len = omega (arith, less, all) in
+            let at = c.in-Ok-join_promised.ensures.each k s low in
+            let h = at.1.handle in
+            let inv = c.loop-attendant.invariant.2 k h a low in
+            let worker : h.promise.worker ≡ k + 1 = ap (λ x. x.promise.worker) at.1.handle_is ∙ inv.0
+            ∙ ap (λ xs. (slice_index_or xs k a).worker) given0 ∙ c.requires.numbered k a less in
+            let client : h.promise.client.value ≡ (slice_index_or attendants k a).client = ap (λ x. x.promise.client.value) at.1.handle_is
+            ∙ inv.1 ∙ ap (λ xs. (slice_index_or xs k a).client) given0 in
+            subst (λ x. IsServed (k + 1) (g.C.Client.talk x) (slice_index_or served.items k s)) client
+            (subst (λ m. IsServed m (g.C.Client.talk h.promise.client.value) (slice_index_or served.items k s)) worker at.1.kept);
+      },
       subst (λ o. IsWatchOf (start g.S.StoreId.id.setting) 0 o None) (sym c.in_default.is ∙ c.loop-attendant.invariant.3) refl,
     )
 
@@ -102,21 +100,20 @@ returns-in-Ok-joined g c =
     let left : length rest ≡ 0 = sym c.loop-attendant.attendant-iterator.rest.ok.0 ∙ c.in-None.ensures.steps.0 in
     let all : c.loop-attendant.running.len ≡ length attendants =
     omega (arith, ap length held.1, length-append held.0 rest, left, held.2, ap length given0) in (
-      all_served (λ a. g.C.Client.script a.client) attendants served.items (omega (arith, served.ok.0, c.in-Ok-joined.ensures.len, all))
-          (λ k s less.
-          let low : k < c.loop-attendant.running.len = omega (arith, less, all) in
-          let at = c.in-Ok-joined.ensures.each k s low in
-          let h = at.1.handle in
-          let a : Attending _ = record { worker = 0; client = h.promise.client.value } in
-          let inv = c.loop-attendant.invariant.2 k h a low in
-          let worker : h.promise.worker ≡ k + 1 = ap (λ x. x.promise.worker) at.1.handle_is ∙ inv.0
-          ∙ ap (λ xs. (slice_index_or xs k a).worker) given0 ∙ c.requires.numbered k a less in
-          let client : h.promise.client.value ≡ (slice_index_or attendants k a).client = ap (λ x. x.promise.client.value) at.1.handle_is
-          ∙ inv.1 ∙ ap (λ xs. (slice_index_or xs k a).client) given0 in (
-            a,
-            subst (λ x. IsServed (k + 1) (g.C.Client.script x) (slice_index_or served.items k s)) client
-                (subst (λ m. IsServed m (g.C.Client.script h.promise.client.value) (slice_index_or served.items k s)) worker at.1.kept),
-          )),
+      record {
+        many = omega (arith, served.ok.0, c.in-Ok-joined.ensures.len, all);
+        each = λ k a s less.
+            let low : k < c.loop-attendant.running.len = omega (arith, less, all) in
+            let at = c.in-Ok-joined.ensures.each k s low in
+            let h = at.1.handle in
+            let inv = c.loop-attendant.invariant.2 k h a low in
+            let worker : h.promise.worker ≡ k + 1 = ap (λ x. x.promise.worker) at.1.handle_is ∙ inv.0
+            ∙ ap (λ xs. (slice_index_or xs k a).worker) given0 ∙ c.requires.numbered k a less in
+            let client : h.promise.client.value ≡ (slice_index_or attendants k a).client = ap (λ x. x.promise.client.value) at.1.handle_is
+            ∙ inv.1 ∙ ap (λ xs. (slice_index_or xs k a).client) given0 in
+            subst (λ x. IsServed (k + 1) (g.C.Client.talk x) (slice_index_or served.items k s)) client
+            (subst (λ m. IsServed m (g.C.Client.talk h.promise.client.value) (slice_index_or served.items k s)) worker at.1.kept);
+      },
       let S = start g.S.StoreId.id.setting in
           let h = c.in-Ok-spawn_scoped_with.handle in
           let w = c.join-watch.result in

@@ -1,0 +1,98 @@
+-- What a client says, line by line, and what it is told of each.
+use Rattle.std.specs.Prelude.{◌≡◌, ◌≤◌, ◌<◌, ◌+◌, ◌⊎◌, ℕ, List, [], ◌∷◌, ◌++◌, length, map, All, ⊤}
+use Rattle.std.specs.Prelude.{Option, Some, IfSome, Result, Ok, Err}
+use Rattle.std.specs.List.{flat_map}
+use Rattle.std.specs.Io.BufRead.{drop_through, take_through}
+use Rattle.qplain.specs.declared.call_fault.CallFault.{CallFault}
+use Rattle.qplain.specs.declared.line.Line.{Line}
+use Rattle.qplain.specs.declared.receipt.Receipt.{Receipt}
+use Rattle.qtext.specs.declared.text_fault.TextFault.{TextFault}
+use Rattle.qtext.specs.declared.text_fault.TextKind.TheVariants.{TooMany}
+use Rattle.qtext_files.specs.Scripts.{script_of}
+use Rattle.qtext_write.specs.Answers.{answer_text}
+use Rattle.qrun_client.specs.declared.client.ClientEnd.{ClientEnd}
+use Rattle.qrun_client.specs.declared.client.ClientEnd.TheVariants.{Served, Output}
+use Rattle.qrun_client.specs.declared.client.TheConstants.{MAX_GIVEN}
+use Rattle.qtext_client.specs.declared.bounded_line.TheConstants.{MAX_LINE}
+use Rattle.qtext_client.specs.declared.telling.LineFault.{LineFault}
+use Rattle.qtext_client.specs.declared.telling.LineFault.TheVariants.{Text, Length}
+use Rattle.qtext_client.specs.declared.telling.Telling.{Telling}
+use Rattle.qtext_client.specs.declared.telling.Telling.TheVariants.{Answer, Fault, NoMemory}
+use Rattle.qtext_client.specs.Tellings.{answer_in, telling_text}
+use Rattle.qtext_client.specs.Wires.{Wire}
+use Rattle.qtext_client.specs.declared.connection.EndedClient.{EndedClient}
+
+-- the text of a client's line, with its line end, and what the client was told of it
+pub record Exchange : Type 0 where
+  pub text : List ℕ
+  pub telling : Telling
+
+-- a client that hands out N lines in all may be told this fault of a line of this text
+abbrev pub IsFaultOf : ℕ → List ℕ → LineFault → Type 0
+IsFaultOf given text (Text kind) = (script_of text ≡ Err (record { line = 1; kind = kind }))
+    ⊎ ((kind ≡ TooMany) × (MAX_GIVEN ≤ given))
+IsFaultOf given text Length = MAX_LINE < length text
+
+-- it may be told this of it: an answer to the one line that it says, its fault, or that memory was wanting
+abbrev pub IsToldOf : ℕ → List ℕ → Telling → Type 0
+IsToldOf given text (Answer answer) = (line : Line) × (script_of text ≡ Ok (line ∷ []))
+IsToldOf given text (Fault fault) = IsFaultOf given text fault
+IsToldOf given text NoMemory = ⊤
+
+-- the lines that a script says, none where it has a fault
+abbrev pub lines_said : Result (List Line) TextFault → List Line
+lines_said (Ok lines) = lines
+lines_said (Err fault) = []
+
+-- the line that was handed out, which is so where an answer was told
+abbrev pub handed_out : List ℕ → Telling → List Line
+handed_out text (Answer answer) = lines_said (script_of text)
+handed_out text (Fault fault) = []
+handed_out text NoMemory = []
+
+-- these are the first lines of the bytes, each with its line end, which the last of all may lack; and that is the rest
+unfoldable pub AreFirstLines : List ℕ → List (List ℕ) → List ℕ → Type 0
+AreFirstLines bytes [] rest = rest ≡ bytes
+AreFirstLines bytes (text ∷ texts) rest = (text ≡ take_through 10 bytes) × (0 < length text)
+    × AreFirstLines (drop_through 10 bytes) texts rest
+
+-- a client that hands out N lines in all has said lines one after the other, and was told something of each, in their
+-- order: these are the lines that it handed out, the answers that it was told, and all the text; where the bytes of its
+-- input are known, its lines are the first of them, and all of them where it was served
+pub record IsTalk (given : ℕ) (hears : Option (List ℕ)) (lines : List Line)
+    (answers : List (Result Receipt CallFault)) (text : List ℕ) (end : ClientEnd) : Type 0 where
+  pub exchanges : List Exchange
+  pub rest : List ℕ
+  pub each : All (λ e. IsToldOf given e.text e.telling) exchanges
+  pub lines_are : lines ≡ flat_map (λ e. handed_out e.text e.telling) exchanges
+  pub answers_are : answers ≡ flat_map (λ e. answer_in e.telling) exchanges
+  pub text_is : text ≡ flat_map (λ e. telling_text e.telling) exchanges
+  pub heard : IfSome hears (λ bytes. AreFirstLines bytes (map (λ e. e.text) exchanges) rest)
+  pub all_heard : end ≡ Served → rest ≡ []
+
+-- how far a client is: the lines that it has handed out, the answers that it took, and what is known of its streams
+pub record Progress : Type 0 where
+  pub given : List Line
+  pub told : List (Result Receipt CallFault)
+  pub wire : Wire
+
+-- what comes of a client: it is told the answers that it is owed, which are none of a new one, and talks on; and where
+-- its output tells its bytes and has refused nothing, they grew by the text of all that it was told
+pub record ComesTo (p : Progress) (lines : List Line) (answers : List (Result Receipt CallFault))
+    (wrote : Option (List ℕ)) (end : ClientEnd) : Type 0 where
+  pub owed : List (Result Receipt CallFault)
+  pub more : List Line
+  pub further : List (Result Receipt CallFault)
+  pub text : List ℕ
+  pub owes : length p.told + length owed ≡ length p.given
+  pub talk : IsTalk (length lines) p.wire.hears more further text end
+  pub lines_are : lines ≡ p.given ++ more
+  pub answers_are : answers ≡ p.told ++ (owed ++ further)
+  pub written : (end ≡ Output → ⊥) → IfSome wrote (λ bytes. (before : List ℕ) × (p.wire.wrote ≡ Some before)
+      × (bytes ≡ before ++ (flat_map answer_text owed ++ text)))
+  pub ended : IfSome p.wire.end (λ e. e ≡ end)
+
+-- so it is with a client of streams whose outputs, once let go of, took these bytes
+abbrev pub comes_to : {S : Type 0} → (S → Option (List ℕ)) → Progress → List Line → List (Result Receipt CallFault)
+    → EndedClient S → Type 0
+comes_to took p lines answers left = ComesTo p lines answers (took left.streams) left.end
