@@ -138,8 +138,9 @@ where
 /// a script or a journal, 3 out of memory and for a journal that does not fit, 4 for an output or a file for the
 /// journal that refuses, also when it is flushed. Help and the version go to the output, with 0. The line is flushed,
 /// so that a buffered error output gets it by one write.
-/// The memory of a run is not given back. `seed` is any number, best one that nobody knows beforehand: where it is known,
-/// names can be searched that collide, and then calls take long. Neither the output nor the status depends on it.
+/// The memory of a run is not given back. `seed` is any number, best one that nobody knows beforehand: where it is
+/// known, names can be searched that collide, and then calls take long. Neither the output nor the status depends on
+/// it.
 pub fn tool<F, O, E, R>(
     rt: &R,
     alloc: Global,

@@ -93,8 +93,8 @@ impl ScriptReader {
         }
     }
 
-    /// What the text says, or the first line at fault, or line 0 where memory was wanting, whatever it says. It waits for
-    /// the thread that reads the text.
+    /// What the text says, or the first line at fault, or line 0 where memory was wanting, whatever it says. It waits
+    /// for the thread that reads the text.
     pub fn finish<R: Threads>(self, rt: &R) -> Result<Script, TextFault>
         ensures { IsReadFrom self result }
     {
@@ -117,8 +117,8 @@ pub struct ScriptFault {
     pub fault: TextFault,
 }
 
-/// The scripts of all texts that are read, in their order, or the first that is at fault; line 0 is at fault where memory
-/// was wanting. After an Err the threads behind that text are left to themselves.
+/// The scripts of all texts that are read, in their order, or the first that is at fault; line 0 is at fault where
+/// memory was wanting. After an Err the threads behind that text are left to themselves.
 pub fn finish_all<R: Threads>(
     rt: &R,
     alloc: Global,

@@ -104,8 +104,8 @@ fn run<R: Threads + Wait + Sync>(
     }
 }
 
-/// Whether a run in turns, where this worker goes first, tells this of the first worker's lines and of the second's, and
-/// no line waited in vain.
+/// Whether a run in turns, where this worker goes first, tells this of the first worker's lines and of the second's,
+/// and no line waited in vain.
 fn comes_out<R: Threads + Wait + Sync>(
     rt: &R,
     alloc: Global,

@@ -25,11 +25,11 @@ fn ann(alloc: Global) -> Result<RecordRow, AllocError> {
     })
 }
 
-const TEXT: &[u8] =
-    b"user    ann\xc3\xa9             +-         12          8         16         50 18446744073709551615          0          0          -\n";
+const TEXT: &[u8] = b"user    ann\xc3\xa9             +-         12          8         \
+16         50 18446744073709551615          0          0          -\n";
 
-/// Whether the report is written so to a writer that takes so many bytes: whole, or a beginning of that length, of which
-/// the writer's refusal is told.
+/// Whether the report is written so to a writer that takes so many bytes: whole, or a beginning of that length, of
+/// which the writer's refusal is told.
 fn is_written(alloc: Global, rows: &[RecordRow], left: usize) -> bool {
     let mut out = Short::new(alloc, left, true);
     let is_told = match report(rows, 1050, &mut out) {

@@ -71,8 +71,8 @@ fn write_first(rt: &(impl Abort + Print), file: &mut BlockFile) -> Result<(), No
     Ok(())
 }
 
-/// Makes a write ready once more, behind a refusal and one that is dropped, which leaves nothing. It tells what was put,
-/// or nothing where the file was changed.
+/// Makes a write ready once more, behind a refusal and one that is dropped, which leaves nothing. It tells what was
+/// put, or nothing where the file was changed.
 fn put_again(file: &mut BlockFile) -> Result<Option<(u64, u64)>, NoMemory> {
     let is_kept = is_so(file, 1, 3, 0, b"abc")?;
     drop(file.ready(65_530, 12)?);
