@@ -110,7 +110,8 @@ abbrev pub OneInodeIsTouched : Type 0
 OneInodeIsTouched = (S : State) (cred : Caller) (moment : ℕ) (call : Call) → IsLawful S
     → (number : ℕ) × TouchesOnly S (step S cred moment call).0 call number
 
--- the most rows of a board that a call changes: of each kind the old owner's and the new one's
+-- the rows of a board that there is room for in a call are two of each kind, for an old owner and a new one; that a
+-- call changes no more this does not say
 abbrev pub TwoRowsOfEachKind : Type 0
 TwoRowsOfEachKind = MAX_CHANGED_ROWS ≡ 2 * length kinds
 

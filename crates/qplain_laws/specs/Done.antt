@@ -36,7 +36,8 @@ IsChanged old new path number change =
     LeadsTo old path number × (inode : Inode) × (inode_at old number ≡ Some inode)
     × (inode_at new number ≡ Some (change inode))
 
--- the path leads to an inode that was made in the parent of its name, with the owners of what the caller makes there
+-- the path, whose name had a parent, leads to an inode of this number, with the owners of what the caller makes there;
+-- that the number was free this does not say
 abbrev pub IsMade : Caller → State → State → List ℕ → ℕ → (Owners → Inode) → Type 0
 IsMade cred old new path number make =
     LeadsTo new path number × (dir : ℕ) × (parent old (components path) ≡ Ok dir)

@@ -1,5 +1,5 @@
 -- What workers have done for their clients, by their places, and told as transcripts.
-use Rattle.std.proofs.Common.{◌≡◌, ℕ, suc, ◌+◌, ◌<◌, ◌≤◌, ◌==◌, if◌then◌else◌, Bool, true, false, List, [], ◌∷◌, ◌++◌, length, map, sum_by, slice_index_or, All, Option, None, Some, Result, refl, sym, ap, subst, ◌∙◌, arith}
+use Rattle.std.proofs.Common.{◌≡◌, ℕ, suc, ◌+◌, ◌<◌, ◌≤◌, ◌==◌, if◌then◌else◌, Bool, true, false, List, [], ◌∷◌, ◌++◌, length, map, sum_by, slice_index_or, All, Option, None, Some, Result, option_map, refl, sym, ap, subst, ◌∙◌, arith}
 use Rattle.std.proofs.lemmas.List.{get_or-map, length-map, nil_from_length}
 use Rattle.std.proofs.lemmas.List.Sums.{sum_by-append}
 use mathlib.Core.List.{IsPrefix, map-map}
@@ -20,10 +20,12 @@ use Rattle.qrun_replay.specs.Placed.{transcript_from}
 use Rattle.qrun_replay.specs.Runs.{lines_of}
 use Rattle.qrun_client.specs.Clients.{Talk}
 use Rattle.qrun_worker.specs.Work.{Attending, IsServed, IsWork, Serving}
+use Rattle.qrun.specs.Monitors.{IsObservedBy, Observed, Observing, Sight}
 use Rattle.qrun.specs.Serving.{AreServed, CanServe, HasSeatIn, IsOfClients, IsStaff, Tells}
 use Rattle.qrun.specs.Told.{AreAllPlaced, AreAllTold, AreTold, AreToldFrom, CanBePlaced, placed_of}
 use Rattle.qrun.specs.Watching.{IsWatchOf, Watched, looks_in, seats_for, shares_in, watcher_for}
 use Rattle.qrun.proofs.Attending.{clients_in}
+use Rattle.qrun.proofs.Observing.{watched_by}
 use Rattle.qrun.proofs.Naming.{scripts_fit, watcher_fits}
 use Rattle.qrun.proofs.Placing.{all_placed}
 use Rattle.qrun.proofs.Told.{all_there, all_told}
@@ -140,15 +142,17 @@ pub record IsAttended {C Left : Type 0} (talk : C → Talk Left) (setting : Sett
   pub looked : IsWatchOf (start setting) 0 (watcher_for (length clients) monitors) watch
   pub parts : shares ≡ own ++ shares_in watch
 
--- so it is where these clients were attended, and the boards shown for this observer
-pub attended_by : {C Left : Type 0} (talk : C → Talk Left) (setting : Setting) (clients : List C) (seats : ℕ) (free : List Seated)
-    (observer showing : Option Seated) (attendants : List (Attending C)) (all : List (Serving Left)) (own shares : List HandedIn)
-    (ts : List Transcript) (watch : Option Watched)
-    → IsStaff setting (length clients) seats free observer → showing ≡ observer → clients_in attendants ≡ clients
-    → AreServed (λ (a : Attending C). talk a.client) attendants all × IsWatchOf (start setting) 0 showing watch
-    → own ≡ map (λ s. s.share) all → ts ≡ map (λ s. s.transcript) all → shares ≡ own ++ shares_in watch
-    → IsAttended talk setting seats clients all own shares ts watch
-attended_by talk setting clients seats free observer showing attendants all own shares ts watch staff same is threads own_is ts_is parts =
+-- so it is where these clients were attended, and the boards shown to this observer
+pub attended_by : {C Left M W : Type 0} (talk : C → Talk Left) (sees : M → Sight W) (setting : Setting) (clients : List C) (seats : ℕ)
+    (free : List Seated) (observer showing : Option (Observing M)) (attendants : List (Attending C)) (all : List (Serving Left))
+    (own shares : List HandedIn) (ts : List Transcript) (observed : Option (Observed W)) (watch : Option Watched)
+    → IsStaff setting (length clients) seats free (option_map (λ o. o.seat) observer) → showing ≡ observer → clients_in attendants ≡ clients
+    → AreServed (λ (a : Attending C). talk a.client) attendants all × IsObservedBy sees (start setting) showing observed
+    → own ≡ map (λ s. s.share) all → ts ≡ map (λ s. s.transcript) all → watch ≡ option_map (λ o. o.watch) observed
+    → shares ≡ own ++ shares_in watch → IsAttended talk setting seats clients all own shares ts watch
+attended_by {C} {Left} {M} talk sees setting clients seats free observer showing attendants all own shares ts observed watch staff same is threads own_is
+    ts_is watch_is parts =
+    let looked = watched_by sees (start setting) showing observed threads.1 in
     record {
       monitors = staff.monitors;
       can = staff.can;
@@ -156,7 +160,9 @@ attended_by talk setting clients seats free observer showing attendants all own 
       served = served_of talk clients attendants all is threads.0;
       own_is = own_is;
       ts_are = ts_is;
-      looked = subst (λ o. IsWatchOf (start setting) 0 o watch) (same ∙ staff.observer_is) threads.1;
+      looked = subst (IsWatchOf (start setting) 0 (watcher_for (length clients) staff.monitors)) (sym watch_is)
+          (subst (λ o. IsWatchOf (start setting) 0 o (option_map (λ x. x.watch) observed))
+          (ap (option_map (λ (o : Observing M). o.seat)) same ∙ staff.observer_is) looked);
       parts = parts;
     }
 

@@ -123,17 +123,24 @@ board_now S seen b is =
     let all : take b.version seen ≡ seen = ap (λ n. take n seen) version ∙ take-length seen in
     record { within = omega (arith, version); shows = is ∙ (λ i. board_of (play S (sym all i)) (sym version i)) }
 
+-- one board more, of all that was seen then
+pub board_lawful : (S : State) (old new : List Entry) (boards : List Board) (b : Board) → IsPrefix old new → AreLawful S old boards
+    → b ≡ board_of (play S new) (length new) → AreLawful S new (boards ++ b ∷ [])
+board_lawful S old new boards b more so_far shown =
+    let before : AreLawful S new boards = lawful_more S old new boards more so_far in
+    let version : b.version ≡ length new = ap (λ x. x.version) shown in
+    record {
+      each = All-push (IsBoardOf S new) boards b before.each (board_now S new b shown);
+      rising = rises 0 boards b before.rising (omega arith) (λ k d less. omega (arith, (before.each k d less).within, version));
+    }
+
 -- one look more, at the board of all that was seen then
 pub look_more : (S : State) (old new : List Entry) (looks after : List (Result Board LookFault)) (look : Result Board LookFault)
     → AreLawful S old (boards_in looks) → IsPrefix old new → IsBoardAnswer S new look → after ≡ looks ++ look ∷ []
     → AreLawful S new (boards_in after)
 look_more S old new looks after (Ok b) so_far more shown is =
-    let before : AreLawful S new (boards_in looks) = lawful_more S old new (boards_in looks) more so_far in
-    let version : b.version ≡ length new = ap (λ x. x.version) shown in
-    subst (AreLawful S new) (sym (ap boards_in is ∙ boards_in-append looks (Ok b ∷ []))) (record {
-      each = All-push (IsBoardOf S new) (boards_in looks) b before.each (board_now S new b shown);
-      rising = rises 0 (boards_in looks) b before.rising (omega arith) (λ k d less. omega (arith, (before.each k d less).within, version));
-    })
+    subst (AreLawful S new) (sym (ap boards_in is ∙ boards_in-append looks (Ok b ∷ [])))
+    (board_lawful S old new (boards_in looks) b more so_far shown)
 look_more S old new looks after (Err fault) so_far more shown is =
     subst (AreLawful S new) (sym (ap boards_in is ∙ boards_in-append looks (Err fault ∷ []) ∙ append-nil (boards_in looks)))
     (lawful_more S old new (boards_in looks) more so_far)

@@ -11,7 +11,7 @@ run_fault_number (Mismatch place) = 43
 run_fault_number NoReader = 48
 
 -- the fault of a run of so many threads, numbered from 1: memory or a reader was wanting, or one of them was not
--- started; the journal and what was told of it never differ
+-- started; a mismatch is never told
 abbrev pub IsFaultOf : ℕ → RunFault → Type 0
 IsFaultOf threads Memory = Unit {0}
 IsFaultOf threads (NotStarted worker) = (0 < worker) × (worker ≤ threads)

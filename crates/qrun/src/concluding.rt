@@ -50,7 +50,7 @@ pub(crate) fn make_outcome(
     requires lawful { AreLawful (start store.setting) store.journal (boards_in looks.items) }
     ensures outcome { IfOk result (IsServiceOf store.setting) }
     ensures told { IfOk result (λ o. (o.transcripts ≡ map (transcript_from store.journal) answered.items)
-        × (o.boards ≡ looks.items)) }
+        × (o.boards ≡ looks.items) × (o.journal.entries ≡ store.journal)) }
     ensures fault { IfErr result (IsFaultOf 0) }
 {
     check_own(alloc, &store, &looks, seed)?;

@@ -1,47 +1,57 @@
 //! Who is shown the boards of a service, and the thread in which they are shown.
-ghost use Rattle.std.specs.Prelude.{◌≡◌, Option, None, IfSome};
+ghost use Rattle.std.specs.Prelude.{◌≡◌, ◌∷◌, [], List, None, option_map};
+ghost use Rattle.qplain.specs.declared.board.Board.{Board};
 ghost use Rattle.qplain.specs.Journal.{no_tally};
-ghost use Rattle.qplain.specs.Setups.{Setting};
 ghost use Rattle.qplain.specs.State.{start};
-ghost use Rattle.qshare_boards.specs.Whole.{IsWhole};
-ghost use Rattle.qrun.specs.Watching.{HasWaited, IsWatch};
+ghost use Rattle.qrun.specs.Monitors.{HasSeen, IsObserved, ShowsNext};
+ghost use Rattle.qrun.specs.Watching.{HasWaited};
 
-use crate::watcher::{Watch, Watches};
+use crate::watcher::Watch;
 use qplain::Board;
 use qrules::Kind;
 use qshare::{Boards, Seat, Shared};
 use qshare_boards::Viewer;
 use qshare_history::StoreId;
 use std::alloc::Global;
-use std::marker::Model;
+use std::marker::{Model, PhantomData};
+use std::snapshot::Snapshot;
 use std::sync::Wait;
 use std::sync::atomic::{AtomicBool, Ordering};
+use std::thread::Promise;
 
 /// Who is shown the boards of a service.
 pub trait Monitor {
-    /// The setup whose boards it is shown, where it knows that.
-    ghost setting: { Self → Option Setting } = { λ _. None };
+    /// What is left of it when no more are shown.
+    type Left: Drop + Send;
+
+    /// What may come of it: that it is shown these boards from now on, one after the other, and leaves this.
+    ghost sees: { Self → List Board → Self.Left → Type 0 };
 
     /// Waits until a board is due, and not for long: a service ends only after it.
     fn wait(&mut self)
-        ensures { setting self.new ≡ setting self.old };
+        ensures { HasSeen [] (sees self.old) (sees self.new) };
 
     /// Waits for a moment, in which a worker that makes a call publishes the board that is due.
     fn give_way(&mut self)
-        ensures { setting self.new ≡ setting self.old };
+        ensures { HasSeen [] (sees self.old) (sees self.new) };
 
     /// Learns that there was no memory for the last board.
     fn miss(&mut self)
-        ensures { setting self.new ≡ setting self.old };
+        ensures { HasSeen [] (sees self.old) (sees self.new) };
 
     /// Takes the board that is published now.
     fn show(&mut self, board: &Board)
-        requires whole { IfSome (setting self.old) (λ s. IsWhole s board.now) }
-        ensures setting { setting self.new ≡ setting self.old };
+        ensures { HasSeen (board.now ∷ []) (sees self.old) (sees self.new) };
+
+    /// Is shown no more, and gives back what is left.
+    fn end(self) -> Self::Left
+    where
+        Self: Sized,
+        ensures { sees self [] result };
 }
 
 /// Who is to see the boards of a service: a new seat that looks at them, the flag by which it asks for one, and who is
-/// shown them. Contracts see the seat.
+/// shown them. Contracts see the seat and the monitor.
 #[derive(Drop)]
 pub(crate) struct Observer<'a, S: StoreId, M: Monitor + Drop> {
     seat: Seat<S, Viewer<S>>,
@@ -50,15 +60,15 @@ pub(crate) struct Observer<'a, S: StoreId, M: Monitor + Drop> {
 }
 
 impl<'a, S: StoreId, M: Monitor + Drop> Model for Observer<'a, S, M> {
-    ghost use Rattle.std.specs.Prelude.{◌≡◌, IfSome};
+    ghost use Rattle.std.specs.Prelude.{◌≡◌};
     ghost use Rattle.qplain.specs.Journal.{no_tally};
-    ghost use Rattle.qshare.specs.Seats.{Seated};
+    ghost use Rattle.qrun.specs.Monitors.{Observing};
 
-    ghost Value = { Seated };
+    ghost Value = { Observing M };
 
-    ghost view = { λ o. o.seat };
+    ghost view = { λ o. record { seat = o.seat; monitor = o.monitor } };
 
-    ghost invariant = { λ o. (o.seat.tally ≡ no_tally) × IfSome (M.setting o.monitor) (λ x. x ≡ S.id.setting) };
+    ghost invariant = { λ o. o.seat.tally ≡ no_tally };
 }
 
 impl<'a, S: StoreId, M: Monitor + Drop> Observer<'a, S, M> {
@@ -68,9 +78,8 @@ impl<'a, S: StoreId, M: Monitor + Drop> Observer<'a, S, M> {
         wanted: &'a AtomicBool,
         monitor: M,
     ) -> Observer<'a, S, M>
-        requires seat { seat.tally ≡ no_tally }
-        requires setting { IfSome (M.setting monitor) (λ s. s ≡ S.id.setting) }
-        ensures { result ≡ seat }
+        requires { seat.tally ≡ no_tally }
+        ensures { result ≡ record { seat = seat; monitor = monitor } }
     {
         Observer {
             seat,
@@ -89,7 +98,51 @@ pub(crate) fn no_observer<'a, S: StoreId, M: Monitor + Drop>(
     None
 }
 
-/// All that the thread takes along which shows the boards of a store, until an end is told. Contracts see the seat.
+/// What who shows boards has done: its share, and what is left of the monitor.
+#[derive(Drop)]
+pub(crate) struct Observed<S: StoreId, L: Drop> {
+    pub(crate) watch: Watch<S>,
+    pub(crate) left: L,
+}
+
+impl<S: StoreId, L: Drop> Model for Observed<S, L> {
+    ghost use Rattle.qrun.specs.Monitors.{Observed};
+
+    ghost Value = { Observed L };
+
+    ghost view = { λ o. record { watch = o.watch; left = o.left } };
+}
+
+/// What was done beside what is left of the monitor, where there was one.
+pub(crate) fn part_observed<S: StoreId, L: Drop>(
+    observed: Option<Observed<S, L>>,
+) -> (Option<Watch<S>>, Option<L>)
+    ensures watch { result.0 ≡ option_map (λ o. o.watch) observed }
+    ensures left { result.1 ≡ option_map (λ o. o.left) observed }
+{
+    match observed {
+        Some(Observed { watch, left }) => (Some(watch), Some(left)),
+        None => (None, None),
+    }
+}
+
+/// That the boards at which this seat looks are shown to this monitor.
+#[derive(Drop)]
+pub(crate) struct Observes<S, M> {
+    pub(crate) worker: u64,
+    pub(crate) monitor: Snapshot<M>,
+    store: PhantomData<S>,
+}
+
+impl<S: StoreId, M: Monitor> Promise<Observed<S, M::Left>> for Observes<S, M> {
+    ghost use Rattle.qplain.specs.State.{start};
+    ghost use Rattle.qrun.specs.Monitors.{IsObserved};
+
+    ghost kept_by = { λ p o. IsObserved (start S.id.setting) p.worker (M.sees p.monitor.value) o };
+}
+
+/// All that the thread takes along which shows the boards of a store, until an end is told. Contracts see the seat and
+/// the monitor.
 #[derive(Drop)]
 pub(crate) struct Showing<'a, 'b, S: StoreId, B: Boards<S>, M: Monitor + Drop, R: Wait> {
     rt: &'a R,
@@ -101,9 +154,9 @@ pub(crate) struct Showing<'a, 'b, S: StoreId, B: Boards<S>, M: Monitor + Drop, R
 
 impl<'a, 'b, S: StoreId, B: Boards<S>, M: Monitor + Drop, R: Wait> Model
     for Showing<'a, 'b, S, B, M, R> {
-    ghost use Rattle.qshare.specs.Seats.{Seated};
+    ghost use Rattle.qrun.specs.Monitors.{Observing};
 
-    ghost Value = { Seated };
+    ghost Value = { Observing M };
 
     ghost view = { λ s. s.observer };
 }
@@ -111,16 +164,20 @@ impl<'a, 'b, S: StoreId, B: Boards<S>, M: Monitor + Drop, R: Wait> Model
 impl<'a, 'b, S: StoreId, B: Boards<S>, M: Monitor + Drop, R: Wait> Showing<'a, 'b, S, B, M, R> {
     /// The number of its seat.
     pub(crate) fn worker(&self) -> u64
-        ensures { result ≡ self.now.worker }
+        ensures { result ≡ self.now.seat.worker }
     {
         self.observer.seat.worker()
     }
 
     /// What its thread promises.
-    pub(crate) fn shows(&self) -> Watches<S>
-        ensures { (result.worker ≡ self.now.worker) × (result.boards ≡ 0) }
+    pub(crate) fn shows(&self) -> Observes<S, M>
+        ensures { (result.worker ≡ self.now.seat.worker) × (result.monitor.value ≡ self.now.monitor) }
     {
-        Watches::new(self.observer.seat.worker(), 0)
+        Observes {
+            worker: self.observer.seat.worker(),
+            monitor: Snapshot::of(&self.observer.monitor),
+            store: PhantomData,
+        }
     }
 }
 
@@ -169,7 +226,7 @@ fn ask<S: StoreId, B: Boards<S>, M: Monitor, R: Wait>(
     monitor: &mut M,
 ) -> bool
     ensures seat { HasWaited seat.old seat.new }
-    ensures setting { M.setting monitor.new ≡ M.setting monitor.old }
+    ensures sees { HasSeen [] (M.sees monitor.old) (M.sees monitor.new) }
 {
     wanted.store(true, Ordering::SeqCst);
     monitor.give_way();
@@ -186,27 +243,42 @@ fn show_next<S: StoreId, M: Monitor>(
     monitor: &mut M,
     shown: &mut Option<u64>,
 ) -> bool
-    requires { IfSome (M.setting monitor.old) (λ s. s ≡ S.id.setting) }
     ensures seat { HasWaited seat.old seat.new }
-    ensures setting { M.setting monitor.new ≡ M.setting monitor.old }
+    ensures shows { ShowsNext (start S.id.setting) seat.new.seen shown.old shown.new (M.sees monitor.old)
+        (M.sees monitor.new) }
 {
-    match seat.record(Kind::User, 0) {
-        Ok((version, _)) if *shown == Some(version) => return true,
-        _ => {}
+    if let Ok((version, _)) = seat.record(Kind::User, 0)
+        && *shown == Some(version)
+    {
+        return true;
     }
     let Ok(board) = seat.board() else {
         return false;
     };
+    if *shown == Some(board.version) {
+        return true;
+    }
     monitor.show(&board);
     *shown = Some(board.version);
     true
 }
 
+/// Ends the monitor, which learns before where the last board was not shown.
+fn end_of<M: Monitor>(mut monitor: M, complete: bool) -> M::Left
+    ensures { M.sees monitor [] result }
+{
+    if complete {
+        return monitor.end();
+    }
+    monitor.miss();
+    monitor.end()
+}
+
 /// Shows the boards as they come, until all workers have ended, and then the last. It keeps none.
 pub(crate) fn observe<S: StoreId, B: Boards<S>, M: Monitor + Drop, R: Wait>(
     showing: Showing<'_, '_, S, B, M, R>,
-) -> Watch<S>
-    ensures { IsWatch (start S.id.setting) showing.entry.worker 0 result }
+) -> Observed<S, M::Left>
+    ensures { IsObserved (start S.id.setting) showing.entry.seat.worker (M.sees showing.entry.monitor) result }
 {
     let Showing {
         rt,
@@ -226,13 +298,12 @@ pub(crate) fn observe<S: StoreId, B: Boards<S>, M: Monitor + Drop, R: Wait>(
         let published = ask(rt, shared, wanted, &mut seat, &mut monitor);
         let seen = show_next(&mut seat, &mut monitor, &mut shown);
         if last {
-            if !(published && seen) {
-                monitor.miss();
-            }
-            return Watch {
+            let left = end_of(monitor, published && seen);
+            let watch = Watch {
                 share: seat.finish(),
                 looks: Vec::new(alloc),
             };
+            return Observed { watch, left };
         }
         monitor.wait();
     }

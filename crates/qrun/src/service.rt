@@ -1,12 +1,14 @@
 //! Services: living clients served by workers on a shared store of their own.
-ghost use Rattle.std.specs.Prelude.{◌≡◌, ◌+◌, [], All, length, IfErr, IfOk, IfSome};
+ghost use Rattle.std.specs.Prelude.{◌≡◌, ◌+◌, [], All, length, IfErr, IfOk, None, Some, option_map};
+ghost use Rattle.qplain.specs.State.{start};
 ghost use Rattle.qrun_replay.specs.Runs.{IsServiceOf};
+ghost use Rattle.qrun.specs.Monitors.{IsShownTo};
 ghost use Rattle.qrun.specs.RunFaults.{IsFaultOf};
 ghost use Rattle.qrun.specs.Serving.{CanServe, IsOfClients, IsStaff, monitors_in};
 ghost use Rattle.qrun.specs.Watching.{seats_for};
 
 use crate::concluding::make_outcome;
-use crate::monitor::{Monitor, Observer, no_observer, showing_of};
+use crate::monitor::{Monitor, Observer, no_observer, part_observed, showing_of};
 use crate::run_fault::RunFault;
 use crate::runs::fault_of;
 use crate::serving::{attend_all, attendants_of};
@@ -22,11 +24,12 @@ use std::sync::Wait;
 use std::sync::atomic::AtomicBool;
 use std::thread::Threads;
 
-/// What a service leaves, and what is left of each client, in their order.
+/// What a service leaves, and what is left of each client, in their order, and of the monitor, where there was one.
 #[derive(Drop)]
-pub struct Service<L: Drop> {
+pub struct Service<L: Drop, W: Drop> {
     pub outcome: Outcome,
     pub left: Vec<L>,
+    pub monitor: Option<W>,
 }
 
 /// Serves the clients on a shared store, ends it, and makes the outcome.
@@ -39,7 +42,7 @@ fn serve_and_end<S, B, V, C, M, R>(
     ended: &AtomicBool,
     clients: Vec<C>,
     seed: u64,
-) -> Result<Service<C::Left>, RunFault>
+) -> Result<Service<C::Left, M::Left>, RunFault>
 where
     S: StoreId + Send + Sync + 'static,
     B: Boards<S> + Send,
@@ -47,21 +50,29 @@ where
     C: Client + Drop + Send,
     M: Monitor + Drop + Send,
     R: Threads + Wait + Sync,
-    requires staff { IsStaff S.id.setting (length clients.items) S.id.counters.parts seats.items observer }
+    requires staff { IsStaff S.id.setting (length clients.items) S.id.counters.parts seats.items
+        (option_map (λ o. o.seat) observer) }
     requires new { All (λ c. (C.given c ≡ []) × (C.told c ≡ [])) clients.items }
     ensures outcome { IfOk result (λ s. IsServiceOf S.id.setting s.outcome) }
     ensures clients { IfOk result (λ s. IsOfClients C.talk clients.items s.left.items s.outcome) }
+    ensures shown { IfOk result (λ s. IsShownTo M.sees (start S.id.setting) s.outcome.journal.entries
+        (option_map (λ o. o.monitor) observer.entry) s.monitor) }
     ensures fault { IfErr result (IsFaultOf S.id.counters.parts) }
 {
     let showing = showing_of(rt, alloc, &shared, observer, ended);
     let attendants = attendants_of(alloc, rt, &shared, seats, clients)?;
-    let (served, watch) = attend_all(rt, alloc, attendants, showing, ended)?;
+    let (served, observed) = attend_all(rt, alloc, attendants, showing, ended)?;
+    let (watch, monitor) = part_observed(observed);
     let (own, answered, left) = part_served(alloc, served)?;
     let (shares, looks) = hand_in(alloc, own, watch)?;
     match shared.end(rt, shares) {
         Ok(store) => {
             let outcome = make_outcome(alloc, store, answered, looks, seed)?;
-            Ok(Service { outcome, left })
+            Ok(Service {
+                outcome,
+                left,
+                monitor,
+            })
         }
         Err(_) => unreachable!(),
     }
@@ -75,17 +86,19 @@ fn serve_shown<S, C, M, R>(
     clients: Vec<C>,
     monitor: M,
     seed: u64,
-) -> Result<Service<C::Left>, RunFault>
+) -> Result<Service<C::Left, M::Left>, RunFault>
 where
     S: StoreId + Send + Sync + 'static,
     C: Client + Drop + Send,
     M: Monitor + Drop + Send,
     R: Threads + Wait + Sync,
-    requires id { (opened ≡ S.id) × IfSome (M.setting monitor) (λ s. s ≡ S.id.setting) }
-    requires can { CanServe S.id.setting (length clients.items) 1 × (S.id.counters.parts ≡ length clients.items + 1) }
+    requires can { CanServe S.id.setting (length clients.items) 1 × (S.id.counters.parts ≡ length clients.items + 1)
+        × (opened ≡ S.id) }
     requires new { All (λ c. (C.given c ≡ []) × (C.told c ≡ [])) clients.items }
     ensures outcome { IfOk result (λ s. IsServiceOf S.id.setting s.outcome) }
     ensures clients { IfOk result (λ s. IsOfClients C.talk clients.items s.left.items s.outcome) }
+    ensures shown { IfOk result (λ s. IsShownTo M.sees (start S.id.setting) s.outcome.journal.entries (Some monitor)
+        s.monitor) }
     ensures fault { IfErr result (IsFaultOf S.id.counters.parts) }
 {
     let wanted = AtomicBool::new(false);
@@ -105,17 +118,18 @@ fn serve_unshown<S, C, M, R>(
     opened: Opened,
     clients: Vec<C>,
     seed: u64,
-) -> Result<Service<C::Left>, RunFault>
+) -> Result<Service<C::Left, M::Left>, RunFault>
 where
     S: StoreId + Send + Sync + 'static,
     C: Client + Drop + Send,
     M: Monitor + Drop + Send,
     R: Threads + Wait + Sync,
-    requires id { opened ≡ S.id }
-    requires can { CanServe S.id.setting (length clients.items) 0 × (S.id.counters.parts ≡ length clients.items) }
+    requires can { CanServe S.id.setting (length clients.items) 0 × (S.id.counters.parts ≡ length clients.items)
+        × (opened ≡ S.id) }
     requires new { All (λ c. (C.given c ≡ []) × (C.told c ≡ [])) clients.items }
     ensures outcome { IfOk result (λ s. IsServiceOf S.id.setting s.outcome) }
     ensures clients { IfOk result (λ s. IsOfClients C.talk clients.items s.left.items s.outcome) }
+    ensures shown { IfOk result (λ s. s.monitor ≡ None) }
     ensures fault { IfErr result (IsFaultOf S.id.counters.parts) }
 {
     let (shared, seats) = match opened.without_viewers::<S>() {
@@ -148,16 +162,16 @@ pub fn serve<C, M, R>(
     clients: Vec<C>,
     monitor: Option<M>,
     seed: u64,
-) -> Result<Service<C::Left>, RunFault>
+) -> Result<Service<C::Left, M::Left>, RunFault>
 where
     C: Client + Drop + Send,
     M: Monitor + Drop + Send,
     R: Threads + Wait + Sync,
     requires can { CanServe setup (length clients.items) (monitors_in monitor) }
-    requires monitor { IfSome monitor (λ m. IfSome (M.setting m) (λ s. s ≡ setup)) }
     requires new { All (λ c. (C.given c ≡ []) × (C.told c ≡ [])) clients.items }
     ensures outcome { IfOk result (λ s. IsServiceOf setup s.outcome) }
     ensures clients { IfOk result (λ s. IsOfClients C.talk clients.items s.left.items s.outcome) }
+    ensures shown { IfOk result (λ s. IsShownTo M.sees (start setup) s.outcome.journal.entries monitor s.monitor) }
     ensures fault { IfErr result (IsFaultOf (seats_for (length clients.items) (monitors_in monitor))) }
 {
     match monitor {

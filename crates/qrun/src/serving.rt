@@ -1,16 +1,15 @@
 //! All threads of a service: one for each client, and one that shows the boards.
-ghost use Rattle.std.specs.Prelude.{◌≡◌, ◌≤◌, ℕ, [], All, length, IfOk, MatchResult};
+ghost use Rattle.std.specs.Prelude.{◌≡◌, ◌≤◌, ℕ, [], All, length, IfOk, MatchResult, option_map};
 ghost use denote.Param.Send.{IsSend, IsSync};
 ghost use Rattle.qplain.specs.State.{start};
 ghost use Rattle.qshare.specs.Seats.{seats_of};
 ghost use Rattle.qrun.specs.RunFaults.{IsFaultOf};
 ghost use Rattle.qrun.specs.Serving.{AreAttending, AreNumbered, AreServed, HasSeatIn};
-ghost use Rattle.qrun.specs.Watching.{IsWatchOf};
+ghost use Rattle.qrun.specs.Monitors.{IsObservedBy};
 
 use crate::crew::THREAD_STACK;
-use crate::monitor::{Monitor, Showing, observe};
+use crate::monitor::{Monitor, Observed, Showing, observe};
 use crate::run_fault::RunFault;
-use crate::watcher::Watch;
 use core::thread::Stack;
 use qplain::NoMemory;
 use qrun_client::Client;
@@ -63,7 +62,7 @@ pub(crate) fn attend_all<S, B, V, C, M, R>(
     attendants: Vec<Attendant<'_, '_, S, B, V, C, R>>,
     showing: Option<Showing<'_, '_, S, B, M, R>>,
     ended: &AtomicBool,
-) -> Result<(Vec<Served<S, C::Left>>, Option<Watch<S>>), RunFault>
+) -> Result<(Vec<Served<S, C::Left>>, Option<Observed<S, M::Left>>), RunFault>
 where
     S: StoreId + Send + Sync + 'static,
     B: Boards<S> + Send,
@@ -74,21 +73,22 @@ where
     requires { AreNumbered attendants.items }
     ensures { MatchResult result
         (λ r. AreServed (λ a. C.talk a.client) attendants.entry.items r.0.items
-        × IsWatchOf (start S.id.setting) 0 showing.entry r.1)
-        (λ fault. (n : ℕ) → length attendants.entry.items ≤ n → HasSeatIn n showing.entry → IsFaultOf n fault) }
+        × IsObservedBy M.sees (start S.id.setting) showing.entry r.1)
+        (λ fault. (n : ℕ) → length attendants.entry.items ≤ n → HasSeatIn n (option_map (λ o. o.seat) showing.entry)
+        → IsFaultOf n fault) }
 {
     thread::scope(
         thread::scope_env(),
         rt,
-        |scope| -> Result<(Vec<Served<S, C::Left>>, Option<Watch<S>>), RunFault>
+        |scope| -> Result<(Vec<Served<S, C::Left>>, Option<Observed<S, M::Left>>), RunFault>
             requires marks { IsSync R.row × IsSend S.row × IsSync S.row × IsSend B.row × IsSend V.row × IsSend C.row
-                × IsSend C.Left.row × IsSend M.row }
+                × IsSend C.Left.row × IsSend M.row × IsSend M.Left.row }
             requires numbered { AreNumbered attendants.items }
             ensures { MatchResult result
                 (λ r. AreServed (λ a. C.talk a.client) attendants.entry.items r.0.items
-                × IsWatchOf (start S.id.setting) 0 showing.entry r.1)
-                (λ fault. (n : ℕ) → length attendants.entry.items ≤ n → HasSeatIn n showing.entry
-                → IsFaultOf n fault) }
+                × IsObservedBy M.sees (start S.id.setting) showing.entry r.1)
+                (λ fault. (n : ℕ) → length attendants.entry.items ≤ n
+                → HasSeatIn n (option_map (λ o. o.seat) showing.entry) → IsFaultOf n fault) }
         {
             let mut running = Vec::with_capacity(alloc, attendants.len())?;
             for attendant in attendants {
@@ -115,9 +115,9 @@ where
             };
             let joined = thread::join_promised(rt, running);
             ended.store(true, Ordering::SeqCst);
-            let watch = handle.join(rt);
+            let observed = handle.join(rt);
             match joined {
-                Ok(served) => Ok((served, Some(watch))),
+                Ok(served) => Ok((served, Some(observed))),
                 Err(_) => Err(RunFault::Memory),
             }
         },

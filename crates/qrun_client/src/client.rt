@@ -72,4 +72,8 @@ pub enum ClientEnd {
     NoOutput,
     /// Memory was wanted to open its streams, so it has handed out no line.
     Memory,
+    /// A line of it has failed, after which none was to be handed out.
+    Failed,
+    /// A line of another client has failed, after which none was to be handed out.
+    Stopped,
 }

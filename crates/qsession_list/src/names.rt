@@ -53,7 +53,8 @@ fn put_at(text: &mut [u8], at: usize, bytes: &[u8]) -> usize
 }
 
 /// Puts names at the front of a list and their bytes at the front of a text, one after another, if both have room, and
-/// tells in any case how many names and how many bytes there are; more bytes than a number holds are told as the greatest.
+/// tells in any case how many names and how many bytes there are; more bytes than a number holds are told as the
+/// greatest.
 ///
 /// Returns 0, or the number of Room.
 pub fn list_names(

@@ -1,5 +1,5 @@
 -- What comes of a client, step by step.
-use Rattle.std.proofs.Common.{◌≡◌, inl, inr, ℕ, List, [], ◌∷◌, ◌++◌, length, map, Option, Some, None, IfSome, Result, Ok, refl, sym, ap, subst, ◌∙◌, append-nil, append_assoc, length-append, arith}
+use Rattle.std.proofs.Common.{◌≡◌, inl, inr, ℕ, ◌+◌, ◌≤◌, Bool, true, List, [], ◌∷◌, ◌++◌, length, map, Option, Some, None, IfSome, IsSome, Result, Ok, refl, sym, ap, subst, ◌∙◌, append-nil, append_assoc, length-append, arith}
 use Rattle.std.specs.List.{flat_map}
 use Rattle.std.proofs.lemmas.List.{nil_from_length}
 use Rattle.std.proofs.lemmas.List.Elements.{All-cons, All-nil}
@@ -12,8 +12,8 @@ use Rattle.qtext_files.specs.Scripts.{script_of}
 use Rattle.qtext_write.specs.Answers.{answer_text}
 use Rattle.qtext_client.specs.BoundedLines.{Passes}
 use Rattle.qtext_client.specs.Conversations.{AreFirstLines, ComesTo, Exchange, IsToldOf, Progress, handed_out, lines_said}
-use Rattle.qtext_client.specs.Tellings.{answer_in, telling_text}
-use Rattle.qtext_client.specs.Wires.{EndsBy, HasEndedBy, Hears, Stays, StaysKnown, Tells, TellsNothing, Wire, Writes}
+use Rattle.qtext_client.specs.Tellings.{EndsAtFailure, answer_in, has_failed, telling_text}
+use Rattle.qtext_client.specs.Wires.{EndsBy, HasEndedBy, Hears, IsGone, Stays, StaysKnown, GrowsBy, TellsNothing, Wire, Writes}
 use Rattle.qtext_client.specs.declared.telling.Telling.{Telling}
 use Rattle.qtext_client.specs.declared.telling.Telling.TheVariants.{Answer}
 
@@ -63,7 +63,7 @@ grew_before old mid None text nothing grew = tt
 grew_before old mid (Some bytes) text nothing (before, is, grown) =
     (before, subst (λ m. IfSome m (λ b. old ≡ Some b)) is nothing, grown)
 
-grew_more : (old mid wrote : Option (List ℕ)) (part text whole : List ℕ) → Tells old mid part → part ++ text ≡ whole → Grew mid wrote text
+grew_more : (old mid wrote : Option (List ℕ)) (part text whole : List ℕ) → GrowsBy old mid part → part ++ text ≡ whole → Grew mid wrote text
     → Grew old wrote whole
 grew_more old mid None part text whole tells parts grew = tt
 grew_more old mid (Some bytes) part text whole tells parts (middle, is, grown) =
@@ -75,16 +75,26 @@ known_still None = tt
 known_still (Some bytes) = refl
 
 -- a client of which so much is known
-abbrev pub at : List Line → List (Result Receipt CallFault) → Wire → Progress
-at given told wire = record { given = given; told = told; wire = wire }
+abbrev pub at : Bool → List Line → List (Result Receipt CallFault) → Wire → Progress
+at stops given told wire = record { stops = stops; given = given; told = told; wire = wire }
 
-module _ (lines : List Line) (answers : List (Result Receipt CallFault)) (wrote : Option (List ℕ)) (end : ClientEnd) where
+-- where nothing else is told, any telling may be the last
+one_told : (telling : Telling) (later : List Telling) → (has_failed telling ≡ true → later ≡ []) → EndsAtFailure later
+    → EndsAtFailure (telling ∷ later)
+unfolding EndsAtFailure
+one_told telling later last ends = (last, ends)
+
+pub none_told : EndsAtFailure []
+unfolding EndsAtFailure
+none_told = tt
+
+module _ (stops : Bool) (lines : List Line) (answers : List (Result Receipt CallFault)) (wrote : Option (List ℕ)) (end : ClientEnd) where
   abbrev pub Comes : Progress → Type 0
   Comes p = ComesTo p lines answers wrote end
 
   module _ (given : List Line) (told : List (Result Receipt CallFault)) where
     -- it has ended
-    pub ends_so : (by : ClientEnd) (old new : Wire) → EndsBy by old new → Comes (at given told new) → Comes (at given told old)
+    pub ends_so : (by : ClientEnd) (old new : Wire) → EndsBy by old new → Comes (at stops given told new) → Comes (at stops given told old)
     ends_so by old new ends comes =
         let talk = comes.talk in
         let exchanges = talk.exchanges in
@@ -108,6 +118,7 @@ module _ (lines : List Line) (answers : List (Result Receipt CallFault)) (wrote 
             heard = none_heard old.hears;
             all_heard = λ served. all_heard old.hears (ends.all (same ∙ served));
           };
+          stops = λ is. subst (λ es. EndsAtFailure (map Answer comes.owed ++ map (λ e. e.telling) es)) none (comes.stops is);
           lines_are = comes.lines_are;
           answers_are = comes.answers_are;
           written = λ other. grew_before old.wrote new.wrote wrote (flat_map answer_text comes.owed ++ comes.text)
@@ -115,12 +126,32 @@ module _ (lines : List Line) (answers : List (Result Receipt CallFault)) (wrote 
           ended = subst (λ e. IfSome e (λ x. x ≡ end)) (sym ends.still) tt;
         }
 
-    pub has_ended_so : (by : ClientEnd) (old new : Wire) → HasEndedBy by old new → Comes (at given told new) → Comes (at given told old)
+    -- and nothing more was told
+    pub ended_so : (by : ClientEnd) (old new : Wire) → EndsBy by old new → Comes (at stops given told new)
+        → (comes : Comes (at stops given told old)) × (comes.talk.exchanges ≡ [])
+    unfolding ends_so
+    ended_so by old new ends comes = (ends_so by old new ends comes, refl)
+
+    -- it is gone, and where that was not so before nothing more was told
+    pub gone_so : (old new : Wire) → IsGone old new → Comes (at stops given told new)
+        → (comes : Comes (at stops given told old)) × (old.end ≡ None → comes.talk.exchanges ≡ [])
+    gone_so old new (by, other, inl gone) comes =
+        let ended = ended_so by old new
+        (record { still = gone.still; ends = gone.ends; deaf = gone.deaf; wrote = gone.wrote; all = λ served. absurd (other served) })
+        comes in
+        (ended.0, λ none. ended.1)
+    gone_so old new (by, other, inr before) comes =
+        (subst (λ w. Comes (at stops given told w)) before.1 comes, λ none. absurd (not_ended (subst IsSome none before.0)))
+      where
+        not_ended : IsSome {T = ClientEnd} None → ⊥
+        not_ended some = absurd cc
+
+    pub has_ended_so : (by : ClientEnd) (old new : Wire) → HasEndedBy by old new → Comes (at stops given told new) → Comes (at stops given told old)
     has_ended_so by old new (inl ends) comes = ends_so by old new ends comes
-    has_ended_so by old new (inr before) comes = subst (λ w. Comes (at given told w)) before.1 comes
+    has_ended_so by old new (inr before) comes = subst (λ w. Comes (at stops given told w)) before.1 comes
 
     -- nothing was said or told
-    pub stays_so : (old new : Wire) → Stays old new → Comes (at given told new) → Comes (at given told old)
+    pub stays_so : (old new : Wire) → Stays old new → Comes (at stops given told new) → Comes (at stops given told old)
     stays_so old new stays comes =
         let talk = comes.talk in
         record {
@@ -139,6 +170,7 @@ module _ (lines : List Line) (answers : List (Result Receipt CallFault)) (wrote 
             heard = heard_before old.hears new.hears (map (λ e. e.text) talk.exchanges) talk.rest stays.hears talk.heard;
             all_heard = talk.all_heard;
           };
+          stops = comes.stops;
           lines_are = comes.lines_are;
           answers_are = comes.answers_are;
           written = λ other. grew_before old.wrote new.wrote wrote (flat_map answer_text comes.owed ++ comes.text) stays.wrote
@@ -149,8 +181,9 @@ module _ (lines : List Line) (answers : List (Result Receipt CallFault)) (wrote 
     -- a line was heard of which this was told, which is no answer
     pub told_so : (old mid new : Wire) (text : List ℕ) (telling : Telling) → length told ≡ length given → Hears old mid text
         → Writes mid new (telling_text telling) → IsToldOf (length lines) text telling → handed_out text telling ≡ [] → answer_in telling ≡ []
-        → Comes (at given told new) → Comes (at given told old)
-    told_so old mid new text telling answered hears writes is nothing none comes =
+        → (comes : Comes (at stops given told new)) → (stops ≡ true → has_failed telling ≡ true → comes.talk.exchanges ≡ [])
+        → Comes (at stops given told old)
+    told_so old mid new text telling answered hears writes is nothing none comes last =
         let talk = comes.talk in
         let owes_none : comes.owed ≡ [] = nil_from_length comes.owed (omega (arith, comes.owes, answered)) in
         record {
@@ -170,6 +203,9 @@ module _ (lines : List Line) (answers : List (Result Receipt CallFault)) (wrote 
                 talk.heard;
             all_heard = talk.all_heard;
           };
+          stops = λ is. one_told telling (map (λ e. e.telling) talk.exchanges)
+              (λ failed. ap (map (λ e. e.telling)) (last is failed))
+              (subst (λ o. EndsAtFailure (map Answer o ++ map (λ e. e.telling) talk.exchanges)) owes_none (comes.stops is));
           lines_are = comes.lines_are;
           answers_are = comes.answers_are ∙ ap (λ o. told ++ (o ++ comes.further)) owes_none;
           written = λ other. grew_before old.wrote mid.wrote wrote (telling_text telling ++ comes.text) hears.wrote
@@ -181,7 +217,7 @@ module _ (lines : List Line) (answers : List (Result Receipt CallFault)) (wrote 
 
     -- a line was heard and handed out
     pub handed_so : (old mid : Wire) (text : List ℕ) (line : Line) → length told ≡ length given → Hears old mid text
-        → script_of text ≡ Ok (line ∷ []) → Comes (at (given ++ line ∷ []) told mid) → Comes (at given told old)
+        → script_of text ≡ Ok (line ∷ []) → Comes (at stops (given ++ line ∷ []) told mid) → Comes (at stops given told old)
     handed_so old mid text line answered hears says comes =
         let talk = comes.talk in
         let one = one_answer comes.owed (omega (arith, comes.owes, answered, length-append given (line ∷ []))) in
@@ -205,6 +241,7 @@ module _ (lines : List Line) (answers : List (Result Receipt CallFault)) (wrote 
                 (known_still mid.hears) talk.heard;
             all_heard = talk.all_heard;
           };
+          stops = λ is. subst (λ o. EndsAtFailure (map Answer o ++ map (λ e. e.telling) talk.exchanges)) one.1 (comes.stops is);
           lines_are = comes.lines_are ∙ append_assoc given (line ∷ []) comes.more;
           answers_are = comes.answers_are ∙ ap (λ o. told ++ (o ++ comes.further)) one.1;
           written = λ other. subst (λ t. Grew old.wrote wrote t)
@@ -219,10 +256,12 @@ module _ (lines : List Line) (answers : List (Result Receipt CallFault)) (wrote 
 
     -- an answer was told
     pub answered_so : (old new : Wire) (answer : Result Receipt CallFault) → IfSome old.end (λ e. e ≡ end) → StaysKnown old.hears new.hears
-        → ((end ≡ Output → ⊥) → Tells old.wrote new.wrote (answer_text answer)) → Comes (at given (told ++ answer ∷ []) new)
-        → Comes (at given told old)
-    answered_so old new answer ended hears tells comes =
+        → ((end ≡ Output → ⊥) → GrowsBy old.wrote new.wrote (answer_text answer)) → length given ≤ length told + 1
+        → (comes : Comes (at stops given (told ++ answer ∷ []) new))
+        → (stops ≡ true → has_failed (Answer answer) ≡ true → comes.talk.exchanges ≡ []) → Comes (at stops given told old)
+    answered_so old new answer ended hears tells one comes last =
         let talk = comes.talk in
+        let owes_none : comes.owed ≡ [] = nil_from_length comes.owed (omega (arith, comes.owes, one, length-append told (answer ∷ []))) in
         record {
           owed = answer ∷ comes.owed;
           more = comes.more;
@@ -239,6 +278,8 @@ module _ (lines : List Line) (answers : List (Result Receipt CallFault)) (wrote 
             heard = heard_before old.hears new.hears (map (λ e. e.text) talk.exchanges) talk.rest hears talk.heard;
             all_heard = talk.all_heard;
           };
+          stops = λ is. one_told (Answer answer) (map Answer comes.owed ++ map (λ e. e.telling) talk.exchanges)
+              (λ failed. (λ i. map Answer (owes_none i) ++ map (λ e. e.telling) (last is failed i))) (comes.stops is);
           lines_are = comes.lines_are;
           answers_are = comes.answers_are ∙ append_assoc told (answer ∷ []) (comes.owed ++ comes.further);
           written = λ other. grew_more old.wrote new.wrote wrote (answer_text answer) (flat_map answer_text comes.owed ++ comes.text)

@@ -1,5 +1,5 @@
 -- What a client says, line by line, and what it is told of each.
-use Rattle.std.specs.Prelude.{◌≡◌, ◌≤◌, ◌<◌, ◌+◌, ◌⊎◌, ℕ, List, [], ◌∷◌, ◌++◌, length, map, All, ⊤}
+use Rattle.std.specs.Prelude.{◌≡◌, ◌≤◌, ◌<◌, ◌+◌, ◌⊎◌, ℕ, Bool, true, List, [], ◌∷◌, ◌++◌, length, map, All, ⊤}
 use Rattle.std.specs.Prelude.{Option, Some, IfSome, Result, Ok, Err}
 use Rattle.std.specs.List.{flat_map}
 use Rattle.std.specs.Io.BufRead.{drop_through, take_through}
@@ -18,7 +18,7 @@ use Rattle.qtext_client.specs.declared.telling.LineFault.{LineFault}
 use Rattle.qtext_client.specs.declared.telling.LineFault.TheVariants.{Text, Length}
 use Rattle.qtext_client.specs.declared.telling.Telling.{Telling}
 use Rattle.qtext_client.specs.declared.telling.Telling.TheVariants.{Answer, Fault, NoMemory}
-use Rattle.qtext_client.specs.Tellings.{answer_in, telling_text}
+use Rattle.qtext_client.specs.Tellings.{EndsAtFailure, answer_in, telling_text}
 use Rattle.qtext_client.specs.Wires.{Wire}
 use Rattle.qtext_client.specs.declared.connection.EndedClient.{EndedClient}
 
@@ -70,14 +70,21 @@ pub record IsTalk (given : ℕ) (hears : Option (List ℕ)) (lines : List Line)
   pub heard : IfSome hears (λ bytes. AreFirstLines bytes (map (λ e. e.text) exchanges) rest)
   pub all_heard : end ≡ Served → rest ≡ []
 
--- how far a client is: the lines that it has handed out, the answers that it took, and what is known of its streams
+-- how far a client is: whether it stops at a failed line, the lines that it has handed out, the answers that it took,
+-- and what is known of its streams
 pub record Progress : Type 0 where
+  pub stops : Bool
   pub given : List Line
   pub told : List (Result Receipt CallFault)
   pub wire : Wire
 
--- what comes of a client: it is told the answers that it is owed, which are none of a new one, and talks on; and where
--- its output tells its bytes and has refused nothing, they grew by the text of all that it was told
+-- it has handed out nothing and was told no answer, whatever has come of its streams
+abbrev pub StaysThere : Progress → Progress → Type 0
+StaysThere old new = new ≡ record old { wire = new.wire }
+
+-- what comes of a client: it is told the answers that it is owed, which are none of a new one, and talks on; where it
+-- stops at a failed line none is told of after that; and where its output tells its bytes and has refused nothing, they
+-- grew by the text of all that it was told
 pub record ComesTo (p : Progress) (lines : List Line) (answers : List (Result Receipt CallFault))
     (wrote : Option (List ℕ)) (end : ClientEnd) : Type 0 where
   pub owed : List (Result Receipt CallFault)
@@ -86,6 +93,7 @@ pub record ComesTo (p : Progress) (lines : List Line) (answers : List (Result Re
   pub text : List ℕ
   pub owes : length p.told + length owed ≡ length p.given
   pub talk : IsTalk (length lines) p.wire.hears more further text end
+  pub stops : p.stops ≡ true → EndsAtFailure (map Answer owed ++ map (λ e. e.telling) talk.exchanges)
   pub lines_are : lines ≡ p.given ++ more
   pub answers_are : answers ≡ p.told ++ (owed ++ further)
   pub written : (end ≡ Output → ⊥) → IfSome wrote (λ bytes. (before : List ℕ) × (p.wire.wrote ≡ Some before)

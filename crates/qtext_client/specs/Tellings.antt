@@ -1,5 +1,5 @@
 -- What a client is told, as text.
-use Rattle.std.specs.Prelude.{List, [], ◌∷◌, ℕ, codes, Result}
+use Rattle.std.specs.Prelude.{◌≡◌, Bool, true, false, List, [], ◌∷◌, ℕ, codes, Result, is_err, ⊤}
 use Rattle.std.specs.List.{concat}
 use Rattle.qplain.specs.declared.call_fault.CallFault.{CallFault}
 use Rattle.qplain.specs.declared.receipt.Receipt.{Receipt}
@@ -20,6 +20,17 @@ abbrev pub telling_text : Telling → List ℕ
 telling_text (Answer answer) = answer_text answer
 telling_text (Fault fault) = concat (codes "- fault " ∷ line_fault_words fault ∷ codes "\n" ∷ [])
 telling_text NoMemory = codes "- failed OutOfMemory\n"
+
+-- the line has failed: it is in no journal, though it may be a line of a script
+abbrev pub has_failed : Telling → Bool
+has_failed (Answer answer) = is_err answer
+has_failed (Fault fault) = false
+has_failed NoMemory = true
+
+-- where a line has failed, none is told of after it
+unfoldable pub EndsAtFailure : List Telling → Type 0
+EndsAtFailure [] = ⊤
+EndsAtFailure (telling ∷ later) = (has_failed telling ≡ true → later ≡ []) × EndsAtFailure later
 
 -- the answers that a telling holds: one or none
 abbrev pub answer_in : Telling → List (Result Receipt CallFault)

@@ -1,5 +1,6 @@
 -- What is known of the streams of a client, and what happens to them.
-use Rattle.std.specs.Prelude.{◌≡◌, ℕ, List, [], ◌++◌, Option, Some, None, IfSome, IsSome, ◌⊎◌, ◌<◌, length}
+use Rattle.std.specs.Prelude.{◌≡◌, ◌≢◌, ℕ, Bool, true, false, List, [], ◌++◌, Option, Some, None, IfSome, IsSome, ◌⊎◌, ◌<◌}
+use Rattle.std.specs.Prelude.{length}
 use Rattle.std.specs.Io.Buffered.{writer_contents}
 use Rattle.std.specs.declared.io.buffered.BufWriter.{BufWriter}
 use Rattle.qrun_client.specs.declared.client.ClientEnd.{ClientEnd}
@@ -28,8 +29,8 @@ abbrev pub TellsNothing : Option (List ℕ) → Option (List ℕ) → Type 0
 TellsNothing old new = IfSome new (λ bytes. old ≡ Some bytes)
 
 -- what is still known has grown by the text
-abbrev pub Tells : Option (List ℕ) → Option (List ℕ) → List ℕ → Type 0
-Tells old new text = IfSome new (λ bytes. (before : List ℕ) × (old ≡ Some before) × (bytes ≡ before ++ text))
+abbrev pub GrowsBy : Option (List ℕ) → Option (List ℕ) → List ℕ → Type 0
+GrowsBy old new text = IfSome new (λ bytes. (before : List ℕ) × (old ≡ Some before) × (bytes ≡ before ++ text))
 
 -- what is known stays so
 abbrev pub StaysKnown : Option (List ℕ) → Option (List ℕ) → Type 0
@@ -51,6 +52,15 @@ pub record LetsGo (end : ClientEnd) (old new : Wire) : Type 0 where
 -- they were let go of now, or had been before
 abbrev pub HasLetGo : ClientEnd → Wire → Wire → Type 0
 HasLetGo end old new = LetsGo end old new ⊎ (IsSome old.end × (new ≡ old))
+
+-- they were let go of before the lines had ended, or the client had ended before
+abbrev pub IsGone : Wire → Wire → Type 0
+IsGone old new = (end : ClientEnd) × (end ≢ Served) × HasLetGo end old new
+
+-- where it is to end, that is so, and else nothing has happened
+abbrev pub IsGoneIf : Bool → Wire → Wire → Type 0
+IsGoneIf true old new = IsGone old new
+IsGoneIf false old new = new ≡ old
 
 -- the client has ended so, and where it was served all was heard
 pub record EndsBy (end : ClientEnd) (old new : Wire) : Type 0 where
@@ -94,8 +104,14 @@ HearsSome old new room Refused = HasEnded old new
 pub record Writes (old new : Wire) (text : List ℕ) : Type 0 where
   pub still : (old.end ≡ None) × (new.end ≡ None)
   pub hears : StaysKnown old.hears new.hears
-  pub wrote : Tells old.wrote new.wrote text
+  pub wrote : GrowsBy old.wrote new.wrote text
 
 -- a text was told, or the client has ended since it could not be
 abbrev pub IsTold : Wire → Wire → List ℕ → Type 0
 IsTold old new text = Writes old new text ⊎ HasEndedBy Output old new
+
+-- a text was told, and where it was the last one the client has ended then
+pub record IsToldLast (last : Bool) (old new : Wire) (text : List ℕ) : Type 0 where
+  pub mid : Wire
+  pub told : IsTold old mid text
+  pub after : IsGoneIf last mid new

@@ -6,7 +6,7 @@ ghost use Rattle.qrun_client.specs.declared.client.ClientEnd.TheVariants.{Served
 ghost use Rattle.qtext_client.specs.BoundedLines.{Gets};
 ghost use Rattle.qtext_client.specs.declared.bounded_line.Got.TheVariants.{End};
 ghost use Rattle.qtext_client.specs.Tellings.{telling_text};
-ghost use Rattle.qtext_client.specs.Wires.{HasEnded, HasLetGo, HearsSome, IsClosed, IsTold, Stays};
+ghost use Rattle.qtext_client.specs.Wires.{HasEnded, HasLetGo, HearsSome, IsClosed, IsGone, IsTold, Stays};
 
 use crate::bounded_line::{Got, next_line};
 use crate::streams::{Pair, Streams};
@@ -122,6 +122,29 @@ impl<S: Streams + Drop> Connection<S> {
                 self.streams.ended(Some(output), end);
             }
             ended => self.stage = ended,
+        }
+    }
+
+    /// Lets out all that was told, where the streams are open. Whether the output took it.
+    fn let_all_out(&mut self) -> bool
+        ensures { (Stays self.old self.new × (self.old.end ≡ None)) ⊎ (self.new ≡ self.old) }
+    {
+        match &mut self.stage {
+            Stage::Open(pair) => pair.output.flush().is_ok(),
+            Stage::New | Stage::Ended(_) => true,
+        }
+    }
+
+    /// Lets go of the streams before the lines have ended, and of all that was told before that. Of two ends the first
+    /// stays.
+    pub(crate) fn stop(&mut self, end: ClientEnd)
+        requires { end ≢ Served }
+        ensures { IsGone self.old self.new }
+    {
+        if self.let_all_out() {
+            self.end(end);
+        } else {
+            self.end(ClientEnd::Output);
         }
     }
 

@@ -1,14 +1,15 @@
 //! A client that writes script lines into a stream, and reads what it is told from another.
-ghost use Rattle.std.specs.Prelude.{◌≡◌, ◌<◌, ◌≤◌, ◌∷◌, ◌++◌, [], None, Some, cond, length};
+ghost use Rattle.std.specs.Prelude.{◌≡◌, ◌<◌, ◌≤◌, ◌∷◌, ◌++◌, ◌&&◌, [], None, Some, cond, is_some, length};
 ghost use Rattle.std.specs.Prelude.{vec_capacity, vec_len};
 ghost use Rattle.qrun_client.specs.declared.client.TheConstants.{MAX_GIVEN};
 ghost use Rattle.qtext_client.specs.BoundedLines.{IsOneLine};
 ghost use Rattle.qrun_client.specs.Clients.{ComesOf, HandsOut};
-ghost use Rattle.qtext_client.specs.Conversations.{comes_to};
+ghost use Rattle.qtext_client.specs.Conversations.{StaysThere, comes_to};
+ghost use Rattle.qtext_client.specs.declared.stream_client.Heard.TheVariants.{End};
 ghost use Rattle.qtext_client.specs.Hearings.{HearsLine, HearsText, IsLine, is_handed_out};
 ghost use Rattle.qtext_client.specs.Talks.{HasRoom};
-ghost use Rattle.qtext_client.specs.Tellings.{telling_text};
-ghost use Rattle.qtext_client.specs.Wires.{IsTold};
+ghost use Rattle.qtext_client.specs.Tellings.{has_failed, telling_text};
+ghost use Rattle.qtext_client.specs.Wires.{IsGone, IsGoneIf, IsToldLast};
 ghost use Rattle.qtext_files.specs.Scripts.{script_of};
 
 use crate::bounded_line::Got;
@@ -22,6 +23,7 @@ use qrun_client::{Answer, Client, ClientEnd, MAX_GIVEN};
 use qtext::TextKind;
 use std::alloc::Global;
 use std::marker::Model;
+use std::sync::atomic::{AtomicBool, Ordering};
 
 /// What came of the next line.
 #[derive(Drop)]
@@ -47,25 +49,32 @@ enum Step {
 /// A client that writes script lines, and reads what it is told of each: an answer, or what is wrong with the line.
 ///
 /// A line that is none of a script is told as a fault: it is never handed out, and takes no place. From 2,097,152 lines
-/// on no line is handed out. A client ends where its lines end, where a stream is refused, or where it has gone away.
-/// Contracts see the lines, the answers, and what is known of its streams.
+/// on no line is handed out. A client ends where its lines end, where a stream is refused, or where it has gone away;
+/// and, where it was made to, at its first line that fails. Contracts see whether it was, the lines, the answers, and
+/// what is known of its streams.
 #[derive(Drop)]
-pub struct StreamClient<S: Streams + Drop> {
+pub struct StreamClient<'a, S: Streams + Drop> {
     alloc: Global,
+    stop: Option<&'a AtomicBool>,
     connection: Connection<S>,
     text: Vec<u8>,
     lines: Vec<Line>,
     answers: Vec<Answer>,
 }
 
-impl<S: Streams + Drop> Model for StreamClient<S> {
-    ghost use Rattle.std.specs.Prelude.{vec_capacity, vec_len};
+impl<'a, S: Streams + Drop> Model for StreamClient<'a, S> {
+    ghost use Rattle.std.specs.Prelude.{is_some, vec_capacity, vec_len};
     ghost use Rattle.qtext_client.specs.Conversations.{Progress};
     ghost use Rattle.qtext_client.specs.Talks.{IsKept};
 
     ghost Value = { Progress };
 
-    ghost view = { λ c. record { given = c.lines.items; told = c.answers.items; wire = c.connection } };
+    ghost view = { λ c. record {
+      stops = is_some c.stop;
+      given = c.lines.items;
+      told = c.answers.items;
+      wire = c.connection;
+    } };
 
     ghost invariant = { λ c.
         IsKept (vec_len c.lines) (vec_len c.answers) (vec_capacity c.answers) c.connection.end };
@@ -98,10 +107,30 @@ fn keep_line(lines: &mut Vec<Line>, answers: &mut Vec<Answer>, line: Line) -> bo
     lines.push(line).is_ok()
 }
 
-impl<S: Streams + Drop> StreamClient<S> {
+/// Ends a client, and all that share its flag, where its line has failed and it has one.
+fn stop_after<S: Streams + Drop>(
+    connection: &mut Connection<S>,
+    stop: Option<&AtomicBool>,
+    failed: bool,
+)
+    ensures { IsGoneIf (is_some stop.entry && failed) connection.old connection.new }
+{
+    if let Some(stop) = stop
+        && failed
+    {
+        stop.store(true, Ordering::SeqCst);
+        connection.stop(ClientEnd::Failed);
+    }
+}
+
+impl<'a, S: Streams + Drop> StreamClient<'a, S> {
     /// A client that has handed out no line, and whose streams are opened when the first is asked for.
-    pub fn new(alloc: Global, streams: S) -> Self
+    ///
+    /// With a flag it stops at its first line that fails, sets the flag, and hands out no line where that is set: so do
+    /// all clients that share it, but for lines that were handed out by then.
+    pub fn new(alloc: Global, streams: S, stop: Option<&'a AtomicBool>) -> Self
         ensures { result ≡ record {
+          stops = is_some stop.entry;
           given = [];
           told = [];
           wire = record { hears = S.says streams; wrote = Some []; end = None };
@@ -109,6 +138,7 @@ impl<S: Streams + Drop> StreamClient<S> {
     {
         StreamClient {
             alloc,
+            stop,
             connection: Connection::new(streams),
             text: Vec::new(alloc),
             lines: Vec::new(alloc),
@@ -116,16 +146,35 @@ impl<S: Streams + Drop> StreamClient<S> {
         }
     }
 
+    /// Whether a line has failed after which none is to be handed out.
+    fn is_stopped(&self) -> bool {
+        match self.stop {
+            Some(stop) => stop.load(Ordering::SeqCst),
+            None => false,
+        }
+    }
+
+    /// Ends the client, since a line of another one has failed.
+    fn end_stopped(&mut self) -> Heard
+        requires answered { length self.old.told ≡ length self.old.given }
+        ensures stays { StaysThere self.old self.new }
+        ensures end { result ≡ End }
+        ensures gone { IsGone self.old.wire self.new.wire }
+    {
+        self.connection.stop(ClientEnd::Stopped);
+        Heard::End
+    }
+
     /// Waits for a line, and reads it.
     fn hear(&mut self) -> Heard
         requires answered { length self.old.told ≡ length self.old.given }
-        ensures given { self.new.given ≡ self.old.given }
-        ensures told { self.new.told ≡ self.old.told }
+        ensures stays { StaysThere self.old self.new }
         ensures heard { HearsLine (length self.old.given) self.old.wire self.new.wire result }
         ensures few { IsLine result → length self.new.given < MAX_GIVEN }
     {
         match self.connection.next_line(&mut self.text) {
             Got::End | Got::Refused => Heard::End,
+            _ if self.is_stopped() => self.end_stopped(),
             _ if self.lines.len() >= MAX_GIVEN => Heard::None(Telling::Fault(LineFault::Text(
                 TextKind::TooMany,
             ))),
@@ -140,9 +189,7 @@ impl<S: Streams + Drop> StreamClient<S> {
         requires answered { length self.old.told ≡ length self.old.given }
         requires few { length self.old.given < MAX_GIVEN }
         requires open { self.old.wire.end ≡ None }
-        ensures given { self.new.given ≡ cond result (self.old.given ++ line ∷ []) self.old.given }
-        ensures told { self.new.told ≡ self.old.told }
-        ensures wire { self.new.wire ≡ self.old.wire }
+        ensures { self.new ≡ record self.old { given = cond result (self.old.given ++ line ∷ []) self.old.given } }
     {
         keep_line(&mut self.lines, &mut self.answers, line)
     }
@@ -150,11 +197,12 @@ impl<S: Streams + Drop> StreamClient<S> {
     /// Tells of a line that is not handed out.
     fn tell_of(&mut self, telling: Telling)
         requires answered { length self.old.told ≡ length self.old.given }
-        ensures given { self.new.given ≡ self.old.given }
-        ensures told { self.new.told ≡ self.old.told }
-        ensures wire { IsTold self.old.wire self.new.wire (telling_text telling) }
+        ensures stays { StaysThere self.old self.new }
+        ensures wire { IsToldLast (self.old.stops && has_failed telling) self.old.wire self.new.wire
+            (telling_text telling) }
     {
         self.connection.tell(&telling);
+        stop_after(&mut self.connection, self.stop, telling.has_failed());
     }
 
     /// Waits for a line, and hands it out, or tells what is wrong with it.
@@ -181,7 +229,7 @@ impl<S: Streams + Drop> StreamClient<S> {
     }
 }
 
-impl<S: Streams + Drop + Send> Client for StreamClient<S> {
+impl<'a, S: Streams + Drop + Send> Client for StreamClient<'a, S> {
     ghost use Rattle.qtext_client.specs.Conversations.{comes_to};
 
     type Left = EndedClient<S>;
@@ -213,6 +261,7 @@ impl<S: Streams + Drop + Send> Client for StreamClient<S> {
     fn tell(&mut self, answer: Answer) {
         let telling = Telling::Answer(answer);
         self.connection.tell(&telling);
+        stop_after(&mut self.connection, self.stop, telling.has_failed());
         match telling {
             Telling::Answer(answer) => self.answers.push_reserved(answer),
             Telling::Fault(_) | Telling::NoMemory => unreachable!(),

@@ -1,7 +1,7 @@
 //! What a client is told, a line for each of its own.
 ghost use Rattle.std.specs.Prelude.{◌≡◌};
 ghost use Rattle.qtext.specs.Written.{Writes};
-ghost use Rattle.qtext_client.specs.Tellings.{line_fault_words, telling_text};
+ghost use Rattle.qtext_client.specs.Tellings.{has_failed, line_fault_words, telling_text};
 
 use qrun_client::Answer;
 use qtext::{Piece, RefusedWrite, TextKind, TextLine, put, put_pieces};
@@ -26,6 +26,19 @@ pub enum Telling {
     Fault(LineFault),
     /// Memory was wanting for it, whatever it says.
     NoMemory,
+}
+
+impl Telling {
+    /// Whether the line has failed: it is in no journal, though it may be a line of a script.
+    pub fn has_failed(&self) -> bool
+        ensures { result ≡ has_failed self.now }
+    {
+        match self {
+            Telling::Answer(answer) => answer.is_err(),
+            Telling::Fault(_) => false,
+            Telling::NoMemory => true,
+        }
+    }
 }
 
 impl LineFault {

@@ -13,7 +13,7 @@ named_some name rows (Run config telling journal boards batch scripts) is =
     let some = is.6.1 in
     omega (arith, some, length-map scripts.items (λ s. string_bytes s))
 named_some name rows (Replay config telling journal) is = tt
-named_some name rows (Serve config at journal board pairs) is = tt
+named_some name rows (Serve config at stop_at_failure journal board pairs) is = tt
 named_some name rows (Expand config script) is = tt
 named_some name rows (Check config scripts) is = tt
 

@@ -191,7 +191,7 @@ passed_on (Err e) P Q fault is h weaker = rw is (unless_weaker P Q fault weaker 
 pub its_numbers : (rows : List Row) (job : Job) → IsNamedBy (codes "run") rows job
     → ((telling : Telling) × IsTellingIn rows telling) × ((boards : ℕ) × AreBoardsIn rows boards) × ((batch : ℕ) × IsBatchIn rows batch)
 its_numbers rows (Run config telling journal boards batch scripts) h = ((telling, h.2), (boards, h.4), (batch, h.5))
-its_numbers rows (Serve config at journal board pairs) h =
+its_numbers rows (Serve config at stop_at_failure journal board pairs) h =
     let same : codes "run" ≡ codes "serve" = h.0 in
     absurd cc
 its_numbers rows (Replay config telling journal) h =
@@ -209,7 +209,7 @@ pub its_telling : (rows : List Row) (job : Job) → IsNamedBy (codes "replay") r
 its_telling rows (Run config telling journal boards batch scripts) h =
     let same : codes "replay" ≡ codes "run" = h.0 in
     absurd cc
-its_telling rows (Serve config at journal board pairs) h =
+its_telling rows (Serve config at stop_at_failure journal board pairs) h =
     let same : codes "replay" ≡ codes "serve" = h.0 in
     absurd cc
 its_telling rows (Replay config telling journal) h = (telling, h.2)
@@ -225,7 +225,7 @@ pub its_moment : (rows : List Row) (job : Job) → IsNamedBy (codes "serve") row
 its_moment rows (Run config telling journal boards batch scripts) h =
     let same : codes "serve" ≡ codes "run" = h.0 in
     absurd cc
-its_moment rows (Serve config at journal board pairs) h = (at, h.2)
+its_moment rows (Serve config at stop_at_failure journal board pairs) h = (at, h.2)
 its_moment rows (Replay config telling journal) h =
     let same : codes "serve" ≡ codes "replay" = h.0 in
     absurd cc

@@ -186,9 +186,20 @@ run = with_rule (with_sharing (with_rule (with_report (new_app (codes "run"))) j
 abbrev pub with_files : App → App
 with_files a = with_rule (with_rule a journal) board
 
+-- `--stop-at-failure`
+abbrev pub stop_at_failure : Rule
+stop_at_failure = record (new_rule (codes "stop-at-failure")) {
+  long = Some (codes "stop-at-failure");
+  action = Some SetTrue;
+}
+
+-- a command with what a service does at its end
+abbrev pub with_end : App → App
+with_end a = with_files (with_rule (with_rule a at) stop_at_failure)
+
 -- `serve`
 abbrev pub serve : App
-serve = with_rule (with_files (with_rule (with_rule (new_app (codes "serve")) config) at)) clients
+serve = with_rule (with_end (with_rule (new_app (codes "serve")) config)) clients
 
 -- `replay`
 abbrev pub replay : App

@@ -11,7 +11,7 @@ use Rattle.qtext_job.specs.declared.line_fault.LineFault.TheVariants.{Line, Memo
 use Rattle.qtext_job.specs.Commands.{quotafs}
 use Rattle.qtext_job.specs.Pairs.{AreClientsIn}
 use Rattle.qtext_job.specs.Numbers.{IsNumberAt}
-use Rattle.qtext_job.specs.Tellings.{IsMomentIn, IsTellingIn}
+use Rattle.qtext_job.specs.Tellings.{IsMomentIn, IsTellingIn, is_given}
 
 -- how many boards are taken is the number at `--boards`, at most 1000
 abbrev pub AreBoardsIn : List Row → ℕ → Type 0
@@ -38,9 +38,10 @@ IsNamedBy name rows (Run config telling journal boards batch scripts) = (name �
     × AreBoardsIn rows boards
     × IsBatchIn rows batch
     × AreScriptsIn rows (map (λ s. string_bytes s) scripts.items)
-IsNamedBy name rows (Serve config at journal board pairs) = (name ≡ codes "serve")
+IsNamedBy name rows (Serve config at stop_at_failure journal board pairs) = (name ≡ codes "serve")
     × (first_of (codes "config") rows ≡ Some (string_bytes config))
     × IsMomentIn rows at
+    × (stop_at_failure ≡ is_given (codes "stop-at-failure") rows)
     × (first_of (codes "journal") rows ≡ option_map (λ s. string_bytes s) journal)
     × (first_of (codes "board") rows ≡ option_map (λ s. string_bytes s) board)
     × AreClientsIn rows pairs.items

@@ -9,7 +9,7 @@ ghost use Rattle.qtext_job.specs.Numbers.{IsNumberAt};
 
 use crate::number::number_at;
 use crate::pair::clients;
-use crate::telling::telling;
+use crate::telling::{is_set, telling};
 use crate::{LineFault, Pair};
 use clap::error::ErrorKind;
 use clap::{ArgMatches, Error};
@@ -39,12 +39,14 @@ pub enum Job {
         batch: u64,
         scripts: Vec<String>,
     },
-    /// To answer the clients' lines on a store of the configuration, to report at the moment, in seconds, to write the
-    /// journal where a file is named for it, and likewise the board while clients are served. Where no client is named
-    /// there is one, on standard input and output.
+    /// To answer the clients' lines on a store of the configuration, until all have ended or, where it is to stop at
+    /// that, the first line has failed, to report at the moment, in seconds, to write the journal where a file is named
+    /// for it, and likewise the board while clients are served. Where no client is named there is one, on standard
+    /// input and output.
     Serve {
         config: String,
         at: u64,
+        stop_at_failure: bool,
         journal: Option<String>,
         board: Option<String>,
         pairs: Vec<Pair>,
@@ -188,6 +190,7 @@ fn serve(alloc: Global, matches: &ArgMatches<'_>) -> Result<Job, LineFault>
     Ok(Job::Serve {
         config,
         at: number(alloc, matches, "at", 0, MAX_MOMENT)?,
+        stop_at_failure: is_set(matches, "stop-at-failure"),
         journal: optional(alloc, matches, "journal")?,
         board: optional(alloc, matches, "board")?,
         pairs: clients(alloc, matches)?,

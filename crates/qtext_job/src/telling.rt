@@ -25,7 +25,7 @@ fn is_word_at(matches: &ArgMatches<'_>, id: &str, word: &str) -> bool
 }
 
 /// Whether a flag was given.
-fn is_set(matches: &ArgMatches<'_>, id: &str) -> bool
+pub(crate) fn is_set(matches: &ArgMatches<'_>, id: &str) -> bool
     ensures { result ≡ is_given id.now (rows_of (found_of matches.now)) }
 {
     is_word_at(matches, id, "true")

@@ -1,26 +1,27 @@
--- What is left of the output by words that have come to nothing.
-use Rattle.std.proofs.Common.{arith, ◌≡◌, ◌⊎◌, ℕ, List, Option, Result, Ok, Err, IfErr, inl, inr, sym, ◌∙◌}
+-- What words that were done, or told of, leave.
+use Rattle.std.proofs.Common.{arith, ◌≡◌, ◌⊎◌, ℕ, List, Option, inl, inr, sym, ◌∙◌}
+use Rattle.qtext_job.specs.Jobs.{IsAskedBy, IsRefusalOf}
 use Rattle.qtext_job.specs.declared.job.Job.{Job}
-use Rattle.qtext_job.specs.Jobs.{IsAskedBy}
-use Rattle.qtool.specs.Endings.{IsLate, IsLateStatus, IsLeftBy, IsUntouchedAt, IsUntouchedBy}
-use Rattle.qtool.specs.Jobs.{IsUntouched}
-use Rattle.qtool.specs.declared.ending.Ending.{Ending}
+use Rattle.qtext_job.specs.declared.line_fault.LineFault.{LineFault}
+use Rattle.qtext_job.specs.declared.line_fault.LineFault.TheVariants.{Line, Memory}
+use Rattle.qtool.specs.Endings.{IsFaultStatus, IsUntouchedAt, IsUntouchedBy}
+use Rattle.qtool.specs.Jobs.{IsService}
+use Rattle.qtool.specs.Printed.{AskForHelp, AsksForHelp}
 
 -- what a job leaves is left by the words that ask for it
-pub left_by_words : {A : Type 0} (words : List (List ℕ)) (job : Job) (result : Result A Ending) (old new : Option (List ℕ))
-    → IsAskedBy words job → IfErr result (λ ending. IsLate ending ⊎ IsUntouched job old new)
-    → IfErr result (λ ending. IsLate ending ⊎ IsLeftBy words old new)
-left_by_words words job (Ok done) old new asked left = left
-left_by_words words job (Err ending) old new asked (inl late) = inl late
-left_by_words words job (Err ending) old new asked (inr (inl same)) = inr (inl same)
-left_by_words words job (Err ending) old new asked (inr (inr service)) = inr (inr (job, asked, service))
+pub untouched_by_words : (words : List (List ℕ)) (job : Job) (status : ℕ) (old new : Option (List ℕ)) → IsAskedBy words job
+    → IsUntouchedAt status old new ⊎ IsService job → IsUntouchedBy words status old new
+untouched_by_words words job status old new asked (inl same) = inl same
+untouched_by_words words job status old new asked (inr service) = inr (job, asked, service)
 
--- where the ending is no late one, telling it changes nothing
-pub untouched_by_words : (words : List (List ℕ)) (ending : Ending) (status : ℕ) (old left new : Option (List ℕ))
-    → IsLate ending ⊎ IsLeftBy words old left → (IsLate ending → IsLateStatus status) → IsUntouchedAt status left new
-    → IsUntouchedBy words status old new
-untouched_by_words words ending status old left new (inl late) far same =
-    let is : IsLateStatus status = far late in
-    inl (λ bad. absurd (grind (arith, is, bad)))
-untouched_by_words words ending status old left new (inr (inl kept)) far same = inl (λ bad. same bad ∙ kept)
-untouched_by_words words ending status old left new (inr (inr service)) far same = inr service
+-- where a refusal is that help was asked for, the words ask for it
+pub help_by_words : (words : List (List ℕ)) (fault : LineFault) → IsRefusalOf words fault → AsksForHelp fault → AskForHelp words
+help_by_words words (Line help text) (inl told) asks = (told.0, told.1, sym told.2 ∙ asks)
+help_by_words words (Line help text) (inr wrong) asks = absurd (cc (asks, wrong.1.0))
+help_by_words words Memory refusal asks = absurd asks
+
+-- words that are no job end with 0 or 1 only where they ask for help, and then with 0
+pub printed_help : (words : List (List ℕ)) (fault : LineFault) (status : ℕ) → IsRefusalOf words fault
+    → ((status ≡ 0) × AsksForHelp fault) ⊎ IsFaultStatus status → (status ≡ 0) ⊎ (status ≡ 1) → (status ≡ 0) × AskForHelp words
+printed_help words fault status refusal (inl asks) done = (asks.0, help_by_words words fault refusal asks.1)
+printed_help words fault status refusal (inr bad) done = absurd (grind (arith, bad, done))

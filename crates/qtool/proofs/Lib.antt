@@ -1,3 +1,7 @@
--- What an ending leaves, and clients that have handed out nothing.
+-- What an ending leaves, clients that have handed out nothing, results whose error was turned into another, what was read
+-- under names, and what was printed.
 pub mod Endings
 pub mod Clients
+pub mod Results
+pub mod Under
+pub mod Printing

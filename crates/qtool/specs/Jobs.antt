@@ -1,5 +1,5 @@
 -- What the program owes a job.
-use Rattle.std.specs.Prelude.{◌≡◌, ◌⊎◌, ℕ, ◌<◌, ◌≤◌, List, Option, length}
+use Rattle.std.specs.Prelude.{ℕ, ◌<◌, ◌≤◌}
 use Rattle.qplain.specs.declared.bounds.TheConstants.{MAX_WORKERS}
 use Rattle.qtext_job.specs.declared.job.Job.{Job}
 use Rattle.qtext_job.specs.declared.job.Job.TheVariants.{Run, Replay, Serve, Expand, Check}
@@ -8,7 +8,7 @@ use Rattle.qtext_job.specs.declared.job.Job.TheVariants.{Run, Replay, Serve, Exp
 abbrev pub HasBatch : Job → Type 0
 HasBatch (Run config telling journal boards batch scripts) = (1 ≤ batch) × (batch ≤ 64)
 HasBatch (Replay config telling journal) = Unit {0}
-HasBatch (Serve config at journal board pairs) = Unit {0}
+HasBatch (Serve config at stop_at_failure journal board pairs) = Unit {0}
 HasBatch (Expand config script) = Unit {0}
 HasBatch (Check config scripts) = Unit {0}
 
@@ -20,10 +20,6 @@ HasSeats scripts boards = (scripts ≤ MAX_WORKERS) × (0 < boards → scripts <
 abbrev pub IsService : Job → Type 0
 IsService (Run config telling journal boards batch scripts) = ⊥
 IsService (Replay config telling journal) = ⊥
-IsService (Serve config at journal board pairs) = Unit {0}
+IsService (Serve config at stop_at_failure journal board pairs) = Unit {0}
 IsService (Expand config script) = ⊥
 IsService (Check config scripts) = ⊥
-
--- a job that has come to nothing leaves the output as it was, unless it is a service
-abbrev pub IsUntouched : Job → Option (List ℕ) → Option (List ℕ) → Type 0
-IsUntouched job old new = (new ≡ old) ⊎ IsService job

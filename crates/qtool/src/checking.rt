@@ -1,4 +1,8 @@
 //! All that is wrong in a configuration and in scripts, told at once.
+ghost use Rattle.std.specs.Prelude.{◌≡◌, [], Ok, Some, true, map, All, option_map, string_bytes, IfOk};
+ghost use Rattle.qtext_check.specs.Faults.{faults_of};
+ghost use Rattle.qtool.specs.Printed.{IsAllSound, IsSoundUnder};
+ghost use Rattle.qtool.specs.Under.{IsConfigUnder};
 
 use crate::ending::Ending;
 use crate::reading::{load, text_of};
@@ -11,7 +15,9 @@ use std::alloc::Global;
 use std::io::Write;
 
 /// What was read, or nothing where it is at fault, which is told.
-fn or_told<T: Drop, E: Write>(read: Result<T, Ending>, err: &mut E) -> Result<Option<T>, Ending> {
+fn or_told<T: Drop, E: Write>(read: Result<T, Ending>, err: &mut E) -> Result<Option<T>, Ending>
+    ensures { (value : T) → result ≡ Ok (Some value) → read ≡ Ok value }
+{
     match read {
         Ok(value) => Ok(Some(value)),
         Err(Ending::Memory) => Err(Ending::Memory),
@@ -49,7 +55,10 @@ fn sound_config<F: Files, E: Write>(
     name: &str,
     files: &mut F,
     err: &mut E,
-) -> Result<Config, Ending> {
+) -> Result<Config, Ending>
+    ensures config { IfOk result (λ config. IsConfigUnder (F.held files.old) name.now config.setup) }
+    ensures same { F.held files.new ≡ F.held files.old }
+{
     let bytes = load(alloc, files, name)?;
     match check_config(alloc, text_of(alloc, name, &bytes)?) {
         Ok(Verdict::Sound(config)) => Ok(config),
@@ -70,12 +79,53 @@ fn is_sound<E: Write>(
     name: &str,
     text: &[u8],
     err: &mut E,
-) -> Result<bool, Ending> {
+) -> Result<bool, Ending>
+    ensures { IfOk result
+        (λ sound. sound ≡ true → faults_of (option_map (λ s. s.now) setup.entry) text.now ≡ []) }
+{
     let Ok(findings) = findings_of(alloc, setup, text) else {
         return Err(Ending::Memory);
     };
     tell(alloc, name, &findings, err)?;
     Ok(findings.is_empty())
+}
+
+/// Reads a script, and tells all that is wrong in it, and answers whether nothing is.
+fn is_sound_file<F: Files, E: Write>(
+    alloc: Global,
+    setup: Option<&Setup>,
+    name: &str,
+    files: &mut F,
+    err: &mut E,
+) -> Result<bool, Ending>
+    ensures sound { IfOk result
+        (λ sound. sound ≡ true → IsSoundUnder (F.held files.old) (option_map (λ s. s.now) setup.entry) name.now) }
+    ensures same { F.held files.new ≡ F.held files.old }
+{
+    match or_told(load(alloc, files, name), err)? {
+        Some(text) => is_sound(alloc, setup, name, &text, err),
+        None => Ok(false),
+    }
+}
+
+/// Reads each script, and tells all that is wrong in them, and answers whether nothing is.
+fn are_sound_files<F: Files, E: Write>(
+    alloc: Global,
+    setup: Option<&Setup>,
+    names: &[String],
+    files: &mut F,
+    err: &mut E,
+) -> Result<bool, Ending>
+    ensures { IfOk result (λ sound. sound ≡ true → All
+        (IsSoundUnder (F.held files.old) (option_map (λ s. s.now) setup.entry))
+        (map (λ n. string_bytes n) names.now)) }
+{
+    let mut sound = true;
+    for name in names {
+        let next = is_sound_file(alloc, setup, name.as_str(), files, err)?;
+        sound &= next;
+    }
+    Ok(sound)
 }
 
 /// Reads the configuration and then each script, and tells on the error output all that is wrong in them; it ends well
@@ -86,18 +136,19 @@ pub(crate) fn check_job<F: Files, E: Write>(
     names: &[String],
     files: &mut F,
     err: &mut E,
-) -> Result<(), Ending> {
+) -> Result<(), Ending>
+    ensures { IfOk result
+        (λ _. IsAllSound config.now (map (λ n. string_bytes n) names.now) (F.held files.old)) }
+{
     test_scripts(config, names).map_err(Ending::Clash)?;
     let read = sound_config(alloc, config, files, err);
-    let config = or_told(read, err)?;
-    let setup = config.as_ref().map(|config| &config.setup);
-    let mut sound = setup.is_some();
-    for name in names {
-        let text = or_told(load(alloc, files, name.as_str()), err)?;
-        sound &= match &text {
-            Some(text) => is_sound(alloc, setup, name.as_str(), text, err)?,
-            None => false,
-        };
+    let Some(config) = or_told(read, err)? else {
+        are_sound_files(alloc, None, names, files, err)?;
+        return Err(Ending::Faulty);
+    };
+    if are_sound_files(alloc, Some(&config.setup), names, files, err)? {
+        Ok(())
+    } else {
+        Err(Ending::Faulty)
     }
-    if sound { Ok(()) } else { Err(Ending::Faulty) }
 }

@@ -1,4 +1,5 @@
 //! Names of a service that must not be of one file, or of one stream.
+ghost use Rattle.std.specs.Prelude.{◌≡◌};
 
 use crate::Files;
 use crate::client_names::ClientNames;
@@ -62,7 +63,9 @@ fn are_one_stream(one: &Named<'_>, other: &Named<'_>) -> bool {
 }
 
 /// Whether both are names of one file. The streams of one client may have one name, as those of a terminal.
-fn are_one_file<F: Files>(files: &mut F, one: &Named<'_>, other: &Named<'_>) -> bool {
+fn are_one_file<F: Files>(files: &mut F, one: &Named<'_>, other: &Named<'_>) -> bool
+    ensures { F.held files.new ≡ F.held files.old }
+{
     if one.is_standard() || other.is_standard() {
         return false;
     }
@@ -70,15 +73,23 @@ fn are_one_file<F: Files>(files: &mut F, one: &Named<'_>, other: &Named<'_>) -> 
         (one.role, other.role),
         (Role::Input(_), Role::Output(_)) | (Role::Output(_), Role::Input(_))
     );
-    (one.name == other.name && !are_streams) || files.is_same(one.name, other.name)
+    if one.name == other.name && !are_streams {
+        return true;
+    }
+    files.is_same(one.name, other.name)
 }
 
 /// Why these two must not stand beside each other, where they must not.
-fn clash_of<F: Files>(files: &mut F, one: &Named<'_>, other: &Named<'_>) -> Option<Clash> {
+fn clash_of<F: Files>(files: &mut F, one: &Named<'_>, other: &Named<'_>) -> Option<Clash>
+    ensures { F.held files.new ≡ F.held files.old }
+{
     if are_one_stream(one, other) {
         return Some(Clash::Stream(one.role, other.role));
     }
-    if !(one.is_written() || other.is_written()) || !are_one_file(files, one, other) {
+    if !one.is_written() && !other.is_written() {
+        return None;
+    }
+    if !are_one_file(files, one, other) {
         return None;
     }
     if other.is_written() {
@@ -89,13 +100,18 @@ fn clash_of<F: Files>(files: &mut F, one: &Named<'_>, other: &Named<'_>) -> Opti
 }
 
 /// The first clash of a name with one before it, or with standard output.
-fn clash_with<F: Files>(files: &mut F, before: &[Named<'_>], named: &Named<'_>) -> Option<Clash> {
+fn clash_with<F: Files>(files: &mut F, before: &[Named<'_>], named: &Named<'_>) -> Option<Clash>
+    ensures { F.held files.new ≡ F.held files.old }
+{
     for other in before {
         if let Some(clash) = clash_of(files, other, named) {
             return Some(clash);
         }
     }
-    if named.is_written() && !named.is_standard() && files.is_output(named.name) {
+    if !named.is_written() || named.is_standard() {
+        return None;
+    }
+    if files.is_output(named.name) {
         return Some(Clash::Over(named.role, Role::Standard));
     }
     None
@@ -142,7 +158,9 @@ pub(crate) fn find_clash<F: Files>(
     alloc: Global,
     files: &mut F,
     names: ServiceNames<'_>,
-) -> Result<Option<Clash>, NoMemory> {
+) -> Result<Option<Clash>, NoMemory>
+    ensures { F.held files.new ≡ F.held files.old }
+{
     let all = all_named(alloc, names)?;
     for count in 0..all.len() {
         let clash = clash_with(files, &all[..count], &all[count]);

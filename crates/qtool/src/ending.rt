@@ -1,6 +1,7 @@
 //! How the program ends early, in one line.
-ghost use Rattle.std.specs.Prelude.{◌≡◌, ◌⊎◌, true};
-ghost use Rattle.qtool.specs.Endings.{IsLate, IsLateStatus, IsStatus, IsUntouchedAt};
+ghost use Rattle.std.specs.Prelude.{◌≡◌};
+ghost use Rattle.qtool.specs.Endings.{IsFaultStatus};
+ghost use Rattle.qtool.specs.declared.ending.Ending.TheVariants.{Output};
 
 use crate::clashes::Clash;
 use crate::fault_text::{
@@ -10,18 +11,13 @@ use crate::fault_text::{
 use crate::{ConfigFault, FileFault, TextFault};
 use qplain::NoMemory;
 use qrun_client::ClientEnd;
-use qtext::{RefusedWrite, put};
+use qtext::RefusedWrite;
 use qtool_files::Overwritten;
 use std::io::Write;
 
 /// Why the program ends before its work is done.
 #[derive(Debug, Drop)]
 pub(crate) enum Ending {
-    /// What `clap` says of the command line; help, or the version, is for the output.
-    Line {
-        help: bool,
-        text: String,
-    },
     /// The journal would be written over what the run reads, or over its output.
     Overwrites(Overwritten),
     /// No file of that name can be read, and why, where that is to be told.
@@ -61,8 +57,6 @@ pub(crate) enum Ending {
     Memory,
     /// The output refused, or the file for the journal.
     Output,
-    /// Lines were refused or failed where none may be, as was told.
-    Denied,
     /// What was looked at has faults, as was told.
     Faulty,
 }
@@ -76,15 +70,13 @@ impl Ending {
         }
     }
 
-    /// The exit status: 0 for help and the version, 1 for lines that were refused or failed, 2 for what was asked, 3
-    /// for the machine, 4 for the output.
+    /// The exit status: 2 for what was asked, 3 for the machine, 4 for the output, 5 for a service that stopped at a
+    /// failed line.
     pub(crate) fn status(&self) -> u8
-        ensures status { IsStatus result }
-        ensures late { IsLate self.now → IsLateStatus result }
+        ensures status { IsFaultStatus result }
+        ensures output { self.now ≡ Output → result ≡ 4 }
     {
         match self {
-            Ending::Line { help: true, .. } => 0,
-            Ending::Denied => 1,
             Ending::Config(ConfigFault::Memory)
             | Ending::Mismatch(_)
             | Ending::NotStarted(_)
@@ -92,29 +84,15 @@ impl Ending {
             | Ending::NotServed(ClientEnd::Memory)
             | Ending::Memory => 3,
             Ending::Output | Ending::Board | Ending::NotServed(ClientEnd::Output) => 4,
+            Ending::NotServed(ClientEnd::Failed | ClientEnd::Stopped) => 5,
             _ => 2,
         }
     }
 
-    /// Writes the line to the error output, or help to the output. A help that cannot be written is a refused output.
-    pub(crate) fn tell<O: Write, E: Write>(&self, out: &mut O, err: &mut E) -> u8
-        ensures status { IsStatus result }
-        ensures untouched { IsUntouchedAt result (O.contents out.old) (O.contents out.new) }
-        ensures late { IsLate self.now → IsLateStatus result }
-    {
-        if let Ending::Line { help: true, text } = self {
-            if put(out, text.as_bytes()).is_ok() && out.flush().is_ok() {
-                return 0;
-            }
-            return Ending::Output.tell_line(err);
-        }
-        self.tell_line(err)
-    }
-
     /// Writes and flushes the line, whatever becomes of it, and answers the status.
-    fn tell_line<E: Write>(&self, err: &mut E) -> u8
-        ensures status { IsStatus result }
-        ensures late { IsLate self.now → IsLateStatus result }
+    pub(crate) fn tell<E: Write>(&self, err: &mut E) -> u8
+        ensures status { IsFaultStatus result }
+        ensures output { self.now ≡ Output → result ≡ 4 }
     {
         let _ = self.put_line(err);
         let _ = err.flush();
@@ -123,7 +101,6 @@ impl Ending {
 
     pub(crate) fn put_line<E: Write>(&self, err: &mut E) -> Result<(), RefusedWrite> {
         match self {
-            Ending::Line { text, .. } => put(err, text.as_bytes()),
             Ending::Overwrites(what) => put_overwritten(err, *what),
             Ending::File { name, why } => put_file(err, name.as_bytes(), *why),
             Ending::Config(fault) => put_config(err, fault),
@@ -132,7 +109,7 @@ impl Ending {
             Ending::Clash(clash) => put_clash(err, *clash),
             Ending::TooManyClients => put_fault(err, b"at most 16 clients"),
             Ending::TooManyWithBoard => put_fault(err, b"at most 15 clients with a board"),
-            Ending::NotServed(_) | Ending::Denied | Ending::Faulty => Ok(()),
+            Ending::NotServed(_) | Ending::Faulty => Ok(()),
             Ending::Board => put_fault(err, b"board: output"),
             Ending::Script(number, fault) => put_script(err, *number, fault),
             Ending::Friendly(name, fault) => put_friendly(err, name.as_bytes(), fault),

@@ -1,7 +1,8 @@
 //! Friendly scripts, from their file to the output.
-ghost use Rattle.std.specs.Prelude.{◌≡◌, ◌⊎◌, IfErr};
+ghost use Rattle.std.specs.Prelude.{◌≡◌, codes, option_map, unwrap_or, IfErr, IfOk};
 ghost use Rattle.qtext.specs.Written.{Writes};
-ghost use Rattle.qtool.specs.declared.ending.Ending.TheVariants.{Output};
+ghost use Rattle.qtool.specs.Endings.{IsLeftUnlessRefused};
+ghost use Rattle.qtool.specs.Printed.{PrintsExpansion, friendly_file};
 
 use crate::ending::Ending;
 use crate::reading::{configuration, load};
@@ -15,7 +16,9 @@ use std::io::Write;
 const STANDARD: &str = "-";
 
 /// The file that is read for a name.
-fn file_of(name: &str) -> &str {
+fn file_of(name: &str) -> &str
+    ensures { result.now ≡ friendly_file name.now }
+{
     if name == STANDARD { "/dev/stdin" } else { name }
 }
 
@@ -50,7 +53,10 @@ pub(crate) fn expand_job<F: Files, O: Write>(
     files: &mut F,
     out: &mut O,
 ) -> Result<(), Ending>
-    ensures { IfErr result (λ ending. (ending ≡ Output) ⊎ (O.contents out.new ≡ O.contents out.old)) }
+    ensures printed { IfOk result (λ _. PrintsExpansion config.now
+        (unwrap_or (option_map (λ n. n.now) script.entry) (codes "-")) (F.held files.old) (O.contents out.old)
+        (O.contents out.new)) }
+    ensures left { IfErr result (IsLeftUnlessRefused (O.contents out.old) (O.contents out.new)) }
 {
     let config = configuration(alloc, files, config).map_err(|ending| ending.explained(false))?;
     let name = script.unwrap_or(STANDARD);

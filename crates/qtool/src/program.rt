@@ -1,18 +1,20 @@
 //! The whole program over files, output and fault lines.
-ghost use Rattle.std.specs.Prelude.{◌≡◌, ◌⊎◌, map, string_bytes, IfErr};
-ghost use Rattle.qtool.specs.Endings.{IsLate, IsLeftBy, IsStatus, IsUntouchedBy};
+ghost use Rattle.std.specs.Prelude.{◌≡◌, ◌⊎◌, map, string_bytes, option_map, IfErr, IfOk};
 ghost use Rattle.qtext_job.specs.Jobs.{HasScript};
-ghost use Rattle.qtool.specs.Jobs.{HasBatch, IsUntouched};
+ghost use Rattle.qtool.specs.Endings.{IsFaultStatus, IsLeftUnlessRefused, IsStatus, IsUntouchedAt, IsUntouchedBy};
+ghost use Rattle.qtool.specs.Jobs.{HasBatch, IsService};
+ghost use Rattle.qtool.specs.Printed.{AsksForHelp, IsPrinted, IsPrintedBy, seen};
 
 use crate::checking::check_job;
 use crate::clashes::ServiceNames;
-use crate::client_names::names_of;
+use crate::client_names::{is_output_taken, names_of};
 use crate::ending::Ending;
 use crate::expanding::expand_job;
 use crate::replaying::{AskedReplay, replay_job};
 use crate::running::{AskedRun, run_job};
 use crate::serving::{Asked, serve_job};
 use crate::{Files, Job, LineFault, NamedStreams, Options};
+use qtext::put;
 use std::alloc::Global;
 use std::io::Write;
 use std::sync::Wait;
@@ -20,11 +22,13 @@ use std::thread::Threads;
 use std::time::Clock;
 
 /// A name that may be left out.
-fn optional(name: &Option<String>) -> Option<&str> {
+fn optional(name: &Option<String>) -> Option<&str>
+    ensures { option_map (λ n. n.now) result ≡ option_map (λ s. string_bytes s) name.now }
+{
     name.as_ref().map(String::as_str)
 }
 
-/// Does what the job asks for: comes to an outcome, and only then writes.
+/// Does what the job asks for: comes to an outcome, and only then writes. Ok is the status.
 fn do_job<F, O, E, R>(
     rt: &R,
     alloc: Global,
@@ -33,7 +37,7 @@ fn do_job<F, O, E, R>(
     files: &mut F,
     out: &mut O,
     err: &mut E,
-) -> Result<(), Ending>
+) -> Result<u8, Ending>
 where
     F: Files + NamedStreams + Send,
     O: Write,
@@ -41,8 +45,11 @@ where
     R: Threads + Wait + Clock + Sync,
     requires some { HasScript job.now }
     requires batch { HasBatch job.now }
-    ensures { IfErr result (λ ending. IsLate ending ⊎ IsUntouched job.now (O.contents out.old)
-        (O.contents out.new)) }
+    ensures printed { IfOk result (λ status. IsPrinted job.now status
+        (seen (F.held files.old) (O.contents out.old) (E.contents err.old))
+        (seen (F.held files.new) (O.contents out.new) (E.contents err.new))) }
+    ensures left { IfErr result (λ ending.
+        IsLeftUnlessRefused (O.contents out.old) (O.contents out.new) ending ⊎ IsService job.now) }
 {
     match job {
         Job::Run {
@@ -79,14 +86,17 @@ where
             replay_job(alloc, seed, asked, files, out, err)
         }
         Job::Expand { config, script } => {
-            expand_job(alloc, config.as_str(), optional(script), files, out)
+            expand_job(alloc, config.as_str(), optional(script), files, out)?;
+            Ok(0)
         }
         Job::Check { config, scripts } => {
-            check_job(alloc, config.as_str(), scripts.as_slice(), files, err)
+            check_job(alloc, config.as_str(), scripts.as_slice(), files, err)?;
+            Ok(0)
         }
         Job::Serve {
             config,
             at,
+            stop_at_failure,
             journal,
             board,
             pairs,
@@ -98,34 +108,70 @@ where
                 journal: optional(journal),
                 board: optional(board),
             };
-            let asked = Asked { names, at: *at };
-            serve_job(rt, alloc, seed, asked, files, out, err)
+            let asked = Asked {
+                names,
+                at: *at,
+                stop_at_failure: *stop_at_failure,
+                is_taken: is_output_taken(pairs.as_slice()),
+            };
+            serve_job(rt, alloc, seed, asked, files, out, err)?;
+            Ok(0)
         }
     }
 }
 
-/// Reads the words, and does what they ask for.
-fn do_words<F, O, E, R>(
+/// Does what the job asks for, and tells what it ends for early. The answer is the status.
+fn end_job<F, O, E, R>(
     rt: &R,
     alloc: Global,
     seed: u64,
-    words: &[String],
+    job: &Job,
     files: &mut F,
     out: &mut O,
     err: &mut E,
-) -> Result<(), Ending>
+) -> u8
 where
     F: Files + NamedStreams + Send,
     O: Write,
     E: Write,
     R: Threads + Wait + Clock + Sync,
-    ensures { IfErr result (λ ending. IsLate ending
-        ⊎ IsLeftBy (map (λ w. string_bytes w) words.now) (O.contents out.old) (O.contents out.new)) }
+    requires some { HasScript job.now }
+    requires batch { HasBatch job.now }
+    ensures status { IsStatus result }
+    ensures untouched { IsUntouchedAt result (O.contents out.old) (O.contents out.new) ⊎ IsService job.now }
+    ensures printed { (result ≡ 0) ⊎ (result ≡ 1) → IsPrinted job.now result
+        (seen (F.held files.old) (O.contents out.old) (E.contents err.old))
+        (seen (F.held files.new) (O.contents out.new) (E.contents err.new)) }
 {
-    match Job::read(alloc, words) {
-        Ok(job) => do_job(rt, alloc, seed, &job, files, out, err),
-        Err(LineFault::Line { help, text }) => Err(Ending::Line { help, text }),
-        Err(LineFault::Memory) => Err(Ending::Memory),
+    match do_job(rt, alloc, seed, job, files, out, err) {
+        Ok(status) => status,
+        Err(ending) => ending.tell(err),
+    }
+}
+
+/// Writes and flushes help, or the version. An output that refuses it is told as that.
+fn tell_help<O: Write, E: Write>(text: &str, out: &mut O, err: &mut E) -> u8
+    ensures { (result ≡ 0) ⊎ (result ≡ 4) }
+{
+    if put(out, text.as_bytes()).is_ok() && out.flush().is_ok() {
+        return 0;
+    }
+    Ending::Output.tell(err)
+}
+
+/// Tells why the words are no job: help and the version on the output, with 0, and all else on the error output.
+fn tell_words<O: Write, E: Write>(fault: &LineFault, out: &mut O, err: &mut E) -> u8
+    ensures status { ((result ≡ 0) × AsksForHelp fault.now) ⊎ IsFaultStatus result }
+    ensures untouched { IsUntouchedAt result (O.contents out.old) (O.contents out.new) }
+{
+    match fault {
+        LineFault::Line { help: true, text } => tell_help(text.as_str(), out, err),
+        LineFault::Line { help: false, text } => {
+            let _ = put(err, text.as_bytes());
+            let _ = err.flush();
+            2
+        }
+        LineFault::Memory => Ending::Memory.tell(err),
     }
 }
 
@@ -136,8 +182,9 @@ where
 /// for each kind, and it ends with 1. The first fault ends it with one line on the error output: 2 for the command
 /// line, also where the journal would be written over the configuration, a script or the output, for the configuration,
 /// a script or a journal, 3 out of memory and for a journal that does not fit, 4 for an output or a file for the
-/// journal that refuses, also when it is flushed. Help and the version go to the output, with 0. The line is flushed,
-/// so that a buffered error output gets it by one write.
+/// journal that refuses, also when it is flushed, 5 for a service that was to stop at a line that fails, and did. Help
+/// and the version go to the output, with 0. The line is flushed, so that a buffered error output gets it by one write.
+///
 /// The memory of a run is not given back. `seed` is any number, best one that nobody knows beforehand: where it is
 /// known, names can be searched that collide, and then calls take long. Neither the output nor the status depends on
 /// it.
@@ -158,9 +205,14 @@ where
     ensures status { IsStatus result }
     ensures untouched { IsUntouchedBy (map (λ w. string_bytes w) words.now) result (O.contents out.old)
         (O.contents out.new) }
+
+    // Of files that tell what they hold, and of an output that tells its bytes, which the machine's do not.
+    ensures printed { (result ≡ 0) ⊎ (result ≡ 1) → IsPrintedBy (map (λ w. string_bytes w) words.now) result
+        (seen (F.held files.old) (O.contents out.old) (E.contents err.old))
+        (seen (F.held files.new) (O.contents out.new) (E.contents err.new)) }
 {
-    match do_words(rt, alloc, seed, words, files, out, err) {
-        Ok(()) => 0,
-        Err(ending) => ending.tell(out, err),
+    match Job::read(alloc, words) {
+        Ok(job) => end_job(rt, alloc, seed, &job, files, out, err),
+        Err(fault) => tell_words(&fault, out, err),
     }
 }

@@ -1,5 +1,7 @@
 //! What the program reads: files, the configuration and scripts.
-ghost use Rattle.std.specs.Prelude.{◌≡◌, length, IfOk};
+ghost use Rattle.std.specs.Prelude.{◌≡◌, map, string_bytes, length, IfOk};
+ghost use Rattle.qtool_files.specs.Held.{IsUnder};
+ghost use Rattle.qtool.specs.Under.{AreScriptsUnder, IsConfigUnder};
 
 use crate::ending::Ending;
 use crate::{Config, ConfigFault, FileFault, Files, Script, TextKind};
@@ -19,7 +21,10 @@ fn unreadable(alloc: Global, name: &str, fault: FileFault) -> Ending {
 }
 
 /// Reads a file.
-pub(crate) fn load<F: Files>(alloc: Global, files: &mut F, name: &str) -> Result<Vec<u8>, Ending> {
+pub(crate) fn load<F: Files>(alloc: Global, files: &mut F, name: &str) -> Result<Vec<u8>, Ending>
+    ensures under { IfOk result (λ bytes. IsUnder (F.held files.old) name.now bytes.items) }
+    ensures same { F.held files.new ≡ F.held files.old }
+{
     match files.read(name) {
         Ok(bytes) => Ok(bytes),
         Err(FileFault::Memory) => Err(Ending::Memory),
@@ -28,7 +33,9 @@ pub(crate) fn load<F: Files>(alloc: Global, files: &mut F, name: &str) -> Result
 }
 
 /// The text of a configuration. One that is not UTF-8 cannot be read.
-pub(crate) fn text_of<'a>(alloc: Global, name: &str, bytes: &'a [u8]) -> Result<&'a str, Ending> {
+pub(crate) fn text_of<'a>(alloc: Global, name: &str, bytes: &'a [u8]) -> Result<&'a str, Ending>
+    ensures { IfOk result (λ text. text.now ≡ bytes.now) }
+{
     match std::str::from_utf8(bytes) {
         Ok(text) => Ok(text),
         Err(_) => Err(unreadable(alloc, name, FileFault::NotText)),
@@ -40,7 +47,10 @@ pub(crate) fn configuration<F: Files>(
     alloc: Global,
     files: &mut F,
     name: &str,
-) -> Result<Config, Ending> {
+) -> Result<Config, Ending>
+    ensures config { IfOk result (λ config. IsConfigUnder (F.held files.old) name.now config.setup) }
+    ensures same { F.held files.new ≡ F.held files.old }
+{
     let bytes = load(alloc, files, name)?;
     match Config::read(alloc, text_of(alloc, name, &bytes)?) {
         Ok(config) => Ok(config),
@@ -66,6 +76,9 @@ pub(crate) fn read_scripts<F: Files, R: Threads>(
     names: &[String],
 ) -> Result<Vec<Script>, Ending>
     ensures each { IfOk result (λ scripts. length scripts.items ≡ length names.now) }
+    ensures scripts { IfOk result
+        (λ scripts. AreScriptsUnder (F.held files.old) (map (λ n. string_bytes n) names.now) scripts.items) }
+    ensures same { F.held files.new ≡ F.held files.old }
 {
     let mut readers = Vec::new(alloc);
     for name in names {
@@ -81,7 +94,9 @@ pub(crate) fn read_scripts<F: Files, R: Threads>(
         } else {
             ScriptReader::here(alloc, text)
         };
-        readers.push(reader).map_err(|_| Ending::Memory)?;
+        let Ok(()) = readers.push(reader) else {
+            return Err(Ending::Memory);
+        };
     }
     finish_all(rt, alloc, readers).map_err(misread)
 }

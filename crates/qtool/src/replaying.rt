@@ -1,6 +1,8 @@
 //! Replays, from the name of a journal to what is told of it.
-ghost use Rattle.std.specs.Prelude.{IfErr};
-ghost use Rattle.qtool.specs.Endings.{IsLeftUnlessLate};
+ghost use Rattle.std.specs.Prelude.{◌≡◌, IfErr, IfOk};
+ghost use Rattle.qtool.specs.Endings.{IsLeftUnlessRefused};
+ghost use Rattle.qtool.specs.Printed.{PrintsReplay};
+ghost use Rattle.qtool.specs.Under.{IsReplayUnder};
 
 use crate::ending::Ending;
 use crate::reading::{configuration, load};
@@ -26,7 +28,10 @@ fn replay_of<F: Files>(
     config: &str,
     journal: &str,
     files: &mut F,
-) -> Result<Outcome, Ending> {
+) -> Result<Outcome, Ending>
+    ensures played { IfOk result (IsReplayUnder (F.held files.old) config.now journal.now) }
+    ensures same { F.held files.new ≡ F.held files.old }
+{
     let config = configuration(alloc, files, config)?;
     let text = load(alloc, files, journal)?;
     replay_text(alloc, config, text, seed).map_err(ending_of_replay)
@@ -40,7 +45,7 @@ pub(crate) struct AskedReplay<'a> {
     pub(crate) telling: Telling,
 }
 
-/// Plays the journal, and only then writes what came of it.
+/// Plays the journal, and only then writes what came of it. Ok is the status.
 pub(crate) fn replay_job<F: Files, O: Write, E: Write>(
     alloc: Global,
     seed: u64,
@@ -48,8 +53,10 @@ pub(crate) fn replay_job<F: Files, O: Write, E: Write>(
     files: &mut F,
     out: &mut O,
     err: &mut E,
-) -> Result<(), Ending>
-    ensures { IfErr result (IsLeftUnlessLate (O.contents out.old) (O.contents out.new)) }
+) -> Result<u8, Ending>
+    ensures printed { IfOk result (λ status. PrintsReplay asked.entry.config.now asked.entry.journal.now
+        asked.entry.telling status (F.held files.old) (O.contents out.old) (O.contents out.new)) }
+    ensures left { IfErr result (IsLeftUnlessRefused (O.contents out.old) (O.contents out.new)) }
 {
     let (config, journal) = (asked.config, asked.journal);
     test_played(config, journal).map_err(Ending::Clash)?;

@@ -1,8 +1,10 @@
 //! Runs, from the names of their scripts to what is told of them.
-ghost use Rattle.std.specs.Prelude.{◌≡◌, ◌<◌, ◌≤◌, ◌↔◌, length, Err, IfErr, OnOk};
+ghost use Rattle.std.specs.Prelude.{◌≡◌, ◌<◌, ◌≤◌, ◌↔◌, map, string_bytes, option_map, length, Err, IfErr, IfOk, OnOk};
 ghost use Rattle.qplain.specs.declared.bounds.TheConstants.{MAX_WORKERS};
-ghost use Rattle.qtool.specs.Endings.{IsLeftUnlessLate};
+ghost use Rattle.qtool.specs.Endings.{IsLeftUnlessRefused};
 ghost use Rattle.qtool.specs.Jobs.{HasSeats};
+ghost use Rattle.qtool.specs.Printed.{PrintsRun};
+ghost use Rattle.qtool.specs.Under.{IsRunUnder};
 ghost use Rattle.qtool.specs.declared.ending.Ending.TheVariants.{TooManyScripts, TooManyWithBoards};
 
 use crate::ending::Ending;
@@ -54,6 +56,9 @@ fn run_of<F: Files, R: Threads + Wait + Sync>(
 ) -> Result<Outcome, Ending>
     requires some { 1 ≤ length names.now }
     requires batch { (1 ≤ options.batch) × (options.batch ≤ 64) }
+    ensures ran { IfOk result (IsRunUnder (F.held files.old) config.now (map (λ n. string_bytes n) names.now)
+        options.boards) }
+    ensures same { F.held files.new ≡ F.held files.old }
 {
     let config = configuration(alloc, files, config)?;
     test_seats(names.len() as u64, options.boards)?;
@@ -76,7 +81,7 @@ pub(crate) struct AskedRun<'a> {
     pub(crate) journal: Option<&'a str>,
 }
 
-/// Runs the scripts, and only then writes what came of it.
+/// Runs the scripts, and only then writes what came of it. Ok is the status.
 pub(crate) fn run_job<F: Files, O: Write, E: Write, R: Threads + Wait + Sync>(
     rt: &R,
     alloc: Global,
@@ -85,10 +90,14 @@ pub(crate) fn run_job<F: Files, O: Write, E: Write, R: Threads + Wait + Sync>(
     files: &mut F,
     out: &mut O,
     err: &mut E,
-) -> Result<(), Ending>
+) -> Result<u8, Ending>
     requires some { 1 ≤ length asked.scripts.now }
     requires batch { (1 ≤ asked.options.batch) × (asked.options.batch ≤ 64) }
-    ensures { IfErr result (IsLeftUnlessLate (O.contents out.old) (O.contents out.new)) }
+    ensures printed { IfOk result (λ status.
+        PrintsRun asked.entry.config.now (map (λ n. string_bytes n) asked.entry.scripts.now)
+        asked.entry.options.boards asked.entry.telling (option_map (λ n. n.now) asked.entry.journal) status
+        (F.held files.old) (F.held files.new) (O.contents out.old) (O.contents out.new)) }
+    ensures left { IfErr result (IsLeftUnlessRefused (O.contents out.old) (O.contents out.new)) }
 {
     let (config, scripts) = (asked.config, asked.scripts);
     test_scripts(config, scripts).map_err(Ending::Clash)?;

@@ -1,26 +1,30 @@
 //! Services: clients by the names of their streams, from the command line to what is left of them.
-ghost use Rattle.std.specs.Prelude.{◌≡◌, ◌<◌, ◌≤◌, [], All, IfOk, OnOk, length};
+ghost use Rattle.std.specs.Prelude.{◌≡◌, ◌⊎◌, ◌<◌, ◌≤◌, [], All, IfOk, OnOk, length};
+ghost use Rattle.std.specs.Io.KnownBytes.{Appends};
+ghost use Rattle.qtext_outcome.specs.Outcomes.{left_text};
 ghost use Rattle.qshare.specs.declared.opening.TheConstants.{MAX_SEATS};
 ghost use Rattle.qrun.specs.Serving.{monitors_in};
 ghost use Rattle.qrun.specs.Watching.{seats_for};
+ghost use Rattle.qtool.specs.Printed.{PrintsService, seen, told_at};
+ghost use Rattle.qtool.specs.Under.{IsServiceUnder};
 
 use crate::clashes::{ServiceNames, find_clash};
 use crate::client_names::ClientNames;
 use crate::ending::Ending;
 use crate::reading::configuration;
 use crate::running::ending_of_run;
-use crate::standard::STANDARD;
 use crate::told_streams::ToldStreams;
 use crate::{Files, NamedStreams, Outcome, Setup, serve, write_service};
 use qplain::{MAX_WORKERS, NoMemory};
 use qrun::Service;
 use qrun_client::ClientEnd;
 use qtext_client::{EndedClient, StreamClient};
-use qtool_files::BoardFile;
+use qtool_files::{BoardFile, ShownBoards};
 use std::alloc::Global;
 use std::io::Write;
 use std::mem;
 use std::sync::Wait;
+use std::sync::atomic::AtomicBool;
 use std::thread::Threads;
 use std::time::Clock;
 
@@ -41,18 +45,24 @@ fn test_seats(clients: u64, board: Option<&str>) -> Result<(), Ending>
 type ToldBy<F> = ToldStreams<<F as NamedStreams>::Streams, <F as NamedStreams>::Faults>;
 
 /// A client over such streams.
-type NamedClient<F> = StreamClient<ToldBy<F>>;
+type NamedClient<'a, F> = StreamClient<'a, ToldBy<F>>;
 
-/// What is left of a service over such streams.
-type NamedService<F> = Service<EndedClient<ToldBy<F>>>;
+/// What is left of a service over such streams: its outcome, its clients, and whether the file for boards has refused.
+struct Left<F: NamedStreams> {
+    outcome: Outcome,
+    clients: Vec<EndedClient<ToldBy<F>>>,
+    refused: bool,
+}
 
-/// The client of this number, none of whose streams is opened yet.
-fn client_of<F: NamedStreams>(
+/// The client of this number, none of whose streams is opened yet, and which stops at a failed line where it has a
+/// flag.
+fn client_of<'a, F: NamedStreams>(
     alloc: Global,
     files: &F,
     client: u64,
     names: &ClientNames<'_>,
-) -> Result<NamedClient<F>, NoMemory>
+    stop: Option<&'a AtomicBool>,
+) -> Result<NamedClient<'a, F>, NoMemory>
     ensures { IfOk result (λ c. (c.given ≡ []) × (c.told ≡ [])) }
 {
     let streams = ToldStreams {
@@ -62,21 +72,22 @@ fn client_of<F: NamedStreams>(
         input: String::from_str(alloc, names.input)?,
         output: String::from_str(alloc, names.output)?,
     };
-    Ok(StreamClient::new(alloc, streams))
+    Ok(StreamClient::new(alloc, streams, stop))
 }
 
 /// A client for each pair of names.
-fn clients_of<F: NamedStreams>(
+fn clients_of<'a, F: NamedStreams>(
     alloc: Global,
     files: &F,
     names: &[ClientNames<'_>],
-) -> Result<Vec<NamedClient<F>>, NoMemory>
+    stop: Option<&'a AtomicBool>,
+) -> Result<Vec<NamedClient<'a, F>>, NoMemory>
     ensures many { IfOk result (λ clients. length clients.items ≡ length names.now) }
     ensures new { IfOk result (λ clients. All (λ c. (c.given ≡ []) × (c.told ≡ [])) clients.items) }
 {
     let mut clients = Vec::new(alloc);
     for names in names {
-        let client = client_of(alloc, files, clients.len() as u64 + 1, names)?;
+        let client = client_of(alloc, files, clients.len() as u64 + 1, names, stop)?;
         clients.push(client)?;
     }
     Ok(clients)
@@ -89,7 +100,6 @@ fn monitor_of<'a, F: Files, R: Clock>(
     files: &'a mut F,
     board: Option<&'a str>,
     setup: &Setup,
-    refused: &'a mut bool,
 ) -> Result<Option<BoardFile<'a, F, R>>, NoMemory>
     ensures { IfOk result (λ monitor. monitors_in monitor ≡ monitors_in board.entry) }
 {
@@ -97,19 +107,14 @@ fn monitor_of<'a, F: Files, R: Clock>(
         return Ok(None);
     };
     let setup = setup.copy(alloc)?;
-    Ok(Some(BoardFile {
-        clock: rt,
-        files,
-        name,
-        setup,
-        refused,
-    }))
+    Ok(Some(BoardFile::new(rt, files, name, setup)))
 }
 
 /// What is wrong with the names of a service, or with how many clients there are, where anything is.
 fn test_names<F: Files>(alloc: Global, files: &mut F, names: ServiceNames<'_>) -> Result<(), Ending>
-    ensures { OnOk result
+    ensures seats { OnOk result
         (seats_for (length names.entry.clients.now) (monitors_in names.entry.board) ≤ MAX_SEATS) }
+    ensures same { F.held files.new ≡ F.held files.old }
 {
     test_seats(names.clients.len() as u64, names.board)?;
     match find_clash(alloc, files, names)? {
@@ -118,32 +123,66 @@ fn test_names<F: Files>(alloc: Global, files: &mut F, names: ServiceNames<'_>) -
     }
 }
 
-/// Serves the clients of these names until all have ended, and tells besides whether the file for boards has refused.
-/// Too many clients are reported first, before any file is touched, then names that clash, then the configuration.
-pub(crate) fn serve_of<F: Files + NamedStreams + Send, R: Threads + Wait + Clock + Sync>(
+/// Whether a file for boards has refused.
+fn has_refused<F: Files>(boards: &Option<ShownBoards<'_, F>>) -> bool {
+    match boards {
+        Some(boards) => boards.refused,
+        None => false,
+    }
+}
+
+/// Serves the clients of these names until all have ended. Too many clients are reported first, before any file is
+/// touched, then names that clash, then the configuration.
+fn serve_of<F: Files + NamedStreams + Send, R: Threads + Wait + Clock + Sync>(
     rt: &R,
     alloc: Global,
     seed: u64,
-    names: ServiceNames<'_>,
+    asked: Asked<'_>,
     files: &mut F,
-) -> Result<(NamedService<F>, bool), Ending>
-    requires { 0 < length names.clients.now }
+) -> Result<Left<F>, Ending>
+    requires { 0 < length asked.names.clients.now }
+    ensures { IfOk result (λ left. IsServiceUnder (F.held files.old) asked.entry.names.config.now left.outcome) }
 {
+    let names = asked.names;
     test_names(alloc, files, names)?;
     let config = configuration(alloc, files, names.config).map_err(|ending| ending.explained(
         false,
     ))?;
-    let clients = clients_of(alloc, files, names.clients)?;
-    let mut refused = false;
-    let monitor = monitor_of(rt, alloc, files, names.board, &config.setup, &mut refused)?;
+    let failed = AtomicBool::new(false);
+    let stop = if asked.stop_at_failure {
+        Some(&failed)
+    } else {
+        None
+    };
+    let clients = clients_of(alloc, files, names.clients, stop)?;
+    let monitor = monitor_of(rt, alloc, files, names.board, &config.setup)?;
     match serve(rt, alloc, config, clients, monitor, seed) {
-        Ok(service) => Ok((service, refused)),
+        Ok(
+            Service {
+                outcome,
+                left,
+                monitor,
+            },
+        ) => Ok(Left {
+            outcome,
+            clients: left,
+            refused: has_refused(&monitor),
+        }),
         Err(fault) => Err(ending_of_run(fault)),
     }
 }
 
-/// The ending of a service of which some client was not served to its end: the first such one decides.
+/// Whether a client has ended since a line failed, its own or another's.
+fn is_stopped<S: Drop>(client: &EndedClient<S>) -> bool {
+    matches!(client.end, ClientEnd::Failed | ClientEnd::Stopped)
+}
+
+/// The ending of a service of which some client was not served to its end: that a line failed decides, where it was to
+/// stop at that, and else the first such client.
 fn test_ends<S: Drop>(clients: &[EndedClient<S>]) -> Result<(), Ending> {
+    if clients.iter().any(is_stopped) {
+        return Err(Ending::NotServed(ClientEnd::Failed));
+    }
     for client in clients {
         match client.end {
             ClientEnd::Served => {}
@@ -158,11 +197,9 @@ fn test_ends<S: Drop>(clients: &[EndedClient<S>]) -> Result<(), Ending> {
 pub(crate) struct Asked<'a> {
     pub(crate) names: ServiceNames<'a>,
     pub(crate) at: u64,
-}
-
-/// Whether standard output is some client's.
-fn is_output_taken(clients: &[ClientNames<'_>]) -> bool {
-    clients.iter().any(|names| names.output == STANDARD)
+    pub(crate) stop_at_failure: bool,
+    /// Whether standard output is some client's.
+    pub(crate) is_taken: bool,
 }
 
 /// Writes what a service has left. Its memory is left to the system, as that of a run.
@@ -171,10 +208,21 @@ fn finish_service<F: Files, O: Write>(
     asked: Asked<'_>,
     files: &mut F,
     out: &mut O,
-) -> Result<(), Ending> {
+) -> Result<(), Ending>
+    ensures { OnOk result (Appends (O.contents out.old) (O.contents out.new) (left_text outcome asked.entry.at)) }
+{
     let written = write_service(&outcome, asked.at, asked.names.journal, files, out);
     mem::forget(outcome);
-    written.map_err(|_| Ending::Output)
+    match written {
+        Ok(()) => Ok(()),
+        Err(_) => Err(Ending::Output),
+    }
+}
+
+/// How a service ends whose outcome was written: well, if each client was served to its end and no board was refused.
+fn end_of<S: Drop>(clients: &[EndedClient<S>], refused: bool) -> Result<(), Ending> {
+    test_ends(clients)?;
+    if refused { Err(Ending::Board) } else { Ok(()) }
 }
 
 /// Serves the clients until all have ended, and only then writes: what is left goes to the output, or to the error
@@ -194,14 +242,19 @@ where
     E: Write,
     R: Threads + Wait + Clock + Sync,
     requires { 0 < length asked.names.clients.now }
+    ensures { IfOk result (λ _. PrintsService asked.entry.names.config.now asked.entry.at (F.held files.old)
+        (told_at asked.entry.is_taken (seen (F.held files.old) (O.contents out.old) (E.contents err.old)))
+        (told_at asked.entry.is_taken (seen (F.held files.new) (O.contents out.new) (E.contents err.new)))) }
 {
-    let (service, refused) = serve_of(rt, alloc, seed, asked.names, files)?;
-    let Service { outcome, left } = service;
-    if is_output_taken(asked.names.clients) {
+    let Left {
+        outcome,
+        clients,
+        refused,
+    } = serve_of(rt, alloc, seed, asked, files)?;
+    if asked.is_taken {
         finish_service(outcome, asked, files, err)?;
-    } else {
-        finish_service(outcome, asked, files, out)?;
+        return end_of(&clients, refused);
     }
-    test_ends(&left)?;
-    if refused { Err(Ending::Board) } else { Ok(()) }
+    finish_service(outcome, asked, files, out)?;
+    end_of(&clients, refused)
 }

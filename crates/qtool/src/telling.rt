@@ -1,7 +1,7 @@
 //! What came of a run or of a replay, told: its outcome, its journal, and which lines were not done.
-ghost use Rattle.std.specs.Prelude.{◌≡◌, All, IfErr, OnOk, true};
-ghost use Rattle.qtext_outcome.specs.Denials.{IsDone};
-ghost use Rattle.qtool.specs.Endings.{IsLate};
+ghost use Rattle.std.specs.Prelude.{◌≡◌, option_map, IfErr, IfOk};
+ghost use Rattle.qtool.specs.Printed.{IsJournalKept, IsTold, IsToldWith};
+ghost use Rattle.qtool.specs.declared.ending.Ending.TheVariants.{Output};
 
 use crate::ending::Ending;
 use crate::{Files, Outcome, write_run};
@@ -11,16 +11,23 @@ use qtext_view::Telling;
 use std::io::Write;
 use std::mem;
 
-/// Tells a strict caller by kinds how many lines were refused or failed, whatever becomes of the error output.
-fn tell_denials<E: Write>(transcripts: &[PlacedTranscript], err: &mut E) -> Ending
-    ensures { IsLate result }
+/// The status of what was written: 1 where a line was refused or failed and the caller is strict, else 0. A strict
+/// caller is told by kinds how many such lines there are, whatever becomes of the error output.
+fn tell_denials<E: Write>(transcripts: &[PlacedTranscript], telling: Telling, err: &mut E) -> u8
+    ensures { IsToldWith telling transcripts.now result }
 {
+    if !telling.strict {
+        return 0;
+    }
+    if are_all_done(transcripts) {
+        return 0;
+    }
     let _ = put_denials(err, transcripts);
     let _ = err.flush();
-    Ending::Denied
+    1
 }
 
-/// Writes what came of it, and then tells a strict caller of lines that were not done.
+/// Writes what came of it, and then tells a strict caller of lines that were not done. Ok is the status.
 fn tell<F: Files, O: Write, E: Write>(
     outcome: &Outcome,
     telling: Telling,
@@ -28,19 +35,19 @@ fn tell<F: Files, O: Write, E: Write>(
     files: &mut F,
     out: &mut O,
     err: &mut E,
-) -> Result<(), Ending>
-    ensures late { IfErr result IsLate }
-    ensures strict { telling.strict ≡ true → OnOk result (All IsDone outcome.now.transcripts) }
+) -> Result<u8, Ending>
+    ensures told { IfOk result
+        (λ status. IsTold telling outcome.now status (O.contents out.old) (O.contents out.new)) }
+    ensures kept { IfOk result (λ _. IsJournalKept (F.held files.old) (F.held files.new)
+        (option_map (λ n. n.now) journal.entry) outcome.now.journal) }
+    ensures refused { IfErr result (λ ending. ending ≡ Output) }
 {
     let transcripts = outcome.transcripts.as_slice();
     let at = report_moment(telling.at, transcripts);
-    if write_run(outcome, telling.view, at, journal, files, out).is_err() {
-        return Err(Ending::Output);
+    match write_run(outcome, telling.view, at, journal, files, out) {
+        Ok(()) => Ok(tell_denials(transcripts, telling, err)),
+        Err(_) => Err(Ending::Output),
     }
-    if telling.strict && !are_all_done(transcripts) {
-        return Err(tell_denials(transcripts, err));
-    }
-    Ok(())
 }
 
 /// The same. The memory of the outcome is left to the system: to give back each piece takes as long as a call.
@@ -51,9 +58,12 @@ pub(crate) fn finish<F: Files, O: Write, E: Write>(
     files: &mut F,
     out: &mut O,
     err: &mut E,
-) -> Result<(), Ending>
-    ensures late { IfErr result IsLate }
-    ensures strict { telling.strict ≡ true → OnOk result (All IsDone outcome.transcripts) }
+) -> Result<u8, Ending>
+    ensures told { IfOk result
+        (λ status. IsTold telling outcome status (O.contents out.old) (O.contents out.new)) }
+    ensures kept { IfOk result (λ _. IsJournalKept (F.held files.old) (F.held files.new)
+        (option_map (λ n. n.now) journal.entry) outcome.journal) }
+    ensures refused { IfErr result (λ ending. ending ≡ Output) }
 {
     let told = tell(&outcome, telling, journal, files, out, err);
     mem::forget(outcome);

@@ -20,11 +20,12 @@ pub(crate) struct ToldStreams<S: Streams + Drop, E: Write + Drop> {
 /// What is told of a client that was not served to its end, before the name of the stream that is at fault.
 fn words_of(end: ClientEnd) -> Option<&'static str> {
     match end {
-        ClientEnd::Served => None,
+        ClientEnd::Served | ClientEnd::Stopped => None,
         ClientEnd::NoInput | ClientEnd::NoOutput => Some("cannot open "),
         ClientEnd::Input => Some("cannot read "),
         ClientEnd::Output => Some("cannot write "),
         ClientEnd::Memory => Some("memory for "),
+        ClientEnd::Failed => Some("failed line of "),
     }
 }
 

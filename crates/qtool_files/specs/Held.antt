@@ -2,8 +2,17 @@
 -- machine's, this holds whatever they hold, and so says nothing.
 use Rattle.std.specs.Prelude.{◌≡◌, ◌≢◌, ℕ, List, Option, Some, None}
 
+-- what stands under each name, where that is told
+abbrev pub Held : Type 0
+Held = Option (List ℕ → Option (List ℕ))
+
+-- under this name stands this text
+abbrev pub IsUnder : Held → List ℕ → List ℕ → Type 0
+IsUnder None name text = Unit {0}
+IsUnder (Some held) name text = held name ≡ Some text
+
 -- under this name stands this text, and under any other what stood there
-abbrev pub IsKept : Option (List ℕ → Option (List ℕ)) → Option (List ℕ → Option (List ℕ)) → List ℕ → List ℕ → Type 0
+abbrev pub IsKept : Held → Held → List ℕ → List ℕ → Type 0
 IsKept None new name text = Unit {0}
 IsKept (Some old) None name text = ⊥
 IsKept (Some old) (Some new) name text =

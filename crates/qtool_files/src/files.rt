@@ -1,6 +1,6 @@
 //! Files and streams of clients by name, as the program asks for them.
 ghost use Rattle.std.specs.Prelude.{◌≡◌, ℕ, List, [], Option, None, Some, IfOk, IsSome, OnErr, OnOk};
-ghost use Rattle.qtool_files.specs.Held.{IsKept};
+ghost use Rattle.qtool_files.specs.Held.{IsKept, IsUnder};
 
 use qplain::{NoMemory, Script};
 use qrun::Gate;
@@ -37,13 +37,17 @@ pub trait Files {
     type Progress: Gate + Drop + Sync;
 
     /// The bytes of a file. An Err gives none of them.
-    fn read(&mut self, name: &str) -> Result<Vec<u8>, FileFault>;
+    fn read(&mut self, name: &str) -> Result<Vec<u8>, FileFault>
+        ensures under { IfOk result (λ bytes. IsUnder (held self.old) name.now bytes.items) }
+        ensures same { held self.new ≡ held self.old };
 
     /// Whether both are names of one file, so that what is written to one takes the other away.
-    fn is_same(&mut self, name: &str, other: &str) -> bool;
+    fn is_same(&mut self, name: &str, other: &str) -> bool
+        ensures same { held self.new ≡ held self.old };
 
     /// Whether the output goes to the file of that name, so that what is written to it takes the output away.
-    fn is_output(&mut self, name: &str) -> bool;
+    fn is_output(&mut self, name: &str) -> bool
+        ensures same { held self.new ≡ held self.old };
 
     /// An empty draft for a file of that name.
     fn draft(&mut self, name: &str) -> Result<Self::Draft, FileFault>

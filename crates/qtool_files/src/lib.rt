@@ -1,7 +1,7 @@
 //! Files by name, and what came of a run or of a service, written to them.
 #![tactic(auto)]
 
-pub use board_file::BoardFile;
+pub use board_file::{BoardFile, ShownBoards};
 pub use files::{FileFault, Files, NamedStreams};
 pub use finishing::{Refuser, write_run, write_service};
 pub use overwriting::{Overwritten, test_journal};

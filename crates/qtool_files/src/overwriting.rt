@@ -1,5 +1,5 @@
 //! What the journal of a run must not be written over.
-ghost use Rattle.std.specs.Prelude.{◌≤◌, IfErr, IfSome, length};
+ghost use Rattle.std.specs.Prelude.{◌≡◌, ◌≤◌, IfErr, IfSome, length};
 ghost use Rattle.qtool_files.specs.Overwritten.{IsOneOf};
 
 use crate::Files;
@@ -15,7 +15,8 @@ pub enum Overwritten {
 
 /// The first of the scripts, numbered from 1, that is the file of this name, where one is.
 fn script_under<F: Files>(files: &mut F, name: &str, scripts: &[String]) -> Option<u64>
-    ensures { IfSome result (λ number. (1 ≤ number) × (number ≤ length scripts.now)) }
+    ensures one { IfSome result (λ number. (1 ≤ number) × (number ≤ length scripts.now)) }
+    ensures same { F.held files.new ≡ F.held files.old }
 {
     let mut number = 0u64;
     for script in scripts {
@@ -35,7 +36,8 @@ pub fn test_journal<F: Files>(
     config: &str,
     scripts: &[String],
 ) -> Result<(), Overwritten>
-    ensures { IfErr result (IsOneOf (length scripts.now)) }
+    ensures one { IfErr result (IsOneOf (length scripts.now)) }
+    ensures same { F.held files.new ≡ F.held files.old }
 {
     let Some(name) = journal else {
         return Ok(());

@@ -2,3 +2,5 @@
 pub mod Readers
 -- What is answered for a text that is replayed.
 pub mod TextReplays
+-- The journal of a service of one client.
+pub mod Hosts

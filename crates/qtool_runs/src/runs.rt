@@ -1,5 +1,5 @@
 //! Runs of scripts, and replays of a journal and checks of boards against one, under a configuration.
-ghost use Rattle.std.specs.Prelude.{◌≡◌, ◌<◌, ◌≤◌, [], ℕ, All, List, Err, IfErr, IfOk, IfSome, length};
+ghost use Rattle.std.specs.Prelude.{◌≡◌, ◌<◌, ◌≤◌, [], ℕ, All, List, Err, IfErr, IfOk, length};
 ghost use Rattle.qplain.specs.declared.line.Line.{Line};
 ghost use Rattle.qplain.specs.Setups.{in_edition};
 ghost use Rattle.qplain.specs.State.{start};
@@ -10,6 +10,7 @@ ghost use Rattle.qrun_replay.specs.declared.replay_fault.ReplayFault.TheVariants
 ghost use Rattle.qrun_replay.specs.Replays.{GivesBack, IsFirstMismatch, IsReplayOf};
 ghost use Rattle.qrun_replay.specs.Runs.{IsLeftByWorkers, IsOutcomeOf, IsServiceOf};
 ghost use Rattle.qrun.specs.Crews.{CanRun};
+ghost use Rattle.qrun.specs.Monitors.{IsShownTo};
 ghost use Rattle.qrun.specs.RunFaults.{IsFaultOf};
 ghost use Rattle.qrun.specs.Serving.{CanServe, IsOfClients, monitors_in};
 ghost use Rattle.qrun.specs.Watching.{seats_for};
@@ -70,7 +71,8 @@ pub fn run<R: Threads + Wait + Sync>(
 /// thread of its own, which makes the calls of the lines that the client hands out, one after the other, and tells it
 /// each answer at once. It ends when all clients have ended; the end of one ends no other.
 ///
-/// The monitor is shown boards meanwhile, and takes no lock. What is said of `run_with` holds: the store is what its
+/// The monitor is shown boards of the journal meanwhile, whose versions rise, and takes no lock; what is left of it
+/// comes back. What is said of `run_with` holds: the store is what its
 /// journal leaves, and each client's lines were made in order, each with its reply. A journal has at most 1,048,576
 /// entries; then each line is told JournalFull, and in no journal.
 pub fn serve<C, M, R>(
@@ -80,16 +82,17 @@ pub fn serve<C, M, R>(
     clients: Vec<C>,
     monitor: Option<M>,
     seed: u64,
-) -> Result<Service<C::Left>, RunFault>
+) -> Result<Service<C::Left, M::Left>, RunFault>
 where
     C: Client + Drop + Send,
     M: Monitor + Drop + Send,
     R: Threads + Wait + Sync,
     requires can { CanServe config.setup (length clients.items) (monitors_in monitor) }
-    requires monitor { IfSome monitor (λ m. IfSome (M.setting m) (λ s. s ≡ config.setup)) }
     requires new { All (λ c. (C.given c ≡ []) × (C.told c ≡ [])) clients.items }
     ensures outcome { IfOk result (λ s. IsServiceOf config.setup s.outcome) }
     ensures clients { IfOk result (λ s. IsOfClients C.talk clients.items s.left.items s.outcome) }
+    ensures shown { IfOk result (λ s. IsShownTo M.sees (start config.setup) s.outcome.journal.entries monitor
+        s.monitor) }
     ensures fault { IfErr result (IsFaultOf (seats_for (length clients.items) (monitors_in monitor))) }
 {
     qrun::serve(rt, alloc, config.setup, clients, monitor, seed)

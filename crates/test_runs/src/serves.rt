@@ -97,6 +97,12 @@ struct Counts<'a> {
 }
 
 impl<'a> Monitor for Counts<'a> {
+    ghost use Rattle.std.specs.Prelude.{⊤};
+
+    type Left = ();
+
+    ghost sees = { λ _ _ _. ⊤ };
+
     fn wait(&mut self) {
         spin_loop();
     }
@@ -113,6 +119,8 @@ impl<'a> Monitor for Counts<'a> {
         self.boards.fetch_add(1, SeqCst);
         self.version.store(board.version, SeqCst);
     }
+
+    fn end(self) {}
 }
 
 #[test]

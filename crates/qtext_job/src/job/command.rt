@@ -216,6 +216,16 @@ fn replay<'a>(alloc: Global) -> Result<Command<'a>, AllocError>
     with_arg(command, played(alloc))
 }
 
+fn stop_at_failure<'a>(alloc: Global) -> Arg<'a>
+    ensures rule { rule_of result ≡ line.stop_at_failure }
+    ensures local { result.global ≡ false }
+{
+    Arg::new(alloc, "stop-at-failure")
+        .long("stop-at-failure")
+        .help("Ends the service, with 5, at the first line that fails; its journal is kept")
+        .action(ArgAction::SetTrue)
+}
+
 /// The command with the files that are written of what was served.
 fn with_files<'a>(alloc: Global, command: Command<'a>) -> Result<Command<'a>, AllocError>
     ensures app { IfOk result (λ c. app_of c ≡ line.with_files (app_of command.entry)) }
@@ -224,6 +234,17 @@ fn with_files<'a>(alloc: Global, command: Command<'a>) -> Result<Command<'a>, Al
 {
     let command = with_arg(command, journal(alloc))?;
     with_arg(command, board(alloc))
+}
+
+/// The command with when a service ends, and what is told of it then.
+fn with_end<'a>(alloc: Global, command: Command<'a>) -> Result<Command<'a>, AllocError>
+    ensures app { IfOk result (λ c. app_of c ≡ line.with_end (app_of command.entry)) }
+    ensures local { (out-Command command.entry).has_globals ≡ false
+        → IfOk result (λ c. (out-Command c).has_globals ≡ false) }
+{
+    let command = with_arg(command, at(alloc))?;
+    let command = with_arg(command, stop_at_failure(alloc))?;
+    with_files(alloc, command)
 }
 
 fn serve<'a>(alloc: Global) -> Result<Command<'a>, AllocError>
@@ -236,8 +257,7 @@ fn serve<'a>(alloc: Global) -> Result<Command<'a>, AllocError>
         "Answers the lines of living clients one by one and prints at the end what came of it",
     );
     let command = with_arg(command, config(alloc))?;
-    let command = with_arg(command, at(alloc))?;
-    let command = with_files(alloc, command)?;
+    let command = with_end(alloc, command)?;
     with_arg(command, clients(alloc))
 }
 

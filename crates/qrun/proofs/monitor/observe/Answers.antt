@@ -1,28 +1,51 @@
-use Rattle.std.proofs.Common.{◌≡◌, length, IfSome, ap, sym, subst, ◌∙◌}
+use Rattle.std.proofs.Common.{◌≡◌, [], None, length, ap, append-nil, rules, sym, subst, ◌∙◌}
 use Rattle.qplain.specs.State.{start}
 use Rattle.qaudit_checks.specs.LawfulBoards.{AreLawful, boards_in}
+use Rattle.qrun.specs.Monitors.{IsShown}
+use Rattle.qrun.proofs.Observing.{IsShowing, shown_all, shows_next, shows_nothing, shows_on}
 use Rattle.qrun.proofs.Watched.{no_boards}
 use Rattle.qrun.proofs.monitor.observe.Goals as goal
 
-pub returns-then-last : goal.returns-then-last
-returns-then-last g c =
-    let inv = c.loop.invariant in
-    let shown = c.show_next-seen.ensures.seat in
-    let asked = c.ask-published.ensures.seat in
-    record {
-      worker_is = ap (λ s. s.worker) c.finish.ensures ∙ shown.worker ∙ asked.worker ∙ inv.0;
-      idle = ap (λ s. s.tally.calls) c.finish.ensures ∙ ap (λ t. t.calls) (shown.tally ∙ asked.tally ∙ inv.1);
-      each = ap length c.new.ensures.items;
-      lawful = subst (λ looks. AreLawful (start g.S.StoreId.id.setting) c.finish.result.seen (boards_in looks)) (sym c.new.ensures.items)
-          (no_boards (start g.S.StoreId.id.setting) c.finish.result.seen);
-    }
+pub loop-init : goal.loop-init
+loop-init g c =
+    let S = start g.S.StoreId.id.setting in
+    let sees = g.M.Monitor.sees in
+    let seen = c.observer.inside.seat.seen in
+    let monitor = c.observer.inside.monitor in
+    let same : monitor ≡ c.args.showing.monitor = ap (λ o. o.monitor) (c.observer.view_is ∙ c.showing.view_is) in
+    (search rules, search rules, subst (λ m. IsShowing S seen None (sees m) (sees monitor)) same (shows_nothing S seen (sees monitor)))
 
 pub loop-preserved : goal.loop-preserved
 loop-preserved g c =
+    let S = start g.S.StoreId.id.setting in
     let inv = c.loop.invariant in
     let asked = c.ask-published.ensures in
-    let shown = c.show_next-seen.ensures in (
+    let shown = c.show_next-seen.ensures in
+    let seen = c.show_next-seen.new.seat.seen in
+    let before = shows_on S _ _ _ _ _ _ asked.seat.begins inv.2 asked.sees in
+    let after = shows_next S _ seen _ _ _ _ _ shown.seat.begins before shown.shows in (
       shown.seat.worker ∙ asked.seat.worker ∙ inv.0,
       shown.seat.tally ∙ asked.seat.tally ∙ inv.1,
-      subst (λ o. IfSome o (λ s. s ≡ g.S.StoreId.id.setting)) (sym (c.wait.ensures ∙ shown.setting ∙ asked.setting)) inv.2,
+      shows_on S seen seen _ _ _ _ ([], append-nil seen) after c.wait.ensures,
     )
+
+pub returns-then-last : goal.returns-then-last
+returns-then-last g c =
+    let S = start g.S.StoreId.id.setting in
+    let inv = c.loop.invariant in
+    let asked = c.ask-published.ensures in
+    let shown = c.show_next-seen.ensures in
+    let seen = c.show_next-seen.new.seat.seen in
+    let before = shows_on S _ _ _ _ _ _ asked.seat.begins inv.2 asked.sees in
+    let after = shows_next S _ seen _ _ _ _ _ shown.seat.begins before shown.shows in
+    let all = shown_all S seen _ _ _ _ after c.end_of-left.ensures in
+    record {
+      watch = record {
+        worker_is = ap (λ s. s.worker) c.finish.ensures ∙ shown.seat.worker ∙ asked.seat.worker ∙ inv.0;
+        idle = ap (λ s. s.tally.calls) c.finish.ensures ∙ ap (λ t. t.calls) (shown.seat.tally ∙ asked.seat.tally ∙ inv.1);
+        each = ap length c.new.ensures.items;
+        lawful = subst (λ looks. AreLawful S c.finish.result.seen (boards_in looks)) (sym c.new.ensures.items)
+            (no_boards S c.finish.result.seen);
+      };
+      shown = subst (λ h. IsShown S h (g.M.Monitor.sees c.args.showing.monitor) c.end_of-left.result) (sym (ap (λ s. s.seen) c.finish.ensures)) all;
+    }

@@ -92,8 +92,9 @@ returns g c =
     c.in_ok-shares.ensures.shares (ap (λ t. t.calls) c.in-Ok.ensures.end.tally) in
     let whole = all_told scripts own ts journal c.requires.few placed.told seen counted c.in-Ok.ensures.end.played.few in
     let same = (all_placed scripts own c.in_ok-own.answered.items ts journal placed.placed placed.told seen whole).1 in
-    is_run setting scripts boards ts looks c.make_outcome.result lines
+    is_run setting scripts boards ts looks journal c.make_outcome.result lines
     (never_full journal ts whole (subst AreShort (sym lines) placed.short)) many
     (subst (λ s. IfOk c.make_outcome.result (IsServiceOf s)) c.in-Ok.ensures.setting c.make_outcome.ensures.outcome)
-    (subst (λ xs. IfOk c.make_outcome.result (λ o. (o.transcripts ≡ xs) × (o.boards ≡ looks))) same c.make_outcome.ensures.told)
+    (subst (λ xs. IfOk c.make_outcome.result (λ o. (o.transcripts ≡ xs) × (o.boards ≡ looks) × (o.journal.entries ≡ journal))) same
+    c.make_outcome.ensures.told)
     c.make_outcome.ensures.fault

@@ -8,11 +8,11 @@ serve_and_end-requires-clause-staff g c κs within =
     let parts = g.S.StoreId.id.counters.parts in
     let clients = length c.args.clients.items in
     let workers : parts - 1 ≡ clients = omega (arith, c.requires.can.1) in
-    let staff : IsStaff g.S.StoreId.id.setting clients parts c.in-Ok.made.1.items (Some c.new.result) = record {
+    let staff : IsStaff g.S.StoreId.id.setting clients parts c.in-Ok.made.1.items (Some c.new.result.seat) = record {
       monitors = 1;
       can = c.requires.can.0;
       parts_are = c.requires.can.1;
       seats_are = c.in-Ok.ensures.workers ∙ ap seats_of workers;
-      observer_is = ap Some (c.new.ensures ∙ c.in-Ok.ensures.observer ∙ ap new_seat c.requires.can.1);
+      observer_is = ap Some (ap (λ o. o.seat) c.new.ensures ∙ c.in-Ok.ensures.observer ∙ ap new_seat c.requires.can.1);
     } in
     staff

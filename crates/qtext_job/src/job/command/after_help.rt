@@ -35,6 +35,7 @@ Statuses:
      journal
   4  the output refuses, or the file for the journal or for boards, or a client's
      replies
+  5  with --stop-at-failure: a client's line failed, and the service ended
 
 docs/FORMATS.md has all formats, docs/RULES.md all rules of the calls, and
 docs/USING.md tells how clients are served.";

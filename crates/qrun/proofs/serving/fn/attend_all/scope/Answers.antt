@@ -3,7 +3,7 @@ use Rattle.std.proofs.lemmas.List.{get_or_append_left, get_or_push}
 use Rattle.std.specs.Vec.Iter.{into_iter_items}
 use Rattle.qrun.proofs.Attending.{at_place, number_is, place_low}
 use Rattle.qplain.specs.State.{start}
-use Rattle.qrun.specs.Watching.{IsWatch, IsWatchOf}
+use Rattle.qrun.specs.Monitors.{IsObserved, IsObservedBy}
 use Rattle.qrun_worker.specs.Work.{IsServed}
 use Rattle.qrun.proofs.Naming.{names_seat}
 use Rattle.qrun.proofs.serving.fn.attend_all.scope.Goals as goal
@@ -87,7 +87,7 @@ returns-in-Ok-join_promised g c =
             subst (λ x. IsServed (k + 1) (g.C.Client.talk x) (slice_index_or served.items k s)) client
             (subst (λ m. IsServed m (g.C.Client.talk h.promise.client.value) (slice_index_or served.items k s)) worker at.1.kept);
       },
-      subst (λ o. IsWatchOf (start g.S.StoreId.id.setting) 0 o None) (sym c.in_default.is ∙ c.loop-attendant.invariant.3) refl,
+      subst (λ o. IsObservedBy g.M.Monitor.sees (start g.S.StoreId.id.setting) o None) (sym c.in_default.is ∙ c.loop-attendant.invariant.3) refl,
     )
 
 pub returns-in-Ok-joined : goal.returns-in-Ok-joined
@@ -115,13 +115,15 @@ returns-in-Ok-joined g c =
             (subst (λ m. IsServed m (g.C.Client.talk h.promise.client.value) (slice_index_or served.items k s)) worker at.1.kept);
       },
       let S = start g.S.StoreId.id.setting in
+          let sees = g.M.Monitor.sees in
           let h = c.in-Ok-spawn_scoped_with.handle in
-          let w = c.join-watch.result in
+          let o = c.join-observed.result in
           let ok = c.in-Ok-spawn_scoped_with.ensures.ok in
-          let seat = c.in-Some-showing.showing in
-          let worker : h.promise.worker ≡ seat.worker = ap (λ p. p.worker) ok ∙ c.shows-shows.ensures.0 in
-          let boards : h.promise.boards ≡ 0 = ap (λ p. p.boards) ok ∙ c.shows-shows.ensures.1 in
-          let looked : IsWatch S seat.worker 0 w = subst (λ b. IsWatch S seat.worker b w) boards
-          (subst (λ m. IsWatch S m h.promise.boards w) worker c.join-watch.ensures) in
-          subst (λ o. IsWatchOf S 0 o (Some w)) (sym c.in-Some-showing.is ∙ c.loop-attendant.invariant.3) looked,
+          let showing = c.in-Some-showing.showing in
+          let worker : h.promise.worker ≡ showing.seat.worker = ap (λ p. p.worker) ok ∙ c.shows-shows.ensures.0 in
+          let monitor : h.promise.monitor.value ≡ showing.monitor = ap (λ p. p.monitor.value) ok ∙ c.shows-shows.ensures.1 in
+          let shown : IsObserved S showing.seat.worker (sees showing.monitor) o =
+          subst (λ m. IsObserved S showing.seat.worker (sees m) o) monitor
+          (subst (λ n. IsObserved S n (sees h.promise.monitor.value) o) worker c.join-observed.ensures) in
+          subst (λ x. IsObservedBy sees S x (Some o)) (sym c.in-Some-showing.is ∙ c.loop-attendant.invariant.3) shown,
     )

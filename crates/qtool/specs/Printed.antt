@@ -1,0 +1,150 @@
+-- What the program prints, and what it keeps, where it ends well.
+use Rattle.std.specs.Prelude.{◌≡◌, ◌⊎◌, ◌==◌, ◌||◌, ℕ, Bool, true, false, List, [], length, map, All, Option, Some, Ok}
+use Rattle.std.specs.Prelude.{codes, if◌then◌else◌, unwrap_or}
+use Rattle.std.specs.Prelude.{IfSome, option_map, string_bytes}
+use Rattle.std.specs.Io.KnownBytes.{Appends}
+use Rattle.std.specs.List.{list_any}
+use Rattle.std.specs.Str.{bytes_eq}
+use Rattle.clap.specs.Words.{IsAmong, fault_of}
+use Rattle.clap.specs.declared.error.kind.ErrorKind.{ErrorKind}
+use Rattle.qplain.specs.Journals.{Written}
+use Rattle.qplain.specs.Setups.{Setting}
+use Rattle.qplain.specs.declared.transcript.Transcript.{Transcript}
+use Rattle.qrun_replay.specs.declared.outcome.Outcome.{Outcome}
+use Rattle.qtext_view.specs.declared.telling.Telling.{Telling}
+use Rattle.qtext_outcome.specs.Denials.{IsDone}
+use Rattle.qtext_outcome.specs.Moments.{moment_of}
+use Rattle.qtext_outcome.specs.Outcomes.{left_text}
+use Rattle.qtext_rows.specs.Formats.{formatted_text}
+use Rattle.qtext_files.specs.Spelling.{CanBeRead, journal_spelling}
+use Rattle.qtext_expand.specs.Expansions.{expansion}
+use Rattle.qtext_check.specs.Faults.{faults_of}
+use Rattle.qtext_job.specs.Commands.{quotafs}
+use Rattle.qtext_job.specs.Jobs.{IsAskedBy, is_shown}
+use Rattle.qtext_job.specs.declared.job.Job.{Job}
+use Rattle.qtext_job.specs.declared.job.Job.TheVariants.{Run, Replay, Serve, Expand, Check}
+use Rattle.qtext_job.specs.declared.pair.Pair.{Pair}
+use Rattle.qtext_job.specs.declared.line_fault.LineFault.{LineFault}
+use Rattle.qtext_job.specs.declared.line_fault.LineFault.TheVariants.{Line, Memory}
+use Rattle.qtool_files.specs.Held.{Held, IsKept, IsUnder}
+use Rattle.qtool.specs.Under.{IsConfigUnder, IsReplayUnder, IsRunUnder, IsServiceUnder}
+
+-- an outcome's text as it is asked for, as of the moment that is asked for
+abbrev pub told_text : Telling → Outcome → List ℕ
+told_text telling outcome = formatted_text telling.view outcome (moment_of telling.at outcome.transcripts)
+
+-- it is told with 1 where a line was not done and the caller is strict, and else with 0
+abbrev pub IsToldWith : Telling → List Transcript → ℕ → Type 0
+IsToldWith telling transcripts status =
+    ((status ≡ 0) × (telling.strict ≡ true → All IsDone transcripts))
+    ⊎ ((status ≡ 1) × (telling.strict ≡ true) × (All IsDone transcripts → ⊥))
+
+-- the output grew by the outcome's text, and this is the status for it
+pub record IsTold (telling : Telling) (outcome : Outcome) (status : ℕ) (old new : Option (List ℕ)) : Type 0 where
+  pub text : Appends old new (told_text telling outcome)
+  pub status_is : IsToldWith telling outcome.transcripts status
+
+-- where a file is named for the journal, its spelling stands under that name, and can be read again
+abbrev pub IsJournalKept : Held → Held → Option (List ℕ) → Written → Type 0
+IsJournalKept files kept name journal =
+    IfSome name (λ name. IsKept files kept name (journal_spelling journal) × CanBeRead journal)
+
+-- an outcome of the run was printed, and its journal is kept where a file is named for it
+pub record PrintsRun (config : List ℕ) (scripts : List (List ℕ)) (boards : ℕ) (telling : Telling)
+    (journal : Option (List ℕ)) (status : ℕ) (files kept : Held) (old new : Option (List ℕ)) : Type 0 where
+  pub outcome : Outcome
+  pub is : IsRunUnder files config scripts boards outcome
+  pub told : IsTold telling outcome status old new
+  pub journal_is : IsJournalKept files kept journal outcome.journal
+
+-- the outcome of the replay was printed
+pub record PrintsReplay (config journal : List ℕ) (telling : Telling) (status : ℕ) (files : Held)
+    (old new : Option (List ℕ)) : Type 0 where
+  pub outcome : Outcome
+  pub is : IsReplayUnder files config journal outcome
+  pub told : IsTold telling outcome status old new
+
+-- what a service left was printed, with the report as of this moment
+pub record PrintsService (config : List ℕ) (at : ℕ) (files : Held) (old new : Option (List ℕ)) : Type 0 where
+  pub outcome : Outcome
+  pub is : IsServiceUnder files config outcome
+  pub prints : Appends old new (left_text outcome at)
+
+-- the file that is read for a friendly script of this name: what standard input comes from where it is `-`
+abbrev pub friendly_file : List ℕ → List ℕ
+friendly_file name = if bytes_eq name (codes "-") then codes "/dev/stdin" else name
+
+-- the plain script was printed that the friendly one of this name is written out as
+pub record PrintsExpansion (config script : List ℕ) (files : Held) (old new : Option (List ℕ)) : Type 0 where
+  pub setting : Setting
+  pub text : List ℕ
+  pub plain : List ℕ
+  pub config_is : IsConfigUnder files config setting
+  pub under : IsUnder files (friendly_file script) text
+  pub says : expansion setting text ≡ Ok plain
+  pub prints : Appends old new plain
+
+-- under the name stands a text that has no fault in any line, under this setting, where one is known
+abbrev pub IsSoundUnder : Held → Option Setting → List ℕ → Type 0
+IsSoundUnder files setting name = (text : List ℕ) × IsUnder files name text × (faults_of setting text ≡ [])
+
+-- nothing is wrong in the configuration of this name, nor in the scripts of these
+pub record IsAllSound (config : List ℕ) (scripts : List (List ℕ)) (files : Held) : Type 0 where
+  pub setting : Setting
+  pub config_is : IsConfigUnder files config setting
+  pub scripts_are : All (IsSoundUnder files (Some setting)) scripts
+
+-- what is seen at one time of files, of the output and of the error output, where they tell it
+pub record Sight : Type 0 where
+  pub files : Held
+  pub output : Option (List ℕ)
+  pub errors : Option (List ℕ)
+
+-- it is seen so
+abbrev pub seen : Held → Option (List ℕ) → Option (List ℕ) → Sight
+seen files output errors = record { files = files; output = output; errors = errors }
+
+-- the client's replies go to standard output
+abbrev pub is_to_standard : Pair → Bool
+is_to_standard pair = bytes_eq (string_bytes pair.output) (codes "-")
+
+-- standard output is a client's, as it is of the one client where none is named
+abbrev pub is_taken : List Pair → Bool
+is_taken pairs = (length pairs == 0) || list_any is_to_standard pairs
+
+-- where it is told what a service left: on the error output where standard output is a client's
+abbrev pub told_at : Bool → Sight → Option (List ℕ)
+told_at true sight = sight.errors
+told_at false sight = sight.output
+
+-- what the job asks for was printed between these sights, where it ended with this status
+abbrev pub IsPrinted : Job → ℕ → Sight → Sight → Type 0
+IsPrinted (Run config telling journal boards batch scripts) status old new =
+    PrintsRun (string_bytes config) (map (λ s. string_bytes s) scripts.items) boards telling
+    (option_map (λ s. string_bytes s) journal) status old.files new.files old.output new.output
+IsPrinted (Replay config telling journal) status old new =
+    PrintsReplay (string_bytes config) (string_bytes journal) telling status old.files old.output new.output
+IsPrinted (Serve config at stop_at_failure journal board pairs) status old new = (status ≡ 0)
+    × PrintsService (string_bytes config) at old.files (told_at (is_taken pairs.items) old)
+    (told_at (is_taken pairs.items) new)
+IsPrinted (Expand config script) status old new =
+    (status ≡ 0) × PrintsExpansion (string_bytes config)
+    (unwrap_or (option_map (λ s. string_bytes s) script) (codes "-")) old.files old.output new.output
+IsPrinted (Check config scripts) status old new =
+    (status ≡ 0) × IsAllSound (string_bytes config) (map (λ s. string_bytes s) scripts.items) old.files
+    × (new.output ≡ old.output)
+
+-- of what is told of words that are no job: that help or the version was asked for
+abbrev pub AsksForHelp : LineFault → Type 0
+AsksForHelp (Line help text) = help ≡ true
+AsksForHelp Memory = ⊥
+
+-- help or the version was asked for
+abbrev pub AskForHelp : List (List ℕ) → Type 0
+AskForHelp words = (kind : ErrorKind) × IsAmong kind (fault_of quotafs words) × (is_shown kind ≡ true)
+
+-- what the words ask for was printed between these sights, where it ended with this status: help or the version, with
+-- 0, or what their job asks for
+abbrev pub IsPrintedBy : List (List ℕ) → ℕ → Sight → Sight → Type 0
+IsPrintedBy words status old new =
+    ((status ≡ 0) × AskForHelp words) ⊎ ((job : Job) × IsAskedBy words job × IsPrinted job status old new)
