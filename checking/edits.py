@@ -57,7 +57,8 @@ class Edit:
         self.changed = {it for _, it in found if it}
         self.judges = {it for function in self.changed for it in standing_on(function, crate.functions)}
         # an import belongs to no function, and goes with the one that wants it
-        self.is_of_functions = bool(self.changed) and all(it or crate.is_import(*place) for place, it in found)
+        self.is_of_bodies = bool(self.changed) and all(
+            it.has_body_at(place) if it else crate.is_import(*place) for place, it in found)
 
     def apply(self, texts):
         """The texts as the edit makes them, and of each pair its file and line. Each old text stands there once."""
@@ -71,15 +72,23 @@ class Edit:
         return texts, places
 
     def agrees_with(self, other):
-        """Whether both can be tried at once: no function of one is one of the other's, or names one."""
-        return not any(one == it or one.names(it) or it.names(one) for one in self.judges for it in other.judges)
+        """Whether both can be tried at once: no function by which one is judged is one of the other's."""
+        return self.judges.isdisjoint(other.judges)
 
-    def outcome(self, said):
-        """What a check says of the functions by which the edit is judged: refused with the reason, waiting for another, or open."""
+    def is_apart_from(self, others):
+        """Whether no function by which it is judged names one of the others', or is named there."""
+        theirs = [it for other in others if other is not self for it in other.judges]
+        return not any(one.names(it) or it.names(one) for one in self.judges for it in theirs)
+
+    def outcome(self, said, tried):
+        """What the check of a round says of the functions by which the edit is judged: refused with the reason, waiting for
+        another, or open. A goal that is left is a reason of its own, and so is an error in a proof file; a function of which
+        no more is said than that it is not proved may lack only what one that it calls was to give."""
         outcome = OPEN, None
         for name, verdict in said.refused.items():
             judge = next((it for it in self.judges if it.is_called(name)), None)
-            if judge and OF_ANOTHER.fullmatch(verdict) and not said.errors_of(name):
+            is_bare = verdict == "not proved" and not self.is_apart_from(tried)
+            if judge and (OF_ANOTHER.fullmatch(verdict) or is_bare) and not said.errors_of(name):
                 outcome = WAITING, None
             elif judge and verdict.startswith(("not proved", "no proof")):
                 return REFUSED, reason(judge.path, verdict, said.lacks_names_alone(name))
@@ -115,14 +124,14 @@ class Crate:
         for place in places:
             try:
                 edit = Edit(place, self)
-                (left if edit.is_of_functions else alone).append(edit)
+                (left if edit.is_of_bodies else alone).append(edit)
             except (Unusable, OSError, UnicodeDecodeError) as why:
                 yield place.stem, False, f"not applied: {why}"
         with tempfile.TemporaryDirectory(prefix=f"quotafs-kept-{self.name}-") as kept:
             while left:
                 tried, texts, left = self.next_round(left)
                 said = self.check(texts, kept, sorted({it.path for edit in tried for it in edit.judges}))
-                outcomes = {edit: edit.outcome(said) for edit in tried}
+                outcomes = {edit: edit.outcome(said, tried) for edit in tried}
                 yield from ((it.name, True, why) for it, (kind, why) in outcomes.items() if kind == REFUSED)
                 spoilt = [it for it in tried if it.is_unread(said)]
                 # it may be refused in a later round, without those of this one

@@ -9,10 +9,12 @@ OWNER = re.compile(r"(?:unsafe )?(?:impl\b|(?:pub(?:\([\w ]+\))? )?(?:unsafe )?t
 
 @dataclass(frozen=True)
 class Function:
-    """A function: its file, its first and its last line from 1, its name below the crate, and the words of its text."""
+    """A function: its file, its first and its last line from 1, that behind which its body stands where it has clauses, its
+    name below the crate, and the words of its text."""
 
     file: str
     first: int
+    begins: int
     last: int
     path: str
     has_contract: bool
@@ -25,6 +27,9 @@ class Function:
     def holds(self, place):
         file, line = place
         return file == self.file and self.first <= line <= self.last
+
+    def has_body_at(self, place):
+        return self.holds(place) and place[1] > self.begins
 
     def is_called(self, name):
         """Whether the prover calls it so, or a closure in it: `crate::module::fn::name::closure`."""
@@ -88,10 +93,11 @@ def functions_of(file, text):
             ending = re.compile(re.escape(found[1]) + r"(\S.*)?[};]")
             last = next((it for it in range(at, len(lines)) if ending.fullmatch(lines[it])), at)
             body = lines[at : last + 1]
+            begins = next((it for it in range(at, last) if lines[it] == found[1] + "{"), at - 1)
             path = "::".join(part for part in (owner or module, found[2]) if part)
             has_contract = is_of_trait or any(re.match(r" *ensures\b", it) for it in body)
             words = re.findall(r"\w+", re.sub(r"//.*", "", "\n".join(body)))
-            yield Function(file, at + 1, last + 1, path, has_contract, frozenset(words))
+            yield Function(file, at + 1, begins + 1, last + 1, path, has_contract, frozenset(words))
 
 
 def standing_on(function, functions):
