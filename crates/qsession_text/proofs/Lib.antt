@@ -1,3 +1,4 @@
 pub mod Reading
+pub mod OnlyLines
 pub mod OfSession
 pub mod Answering

@@ -7,10 +7,11 @@ ghost use Rattle.qsession.specs.Tellings.{IsToldIn, UnlessMemory};
 ghost use Rattle.qsession_text.specs.Lines.{MakesCall, answer_in, only_line};
 
 use crate::buffer::put_text;
-use qplain::{Line, NoMemory, Reply, Script};
+use qplain::{Line, NoMemory, Reply};
 use qsession::{Fault, Kept};
-use qtext::{TextKind, TextLine};
-use qtext_files::FromText;
+use qtext::{ReadFault, TextLine};
+use qtext_files::{next_line, read_line};
+use qtext_read::Paths;
 use qtext_write::put_reply;
 use std::alloc::Global;
 
@@ -20,27 +21,20 @@ fn line_in(alloc: Global, text: &[u8]) -> Result<Line, Fault>
     ensures fault { IfErr result (λ fault. (fault ≡ Fault.Memory)
         ⊎ ((fault ≡ Fault.Line) × (only_line (script_of text.now) ≡ None))) }
 {
-    match Script::read(alloc, text) {
-        Ok(script) => only_line(script),
-        Err(fault) => match fault.kind {
-            TextKind::Memory => Err(Fault::Memory),
-            _ => Err(Fault::Line),
-        },
-    }
-}
-
-/// The one line of a script. Err is Line where it has none, or more than one.
-fn only_line(script: Script) -> Result<Line, Fault>
-    ensures line { IfOk result (λ line. script ≡ line ∷ []) }
-    ensures fault { IfErr result (λ fault. (fault ≡ Fault.Line) × (only_line (Ok script) ≡ None)) }
-{
-    let mut lines = script.into_lines().into_vec();
-    if lines.len() > 1 {
+    if text.is_empty() {
         return Err(Fault::Line);
     }
-    match lines.pop() {
-        Some(line) => Ok(line),
-        None => Err(Fault::Line),
+    let mut room = Vec::new(alloc);
+    let Ok(line) = next_line(&mut room, text) else {
+        return Err(Fault::Memory);
+    };
+    if !line.after.is_empty() {
+        return Err(Fault::Line);
+    }
+    match read_line(alloc, &mut Paths::apart(), 1, &line, &room) {
+        Ok(line) => Ok(line),
+        Err(ReadFault::Memory) => Err(Fault::Memory),
+        Err(ReadFault::Fault(_)) => Err(Fault::Line),
     }
 }
 

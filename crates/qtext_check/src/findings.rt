@@ -9,11 +9,10 @@ ghost use Rattle.qtext_files.specs.Scripts.{script_of};
 
 use crate::fault::{Fault, Finding, Wrong};
 use crate::place::word_at_fault;
-use crate::raw_line::{RawLine, next_line};
-use crate::reading::script_line_of;
 use crate::refusing::{refusal_of, refused_word};
 use qplain::{Line, Setup};
 use qtext::ReadFault;
+use qtext_files::{NextLine, next_line, read_line};
 use qtext_read::Paths;
 use std::alloc::{AllocError, Global};
 
@@ -46,7 +45,7 @@ fn wrong_in<'a>(
     setup: Option<&Setup>,
     paths: &mut Paths<'a>,
     number: u64,
-    line: &RawLine<'a>,
+    line: &NextLine<'a>,
     words: &[&'a [u8]],
 ) -> Result<Option<Found>, AllocError>
     requires bytes { line.now.is_text ≡ list_all is_text_byte line.now.bytes.now }
@@ -54,7 +53,7 @@ fn wrong_in<'a>(
     ensures { IfOk result (λ found. option_map (λ f. f.wrong) found ≡ wrong_in (option_map (λ s. s.now) setup.entry)
         (record { number = number; bytes = line.now.bytes.now; whole = line.now.whole })) }
 {
-    match script_line_of(alloc, paths, number, line, words) {
+    match read_line(alloc, paths, number, line, words) {
         Ok(line) => Ok(refused_in(setup, &line)),
         Err(ReadFault::Memory) => Err(AllocError),
         Err(ReadFault::Fault(kind)) => Ok(Some(Found {
@@ -70,7 +69,7 @@ fn finding_in<'a>(
     setup: Option<&Setup>,
     paths: &mut Paths<'a>,
     number: u64,
-    line: &RawLine<'a>,
+    line: &NextLine<'a>,
     words: &[&'a [u8]],
 ) -> Result<Option<Finding<'a>>, AllocError>
     requires bytes { line.now.is_text ≡ list_all is_text_byte line.now.bytes.now }

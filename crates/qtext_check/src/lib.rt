@@ -13,8 +13,6 @@ mod fault;
 mod findings;
 mod near;
 mod place;
-mod raw_line;
-mod reading;
 mod refusing;
 mod shown;
 mod telling;

@@ -1,7 +1,6 @@
--- In reading order: lines of a reader, what they say, what clients are told, what is known of their streams, what a
--- client says and is told in all; and what no public clause cites.
+-- In reading order: lines of a reader, what clients are told, what is known of their streams, what a client says and is
+-- told in all; and what no public clause cites.
 pub mod BoundedLines
-pub mod ScriptLines
 pub mod Tellings
 pub mod Wires
 pub mod Conversations

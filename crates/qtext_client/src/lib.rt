@@ -9,7 +9,6 @@ pub use telling::{LineFault, Telling, put_telling};
 
 mod bounded_line;
 mod connection;
-mod script_line;
 mod stream_client;
 mod streams;
 mod telling;

@@ -14,13 +14,14 @@ ghost use Rattle.qtext_files.specs.Scripts.{script_of};
 
 use crate::bounded_line::Got;
 use crate::connection::{Connection, EndedClient};
-use crate::script_line::script_line;
 use crate::streams::Streams;
 use crate::telling::{LineFault, Telling};
 use qplain::{Line, Transcript};
 use qrules::Items;
 use qrun_client::{Answer, Client, ClientEnd, MAX_GIVEN};
-use qtext::TextKind;
+use qtext::{ReadFault, TextKind};
+use qtext_files::{next_line, read_line};
+use qtext_read::Paths;
 use std::alloc::Global;
 use std::marker::Model;
 use std::sync::atomic::{AtomicBool, Ordering};
@@ -85,10 +86,14 @@ fn heard_in(alloc: Global, text: &[u8]) -> Heard
     requires { IsOneLine text.now }
     ensures { HearsText result (script_of text.now) }
 {
-    match script_line(alloc, text) {
+    let mut room = Vec::new(alloc);
+    let Ok(line) = next_line(&mut room, text) else {
+        return Heard::None(Telling::NoMemory);
+    };
+    match read_line(alloc, &mut Paths::apart(), 1, &line, &room) {
         Ok(line) => Heard::Line(line),
-        Err(TextKind::Memory) => Heard::None(Telling::NoMemory),
-        Err(kind) => Heard::None(Telling::Fault(LineFault::Text(kind))),
+        Err(ReadFault::Memory) => Heard::None(Telling::NoMemory),
+        Err(ReadFault::Fault(kind)) => Heard::None(Telling::Fault(LineFault::Text(kind))),
     }
 }
 

@@ -1,5 +1,5 @@
--- A line by itself is a script of one line.
-use Rattle.std.proofs.Common.{◌≡◌, ◌⊎◌, ℕ, ◌+◌, ◌≤◌, ◌<◌, Bool, true, false, not, ◌||◌, ◌&&◌, eqb, ltb, List, [], ◌∷◌, ◌++◌, Result, Ok, Err, refl, sym, ap, ◌∙◌, arith, inl, inr}
+-- Lines that stand by themselves.
+use Rattle.std.proofs.Common.{◌≡◌, ◌⊎◌, ℕ, ◌+◌, ◌≤◌, ◌<◌, Bool, true, false, not, ◌||◌, ◌&&◌, eqb, ltb, List, [], ◌∷◌, ◌++◌, length, Result, Ok, Err, refl, sym, ap, ◌∙◌, arith, inl, inr}
 use Rattle.std.specs.Prelude.{nat_lt}
 use Rattle.std.specs.List.{list_all, list_any}
 use Rattle.std.proofs.lemmas.Bool.{le-ltb}
@@ -8,16 +8,18 @@ use Rattle.qplain.specs.declared.line.Line.{Line}
 use Rattle.qtext.specs.declared.text_fault.TextFault.{TextFault}
 use Rattle.qtext.specs.declared.text_fault.TextKind.{TextKind}
 use Rattle.qtext.specs.declared.text_fault.TextKind.TheVariants.{BadByte, Cut, TooMany}
-use Rattle.qtext.specs.Reading.{◌>>=◌, each_of}
+use Rattle.qtext.specs.declared.read_fault.ReadFault.{ReadFault}
+use Rattle.qtext.specs.declared.read_fault.ReadFault.TheVariants.{Memory, Fault}
+use Rattle.qtext.specs.Gives.{Fails}
 use Rattle.qtext.specs.Words.{is_text_byte, parts, words}
-use Rattle.qtext.proofs.Joining.{lacks, and_both, parts_first, passes_weaker}
+use Rattle.qtext.proofs.Joining.{lacks, and_both, parts_first, parts_last, passes_weaker}
 use Rattle.qtext.proofs.Splitting.{some_part}
 use Rattle.qtext.proofs.StepsFound.{passed, same_ok, step_found}
 use Rattle.qtext.proofs.WordsAgain.{text_lacks_feed}
 use Rattle.qtext_files.specs.RawLines.{RawLine, in_line, raw_lines_from}
 use Rattle.qtext_files.specs.Scripts.{line_in, script_line_of, at_line, script_of}
 use Rattle.qtext_files.proofs.RawLines.{in_line_found, more_lines, no_line}
-use Rattle.qtext_expand.specs.Plain.{only_moment, plain_line, plain_moment}
+use Rattle.qtext_expand.specs.Plain.{plain_line, plain_moment}
 
 -- a line of this number, with its end
 abbrev pub whole_line : ℕ → List ℕ → RawLine
@@ -29,23 +31,6 @@ pub line_then : (n : ℕ) (line rest : List ℕ) → lacks 10 line ≡ true
 line_then n line rest lack =
     ap (raw_lines_from n) (parts_first 10 line rest lack) ∙ more_lines n line (parts 10 rest) (some_part 10 rest)
 
--- what a script of one line says
-abbrev one_of : (read : Result Line TextFault) → Result (List Line) TextFault
-one_of read = read >>= λ line. Ok (line ∷ [])
-
-pub one_line : (line : List ℕ) → lacks 10 line ≡ true → script_of (line ++ 10 ∷ []) ≡ one_of (at_line (whole_line 1 line))
-unfolding each_of
-one_line line lack = ap (each_of at_line) (line_then 1 line [] lack) ∙ rw (no_line 2) refl
-
--- which is what the line says
-moment_by : (said : Result Line TextKind) → only_moment (one_of (in_line 1 said)) ≡ (said >>= λ line. Ok line.moment)
-moment_by (Ok line) = refl
-moment_by (Err kind) = refl
-
-pub one_moment : (line : List ℕ) → lacks 10 line ≡ true → only_moment (script_of (line ++ 10 ∷ [])) ≡ plain_moment line
-unfolding plain_moment at_line
-one_moment line lack = ap only_moment (one_line line lack) ∙ moment_by (plain_line line)
-
 -- ---- a line with a line feed in it
 
 or_false : (a b : Bool) → (a || b) ≡ false → (a ≡ false) × (b ≡ false)
@@ -55,7 +40,7 @@ or_false true b e = absurd (cc e)
 not_of : (a : Bool) → a ≡ false → not a ≡ true
 not_of a e = rw e refl
 
-pub none_lacks : (xs : List ℕ) → list_any (λ y. eqb y 10) xs ≡ false → lacks 10 xs ≡ true
+none_lacks : (xs : List ℕ) → list_any (λ y. eqb y 10) xs ≡ false → lacks 10 xs ≡ true
 none_lacks [] e = refl
 none_lacks (x ∷ xs) e =
     let k = or_false (eqb x 10) _ e in
@@ -73,13 +58,33 @@ no_text_by : (b : Bool) (x : ℕ) (xs : List ℕ) → eqb x 10 ≡ b → (b || l
 no_text_by true x xs is e others = rw (feed_is_no_text x is) refl
 no_text_by false x xs is e others = and_false (is_text_byte x) (list_all is_text_byte xs) (others e)
 
-pub some_no_text : (xs : List ℕ) → list_any (λ y. eqb y 10) xs ≡ true → list_all is_text_byte xs ≡ false
+some_no_text : (xs : List ℕ) → list_any (λ y. eqb y 10) xs ≡ true → list_all is_text_byte xs ≡ false
 some_no_text [] e = absurd (cc e)
 some_no_text (x ∷ xs) e = no_text_by (eqb x 10) x xs refl e (some_no_text xs)
 
-pub no_moment : (xs : List ℕ) → list_any (λ y. eqb y 10) xs ≡ true → plain_moment xs ≡ Err BadByte
-unfolding plain_moment script_line_of
-no_moment xs e = rw (some_no_text xs e) refl
+pub cut_is_no_text : (text first after : List ℕ) → parts 10 text ≡ first ∷ parts 10 after → list_all is_text_byte text ≡ false
+cut_is_no_text text first after e = by (list_any (λ y. eqb y 10) text) refl
+  where
+    by : (b : Bool) → list_any (λ y. eqb y 10) text ≡ b → list_all is_text_byte text ≡ false
+    by true some = some_no_text text some
+    by false none =
+        let one : first ∷ parts 10 after ≡ text ∷ [] = sym e ∙ parts_last 10 text (none_lacks text none) in
+        absurd (omega (arith, ap length one, some_part 10 after))
+
+-- ---- a line that was read by itself
+
+pub moment_said : (bytes : List ℕ) (whole : Bool) (line : Line) → whole ≡ true
+    → script_line_of (record { number = 1; bytes = bytes; whole = whole }) ≡ Ok line → plain_moment bytes ≡ Ok line.moment
+unfolding plain_moment
+moment_said bytes true line is e = rw e refl
+moment_said bytes false line is e = absurd (cc is)
+
+pub moment_fails : (bytes : List ℕ) (whole : Bool) (fault : ReadFault) → whole ≡ true
+    → Fails fault (script_line_of (record { number = 1; bytes = bytes; whole = whole })) → Fails fault (plain_moment bytes)
+unfolding plain_moment
+moment_fails bytes true Memory is fails = tt
+moment_fails bytes true (Fault kind) is fails = rw fails refl
+moment_fails bytes false fault is fails = absurd (cc is)
 
 -- ---- a plain line
 

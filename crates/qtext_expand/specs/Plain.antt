@@ -1,9 +1,7 @@
 -- Lines as a script has them.
 use Rattle.std.specs.Prelude.{ℕ, true, List, [], ◌∷◌, Result, Ok, Err}
 use Rattle.qplain.specs.declared.line.Line.{Line}
-use Rattle.qtext.specs.declared.text_fault.TextFault.{TextFault}
 use Rattle.qtext.specs.declared.text_fault.TextKind.{TextKind}
-use Rattle.qtext.specs.declared.text_fault.TextKind.TheVariants.{BadByte}
 use Rattle.qtext.specs.Reading.{◌>>=◌, each_of}
 use Rattle.qtext_files.specs.Scripts.{script_line_of}
 
@@ -16,12 +14,6 @@ unfoldable pub plain_moment : List ℕ → Result ℕ TextKind
 plain_moment bytes = do
   line ← plain_line bytes
   Ok line.moment
-
--- the moment of the only line of a script; more than one cannot be in a line
-abbrev pub only_moment : Result (List Line) TextFault → Result ℕ TextKind
-only_moment (Ok (line ∷ [])) = Ok line.moment
-only_moment (Ok lines) = Err BadByte
-only_moment (Err fault) = Err fault.kind
 
 -- a line, if it is plain
 unfoldable pub judged : List ℕ → Result (List ℕ) TextKind

@@ -13,9 +13,9 @@ ghost use Rattle.qtext_expand.specs.GivesAs.{AreBytes, GivesBy, ReadsBytes};
 ghost use Rattle.qtext_expand.specs.WrittenAs.{written_as};
 
 use crate::line::{Expanded, Standing, line_written};
-use crate::raw_line::{RawLine, next_line};
 use qplain::{MAX_LINES, Setup};
 use qtext::{ReadFault, TextFault, TextKind};
+use qtext_files::{NextLine, next_line};
 use std::alloc::{AllocError, Global};
 
 /// The fault out of memory, whatever a text says.
@@ -41,14 +41,14 @@ fn line_after(
     setup: &Setup,
     before: usize,
     standing: Standing<'_>,
-    line: RawLine<'_>,
+    line: &NextLine<'_>,
     words: &[&[u8]],
 ) -> Result<Expanded, ReadFault>
     requires before { before ≤ MAX_LINES }
-    requires bytes { line.is_text ≡ list_all is_text_byte line.bytes.now }
-    requires words { line.is_text ≡ true → map (λ word. word.now) words.now ≡ words_of line.bytes.now }
+    requires bytes { line.now.is_text ≡ list_all is_text_byte line.now.bytes.now }
+    requires words { line.now.is_text ≡ true → map (λ word. word.now) words.now ≡ words_of line.now.bytes.now }
     ensures gives { GivesBy written_as result (written_after setup.now before standing.entry.when standing.entry.who.now
-        line.entry.whole line.entry.bytes.now) }
+        line.now.whole line.now.bytes.now) }
     ensures few { IfOk result (λ w. before + length w.lines.items ≤ MAX_LINES) }
 {
     let expanded = line_written(alloc, setup, standing, line, words)?;
@@ -75,7 +75,7 @@ fn expansion_of(alloc: Global, setup: &Setup, text: &[u8]) -> Result<Vec<u8>, Te
             return Err(WANT_OF_MEMORY);
         };
         let standing = Standing { when, who: &who };
-        match line_after(alloc, setup, before, standing, line, &room) {
+        match line_after(alloc, setup, before, standing, &line, &room) {
             Ok(expanded) => {
                 match put_ended(&mut out, &expanded.lines) {
                     Ok(()) => {}

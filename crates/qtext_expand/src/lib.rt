@@ -11,7 +11,6 @@ mod line;
 mod moment;
 mod names;
 mod plain;
-mod raw_line;
 mod value;
 mod ways;
 mod words;

@@ -12,11 +12,11 @@ ghost use Rattle.qtext_expand.specs.WrittenAs.{as_it_stands, unchanged, written_
 use crate::call::calls_of;
 use crate::caller::{caller_text, is_caller};
 use crate::moment::{moment_in, split_moment};
-use crate::plain::plain_moment;
-use crate::raw_line::RawLine;
+use crate::plain::{line_moment, plain_moment};
 use crate::words::{begins, friendly_words};
 use qplain::Setup;
 use qtext::{Piece, ReadFault, TextKind, put_pieces};
+use qtext_files::NextLine;
 use qtext_read::caller_of;
 use std::alloc::{AllocError, Global};
 
@@ -194,13 +194,13 @@ fn friendly_written(
     alloc: Global,
     setup: &Setup,
     standing: Standing<'_>,
-    line: RawLine<'_>,
+    line: &NextLine<'_>,
     words: &[&[u8]],
 ) -> Result<Expanded, ReadFault>
-    requires bytes { line.is_text ≡ list_all is_text_byte line.bytes.now }
-    requires words { line.is_text ≡ true → map (λ word. word.now) words.now ≡ words_of line.bytes.now }
+    requires bytes { line.now.is_text ≡ list_all is_text_byte line.now.bytes.now }
+    requires words { line.now.is_text ≡ true → map (λ word. word.now) words.now ≡ words_of line.now.bytes.now }
     ensures { GivesBy written_as result
-        (friendly_written setup.now standing.entry.when standing.entry.who.now line.entry.bytes.now) }
+        (friendly_written setup.now standing.entry.when standing.entry.who.now line.now.bytes.now) }
 {
     if begins(b'#', line.bytes) {
         return Ok(nothing(alloc, standing.when, standing.who)?);
@@ -235,18 +235,18 @@ pub(crate) fn line_written(
     alloc: Global,
     setup: &Setup,
     standing: Standing<'_>,
-    line: RawLine<'_>,
+    line: &NextLine<'_>,
     words: &[&[u8]],
 ) -> Result<Expanded, ReadFault>
-    requires bytes { line.is_text ≡ list_all is_text_byte line.bytes.now }
-    requires words { line.is_text ≡ true → map (λ word. word.now) words.now ≡ words_of line.bytes.now }
+    requires bytes { line.now.is_text ≡ list_all is_text_byte line.now.bytes.now }
+    requires words { line.now.is_text ≡ true → map (λ word. word.now) words.now ≡ words_of line.now.bytes.now }
     ensures { GivesBy written_as result (line_written setup.now standing.entry.when standing.entry.who.now
-        line.entry.whole line.entry.bytes.now) }
+        line.now.whole line.now.bytes.now) }
 {
     if !line.whole {
         return Err(ReadFault::Fault(TextKind::Cut));
     }
-    match plain_moment(alloc, line.bytes) {
+    match line_moment(alloc, line, words) {
         Ok(moment) => Ok(as_it_stands(alloc, moment, standing.who, line.bytes)?),
         Err(ReadFault::Fault(_)) => friendly_written(alloc, setup, standing, line, words),
         Err(ReadFault::Memory) => Err(ReadFault::Memory),

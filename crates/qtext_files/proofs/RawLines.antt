@@ -1,11 +1,11 @@
 -- The lines of a text, one after the other.
-use Rattle.std.proofs.Common.{◌≡◌, ℕ, ◌<◌, ◌+◌, true, false, eqb, List, [], ◌∷◌, length, Result, Ok, Err, refl, ap, arith}
+use Rattle.std.proofs.Common.{◌≡◌, ℕ, ◌<◌, ◌+◌, true, false, eqb, List, [], ◌∷◌, length, Result, Ok, Err, refl, sym, ap, arith}
 use Rattle.std.proofs.lemmas.Bool.Decides.{nat_tests}
 use Rattle.qtext.specs.declared.text_fault.TextKind.{TextKind}
 use Rattle.qtext.specs.Reading.{each_of}
 use Rattle.qtext.specs.Words.{parts}
 use Rattle.qtext.proofs.Splitting.{some_part}
-use Rattle.qtext.proofs.StepsFound.{same_ok}
+use Rattle.qtext.proofs.StepsFound.{joined, same_ok}
 use Rattle.qtext_files.specs.RawLines.{RawLine, raw_lines_from, in_line}
 use Rattle.qtext_files.specs.Scripts.{script_line_of, at_line}
 
@@ -34,6 +34,17 @@ ended_line n text line after e = rw e (more_lines n line (parts 10 after) (some_
 pub cut_line : (n : ℕ) (text line : List ℕ) → 0 < length line → parts 10 text ≡ line ∷ []
     → raw_lines_from n (parts 10 text) ≡ record { number = n; bytes = line; whole = false } ∷ raw_lines_from (n + 1) (parts 10 [])
 cut_line n text line lt e = rw (e, no_line (n + 1)) (one_line n line lt)
+
+-- a text that is not empty has a line
+some_of : (n : ℕ) (text : List ℕ) (ls : List (List ℕ)) → parts 10 text ≡ ls → 0 < length text → 0 < length (raw_lines_from n ls)
+some_of n text [] is lt = absurd (omega (arith, ap length is, some_part 10 text))
+some_of n text (l ∷ []) is lt =
+    let whole : l ≡ text = joined 10 text (l ∷ []) (sym is) in
+    rw (one_line n l (rw whole lt)) omega arith
+some_of n text (l ∷ m ∷ ls) is lt = rw (more_lines n l (m ∷ ls) (omega arith)) omega arith
+
+pub some_line : (n : ℕ) (text : List ℕ) → 0 < length text → 0 < length (raw_lines_from n (parts 10 text))
+some_line n text lt = some_of n text (parts 10 text) refl lt
 
 -- ---- what is told of a line
 

@@ -12,6 +12,13 @@ use Rattle.qtext_read.specs.Callers.{caller_of}
 use Rattle.qtext_read.specs.Calls.{call_in}
 use Rattle.qtext_files.specs.RawLines.{RawLine, in_line, raw_lines}
 
+-- CALLER CALL, at that moment
+abbrev pub line_at : ℕ → List ℕ → List (List ℕ) → Result Line TextKind
+line_at moment c call_words = do
+  cred ← caller_of c
+  call ← call_in call_words
+  Ok (record { cred = cred; moment = moment; call = call })
+
 -- MOMENT CALLER CALL
 unfoldable pub line_in : List (List ℕ) → Result Line TextKind
 line_in [] = Err BadNumber
@@ -20,9 +27,7 @@ line_in (m ∷ []) = do
   Err BadCred
 line_in (m ∷ c ∷ call_words) = do
   moment ← number m
-  cred ← caller_of c
-  call ← call_in call_words
-  Ok (record { cred = cred; moment = moment; call = call })
+  line_at moment c call_words
 
 -- what a line says, or the first thing wrong in it
 unfoldable pub script_line_of : RawLine → Result Line TextKind

@@ -3,7 +3,9 @@
 
 pub use from_text::FromText;
 pub use journal_text::{put_journal, write_journal};
+pub use line::read_line;
 pub use qtext_write::WriteFault;
+pub use raw_line::{NextLine, next_line};
 
 mod callers;
 mod entry;

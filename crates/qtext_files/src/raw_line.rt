@@ -1,3 +1,4 @@
+//! The next line of a text.
 ghost use Rattle.std.specs.Prelude.{◌≡◌, ◌<◌, ◌+◌, ◌∷◌, ℕ, true, map, length, IfOk};
 ghost use Rattle.std.specs.List.{list_all};
 ghost use Rattle.qtext.specs.Words.{is_text_byte, parts, words};
@@ -8,25 +9,22 @@ use std::alloc::AllocError;
 
 /// A line as it stands in a text.
 #[derive(Clone, Copy, Debug)]
-pub(crate) struct NextLine<'a> {
+pub struct NextLine<'a> {
     /// The line, with no line end.
-    pub(crate) bytes: &'a [u8],
+    pub bytes: &'a [u8],
     /// Whether a line end stands after it.
-    pub(crate) whole: bool,
+    pub whole: bool,
     /// Whether each of its bytes is a space or one that prints.
-    pub(crate) is_text: bool,
+    pub is_text: bool,
     /// What follows.
-    pub(crate) after: &'a [u8],
+    pub after: &'a [u8],
 }
 
 /// The first line of a text that is not empty.
 ///
 /// Its words are put into the room, whatever that holds, so that lines share one allocation. Where a byte of it is
 /// neither a space nor one that prints, the room holds some of its words. An Err says nothing of the text.
-pub(crate) fn next_line<'a>(
-    room: &mut Vec<&'a [u8]>,
-    text: &'a [u8],
-) -> Result<NextLine<'a>, AllocError>
+pub fn next_line<'a>(room: &mut Vec<&'a [u8]>, text: &'a [u8]) -> Result<NextLine<'a>, AllocError>
     requires { 0 < length text.now }
     ensures first { IfOk result (λ line. (n : ℕ) → raw_lines_from n (parts 10 text.now)
         ≡ record { number = n; bytes = line.bytes.now; whole = line.whole }

@@ -103,6 +103,13 @@ impl<'a> Paths<'a> {
         }
     }
 
+    /// Those of a line that stands alone: each has bytes of its own.
+    pub fn apart() -> Self
+        ensures { result ≡ 0 }
+    {
+        Paths::of(&[])
+    }
+
     /// Goes to a line, after whose line end these bytes are left.
     pub fn begin_line(&mut self, after: &[u8])
         ensures { self.new ≡ length after.now + 1 }
@@ -143,6 +150,9 @@ impl<'a> Paths<'a> {
         let left = behind.saturating_add(word.len());
         if let Some(path) = self.path_at(left, word)? {
             return Ok(path);
+        }
+        if self.text.is_empty() {
+            return path_of(alloc, word);
         }
         self.turn_page(alloc, left, word.len())?;
         match self.path_at(left, word)? {

@@ -95,13 +95,13 @@ pub record IsAllSound (config : List ℕ) (scripts : List (List ℕ)) (files : H
   pub scripts_are : All (IsSoundUnder files (Some setting)) scripts
 
 -- what is seen at one time of files, of the output and of the error output, where they tell it
-pub record Sight : Type 0 where
+pub record Scene : Type 0 where
   pub files : Held
   pub output : Option (List ℕ)
   pub errors : Option (List ℕ)
 
 -- it is seen so
-abbrev pub seen : Held → Option (List ℕ) → Option (List ℕ) → Sight
+abbrev pub seen : Held → Option (List ℕ) → Option (List ℕ) → Scene
 seen files output errors = record { files = files; output = output; errors = errors }
 
 -- the client's replies go to standard output
@@ -113,12 +113,12 @@ abbrev pub is_taken : List Pair → Bool
 is_taken pairs = (length pairs == 0) || list_any is_to_standard pairs
 
 -- where it is told what a service left: on the error output where standard output is a client's
-abbrev pub told_at : Bool → Sight → Option (List ℕ)
-told_at true sight = sight.errors
-told_at false sight = sight.output
+abbrev pub told_at : Bool → Scene → Option (List ℕ)
+told_at true scene = scene.errors
+told_at false scene = scene.output
 
--- what the job asks for was printed between these sights, where it ended with this status
-abbrev pub IsPrinted : Job → ℕ → Sight → Sight → Type 0
+-- what the job asks for was printed between these scenes, where it ended with this status
+abbrev pub IsPrinted : Job → ℕ → Scene → Scene → Type 0
 IsPrinted (Run config telling journal boards batch scripts) status old new =
     PrintsRun (string_bytes config) (map (λ s. string_bytes s) scripts.items) boards telling
     (option_map (λ s. string_bytes s) journal) status old.files new.files old.output new.output
@@ -143,8 +143,8 @@ AsksForHelp Memory = ⊥
 abbrev pub AskForHelp : List (List ℕ) → Type 0
 AskForHelp words = (kind : ErrorKind) × IsAmong kind (fault_of quotafs words) × (is_shown kind ≡ true)
 
--- what the words ask for was printed between these sights, where it ended with this status: help or the version, with
+-- what the words ask for was printed between these scenes, where it ended with this status: help or the version, with
 -- 0, or what their job asks for
-abbrev pub IsPrintedBy : List (List ℕ) → ℕ → Sight → Sight → Type 0
+abbrev pub IsPrintedBy : List (List ℕ) → ℕ → Scene → Scene → Type 0
 IsPrintedBy words status old new =
     ((status ≡ 0) × AskForHelp words) ⊎ ((job : Job) × IsAskedBy words job × IsPrinted job status old new)
