@@ -2,10 +2,10 @@
 ghost use Rattle.std.specs.Prelude.{◌≡◌, map};
 ghost use Rattle.qsession.specs.Holdings.{held_in};
 ghost use Rattle.qsession.specs.Tellings.{IsToldIn, UnlessMemory};
-ghost use Rattle.qsession_list.specs.Inodes.{inode_in, inodes_in};
+ghost use Rattle.qsession.specs.Inodes.{inode_in, inodes_in};
 
 use qsession::{Fault, Session};
-use qsession_list::{ListedInode, list_inodes};
+use qsession::{ListedInode, list_inodes};
 use std::alloc::Global;
 
 /// Lists the inodes by number, and tells how many there are.

@@ -2,10 +2,10 @@
 ghost use Rattle.std.specs.Prelude.{◌≡◌};
 ghost use Rattle.qsession.specs.Holdings.{held_in};
 ghost use Rattle.qsession.specs.Tellings.{UnlessMemory};
-ghost use Rattle.qsession_list.specs.Names.{AreNamesTold};
+ghost use Rattle.qsession.specs.Names.{AreNamesTold};
 
 use qsession::{Fault, Session};
-use qsession_list::{ListedName, list_names};
+use qsession::{ListedName, list_names};
 use std::alloc::Global;
 
 /// Lists the names by directory, then by name, beside a text of their bytes, and tells how many names and how many

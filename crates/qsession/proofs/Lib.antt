@@ -4,3 +4,5 @@ pub mod Fitting
 pub mod Replying
 pub mod Committing
 pub mod Calling
+pub mod Listed
+pub mod Put

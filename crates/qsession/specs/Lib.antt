@@ -1,5 +1,5 @@
 -- In reading order: what a session holds, what a call makes of it, by which numbers that is told, what the structs that
--- cross to other languages stand for, and how a session tells of itself. A module that no public clause cites says so.
+-- cross to other languages stand for, and how a session tells of itself, of its inodes and of its names. A module that no public clause cites says so.
 pub mod Holdings
 pub mod Recorded
 pub mod Steps
@@ -13,4 +13,6 @@ pub mod BorrowedCalls
 pub mod Replies
 pub mod ReadReplies
 pub mod Tellings
+pub mod Inodes
+pub mod Names
 pub mod Slots

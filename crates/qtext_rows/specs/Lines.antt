@@ -9,9 +9,9 @@ use Rattle.qplain.specs.declared.line.Line.{Line}
 use Rattle.qplain.specs.declared.receipt.Receipt.{Receipt}
 use Rattle.qplain.specs.declared.transcript.Transcript.{Transcript}
 use Rattle.qtext_outcome.specs.Calls.{repeated}
-use Rattle.qtext_json.specs.Calls.{call_members, caller_members, fill_members, write_members}
-use Rattle.qtext_json.specs.Replies.{answer_members}
-use Rattle.qtext_json.specs.Values.{member, object_start}
+use Rattle.qtext_rows.specs.Calls.{call_members, caller_members, fill_members, write_members}
+use Rattle.qtext_rows.specs.Replies.{answer_members}
+use Rattle.qtext_rows.specs.Values.{member, object_start}
 
 -- whose line it is, and its place in the script
 abbrev pub line_start : ℕ → ℕ → List ℕ

@@ -7,7 +7,7 @@ use Rattle.qrules.specs.declared.record_row.RecordRow.{RecordRow}
 use Rattle.qtext.specs.RuleWords.{kind_text}
 use Rattle.qtext_view.specs.declared.view.View.{View}
 use Rattle.qtext_outcome.specs.Reports.{is_over_any}
-use Rattle.qtext_json.specs.Values.{flag_text, member, object_start}
+use Rattle.qtext_rows.specs.Values.{flag_text, member, object_start}
 
 -- what is left of a grace at a moment, in seconds: null where none runs, and 0 where it has ended
 abbrev pub grace_left : ℕ → Option ℕ → List ℕ

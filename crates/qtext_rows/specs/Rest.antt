@@ -16,7 +16,7 @@ use Rattle.qaudit.specs.declared.difference.Difference.{Difference}
 use Rattle.qaudit.specs.declared.difference.Difference.TheVariants.{Uses, NoRow, Links}
 use Rattle.qrun_replay.specs.declared.outcome.Outcome.{Outcome}
 use Rattle.qtext_outcome.specs.Boards.{look_fault_text}
-use Rattle.qtext_json.specs.Values.{member, object_start}
+use Rattle.qtext_rows.specs.Values.{member, object_start}
 
 -- a look: the board's version and its totals, or why none was shown
 abbrev pub look_object : Result Board LookFault → List ℕ

@@ -3,10 +3,14 @@
 
 pub use formatted::put_formatted;
 
+mod call_members;
 mod field;
 mod formatted;
 mod line_objects;
 mod objects;
+mod part;
 mod record_objects;
+mod reply_members;
 mod report_rows;
 mod rest_objects;
+mod value;

@@ -3,14 +3,15 @@ ghost use Rattle.std.specs.Prelude.{◌++◌, [], if◌then◌else◌};
 ghost use Rattle.qtext.specs.Written.{Writes};
 ghost use Rattle.qtext_rows.specs.Lines.{asked_members, line_object, line_start, shown_call};
 ghost use Rattle.qtext_rows.specs.Lines.{transcript_objects, transcripts_objects};
-ghost use Rattle.qtext_json.specs.Replies.{answer_members};
+ghost use Rattle.qtext_rows.specs.Replies.{answer_members};
 
+use crate::call_members::{put_call, put_caller_members, put_fill};
+use crate::part::{Part, put_parts};
+use crate::reply_members::{put_failed, put_receipt};
+use crate::value::Value;
 use qplain::{Call, CallFault};
 use qrun_replay::{PlacedLine, PlacedReply, PlacedTranscript};
 use qtext::RefusedWrite;
-use qtext_json::{
-    Part, Value, put_call, put_caller_members, put_failed, put_fill, put_parts, put_receipt,
-};
 use qtext_outcome::repeated;
 use std::io::Write;
 

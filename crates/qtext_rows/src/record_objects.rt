@@ -2,11 +2,12 @@
 ghost use Rattle.std.specs.Prelude.{◌≡◌};
 ghost use Rattle.qtext.specs.Written.{Writes};
 ghost use Rattle.qtext_rows.specs.Records.{grace_left, record_object, record_objects, shown_object};
-ghost use Rattle.qtext_json.specs.Values.{value_text};
+ghost use Rattle.qtext_rows.specs.Values.{value_text};
 
+use crate::part::{Part, put_parts};
+use crate::value::Value;
 use qrules::RecordRow;
 use qtext::{RefusedWrite, kind_word};
-use qtext_json::{Part, Value, put_parts};
 use qtext_outcome::{is_over, is_over_any, kib_of};
 use qtext_view::View;
 use std::io::Write;

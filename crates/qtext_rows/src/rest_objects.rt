@@ -6,12 +6,13 @@ ghost use Rattle.qtext_rows.specs.Rest.{audit_objects, audit_start, difference_o
 ghost use Rattle.qtext_rows.specs.Rest.{moment_object, owner_object, rest_objects, tally_object, totals_object};
 ghost use Rattle.qtext_rows.specs.Rest.{use_object};
 
+use crate::part::{Part, put_parts};
+use crate::value::Value;
 use qaudit::{CountRow, Difference, LinkRow};
 use qplain::{Board, LookFault, Tallies};
 use qrules::{Kind, RecordRow};
 use qrun_replay::Outcome;
 use qtext::{RefusedWrite, kind_word};
-use qtext_json::{Part, Value, put_parts};
 use qtext_outcome::look_fault_word;
 use std::io::Write;
 

@@ -1,7 +1,7 @@
 use Rattle.std.proofs.Common.{ap}
 use Rattle.qtext.proofs.Fronts.{refused_first, writes_then}
 use Rattle.qtext_read.specs.Spelling.{caller_text}
-use Rattle.qtext_json.specs.Calls.{caller_members}
+use Rattle.qtext_rows.specs.Calls.{caller_members}
 use Rattle.qtext_rows.specs.Lines.{shown_call}
 use Rattle.qtext_rows.proofs.line_objects.put_asked.Goals as goal
 

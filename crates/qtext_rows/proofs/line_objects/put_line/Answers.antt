@@ -1,6 +1,6 @@
 use Rattle.std.proofs.Common.{[], ◌++◌}
 use Rattle.std.specs.Prelude.{if◌then◌else◌}
-use Rattle.qtext_json.specs.Replies.{answer_members}
+use Rattle.qtext_rows.specs.Replies.{answer_members}
 use Rattle.qtext_rows.specs.Lines.{asked_members, line_start}
 use Rattle.qtext.proofs.Fronts.{refused_first}
 use Rattle.qtext_rows.proofs.line_objects.put_line.Goals as goal

@@ -1,3 +1,0 @@
--- What stands in a text for a byte, and the digits of bytes.
-pub mod Escapes
-pub mod Digits

@@ -1,8 +1,0 @@
-use Rattle.std.proofs.Common.{drop}
-use Rattle.qtext.specs.Written.{Partly}
-use Rattle.qtext_json.specs.Values.{parts_text}
-use Rattle.qtext_json.proofs.part.put_parts.Given as goal
-
-abbrev pub invariant-loop-part : goal.invariant-loop-part
-invariant-loop-part g l = Partly (g.W.Write.contents l.fn.out) (g.W.Write.contents l.out)
-    (parts_text l.parts) (parts_text (drop l.part-index l.parts))
