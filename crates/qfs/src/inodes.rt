@@ -4,8 +4,7 @@ ghost use Rattle.qsession.specs.Holdings.{held_in};
 ghost use Rattle.qsession.specs.Tellings.{IsToldIn, UnlessMemory};
 ghost use Rattle.qsession.specs.Inodes.{inode_in, inodes_in};
 
-use qsession::{Fault, Session};
-use qsession::{ListedInode, list_inodes};
+use qsession::{Fault, ListedInode, Session, list_inodes};
 use std::alloc::Global;
 
 /// Lists the inodes by number, and tells how many there are.

@@ -4,8 +4,7 @@ ghost use Rattle.qsession.specs.Holdings.{held_in};
 ghost use Rattle.qsession.specs.Tellings.{UnlessMemory};
 ghost use Rattle.qsession.specs.Names.{AreNamesTold};
 
-use qsession::{Fault, Session};
-use qsession::{ListedName, list_names};
+use qsession::{Fault, ListedName, Session, list_names};
 use std::alloc::Global;
 
 /// Lists the names by directory, then by name, beside a text of their bytes, and tells how many names and how many

@@ -1,5 +1,5 @@
--- In reading order: values and members, what lines ask for and are answered, lines, records and the rest of an outcome as objects, an outcome as lines of JSON, the report as
--- records of CSV, and an outcome in a format.
+-- In reading order: values and members, what lines ask for and are answered, lines, records and the rest of an outcome
+-- as objects, an outcome as lines of JSON, the report as records of CSV, and an outcome in a format.
 pub mod Values
 pub mod Calls
 pub mod Replies
