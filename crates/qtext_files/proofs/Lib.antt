@@ -1,4 +1,5 @@
--- The lines of a text, and a script of one; that scripts and journals that are spelled out are read again; what those are that were read, or were written.
+-- The lines of a text, and a script of one; that scripts and journals that are spelled out are read again; what those
+-- are that were read, or were written.
 pub mod RawLines
 pub mod OneLine
 pub mod LinesAgain
