@@ -60,6 +60,9 @@ static uint32_t call_once(const char *kind, long number) {
     } else if (!strcmp(kind, "quota")) {
         code = qfs_quota(&session, &builder, 1, QFS_KIND_USER, 1000, &quota);
         sum += quota.blocks;
+    } else if (!strcmp(kind, "line")) {
+        code = qfs_line(&session, TEXT("1 1000:100 stat /file\n"), back, sizeof back, &len);
+        sum += len;
     }
     return code;
 }
