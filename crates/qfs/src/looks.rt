@@ -11,7 +11,7 @@ use qsession::{Caller, PathText, QuotaReply, Session, StatReply, kind_of};
 use std::alloc::Global;
 
 /// Reads as many bytes from the offset on as the buffer has, up to the end of the file.
-#[tactic(auto, using(qsession::proofs::Calling::path_faulted, qsession::proofs::Calling::not_granted, qsession::proofs::Calling::no_bytes))]
+#[tactic(auto, using(qsession::proofs::Calling::path_faulted, qsession::proofs::Calling::not_granted))]
 #[unsafe(no_mangle)]
 pub extern "C" fn qfs_read(
     alloc: Global,
