@@ -10,9 +10,10 @@ use crate::clashes::ServiceNames;
 use crate::client_names::{is_output_taken, names_of};
 use crate::ending::Ending;
 use crate::expanding::expand_job;
+use crate::machine::Machine;
 use crate::replaying::{AskedReplay, replay_job};
 use crate::running::{AskedRun, run_job};
-use crate::serving::{Asked, serve_job};
+use crate::services::{Asked, serve_job};
 use crate::{Files, Job, LineFault, NamedStreams, Options};
 use qtext::put;
 use std::alloc::Global;
@@ -30,9 +31,7 @@ fn optional(name: &Option<String>) -> Option<&str>
 
 /// Does what the job asks for: comes to an outcome, and only then writes. Ok is the status.
 fn do_job<F, O, E, R>(
-    rt: &R,
-    alloc: Global,
-    seed: u64,
+    machine: &Machine<'_, R>,
     job: &Job,
     files: &mut F,
     out: &mut O,
@@ -71,7 +70,7 @@ where
                 telling: *telling,
                 journal: optional(journal),
             };
-            run_job(rt, alloc, seed, asked, files, out, err)
+            run_job(machine, asked, files, out, err)
         }
         Job::Replay {
             config,
@@ -83,14 +82,20 @@ where
                 journal: journal.as_str(),
                 telling: *telling,
             };
-            replay_job(alloc, seed, asked, files, out, err)
+            replay_job(machine.alloc, machine.seed, asked, files, out, err)
         }
         Job::Expand { config, script } => {
-            expand_job(alloc, config.as_str(), optional(script), files, out)?;
+            expand_job(machine.alloc, config.as_str(), optional(script), files, out)?;
             Ok(0)
         }
         Job::Check { config, scripts } => {
-            check_job(alloc, config.as_str(), scripts.as_slice(), files, err)?;
+            check_job(
+                machine.alloc,
+                config.as_str(),
+                scripts.as_slice(),
+                files,
+                err,
+            )?;
             Ok(0)
         }
         Job::Serve {
@@ -101,7 +106,7 @@ where
             board,
             pairs,
         } => {
-            let clients = names_of(alloc, pairs.as_slice())?;
+            let clients = names_of(machine.alloc, pairs.as_slice())?;
             let names = ServiceNames {
                 config: config.as_str(),
                 clients: &clients,
@@ -114,7 +119,7 @@ where
                 stop_at_failure: *stop_at_failure,
                 is_taken: is_output_taken(pairs.as_slice()),
             };
-            serve_job(rt, alloc, seed, asked, files, out, err)?;
+            serve_job(machine, asked, files, out, err)?;
             Ok(0)
         }
     }
@@ -122,9 +127,7 @@ where
 
 /// Does what the job asks for, and tells what it ends for early. The answer is the status.
 fn end_job<F, O, E, R>(
-    rt: &R,
-    alloc: Global,
-    seed: u64,
+    machine: &Machine<'_, R>,
     job: &Job,
     files: &mut F,
     out: &mut O,
@@ -143,7 +146,7 @@ where
         (seen (F.held files.old) (O.contents out.old) (E.contents err.old))
         (seen (F.held files.new) (O.contents out.new) (E.contents err.new)) }
 {
-    match do_job(rt, alloc, seed, job, files, out, err) {
+    match do_job(machine, job, files, out, err) {
         Ok(status) => status,
         Err(ending) => ending.tell(err),
     }
@@ -212,7 +215,7 @@ where
         (seen (F.held files.new) (O.contents out.new) (E.contents err.new)) }
 {
     match Job::read(alloc, words) {
-        Ok(job) => end_job(rt, alloc, seed, &job, files, out, err),
+        Ok(job) => end_job(&Machine { rt, alloc, seed }, &job, files, out, err),
         Err(fault) => tell_words(&fault, out, err),
     }
 }

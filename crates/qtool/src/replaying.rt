@@ -5,9 +5,9 @@ ghost use Rattle.qtool.specs.Printed.{PrintsReplay};
 ghost use Rattle.qtool.specs.Under.{IsReplayUnder};
 
 use crate::ending::Ending;
+use crate::finish::finish;
 use crate::reading::{configuration, load};
 use crate::standard::test_played;
-use crate::telling::finish;
 use crate::{Files, Outcome, Telling, TextReplayFault, replay_text};
 use std::alloc::Global;
 use std::io::Write;

@@ -8,13 +8,13 @@ ghost use Rattle.qtool.specs.Under.{IsRunUnder};
 ghost use Rattle.qtool.specs.declared.ending.Ending.TheVariants.{TooManyScripts, TooManyWithBoards};
 
 use crate::ending::Ending;
+use crate::finish::finish;
+use crate::machine::Machine;
 use crate::reading::{configuration, read_scripts};
 use crate::standard::test_scripts;
-use crate::telling::finish;
 use crate::{Files, NoGate, Options, Outcome, RunFault, Telling, run_with};
 use qplain::MAX_WORKERS;
 use qtool_files::test_journal;
-use std::alloc::Global;
 use std::io::Write;
 use std::sync::Wait;
 use std::thread::Threads;
@@ -46,9 +46,7 @@ fn test_seats(scripts: u64, boards: u64) -> Result<(), Ending>
 
 /// Reads the configuration and the scripts, in the order in which faults are reported, and runs them.
 fn run_of<F: Files, R: Threads + Wait + Sync>(
-    rt: &R,
-    alloc: Global,
-    seed: u64,
+    machine: &Machine<'_, R>,
     config: &str,
     names: &[String],
     options: Options,
@@ -60,6 +58,7 @@ fn run_of<F: Files, R: Threads + Wait + Sync>(
         options.boards) }
     ensures same { F.held files.new ≡ F.held files.old }
 {
+    let Machine { rt, alloc, seed } = *machine;
     let config = configuration(alloc, files, config)?;
     test_seats(names.len() as u64, options.boards)?;
     let scripts = read_scripts(rt, alloc, files, names)?;
@@ -83,9 +82,7 @@ pub(crate) struct AskedRun<'a> {
 
 /// Runs the scripts, and only then writes what came of it. Ok is the status.
 pub(crate) fn run_job<F: Files, O: Write, E: Write, R: Threads + Wait + Sync>(
-    rt: &R,
-    alloc: Global,
-    seed: u64,
+    machine: &Machine<'_, R>,
     asked: AskedRun<'_>,
     files: &mut F,
     out: &mut O,
@@ -102,7 +99,7 @@ pub(crate) fn run_job<F: Files, O: Write, E: Write, R: Threads + Wait + Sync>(
     let (config, scripts) = (asked.config, asked.scripts);
     test_scripts(config, scripts).map_err(Ending::Clash)?;
     test_journal(files, asked.journal, config, scripts).map_err(Ending::Overwrites)?;
-    let outcome = run_of(rt, alloc, seed, config, scripts, asked.options, files).map_err(
+    let outcome = run_of(machine, config, scripts, asked.options, files).map_err(
         |ending| ending.explained(asked.telling.verbose),
     )?;
     finish(outcome, asked.telling, asked.journal, files, out, err)

@@ -1,5 +1,5 @@
 use Rattle.std.proofs.Common.{◌≡◌, [], All, length}
-use Rattle.qtool.proofs.serving.clients_of.Given as goal
+use Rattle.qtool.proofs.services.clients_of.Given as goal
 
 abbrev pub invariant-loop-names : goal.invariant-loop-names
 invariant-loop-names g l =

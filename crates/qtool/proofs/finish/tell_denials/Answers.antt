@@ -1,5 +1,5 @@
 use Rattle.std.proofs.Common.{◌≡◌, true, refl, inr, arith}
-use Rattle.qtool.proofs.telling.tell_denials.Goals as goal
+use Rattle.qtool.proofs.finish.tell_denials.Goals as goal
 
 pub returns : goal.returns
 returns g c =

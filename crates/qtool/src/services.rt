@@ -11,6 +11,7 @@ ghost use Rattle.qtool.specs.Under.{IsServiceUnder};
 use crate::clashes::{ServiceNames, find_clash};
 use crate::client_names::ClientNames;
 use crate::ending::Ending;
+use crate::machine::Machine;
 use crate::reading::configuration;
 use crate::running::ending_of_run;
 use crate::told_streams::ToldStreams;
@@ -134,15 +135,14 @@ fn has_refused<F: Files>(boards: &Option<ShownBoards<'_, F>>) -> bool {
 /// Serves the clients of these names until all have ended. Too many clients are reported first, before any file is
 /// touched, then names that clash, then the configuration.
 fn serve_of<F: Files + NamedStreams + Send, R: Threads + Wait + Clock + Sync>(
-    rt: &R,
-    alloc: Global,
-    seed: u64,
+    machine: &Machine<'_, R>,
     asked: Asked<'_>,
     files: &mut F,
 ) -> Result<Left<F>, Ending>
     requires { 0 < length asked.names.clients.now }
     ensures { IfOk result (λ left. IsServiceUnder (F.held files.old) asked.entry.names.config.now left.outcome) }
 {
+    let Machine { rt, alloc, seed } = *machine;
     let names = asked.names;
     test_names(alloc, files, names)?;
     let config = configuration(alloc, files, names.config).map_err(|ending| ending.explained(
@@ -228,9 +228,7 @@ fn end_of<S: Drop>(clients: &[EndedClient<S>], refused: bool) -> Result<(), Endi
 /// Serves the clients until all have ended, and only then writes: what is left goes to the output, or to the error
 /// output where the output is a client's, and then the journal to its file.
 pub(crate) fn serve_job<F, O, E, R>(
-    rt: &R,
-    alloc: Global,
-    seed: u64,
+    machine: &Machine<'_, R>,
     asked: Asked<'_>,
     files: &mut F,
     out: &mut O,
@@ -250,7 +248,7 @@ where
         outcome,
         clients,
         refused,
-    } = serve_of(rt, alloc, seed, asked, files)?;
+    } = serve_of(machine, asked, files)?;
     if asked.is_taken {
         finish_service(outcome, asked, files, err)?;
         return end_of(&clients, refused);

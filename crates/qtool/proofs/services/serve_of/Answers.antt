@@ -1,7 +1,7 @@
 use Rattle.std.proofs.Common.{subst}
 use Rattle.qtool.specs.Under.{IsConfigUnder}
 use Rattle.qtool.proofs.Results.{was_ok}
-use Rattle.qtool.proofs.serving.serve_of.Goals as goal
+use Rattle.qtool.proofs.services.serve_of.Goals as goal
 
 pub returns-in-Ok : goal.returns-in-Ok
 returns-in-Ok g c =

@@ -1,7 +1,7 @@
 use Rattle.std.proofs.Common.{◌≡◌, [], ◌∷◌, ◌++◌, All, length, ap, sym, subst, length-append, arith}
 use Rattle.qtext_client.specs.Conversations.{Progress}
 use Rattle.qtool.proofs.Clients.{one_more_new}
-use Rattle.qtool.proofs.serving.clients_of.Goals as goal
+use Rattle.qtool.proofs.services.clients_of.Goals as goal
 
 pub loop-names-preserved : goal.loop-names-preserved
 loop-names-preserved g c =
