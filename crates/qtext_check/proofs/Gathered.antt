@@ -1,6 +1,7 @@
 -- The faults of lines one after the other, as a loop gathers them, and the first of them that reading tells.
 use Rattle.std.proofs.Common.{◌≡◌, ℕ, List, [], ◌∷◌, ◌++◌, Option, Some, None, Result, Ok, Err, refl, sym, ap, ◌∙◌, append_assoc}
 use Rattle.std.specs.Prelude.{IfOk, option_map}
+use Rattle.std.specs.List.{flat_map}
 use Rattle.std.proofs.lemmas.List.{append-nil}
 use Rattle.qplain.specs.Setups.{Setting}
 use Rattle.qplain.specs.declared.line.Line.{Line}
@@ -13,21 +14,22 @@ use Rattle.qtext_files.specs.Scripts.{at_line, script_line_of, script_of}
 use Rattle.qtext_check.specs.declared.fault.Fault.{Fault}
 use Rattle.qtext_check.specs.declared.fault.Wrong.{Wrong}
 use Rattle.qtext_check.specs.declared.fault.Wrong.TheVariants.{Refused}
-use Rattle.qtext_check.specs.Faults.{fault_at, fault_in, faults_in, faults_of, first_text_fault, listed, told}
+use Rattle.qtext_check.specs.Faults.{fault_at, faults_in, faults_of, first_text_fault, listed, told}
 use Rattle.qtext_check.specs.Wrongs.{refusal_of, refused_in, wrong_by}
 
 -- ---- the loop
 
-pub goes_on : (s : Option Setting) (l : RawLine) (ls rest : List RawLine) (found : Option Fault) (before total : List Fault)
-    → found ≡ fault_in s l → rest ≡ l ∷ ls → before ++ faults_in s rest ≡ total → (before ++ listed found) ++ faults_in s ls ≡ total
-goes_on s l ls rest found before total is cut so_far =
-    let one : before ++ faults_in s (l ∷ ls) ≡ (before ++ listed found) ++ faults_in s ls =
-    rw is (sym (append_assoc before (listed (fault_in s l)) (faults_in s ls))) in
+-- what lines give, one after the other
+pub goes_on : {X : Type 0} (given : RawLine → List X) (l : RawLine) (ls rest : List RawLine) (found before total : List X)
+    → found ≡ given l → rest ≡ l ∷ ls → before ++ flat_map given rest ≡ total → (before ++ found) ++ flat_map given ls ≡ total
+goes_on given l ls rest found before total is cut so_far =
+    let one : before ++ flat_map given (l ∷ ls) ≡ (before ++ found) ++ flat_map given ls =
+    rw is (sym (append_assoc before (given l) (flat_map given ls))) in
     sym one ∙ (rw cut at so_far)
 
-pub is_done : (s : Option Setting) (rest : List RawLine) (before total : List Fault) → rest ≡ []
-    → before ++ faults_in s rest ≡ total → before ≡ total
-is_done s rest before total cut so_far = sym (append-nil before) ∙ (rw cut at so_far)
+pub is_done : {X : Type 0} (given : RawLine → List X) (rest : List RawLine) (before total : List X) → rest ≡ []
+    → before ++ flat_map given rest ≡ total → before ≡ total
+is_done given rest before total cut so_far = sym (append-nil before) ∙ (rw cut at so_far)
 
 -- ---- the first that reading tells
 

@@ -2,3 +2,4 @@
 pub mod Declared
 pub mod Refusals
 pub mod Gathered
+mod Placed

@@ -17,10 +17,10 @@ fault_at line wrong = record { line = line; wrong = wrong }
 abbrev pub fault_in : Option Setting → RawLine → Option Fault
 fault_in s l = option_map (fault_at l.number) (wrong_in s l)
 
--- one fault, or none
-abbrev pub listed : Option Fault → List Fault
+-- one, or none
+abbrev pub listed : {X : Type 0} → Option X → List X
 listed None = []
-listed (Some fault) = fault ∷ []
+listed (Some x) = x ∷ []
 
 -- the faults of lines, in their order
 abbrev pub faults_in : Option Setting → List RawLine → List Fault
@@ -29,6 +29,14 @@ faults_in s ls = flat_map (λ l. listed (fault_in s l)) ls
 -- the faults of a script: those of all of its lines, in their order
 abbrev pub faults_of : Option Setting → List ℕ → List Fault
 faults_of s text = faults_in s (raw_lines text)
+
+-- a line that has a fault
+abbrev pub line_in : Option Setting → RawLine → Option (List ℕ)
+line_in s l = option_map (λ fault. l.bytes) (fault_in s l)
+
+-- the lines of a script that have faults, in their order
+abbrev pub lines_of : Option Setting → List ℕ → List (List ℕ)
+lines_of s text = flat_map (λ l. listed (line_in s l)) (raw_lines text)
 
 -- the fault that reading tells of a line that is none
 abbrev pub text_fault_by : ℕ → Wrong → Option TextFault

@@ -10,3 +10,8 @@ pub record IsToldAt (line : ℕ) (text : List ℕ) : Type 0 where
   pub column : ℕ
   pub rest : List ℕ
   pub parts : text ≡ place_text line column ++ rest
+
+-- the text begins with the line and this column of it
+pub record IsPlacedAt (line column : ℕ) (text : List ℕ) : Type 0 where
+  pub rest : List ℕ
+  pub parts : text ≡ place_text line column ++ rest

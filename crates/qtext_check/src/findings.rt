@@ -1,9 +1,11 @@
 //! All that is wrong in a script.
-ghost use Rattle.std.specs.Prelude.{◌≡◌, ◌++◌, map, true, IfOk};
+ghost use Rattle.std.specs.Prelude.{◌≡◌, ◌++◌, ℕ, List, map, true, IfOk, IfSome};
 ghost use Rattle.std.specs.List.{list_all};
 ghost use Rattle.std.specs.Option.{option_map};
 ghost use Rattle.qtext.specs.Words.{is_text_byte, words as words_of};
-ghost use Rattle.qtext_check.specs.Faults.{fault_in, faults_of, first_text_fault, listed, told};
+ghost use Rattle.qtext_check.specs.Faults.{fault_in, faults_of, first_text_fault, line_in, lines_of, listed, told};
+ghost use Rattle.qtext_check.specs.Found.{AreAtFault};
+ghost use Rattle.qtext_check.specs.Places.{IsAtFault};
 ghost use Rattle.qtext_check.specs.Wrongs.{refused_in, wrong_in};
 ghost use Rattle.qtext_files.specs.Scripts.{script_of};
 
@@ -25,7 +27,8 @@ struct Found {
 
 /// What a store of the setup, where one is known, refuses in a line whatever its state.
 fn refused_in(setup: Option<&Setup>, line: &Line) -> Option<Found>
-    ensures { option_map (λ f. f.wrong) result ≡ refused_in (option_map (λ s. s.now) setup.entry) line.now }
+    ensures wrong { option_map (λ f. f.wrong) result ≡ refused_in (option_map (λ s. s.now) setup.entry) line.now }
+    ensures word { (bytes : List ℕ) → IfSome result (λ f. IsAtFault f.wrong f.word bytes) }
 {
     let Some(setup) = setup else {
         return None;
@@ -50,15 +53,17 @@ fn wrong_in<'a>(
 ) -> Result<Option<Found>, AllocError>
     requires bytes { line.now.is_text ≡ list_all is_text_byte line.now.bytes.now }
     requires words { line.now.is_text ≡ true → map (λ word. word.now) words.now ≡ words_of line.now.bytes.now }
-    ensures { IfOk result (λ found. option_map (λ f. f.wrong) found ≡ wrong_in (option_map (λ s. s.now) setup.entry)
+    ensures wrong { IfOk result (λ found. option_map (λ f. f.wrong) found
+        ≡ wrong_in (option_map (λ s. s.now) setup.entry)
         (record { number = number; bytes = line.now.bytes.now; whole = line.now.whole })) }
+    ensures word { IfOk result (λ found. IfSome found (λ f. IsAtFault f.wrong f.word line.now.bytes.now)) }
 {
     match read_line(alloc, paths, number, line, words) {
         Ok(line) => Ok(refused_in(setup, &line)),
         Err(ReadFault::Memory) => Err(AllocError),
         Err(ReadFault::Fault(kind)) => Ok(Some(Found {
             wrong: Wrong::Text(kind),
-            word: word_at_fault(kind, words),
+            word: word_at_fault(alloc, kind, words)?,
         })),
     }
 }
@@ -74,8 +79,13 @@ fn finding_in<'a>(
 ) -> Result<Option<Finding<'a>>, AllocError>
     requires bytes { line.now.is_text ≡ list_all is_text_byte line.now.bytes.now }
     requires words { line.now.is_text ≡ true → map (λ word. word.now) words.now ≡ words_of line.now.bytes.now }
-    ensures { IfOk result (λ found. option_map (λ f. f.fault) found ≡ fault_in (option_map (λ s. s.now) setup.entry)
+    ensures fault { IfOk result (λ found. option_map (λ f. f.fault) found
+        ≡ fault_in (option_map (λ s. s.now) setup.entry)
         (record { number = number; bytes = line.now.bytes.now; whole = line.now.whole })) }
+    ensures bytes { IfOk result (λ found. option_map (λ f. f.bytes.now) found
+        ≡ line_in (option_map (λ s. s.now) setup.entry)
+        (record { number = number; bytes = line.now.bytes.now; whole = line.now.whole })) }
+    ensures word { IfOk result (λ found. IfSome found (λ f. IsAtFault f.fault.wrong f.word f.bytes.now)) }
 {
     match wrong_in(alloc, setup, paths, number, line, words)? {
         Some(found) => Ok(Some(Finding {
@@ -95,8 +105,12 @@ fn put_some<'a>(
     findings: &mut Vec<Finding<'a>>,
     found: Option<Finding<'a>>,
 ) -> Result<(), AllocError>
-    ensures { IfOk result (λ _. map (λ f. f.fault) findings.new.items
+    ensures fault { IfOk result (λ _. map (λ f. f.fault) findings.new.items
         ≡ map (λ f. f.fault) findings.old.items ++ listed (option_map (λ f. f.fault) found.entry)) }
+    ensures bytes { IfOk result (λ _. map (λ f. f.bytes.now) findings.new.items
+        ≡ map (λ f. f.bytes.now) findings.old.items ++ listed (option_map (λ f. f.bytes.now) found.entry)) }
+    ensures word { IfOk result (λ _. AreAtFault findings.old.items
+        → IfSome found.entry (λ f. IsAtFault f.fault.wrong f.word f.bytes.now) → AreAtFault findings.new.items) }
 {
     match found {
         Some(finding) => Ok(findings.push(finding)?),
@@ -110,8 +124,11 @@ fn all_findings<'a>(
     setup: Option<&Setup>,
     text: &'a [u8],
 ) -> Result<Vec<Finding<'a>>, AllocError>
-    ensures { IfOk result (λ found. map (λ f. f.fault) found.items
+    ensures faults { IfOk result (λ found. map (λ f. f.fault) found.items
         ≡ faults_of (option_map (λ s. s.now) setup.entry) text.now) }
+    ensures lines { IfOk result (λ found. map (λ f. f.bytes.now) found.items
+        ≡ lines_of (option_map (λ s. s.now) setup.entry) text.now) }
+    ensures words { IfOk result (λ found. AreAtFault found.items) }
 {
     let mut findings = Vec::new(alloc);
     let mut room = Vec::new(alloc);
@@ -145,6 +162,13 @@ pub fn findings_of<'a>(
     // The first for which a line is none is what reading the script tells, and where it tells none there is none.
     ensures first { IfOk result (λ found. first_text_fault (map (λ f. f.fault) found.items)
         ≡ told (script_of text.now)) }
+
+    // Beside each stands its line.
+    ensures lines { IfOk result (λ found. map (λ f. f.bytes.now) found.items
+        ≡ lines_of (option_map (λ s. s.now) setup.entry) text.now) }
+
+    // Where a line is none for one of its words, that is the first of its words that is none.
+    ensures words { IfOk result (λ found. AreAtFault found.items) }
 {
     all_findings(alloc, setup, text)
 }

@@ -2,17 +2,16 @@
 #![tactic(auto)]
 
 pub use fault::{Fault, Finding, Wrong};
+pub use finding_texts::{fault_text, finding_text};
 pub use findings::findings_of;
 pub use near::near_of;
 pub use shown::{put_name, put_word};
-pub use telling::{fault_text, finding_text};
 
 mod allowed;
-mod argument;
 mod fault;
+mod finding_texts;
 mod findings;
 mod near;
 mod place;
 mod refusing;
 mod shown;
-mod telling;

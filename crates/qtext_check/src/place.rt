@@ -1,40 +1,70 @@
 //! Which word of a line is at fault, and where it stands.
-ghost use Rattle.std.specs.Prelude.{◌≡◌};
-ghost use Rattle.qtext.specs.Words.{is_text_byte};
+ghost use Rattle.std.specs.Prelude.{◌≡◌, ◌≤◌, ◌<◌, ◌+◌, ◌^◌, false, true, length, map, IfOk};
+ghost use Rattle.qtext.specs.Words.{is_text_byte, words};
+ghost use Rattle.qtext_check.specs.Places.{call_before, caller_before, is_of_line, is_of_word, start, words_before};
 
-use crate::argument::{argument_at, is_read};
 use crate::fault::{Finding, Wrong};
-use qtext::{TextKind, first_part, number};
+use qtext::{ReadFault, TextKind, first_part, number};
+use qtext_read::{caller_of, takes, values_before, verb_of, was_read};
+use std::alloc::{AllocError, Global};
 
-/// The first of the arguments that is not what it has to be, from 0, and the last one where that is none of the others.
-fn refused_argument(verb: &[u8], arguments: &[&[u8]]) -> usize {
-    let mut index = 0usize;
-    for word in arguments {
-        if !is_read(argument_at(verb, index), word) {
-            return index;
+/// How many words of a call stand before the first that is none.
+fn call_before(alloc: Global, call: &[&[u8]]) -> Result<usize, AllocError>
+    ensures before { IfOk result (λ before. before ≡ call_before (map (λ word. word.now) call.now)) }
+    ensures within { IfOk result (λ before. before ≤ length call.now) }
+{
+    let [verb, arguments @ ..] = call else {
+        return Ok(0);
+    };
+    match verb_of(verb) {
+        Ok(verb) if takes(verb, arguments.len()) => {
+            Ok(1 + values_before(alloc, verb, arguments)?)
         }
-        index = index.saturating_add(1);
+        Ok(_) | Err(ReadFault::Fault(_)) => Ok(0),
+        Err(ReadFault::Memory) => Err(AllocError),
     }
-    index.saturating_sub(1)
 }
 
-/// The first word of a line that is not what it has to be, from 0, where its caller is one.
-fn refused_word(words: &[&[u8]]) -> usize {
-    match words {
-        [moment, _, verb, arguments @ ..] if number(moment).is_ok() => {
-            refused_argument(verb, arguments).saturating_add(3)
-        }
-        _ => 0,
+/// How many words behind a moment stand before the first that is none.
+fn caller_before(alloc: Global, behind: &[&[u8]]) -> Result<usize, AllocError>
+    ensures before { IfOk result (λ before. before ≡ caller_before (map (λ word. word.now) behind.now)) }
+    ensures within { IfOk result (λ before. before ≤ length behind.now) }
+{
+    let [caller, call @ ..] = behind else {
+        return Ok(0);
+    };
+    if was_read(caller_of(alloc, caller))? {
+        Ok(1 + call_before(alloc, call)?)
+    } else {
+        Ok(0)
+    }
+}
+
+/// How many words of a line stand before the first that is none.
+fn words_before(alloc: Global, words: &[&[u8]]) -> Result<usize, AllocError>
+    ensures { IfOk result (λ before. before ≡ words_before (map (λ word. word.now) words.now)) }
+{
+    let [moment, behind @ ..] = words else {
+        return Ok(0);
+    };
+    if was_read(number(moment))? {
+        Ok(1 + caller_before(alloc, behind)?)
+    } else {
+        Ok(0)
     }
 }
 
 /// Which of the words of a line is at fault, from 0, that is none for this.
-pub(crate) fn word_at_fault(kind: TextKind, words: &[&[u8]]) -> usize {
+pub(crate) fn word_at_fault(
+    alloc: Global,
+    kind: TextKind,
+    words: &[&[u8]],
+) -> Result<usize, AllocError>
+    ensures { IfOk result (λ word. is_of_line kind ≡ false → word ≡ words_before (map (λ word. word.now) words.now)) }
+{
     match kind {
-        TextKind::BadCred => 1,
-        TextKind::BadVerb | TextKind::WordCount => 2,
-        TextKind::BadNumber | TextKind::BadWord | TextKind::BadHex => refused_word(words),
-        _ => 0,
+        TextKind::Cut | TextKind::BadByte | TextKind::TooMany => Ok(0),
+        _ => words_before(alloc, words),
     }
 }
 
@@ -51,15 +81,21 @@ pub(crate) fn word_of(bytes: &[u8], number: usize) -> &[u8] {
 }
 
 /// How many bytes stand before the word of that number, from 0; where there is none, all of them and a space.
-fn start_of(bytes: &[u8], number: usize) -> usize {
-    let mut rest = bytes;
-    for _ in 0..number {
-        match first_part(rest, b' ').1 {
-            Some(after) => rest = after,
-            None => return bytes.len().saturating_add(1),
-        }
+#[tactic(auto, using(crate::proofs::Placed::first_length), unfolding(crate::specs::Places::start))]
+fn start_of(bytes: &[u8], number: usize) -> usize
+    ensures start { length bytes.now + 1 < 2 ^ 64 → result ≡ start number (words bytes.now) }
+    ensures within { result ≤ length bytes.now + 1 }
+{
+    if number == 0 {
+        return 0;
     }
-    bytes.len().saturating_sub(rest.len())
+    match first_part(bytes, b' ') {
+        (_, Some(after)) => {
+            let front = bytes.len() - after.len();
+            front.saturating_add(start_of(after, number - 1))
+        }
+        (_, None) => bytes.len().saturating_add(1),
+    }
 }
 
 /// Whether a byte is a space or one that prints.
@@ -70,7 +106,11 @@ pub(crate) fn is_text(byte: u8) -> bool
 }
 
 /// How many bytes of the line stand before what is at fault.
-pub(crate) fn bytes_before(finding: &Finding<'_>) -> usize {
+pub(crate) fn bytes_before(finding: &Finding<'_>) -> usize
+    ensures word { is_of_word finding.now.fault.wrong ≡ true → length finding.now.bytes.now + 1 < 2 ^ 64
+        → result ≡ start finding.now.word (words finding.now.bytes.now) }
+    ensures within { result ≤ length finding.now.bytes.now + 1 }
+{
     let bytes = finding.bytes;
     match finding.fault.wrong {
         Wrong::Text(TextKind::Cut) => bytes.len(),

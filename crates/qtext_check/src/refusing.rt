@@ -9,7 +9,7 @@ ghost use Rattle.qtext_check.specs.Wrongs.{refusal_of};
 
 use qplain::{Call, Cred, Line, MAX_DATA, Path, Principal, Refusal, Setup};
 use qrules::{Graces, Kind, Limits, MAX_GRACE, MAX_LIMIT, MAX_MOMENT};
-use qstore_walk::paths_fault;
+use qstore_walk::{path_fault, paths_fault};
 
 fn principals_in(setup: &Setup, kind: Kind) -> &[Principal]
     ensures { result.now ≡ principals_in kind setup.now }
@@ -78,15 +78,7 @@ fn has_bad_number(setup: &Setup, call: &Call) -> bool
         }
         Call::SetQuota { limits, .. } => !limits.are_in_range(),
         Call::SetGrace { graces } => !graces.are_in_range(),
-        Call::Create { .. }
-        | Call::Mkdir { .. }
-        | Call::Truncate { .. }
-        | Call::Stat { .. }
-        | Call::Link { .. }
-        | Call::Unlink { .. }
-        | Call::Rmdir { .. }
-        | Call::Rename { .. }
-        | Call::Quota { .. } => false,
+        _ => false,
     }
 }
 
@@ -106,10 +98,7 @@ pub(crate) fn refusal_of(setup: &Setup, line: &Line) -> Option<Refusal>
 
 /// Which of two paths is refused so: the first, unless it is not.
 fn path_word(from: &Path, refusal: Refusal) -> usize {
-    let Ok(path) = from.copy() else {
-        return 3;
-    };
-    if paths_fault(&Call::Stat { path }) == Some(refusal) {
+    if path_fault(from.text()) == Some(refusal) {
         3
     } else {
         4

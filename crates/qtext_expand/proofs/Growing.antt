@@ -8,7 +8,7 @@ use Rattle.std.proofs.lemmas.List.{append-nil, map-append, take_more}
 use Rattle.std.proofs.lemmas.List.Concat.{flat_map-append, flat_map-cons}
 use Rattle.qplain.specs.declared.principal.Principal.{Principal}
 use Rattle.qtext_expand.specs.FriendlyCalls.{piece_call, piece_calls, pieces_in, pieces_of, way_call, way_calls}
-use Rattle.qtext_expand.specs.FriendlyWords.{begins, ended, friendly_words, some_word, spaced}
+use Rattle.qtext_expand.specs.FriendlyWords.{begins, friendly_words, some_word}
 use Rattle.qtext_expand.specs.Names.{groups_text, named_text}
 
 -- one more item

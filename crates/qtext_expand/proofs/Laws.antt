@@ -1,9 +1,9 @@
 -- What is written out is a script, and a script is left as it is.
-use Rattle.std.proofs.Common.{◌≡◌, ◌⊎◌, ℕ, ◌+◌, ◌≤◌, ◌<◌, Bool, true, false, cond, not, eqb, ltb, List, [], ◌∷◌, ◌++◌, length, map, Result, Ok, Err, refl, sym, ap, ◌∙◌, arith, append_assoc, codes, inl, inr}
+use Rattle.std.proofs.Common.{◌≡◌, ◌⊎◌, ℕ, ◌+◌, ◌≤◌, Bool, true, false, cond, not, eqb, ltb, List, [], ◌∷◌, ◌++◌, length, map, Result, Ok, Err, refl, sym, ap, ◌∙◌, arith, append_assoc, codes, inl, inr}
 use Rattle.std.specs.Prelude.{nat_lt, IfOk, Option, Some, None}
 use Rattle.std.specs.Global.{Global}
 use Rattle.std.specs.declared.vec.Vec.{Vec}
-use Rattle.std.specs.List.{AllByRecursion, flat_map, join_with_byte, list_all}
+use Rattle.std.specs.List.{AllByRecursion, join_with_byte, list_all}
 use Rattle.std.specs.Str.{bytes_eq}
 use Rattle.std.proofs.lemmas.Bool.{le-ltb}
 use Rattle.std.proofs.lemmas.Bool.Decides.{nat_tests}
@@ -12,12 +12,12 @@ use Rattle.qplain.specs.Setups.{Setting}
 use Rattle.qplain.specs.declared.line.Line.{Line}
 use Rattle.qtext.specs.declared.text_fault.TextFault.{TextFault}
 use Rattle.qtext.specs.declared.text_fault.TextKind.{TextKind}
-use Rattle.qtext.specs.declared.text_fault.TextKind.TheVariants.{BadByte, BadNumber, Cut, TooMany, WordCount}
-use Rattle.qtext.specs.Reading.{◌>>=◌, each_of}
+use Rattle.qtext.specs.declared.text_fault.TextKind.TheVariants.{BadByte, Cut, TooMany}
+use Rattle.qtext.specs.Reading.{each_of}
 use Rattle.qtext.specs.Words.{is_text_byte, parts, words}
 use Rattle.qtext.proofs.StepsFound.{joined, passed, same_ok, step_found}
 use Rattle.qtext_read.specs.Callers.{caller_of}
-use Rattle.qtext_files.specs.RawLines.{RawLine, in_line, raw_lines, raw_lines_from}
+use Rattle.qtext_files.specs.RawLines.{RawLine, raw_lines, raw_lines_from}
 use Rattle.qtext_files.specs.Scripts.{at_line, script_line_of, script_of}
 use Rattle.qtext_files.proofs.RawLines.{in_line_found, no_line, told_ok}
 use Rattle.qtext.specs.TextFaults.{want_of_memory}

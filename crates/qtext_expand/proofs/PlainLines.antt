@@ -1,24 +1,22 @@
 -- Lines that stand by themselves.
-use Rattle.std.proofs.Common.{◌≡◌, ◌⊎◌, ℕ, ◌+◌, ◌≤◌, ◌<◌, Bool, true, false, not, ◌||◌, ◌&&◌, eqb, ltb, List, [], ◌∷◌, ◌++◌, length, Result, Ok, Err, refl, sym, ap, ◌∙◌, arith, inl, inr}
+use Rattle.std.proofs.Common.{◌≡◌, ℕ, ◌+◌, ◌≤◌, Bool, true, false, not, ◌||◌, ◌&&◌, eqb, ltb, List, [], ◌∷◌, ◌++◌, length, Ok, refl, sym, ap, ◌∙◌, arith}
 use Rattle.std.specs.Prelude.{nat_lt}
 use Rattle.std.specs.List.{list_all, list_any}
 use Rattle.std.proofs.lemmas.Bool.{le-ltb}
 use Rattle.std.proofs.lemmas.Bool.Decides.{nat_tests}
 use Rattle.qplain.specs.declared.line.Line.{Line}
-use Rattle.qtext.specs.declared.text_fault.TextFault.{TextFault}
-use Rattle.qtext.specs.declared.text_fault.TextKind.{TextKind}
-use Rattle.qtext.specs.declared.text_fault.TextKind.TheVariants.{BadByte, Cut, TooMany}
+use Rattle.qtext.specs.declared.text_fault.TextKind.TheVariants.{BadByte, TooMany}
 use Rattle.qtext.specs.declared.read_fault.ReadFault.{ReadFault}
 use Rattle.qtext.specs.declared.read_fault.ReadFault.TheVariants.{Memory, Fault}
 use Rattle.qtext.specs.Gives.{Fails}
-use Rattle.qtext.specs.Words.{is_text_byte, parts, words}
+use Rattle.qtext.specs.Words.{is_text_byte, parts}
 use Rattle.qtext.proofs.Joining.{lacks, and_both, parts_first, parts_last, passes_weaker}
 use Rattle.qtext.proofs.Splitting.{some_part}
-use Rattle.qtext.proofs.StepsFound.{passed, same_ok, step_found}
+use Rattle.qtext.proofs.StepsFound.{passed, step_found}
 use Rattle.qtext.proofs.WordsAgain.{text_lacks_feed}
-use Rattle.qtext_files.specs.RawLines.{RawLine, in_line, raw_lines_from}
-use Rattle.qtext_files.specs.Scripts.{line_in, script_line_of, at_line, script_of}
-use Rattle.qtext_files.proofs.RawLines.{in_line_found, more_lines, no_line}
+use Rattle.qtext_files.specs.RawLines.{RawLine, raw_lines_from}
+use Rattle.qtext_files.specs.Scripts.{script_line_of, at_line}
+use Rattle.qtext_files.proofs.RawLines.{in_line_found, more_lines}
 use Rattle.qtext_expand.specs.Plain.{plain_line, plain_moment}
 
 -- a line of this number, with its end

@@ -1,11 +1,11 @@
 -- Lines that are written out one after the other, as a loop does.
-use Rattle.std.proofs.Common.{◌≡◌, ℕ, ◌+◌, ◌≤◌, List, [], ◌∷◌, ◌++◌, length, map, Result, Ok, Err, refl, sym, ap, ◌∙◌, append_assoc}
+use Rattle.std.proofs.Common.{◌≡◌, ℕ, ◌+◌, List, [], ◌∷◌, ◌++◌, length, Result, Ok, Err, refl, sym, ap, ◌∙◌, append_assoc}
 use Rattle.std.proofs.lemmas.List.{append-nil}
 use Rattle.qplain.specs.Setups.{Setting}
 use Rattle.qtext.specs.declared.text_fault.TextFault.{TextFault}
 use Rattle.qtext.specs.declared.text_fault.TextKind.{TextKind}
 use Rattle.qtext.specs.Reading.{◌>>=◌}
-use Rattle.qtext_files.specs.RawLines.{RawLine, in_line}
+use Rattle.qtext_files.specs.RawLines.{RawLine}
 use Rattle.qtext_expand.specs.Expansions.{expansion_from, line_expansion, written_after}
 use Rattle.qtext_expand.specs.FriendlyLines.{Written}
 use Rattle.qtext_expand.specs.FriendlyWords.{ended}

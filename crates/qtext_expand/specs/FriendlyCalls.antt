@@ -1,15 +1,19 @@
 -- The calls that a friendly line asks for, as words with a space before each.
-use Rattle.std.specs.Prelude.{ℕ, ◌+◌, ◌-◌, ◌*◌, ◌==◌, Bool, true, min, nat_lt, zero, suc, List, [], ◌∷◌, ◌++◌, length}
+use Rattle.std.specs.Prelude.{ℕ, ◌+◌, ◌-◌, ◌*◌, ◌==◌, ◌&&◌, Bool, true, min, nat_lt, zero, suc, List, [], ◌∷◌, ◌++◌, length}
 use Rattle.std.specs.Prelude.{map, take, slice_index, codes, decimal, Option, Some, None, Result, Ok, Err}
 use Rattle.std.specs.Prelude.{if◌then◌else◌}
 use Rattle.std.specs.Int.{div_ceil}
+use Rattle.std.specs.List.{zip}
 use Rattle.std.specs.Str.{bytes_eq}
 use Rattle.qplain.specs.Setups.{Setting}
 use Rattle.qplain.specs.declared.bounds.TheConstants.{MAX_LINES}
 use Rattle.qtext.specs.declared.text_fault.TextKind.{TextKind}
 use Rattle.qtext.specs.declared.text_fault.TextKind.TheVariants.{TooMany, WordCount}
-use Rattle.qtext_expand.specs.declared.call.Verb.{Verb}
-use Rattle.qtext_expand.specs.declared.call.Verb.TheVariants as verb
+use Rattle.qtext_read.specs.declared.row.Argument.{Argument}
+use Rattle.qtext_read.specs.declared.row.Argument.TheVariants as argument
+use Rattle.qtext_read.specs.declared.verb.Verb.{Verb}
+use Rattle.qtext_read.specs.Rows.{row, takes}
+use Rattle.qtext_read.specs.Verbs.{verb_of}
 use Rattle.qtext_expand.specs.declared.fill.TheConstants.{PIECE}
 use Rattle.qtext_expand.specs.declared.value.Measure.TheVariants.{Bytes, Kibibytes, Seconds}
 use Rattle.qtext_expand.specs.FriendlyWords.{spaced}
@@ -95,84 +99,55 @@ removals_of (path ∷ paths) = Ok (map removal_call (path ∷ paths))
 
 -- ---- all other calls
 
--- the verb that a word spells; what has no names, units or parts is like any other word
-unfoldable pub verb_of : List ℕ → Verb
-verb_of word =
-    if bytes_eq word (codes "mkdir") then verb.Mkdir
-    else if bytes_eq word (codes "rm") then verb.Rm
-    else if bytes_eq word (codes "write") then verb.Write
-    else if bytes_eq word (codes "fill") then verb.Fill
-    else if bytes_eq word (codes "truncate") then verb.Truncate
-    else if bytes_eq word (codes "read") then verb.Read
-    else if bytes_eq word (codes "chown") then verb.Chown
-    else if bytes_eq word (codes "setquota") then verb.SetQuota
-    else if bytes_eq word (codes "setgrace") then verb.SetGrace
-    else if bytes_eq word (codes "quota") then verb.Quota
-    else verb.Other
+-- a word in the place of an argument: an id in place of a name, a number in place of one with a unit, any other as it
+-- is; an id is of the kind that the first word names
+abbrev pub worked : Setting → List ℕ → Argument → List ℕ → List ℕ
+worked s kind argument.Offset word = measured_text Bytes word
+worked s kind argument.Size word = measured_text Bytes word
+worked s kind argument.Length word = measured_text Bytes word
+worked s kind argument.BlockSoft word = measured_text Kibibytes word
+worked s kind argument.BlockHard word = measured_text Kibibytes word
+worked s kind argument.BlockGrace word = measured_text Seconds word
+worked s kind argument.InodeGrace word = measured_text Seconds word
+worked s kind argument.Uid word = named_text s.users word
+worked s kind argument.Gid word = named_text s.groups word
+worked s kind argument.Project word = named_text s.projects word
+worked s kind argument.Id word = named_text (principals_of s kind) word
+worked s kind other word = word
 
--- the words of `write`, worked out
-unfoldable pub write_words : List (List ℕ) → List (List ℕ)
-write_words (v ∷ p ∷ o ∷ d ∷ []) = v ∷ p ∷ measured_text Bytes o ∷ d ∷ []
-write_words words = words
+-- words in the places of arguments, worked out
+abbrev pub all_worked : Setting → List ℕ → List Argument → List (List ℕ) → List (List ℕ)
+all_worked s kind arguments words = map (λ p. worked s kind p.0 p.1) (zip arguments words)
 
--- the words of `truncate`, worked out
-unfoldable pub truncate_words : List (List ℕ) → List (List ℕ)
-truncate_words (v ∷ p ∷ z ∷ []) = v ∷ p ∷ measured_text Bytes z ∷ []
-truncate_words words = words
+-- the first of some words
+abbrev pub first_of : List (List ℕ) → List ℕ
+first_of [] = []
+first_of (w ∷ ws) = w
 
--- the words of `read`, worked out
-unfoldable pub read_words : List (List ℕ) → List (List ℕ)
-read_words (v ∷ p ∷ o ∷ l ∷ []) = v ∷ p ∷ measured_text Bytes o ∷ measured_text Bytes l ∷ []
-read_words words = words
-
--- the words of `setgrace`, worked out
-unfoldable pub setgrace_words : List (List ℕ) → List (List ℕ)
-setgrace_words (v ∷ b ∷ i ∷ []) = v ∷ measured_text Seconds b ∷ measured_text Seconds i ∷ []
-setgrace_words words = words
-
--- the words of `quota`, worked out
-unfoldable pub quota_words : Setting → List (List ℕ) → List (List ℕ)
-quota_words s (v ∷ k ∷ i ∷ []) = v ∷ k ∷ named_text (principals_of s k) i ∷ []
-quota_words s words = words
-
--- the words of `chown`, worked out
-unfoldable pub chown_words : Setting → List (List ℕ) → List (List ℕ)
-chown_words s (v ∷ p ∷ u ∷ g ∷ []) = v ∷ p ∷ named_text s.users u ∷ named_text s.groups g ∷ []
-chown_words s (v ∷ p ∷ u ∷ g ∷ j ∷ []) =
-    v ∷ p ∷ named_text s.users u ∷ named_text s.groups g ∷ named_text s.projects j ∷ []
-chown_words s words = words
-
--- the words of `setquota`, worked out
-unfoldable pub setquota_words : Setting → List (List ℕ) → List (List ℕ)
-setquota_words s (v ∷ k ∷ i ∷ bs ∷ bh ∷ is ∷ ih ∷ []) =
-    v ∷ k ∷ named_text (principals_of s k) i ∷ measured_text Kibibytes bs ∷ measured_text Kibibytes bh ∷ is ∷ ih ∷ []
-setquota_words s words = words
-
--- the words of a call, with ids in place of names and units worked out
-abbrev pub call_words : Setting → Verb → List (List ℕ) → List (List ℕ)
-call_words s verb.Write words = write_words words
-call_words s verb.Truncate words = truncate_words words
-call_words s verb.Read words = read_words words
-call_words s verb.Chown words = chown_words s words
-call_words s verb.SetQuota words = setquota_words s words
-call_words s verb.SetGrace words = setgrace_words words
-call_words s verb.Quota words = quota_words s words
-call_words s _ words = words
+-- the words behind one that is read so, worked out where it is a verb that takes so many
+abbrev pub arguments_of : Setting → Result Verb TextKind → List (List ℕ) → List (List ℕ)
+arguments_of s (Ok v) words = if takes v (length words) then all_worked s (first_of words) (row v) words else words
+arguments_of s (Err kind) words = words
 
 -- one call
-abbrev pub one_call : Setting → Verb → List (List ℕ) → Result (List (List ℕ)) TextKind
-one_call s verb words = Ok (spaced (call_words s verb words) ∷ [])
+abbrev pub one_call : Setting → List ℕ → List (List ℕ) → Result (List (List ℕ)) TextKind
+one_call s v words = Ok (spaced (v ∷ arguments_of s (verb_of v) words) ∷ [])
 
--- the calls of words whose first is of this verb
-unfoldable pub calls_by : Setting → Verb → List (List ℕ) → Result (List (List ℕ)) TextKind
-calls_by s verb.Mkdir (v ∷ flag ∷ rest) =
-    if bytes_eq flag (codes "-p") then ways_of rest else one_call s verb.Mkdir (v ∷ flag ∷ rest)
-calls_by s verb.Rm (v ∷ flag ∷ rest) =
-    if bytes_eq flag (codes "-r") then removals_of rest else one_call s verb.Rm (v ∷ flag ∷ rest)
-calls_by s verb.Fill (v ∷ p ∷ o ∷ c ∷ b ∷ []) = fill_calls p o c b
-calls_by s verb words = one_call s verb words
+-- the calls of a word and those behind it, where no flag asks for more
+abbrev pub plain_calls : Setting → List ℕ → List (List ℕ) → Result (List (List ℕ)) TextKind
+plain_calls s v (p ∷ o ∷ c ∷ b ∷ []) =
+    if bytes_eq v (codes "fill") then fill_calls p o c b else one_call s v (p ∷ o ∷ c ∷ b ∷ [])
+plain_calls s v words = one_call s v words
+
+-- the calls of a word and those behind it
+abbrev pub calls_by : Setting → List ℕ → List (List ℕ) → Result (List (List ℕ)) TextKind
+calls_by s v [] = plain_calls s v []
+calls_by s v (flag ∷ words) =
+    if bytes_eq v (codes "mkdir") && bytes_eq flag (codes "-p") then ways_of words
+    else if bytes_eq v (codes "rm") && bytes_eq flag (codes "-r") then removals_of words
+    else plain_calls s v (flag ∷ words)
 
 -- the calls that words ask for
 unfoldable pub calls_of : Setting → List (List ℕ) → Result (List (List ℕ)) TextKind
-calls_of s [] = one_call s verb.Other []
-calls_of s (v ∷ arguments) = calls_by s (verb_of v) (v ∷ arguments)
+calls_of s [] = Ok (spaced [] ∷ [])
+calls_of s (v ∷ words) = calls_by s v words

@@ -46,7 +46,7 @@ pub(crate) fn friendly_words<'a>(
 }
 
 /// Puts a space and a piece after what is there.
-fn put_spaced(text: &mut Vec<u8>, piece: Piece<'_>) -> Result<(), AllocError>
+pub(crate) fn put_spaced(text: &mut Vec<u8>, piece: Piece<'_>) -> Result<(), AllocError>
     ensures { IfOk result (λ _. text.new.items ≡ text.old.items ++ 32 ∷ piece_text piece.entry) }
 {
     match put_pieces(text, &[Piece::Text(b" "), piece]) {
@@ -65,16 +65,14 @@ pub(crate) fn text_of(alloc: Global, pieces: &[Piece<'_>]) -> Result<Vec<u8>, Al
     Ok(text)
 }
 
-/// Words with a space before each.
-pub(crate) fn spaced(alloc: Global, words: &[&[u8]]) -> Result<Vec<u8>, AllocError>
-    ensures { IfOk result (λ text. text.items ≡ spaced (map (λ word. word.now) words.now)) }
+/// Puts words after what is there, with a space before each.
+pub(crate) fn put_words(text: &mut Vec<u8>, words: &[&[u8]]) -> Result<(), AllocError>
+    ensures { IfOk result (λ _. text.new.items ≡ text.old.items ++ spaced (map (λ word. word.now) words.now)) }
 {
-    let mut text = Vec::new(alloc);
     for word in words {
-        text.push(b' ')?;
-        text.extend_from_slice(word)?;
+        put_spaced(text, Piece::Text(word))?;
     }
-    Ok(text)
+    Ok(())
 }
 
 /// Puts a number in decimal digits after what is there.

@@ -12,11 +12,12 @@ use Rattle.qtext.specs.declared.text_fault.TextKind.TheVariants.{BadNumber}
 use Rattle.qtext.specs.Words.{number}
 use Rattle.qtext.proofs.WordsAgain.{number_again, data_again}
 use Rattle.qtext_read.specs.Verbs.{verb_of}
-use Rattle.qtext_read.specs.Calls.{create_of, mkdir_of, write_of, truncate_of, read_of, stat_of, link_of, unlink_of, rmdir_of, rename_of, chown_of}
-use Rattle.qtext_read.specs.Calls.{chown_to_project_of, limits_of, setquota_of, setgrace_of, quota_of, path_call_of, call_of, call_in}
-use Rattle.qtext_read.specs.Spelling.{limits_words, call_words}
+use Rattle.qtext_read.specs.Arguments.{limits_of}
+use Rattle.qtext_read.specs.Rows.{value_in, values_in}
+use Rattle.qtext_read.specs.Calls.{call_by, call_of, call_in}
+use Rattle.qtext_read.specs.Spelling.{call_words}
 use Rattle.qplain.specs.Held.{AreLimits, IsCall}
-use Rattle.qtext_read.proofs.ArgumentsAgain.{path_again, kind_again, owner_again, any_id, decimal_word, data_word, kind_word, id_word, owner_word, project_word}
+use Rattle.qtext_read.proofs.ArgumentsAgain.{path_again, kind_again, owner_again, any_id, decimal_word, data_word, kind_word, id_word, owner_word}
 use Rattle.qtext_read.proofs.Editions.{in_two}
 
 -- each byte of the word prints
@@ -24,15 +25,6 @@ abbrev pub IsWord : List ℕ → Type 0
 IsWord w = list_all is_path_byte w ≡ true
 
 -- each word of a call
-limits_word : (l : Limits) → AreLimits l → AllByRecursion IsWord (limits_words l)
-limits_word l fits = (
-  decimal_word l.block_soft fits.block_soft,
-  (
-    decimal_word l.block_hard fits.block_hard,
-    (decimal_word l.inode_soft fits.inode_soft, (decimal_word l.inode_hard fits.inode_hard, tt)),
-  ),
-)
-
 pub call_word : (k : Call) → IsCall k → AllByRecursion IsWord (call_words k)
 call_word (Create p) fits = (refl, (fits.each, tt))
 call_word (Mkdir p) fits = (refl, (fits.each, tt))
@@ -44,9 +36,25 @@ call_word (Link from to) fits = (refl, (fits.0.each, (fits.1.each, tt)))
 call_word (Unlink p) fits = (refl, (fits.each, tt))
 call_word (Rmdir p) fits = (refl, (fits.each, tt))
 call_word (Rename from to) fits = (refl, (fits.0.each, (fits.1.each, tt)))
-call_word (Chown p uid gid project) fits =
-    (refl, (fits.0.each, (owner_word uid fits.1, (owner_word gid fits.2, project_word project fits.3))))
-call_word (SetQuota kind id limits) fits = (refl, (kind_word kind, (id_word id fits.0, limits_word limits fits.1)))
+call_word (Chown p uid gid None) fits = (refl, (fits.0.each, (owner_word uid fits.1, (owner_word gid fits.2, tt))))
+call_word (Chown p uid gid (Some project)) fits =
+    (refl, (fits.0.each, (owner_word uid fits.1, (owner_word gid fits.2, (id_word project fits.3, tt)))))
+call_word (SetQuota kind id l) fits = (
+  refl,
+  (
+    kind_word kind,
+    (
+      id_word id fits.0,
+      (
+        decimal_word l.block_soft fits.1.block_soft,
+        (
+          decimal_word l.block_hard fits.1.block_hard,
+          (decimal_word l.inode_soft fits.1.inode_soft, (decimal_word l.inode_hard fits.1.inode_hard, tt)),
+        ),
+      ),
+    ),
+  ),
+)
 call_word (SetGrace graces) fits = (refl, (decimal_word graces.block fits.0, (decimal_word graces.inode fits.1, tt)))
 call_word (Quota kind id) fits = (refl, (kind_word kind, (id_word id fits, tt)))
 
@@ -65,8 +73,7 @@ limits_again l fits = rw (
 
 -- the call of a script whose words these are
 pub call_again : (k : Call) → IsCall k → call_in (call_words k) ≡ Ok k
-unfolding call_in verb_of call_of path_call_of create_of mkdir_of write_of truncate_of read_of stat_of link_of unlink_of rmdir_of rename_of chown_of
-    chown_to_project_of setquota_of setgrace_of quota_of
+unfolding call_in verb_of call_of values_in value_in call_by
 call_again (Create p) k = rw (path_again p k) refl
 call_again (Mkdir p) k = rw (path_again p k) refl
 call_again (Stat p) k = rw (path_again p k) refl
@@ -80,6 +87,14 @@ call_again (Rename from to) k = rw (path_again from k.0, path_again to k.1) refl
 call_again (Chown p uid gid None) k = rw (path_again p k.0, owner_again uid k.1, owner_again gid k.2) refl
 call_again (Chown p uid gid (Some project)) k =
     rw (path_again p k.0, owner_again uid k.1, owner_again gid k.2, any_id project k.3) refl
-call_again (SetQuota kind id limits) k = rw (kind_again Two kind (in_two (is_same_kind Project kind)), any_id id k.0, limits_again limits k.1) refl
+call_again (SetQuota kind id limits) k =
+    rw (
+      kind_again Two kind (in_two (is_same_kind Project kind)),
+      any_id id k.0,
+      any_number limits.block_soft k.1.block_soft,
+      any_number limits.block_hard k.1.block_hard,
+      any_number limits.inode_soft k.1.inode_soft,
+      any_number limits.inode_hard k.1.inode_hard,
+    ) refl
 call_again (SetGrace graces) k = rw (any_number graces.block k.0, any_number graces.inode k.1) refl
 call_again (Quota kind id) k = rw (kind_again Two kind (in_two (is_same_kind Project kind)), any_id id k) refl

@@ -1,51 +1,40 @@
 -- Calls that were read have parts that their types can hold, and those of journals are spelled out in the words that stood there.
-use Rattle.std.proofs.Common.{◌≡◌, ℕ, suc, ◌+◌, true, false, not, List, [], ◌∷◌, length, take, Ok, refl, ◌∙◌, arith, codes}
+use Rattle.std.proofs.Common.{◌≡◌, ℕ, suc, ◌+◌, true, false, not, List, [], ◌∷◌, length, take, replicate, Some, None, Result, Ok, Err, refl, ◌∙◌, arith, ◌++◌, sym, append_assoc}
 use Rattle.std.specs.Prelude.{nat_lt}
 use Rattle.std.specs.List.{list_any}
 use Rattle.std.specs.Char.{is_ascii_uppercase}
+use Rattle.std.proofs.lemmas.Bool.Decides.{nat_tests}
 use Rattle.std.proofs.lemmas.Bool.{le-ltb}
 use Rattle.std.proofs.lemmas.List.{length-take}
+use Rattle.qrules.specs.declared.limits.Limits.{Limits}
 use Rattle.qplain.specs.declared.call.Call.{Call}
+use Rattle.qplain.specs.declared.call.Call.TheVariants.{Create, Mkdir, Write, Truncate, Read, Stat, Link, Unlink, Rmdir, Rename, Chown, SetQuota, SetGrace, Quota}
 use Rattle.qplain.specs.declared.edition.Edition.{Edition}
 use Rattle.qplain.specs.declared.edition.Edition.TheVariants.{One, Two}
 use Rattle.qplain.specs.Projects.{call_names_project}
 use Rattle.qtext.specs.declared.text_fault.TextKind.TheVariants.{BadHex, BadNumber, BadVerb, WordCount}
 use Rattle.qtext.specs.Data.{byte_of, data_of}
+use Rattle.qtext.specs.Reading.{◌>>=◌}
+use Rattle.qtext.specs.declared.text_fault.TextKind.{TextKind}
 use Rattle.qtext.specs.Words.{number_of}
 use Rattle.qtext.proofs.Joining.{not_true}
-use Rattle.qtext.proofs.StepsFound.{not_false, passed, same_ok, step_found, told, word_found}
+use Rattle.qtext.proofs.StepsFound.{kept, not_false, passed, same_ok, Spells, step_found, told}
 use Rattle.qtext.proofs.DataFound.{byte_fits, data_fits, data_found, equal_fits}
-use Rattle.qtext_read.specs.declared.call.TheConstants.{MAX_FILL}
+use Rattle.qtext_read.specs.declared.row.TheConstants.{MAX_FILL}
 use Rattle.qtext_read.specs.declared.verb.Verb.{Verb}
+use Rattle.qtext_read.specs.declared.row.Argument.{Argument}
 use Rattle.qtext_read.specs.declared.verb.Verb.TheVariants as verb
-use Rattle.qtext_read.specs.Verbs.{verb_of}
-use Rattle.qtext_read.specs.Calls.{create_of, mkdir_of, write_of, fill_of, truncate_of, read_of, stat_of, link_of, unlink_of, rmdir_of, rename_of, chown_of}
-use Rattle.qtext_read.specs.Calls.{chown_to_project_of, limits_of, setquota_of, setgrace_of, quota_of, path_call_of, call_of, call_in}
-use Rattle.qtext_read.specs.Journaled.{argument_count, arity, counted_call_of, has_project, in_one_case, is_fill, journaled_call_in, journaled_call_of}
+use Rattle.qtext_read.specs.Verbs.{verb_of, verb_text}
+use Rattle.qtext_read.specs.Rows.{row, Value, PathValue, DataValue, NumberValue, KindValue, OwnerValue, ProjectValue, arity, takes, value_in, values_in}
+use Rattle.qtext_read.specs.Calls.{call_by, call_of, call_in}
+use Rattle.qtext_read.specs.Journaled.{argument_count, counted_call_of, has_project, in_one_case, is_fill, journaled_call_in, journaled_call_of}
 use Rattle.qtext_read.specs.Journaled.{journaled_verb_of}
 use Rattle.qtext_read.specs.Spelling.{call_words}
 use Rattle.qplain.specs.Held.{IsCall}
-use Rattle.qtext_read.proofs.ArgumentsFound.{any_id, any_kind, any_limits, any_number, any_owner, any_path}
+use Rattle.qtext_read.proofs.ArgumentsFound.{any_id, any_kind, any_number, any_owner, any_path}
 use Rattle.qtext_read.proofs.Editions.{OnlyInTwo}
 
--- the word of a verb
-abbrev verb_text : Verb → List ℕ
-verb_text verb.Create = codes "create"
-verb_text verb.Mkdir = codes "mkdir"
-verb_text verb.Write = codes "write"
-verb_text verb.Fill = codes "fill"
-verb_text verb.Truncate = codes "truncate"
-verb_text verb.Read = codes "read"
-verb_text verb.Stat = codes "stat"
-verb_text verb.Link = codes "link"
-verb_text verb.Unlink = codes "unlink"
-verb_text verb.Rmdir = codes "rmdir"
-verb_text verb.Rename = codes "rename"
-verb_text verb.Chown = codes "chown"
-verb_text verb.SetQuota = codes "setquota"
-verb_text verb.SetGrace = codes "setgrace"
-verb_text verb.Quota = codes "quota"
-
+-- the verb that a word spells is spelled so
 verb_found : (word : List ℕ) (v : Verb) → verb_of word ≡ Ok v → verb_text v ≡ word
 unfolding verb_of
 verb_found word v e =
@@ -73,86 +62,159 @@ record IsRead (edition : Edition) (v : Verb) (arguments : List (List ℕ)) (call
   pub spelled : is_fill v ≡ false → in_one_case v arguments ≡ true → call_words call ≡ verb_text v ∷ arguments
   pub old : nat_lt (arity v) (length arguments) ≡ false → OnlyInTwo edition (call_names_project call)
 
-call_read : (edition : Edition) (v : Verb) (arguments : List (List ℕ)) (call : Call) → call_of edition v arguments ≡ Ok call
-    → IsRead edition v arguments call
-unfolding in_one_case call_of path_call_of create_of mkdir_of write_of fill_of truncate_of read_of stat_of link_of unlink_of rmdir_of rename_of chown_of
-    chown_to_project_of setquota_of setgrace_of quota_of
-call_read edition verb.Create (p ∷ []) call e =
-    word_found any_path p _ e λ path is fits e. rw (← same_ok e) (record { fits = fits; spelled = λ _ _. rw is refl; old = λ _ _. refl })
-call_read edition verb.Mkdir (p ∷ []) call e =
-    word_found any_path p _ e λ path is fits e. rw (← same_ok e) (record { fits = fits; spelled = λ _ _. rw is refl; old = λ _ _. refl })
-call_read edition verb.Stat (p ∷ []) call e =
-    word_found any_path p _ e λ path is fits e. rw (← same_ok e) (record { fits = fits; spelled = λ _ _. rw is refl; old = λ _ _. refl })
-call_read edition verb.Unlink (p ∷ []) call e =
-    word_found any_path p _ e λ path is fits e. rw (← same_ok e) (record { fits = fits; spelled = λ _ _. rw is refl; old = λ _ _. refl })
-call_read edition verb.Rmdir (p ∷ []) call e =
-    word_found any_path p _ e λ path is fits e. rw (← same_ok e) (record { fits = fits; spelled = λ _ _. rw is refl; old = λ _ _. refl })
-call_read edition verb.Link (f ∷ t ∷ []) call e =
-    word_found any_path f _ e λ from is_from from_fits e.
-    word_found any_path t _ e λ to is_to to_fits e.
-    rw (← same_ok e) (record { fits = (from_fits, to_fits); spelled = λ _ _. rw (is_from, is_to) refl; old = λ _ _. refl })
-call_read edition verb.Rename (f ∷ t ∷ []) call e =
-    word_found any_path f _ e λ from is_from from_fits e.
-    word_found any_path t _ e λ to is_to to_fits e.
-    rw (← same_ok e) (record { fits = (from_fits, to_fits); spelled = λ _ _. rw (is_from, is_to) refl; old = λ _ _. refl })
-call_read edition verb.Write (p ∷ o ∷ d ∷ []) call e =
-    word_found any_path p _ e λ path is_path path_fits e.
-    word_found any_number o _ e λ off is_off off_fits e.
-    step_found (data_of d) _ e λ bytes is_data e.
-    rw (← same_ok e) (record {
+-- what is read behind words that have these values gives a call
+record IsLeft (edition : Edition) (v : Verb) (before : List Value) (arguments : List Argument) (words : List (List ℕ)) (call : Call)
+    : Type 0 where
+  pub is : (values_in edition arguments words >>= λ values. call_by v (before ++ values)) ≡ Ok call
+
+-- all is left of the arguments of a call
+all_left : (edition : Edition) (v : Verb) (words : List (List ℕ)) (call : Call) → call_of edition v words ≡ Ok call
+    → IsLeft edition v [] (row v) words call
+unfolding call_of
+all_left edition v words call e = record {
+  is = (kept (takes v (length words)) (values_in edition (row v) words >>= call_by v) WordCount call e).1;
+}
+
+one_value : {P : Type 0} (v : Verb) (before : List Value) (value : Result Value TextKind) (others : Result (List Value) TextKind) (call : Call)
+    → ((value >>= λ x. (others >>= λ xs. Ok (x ∷ xs))) >>= λ values. call_by v (before ++ values)) ≡ Ok call
+    → ((x : Value) → value ≡ Ok x → (others >>= λ xs. call_by v ((before ++ x ∷ []) ++ xs)) ≡ Ok call → P) → P
+one_value v before (Ok x) (Ok xs) call e goal = goal x refl (rw (append_assoc before (x ∷ []) xs) e)
+one_value v before (Ok x) (Err fault) call e goal = absurd (cc e)
+one_value v before (Err fault) others call e goal = absurd (cc e)
+
+-- a step gives the value in the place of the first of the arguments
+next_step : {A P : Type 0} {edition : Edition} {v : Verb} {before : List Value} {a : Argument} {arguments : List Argument} {w : List ℕ}
+    {words : List (List ℕ)} {call : Call} (first : Result A TextKind) (value : A → Value)
+    → value_in edition a w ≡ (first >>= λ x. Ok (value x)) → IsLeft edition v before (a ∷ arguments) (w ∷ words) call
+    → ((x : A) → first ≡ Ok x → IsLeft edition v (before ++ value x ∷ []) arguments words call → P) → P
+unfolding values_in
+next_step {edition = edition} {v = v} {before = before} {a = a} {arguments = arguments} {w = w} {words = words} {call = call} first value is e goal =
+    one_value v before (value_in edition a w) (values_in edition arguments words) call e.is λ y is_y more.
+    step_found first _ (sym is ∙ is_y) λ x is_x same. goal x is_x (record { is = rw (same_ok same) more })
+
+-- the same of a step that reads a word
+next_word : {A P : Type 0} {edition : Edition} {v : Verb} {before : List Value} {a : Argument} {arguments : List Argument}
+    {words : List (List ℕ)} {call : Call} {text : A → List ℕ} {Is : A → Type 0} {read : List ℕ → Result A TextKind} → Spells text Is read
+    → (value : A → Value) (w : List ℕ) → value_in edition a w ≡ (read w >>= λ x. Ok (value x))
+    → IsLeft edition v before (a ∷ arguments) (w ∷ words) call
+    → ((x : A) → text x ≡ w → Is x → IsLeft edition v (before ++ value x ∷ []) arguments words call → P) → P
+next_word {read = read} law value w is e goal =
+    next_step (read w) value is e (λ x is_x more. let so = law w x is_x in goal x so.0 so.1 more)
+
+-- no word is left
+none_left : {edition : Edition} {v : Verb} {before : List Value} {arguments : List Argument} {call : Call}
+    → IsLeft edition v before arguments [] call → call_by v (before ++ []) ≡ Ok call
+unfolding values_in
+none_left {arguments = []} e = e.is
+none_left {arguments = a ∷ arguments} e = e.is
+
+left_read : (edition : Edition) (v : Verb) (arguments : List (List ℕ)) (call : Call) → takes v (length arguments) ≡ true
+    → IsLeft edition v [] (row v) arguments call → IsRead edition v arguments call
+unfolding in_one_case value_in call_by
+left_read edition verb.Create (p ∷ []) call many e =
+    next_word any_path PathValue p refl e λ path is fits e.
+    rw (← same_ok {x = Create path} (none_left e))
+    (record { fits = fits; spelled = λ _ _. rw is refl; old = λ _ _. refl })
+left_read edition verb.Mkdir (p ∷ []) call many e =
+    next_word any_path PathValue p refl e λ path is fits e.
+    rw (← same_ok {x = Mkdir path} (none_left e))
+    (record { fits = fits; spelled = λ _ _. rw is refl; old = λ _ _. refl })
+left_read edition verb.Stat (p ∷ []) call many e =
+    next_word any_path PathValue p refl e λ path is fits e.
+    rw (← same_ok {x = Stat path} (none_left e))
+    (record { fits = fits; spelled = λ _ _. rw is refl; old = λ _ _. refl })
+left_read edition verb.Unlink (p ∷ []) call many e =
+    next_word any_path PathValue p refl e λ path is fits e.
+    rw (← same_ok {x = Unlink path} (none_left e))
+    (record { fits = fits; spelled = λ _ _. rw is refl; old = λ _ _. refl })
+left_read edition verb.Rmdir (p ∷ []) call many e =
+    next_word any_path PathValue p refl e λ path is fits e.
+    rw (← same_ok {x = Rmdir path} (none_left e))
+    (record { fits = fits; spelled = λ _ _. rw is refl; old = λ _ _. refl })
+left_read edition verb.Link (f ∷ t ∷ []) call many e =
+    next_word any_path PathValue f refl e λ from is_from from_fits e.
+    next_word any_path PathValue t refl e λ to is_to to_fits e.
+    rw (← same_ok {x = Link from to} (none_left e)) (record { fits = (from_fits, to_fits); spelled = λ _ _. rw (is_from, is_to) refl; old = λ _ _. refl })
+left_read edition verb.Rename (f ∷ t ∷ []) call many e =
+    next_word any_path PathValue f refl e λ from is_from from_fits e.
+    next_word any_path PathValue t refl e λ to is_to to_fits e.
+    rw (← same_ok {x = Rename from to} (none_left e)) (record { fits = (from_fits, to_fits); spelled = λ _ _. rw (is_from, is_to) refl; old = λ _ _. refl })
+left_read edition verb.Write (p ∷ o ∷ d ∷ []) call many e =
+    next_word any_path PathValue p refl e λ path is_path path_fits e.
+    next_word any_number NumberValue o refl e λ off is_off off_fits e.
+    next_step (data_of d) DataValue refl e λ bytes is_data e.
+    rw (← same_ok {x = Write path off bytes} (none_left e)) (record {
       fits = (path_fits, off_fits, data_fits d bytes is_data);
       spelled = λ _ case. rw (is_path, is_off, data_found d bytes is_data (not_true (list_any is_ascii_uppercase d) case)) refl;
       old = λ _ _. refl;
     })
-call_read edition verb.Fill (p ∷ o ∷ c ∷ b ∷ []) call e =
-    word_found any_path p _ e λ path is_path path_fits e.
-    word_found any_number o _ e λ off is_off off_fits e.
-    step_found (number_of BadNumber MAX_FILL c) _ e λ count is_count e.
-    step_found (byte_of b) _ e λ byte is_byte e.
-    rw (← same_ok e) (record {
+left_read edition verb.Fill (p ∷ o ∷ c ∷ b ∷ []) call many e =
+    next_word any_path PathValue p refl e λ path is_path path_fits e.
+    next_word any_number NumberValue o refl e λ off is_off off_fits e.
+    next_step (number_of BadNumber MAX_FILL c) NumberValue refl e λ count is_count e.
+    next_step (byte_of b) (λ x. DataValue (x ∷ [])) refl e λ byte is_byte e.
+    rw (← same_ok {x = Write path off (replicate count byte)} (none_left e)) (record {
       fits = (path_fits, off_fits, equal_fits count byte (byte_fits b byte is_byte));
       spelled = λ journaled. absurd (cc journaled);
       old = λ _ _. refl;
     })
-call_read edition verb.Truncate (p ∷ s ∷ []) call e =
-    word_found any_path p _ e λ path is_path path_fits e.
-    word_found any_number s _ e λ size is_size size_fits e.
-    rw (← same_ok e) (record { fits = (path_fits, size_fits); spelled = λ _ _. rw (is_path, is_size) refl; old = λ _ _. refl })
-call_read edition verb.Read (p ∷ o ∷ l ∷ []) call e =
-    word_found any_path p _ e λ path is_path path_fits e.
-    word_found any_number o _ e λ off is_off off_fits e.
-    word_found any_number l _ e λ len is_len len_fits e.
-    rw (← same_ok e) (record { fits = (path_fits, off_fits, len_fits); spelled = λ _ _. rw (is_path, is_off, is_len) refl; old = λ _ _. refl })
-call_read edition verb.Chown (p ∷ u ∷ g ∷ []) call e =
-    word_found any_path p _ e λ path is_path path_fits e.
-    word_found any_owner u _ e λ uid is_uid uid_fits e.
-    word_found any_owner g _ e λ gid is_gid gid_fits e.
-    rw (← same_ok e) (record { fits = (path_fits, uid_fits, gid_fits, tt); spelled = λ _ _. rw (is_path, is_uid, is_gid) refl; old = λ _ _. refl })
-call_read edition verb.Chown (p ∷ u ∷ g ∷ j ∷ []) call e =
-    word_found any_path p _ e λ path is_path path_fits e.
-    word_found any_owner u _ e λ uid is_uid uid_fits e.
-    word_found any_owner g _ e λ gid is_gid gid_fits e.
-    word_found (any_id BadNumber) j _ e λ project is_project project_fits e.
-    rw (← same_ok e) (record {
+left_read edition verb.Truncate (p ∷ s ∷ []) call many e =
+    next_word any_path PathValue p refl e λ path is_path path_fits e.
+    next_word any_number NumberValue s refl e λ size is_size size_fits e.
+    rw (← same_ok {x = Truncate path size} (none_left e))
+    (record { fits = (path_fits, size_fits); spelled = λ _ _. rw (is_path, is_size) refl; old = λ _ _. refl })
+left_read edition verb.Read (p ∷ o ∷ l ∷ []) call many e =
+    next_word any_path PathValue p refl e λ path is_path path_fits e.
+    next_word any_number NumberValue o refl e λ off is_off off_fits e.
+    next_word any_number NumberValue l refl e λ len is_len len_fits e.
+    rw (← same_ok {x = Read path off len} (none_left e))
+    (record { fits = (path_fits, off_fits, len_fits); spelled = λ _ _. rw (is_path, is_off, is_len) refl; old = λ _ _. refl })
+left_read edition verb.Chown (p ∷ u ∷ g ∷ []) call many e =
+    next_word any_path PathValue p refl e λ path is_path path_fits e.
+    next_word any_owner OwnerValue u refl e λ uid is_uid uid_fits e.
+    next_word any_owner OwnerValue g refl e λ gid is_gid gid_fits e.
+    rw (← same_ok {x = Chown path uid gid None} (none_left e))
+    (record { fits = (path_fits, uid_fits, gid_fits, tt); spelled = λ _ _. rw (is_path, is_uid, is_gid) refl; old = λ _ _. refl })
+left_read edition verb.Chown (p ∷ u ∷ g ∷ j ∷ []) call many e =
+    next_word any_path PathValue p refl e λ path is_path path_fits e.
+    next_word any_owner OwnerValue u refl e λ uid is_uid uid_fits e.
+    next_word any_owner OwnerValue g refl e λ gid is_gid gid_fits e.
+    next_word (any_id BadNumber) (λ x. ProjectValue (Some x)) j refl e λ project is_project project_fits e.
+    rw (← same_ok {x = Chown path uid gid (Some project)} (none_left e)) (record {
       fits = (path_fits, uid_fits, gid_fits, project_fits);
       spelled = λ _ _. rw (is_path, is_uid, is_gid, is_project) refl;
       old = λ few. absurd (cc few);
     })
-call_read edition verb.SetQuota (k ∷ i ∷ bs ∷ bh ∷ is ∷ ih ∷ []) call e =
-    word_found (any_kind edition) k _ e λ kind is_kind kind_fits e.
-    word_found (any_id BadNumber) i _ e λ id is_id id_fits e.
-    step_found (limits_of bs bh is ih) _ e λ limits are_limits e.
-    let so = any_limits bs bh is ih limits are_limits in
-    rw (← same_ok e) (record { fits = (id_fits, so.1); spelled = λ _ _. rw (is_kind, is_id, so.0) refl; old = λ _. kind_fits })
-call_read edition verb.SetGrace (b ∷ i ∷ []) call e =
-    word_found any_number b _ e λ block is_block block_fits e.
-    word_found any_number i _ e λ inode is_inode inode_fits e.
-    rw (← same_ok e) (record { fits = (block_fits, inode_fits); spelled = λ _ _. rw (is_block, is_inode) refl; old = λ _ _. refl })
-call_read edition verb.Quota (k ∷ i ∷ []) call e =
-    word_found (any_kind edition) k _ e λ kind is_kind kind_fits e.
-    word_found (any_id BadNumber) i _ e λ id is_id id_fits e.
-    rw (← same_ok e) (record { fits = id_fits; spelled = λ _ _. rw (is_kind, is_id) refl; old = λ _. kind_fits })
-call_read edition v arguments call e = absurd (cc e)
+left_read edition verb.SetQuota (k ∷ i ∷ bs ∷ bh ∷ is ∷ ih ∷ []) call many e =
+    next_word (any_kind edition) KindValue k refl e λ kind is_kind kind_fits e.
+    next_word (any_id BadNumber) NumberValue i refl e λ id is_id id_fits e.
+    next_word any_number NumberValue bs refl e λ block_soft is_bs fits_bs e.
+    next_word any_number NumberValue bh refl e λ block_hard is_bh fits_bh e.
+    next_word any_number NumberValue is refl e λ inode_soft is_is fits_is e.
+    next_word any_number NumberValue ih refl e λ inode_hard is_ih fits_ih e.
+    let limits : Limits = record { block_soft = block_soft; block_hard = block_hard; inode_soft = inode_soft; inode_hard = inode_hard } in
+    rw (← same_ok {x = SetQuota kind id limits} (none_left e))
+    (record {
+      fits = (id_fits, record { block_soft = fits_bs; block_hard = fits_bh; inode_soft = fits_is; inode_hard = fits_ih });
+      spelled = λ _ _. rw (is_kind, is_id, is_bs, is_bh, is_is, is_ih) refl;
+      old = λ _. kind_fits;
+    })
+left_read edition verb.SetGrace (b ∷ i ∷ []) call many e =
+    next_word any_number NumberValue b refl e λ block is_block block_fits e.
+    next_word any_number NumberValue i refl e λ inode is_inode inode_fits e.
+    rw (← same_ok {x = SetGrace (record { block = block; inode = inode })} (none_left e))
+    (record { fits = (block_fits, inode_fits); spelled = λ _ _. rw (is_block, is_inode) refl; old = λ _ _. refl })
+left_read edition verb.Quota (k ∷ i ∷ []) call many e =
+    next_word (any_kind edition) KindValue k refl e λ kind is_kind kind_fits e.
+    next_word (any_id BadNumber) NumberValue i refl e λ id is_id id_fits e.
+    rw (← same_ok {x = Quota kind id} (none_left e)) (record { fits = id_fits; spelled = λ _ _. rw (is_kind, is_id) refl; old = λ _. kind_fits })
+left_read edition v arguments call many e = absurd (grind (arith, nat_tests, many))
+
+call_read : (edition : Edition) (v : Verb) (arguments : List (List ℕ)) (call : Call) → call_of edition v arguments ≡ Ok call
+    → IsRead edition v arguments call
+unfolding call_of
+call_read edition v arguments call e =
+    left_read edition v arguments call (kept (takes v (length arguments)) _ WordCount call e).0 (all_left edition v arguments call e)
 
 -- a call that was read has parts that their types can hold
 pub call_fits : (words : List (List ℕ)) (call : Call) → call_in words ≡ Ok call → IsCall call

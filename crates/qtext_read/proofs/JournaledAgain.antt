@@ -8,13 +8,13 @@ use Rattle.qplain.specs.Projects.{call_names_project}
 use Rattle.qplain.specs.declared.call.Call.TheVariants.{Create, Mkdir, Write, Truncate, Read, Stat, Link, Unlink, Rmdir, Rename, Chown, SetQuota, SetGrace, Quota}
 use Rattle.qtext.proofs.WordsAgain.{are_digits, data_again}
 use Rattle.qtext_read.specs.Verbs.{verb_of}
-use Rattle.qtext_read.specs.Calls.{create_of, mkdir_of, write_of, truncate_of, read_of, stat_of, link_of, unlink_of, rmdir_of, rename_of, chown_of}
-use Rattle.qtext_read.specs.Calls.{chown_to_project_of, limits_of, setquota_of, setgrace_of, quota_of, path_call_of, call_of}
+use Rattle.qtext_read.specs.Rows.{value_in, values_in}
+use Rattle.qtext_read.specs.Calls.{call_by, call_of}
 use Rattle.qtext_read.specs.Journaled.{counted_call_of, in_one_case, is_project, journaled_call_in, journaled_call_of, journaled_verb_of}
 use Rattle.qtext_read.specs.Spelling.{call_words}
 use Rattle.qplain.specs.Held.{IsCall}
 use Rattle.qtext_read.proofs.ArgumentsAgain.{any_id, digits_lack_arrow, kind_again, owner_again, path_again}
-use Rattle.qtext_read.proofs.CallsAgain.{any_number, limits_again}
+use Rattle.qtext_read.proofs.CallsAgain.{any_number}
 use Rattle.qtext_read.proofs.Editions.{OnlyInTwo}
 use Rattle.qtext_read.proofs.RepliesAgain.{lower_data}
 
@@ -46,8 +46,7 @@ id_is_project id lt = rw (digits_lack_arrow (decimal id) (are_digits id (omega (
 -- the call whose words these are, and how many they are, where an arrow stands after them
 pub journaled_again : (edition : Edition) (k : Call) → IsCall k → OnlyInTwo edition (call_names_project k) → (rest : List (List ℕ))
     → journaled_call_in edition (call_words k ++ codes "=>" ∷ rest) ≡ Ok (k, length (call_words k))
-unfolding journaled_call_in counted_call_of journaled_verb_of journaled_call_of in_one_case verb_of call_of path_call_of create_of mkdir_of write_of
-    truncate_of read_of stat_of link_of unlink_of rmdir_of rename_of chown_of chown_to_project_of setquota_of limits_of setgrace_of quota_of
+unfolding journaled_call_in counted_call_of journaled_verb_of journaled_call_of in_one_case verb_of call_of values_in value_in call_by
 journaled_again edition (Create p) k old rest = rw (enough_1 (length (codes "=>" ∷ rest)), path_again p k) refl
 journaled_again edition (Mkdir p) k old rest = rw (enough_1 (length (codes "=>" ∷ rest)), path_again p k) refl
 journaled_again edition (Stat p) k old rest = rw (enough_1 (length (codes "=>" ∷ rest)), path_again p k) refl
@@ -72,6 +71,14 @@ journaled_again Two (Chown p uid gid (Some project)) k old rest =
       any_id project k.3,
     ) refl
 journaled_again edition (SetQuota kind id limits) k old rest =
-    rw (enough_6 (length (codes "=>" ∷ rest)), kind_again edition kind old, any_id id k.0, limits_again limits k.1) refl
+    rw (
+      enough_6 (length (codes "=>" ∷ rest)),
+      kind_again edition kind old,
+      any_id id k.0,
+      any_number limits.block_soft k.1.block_soft,
+      any_number limits.block_hard k.1.block_hard,
+      any_number limits.inode_soft k.1.inode_soft,
+      any_number limits.inode_hard k.1.inode_hard,
+    ) refl
 journaled_again edition (SetGrace graces) k old rest = rw (enough_2 (length (codes "=>" ∷ rest)), any_number graces.block k.0, any_number graces.inode k.1) refl
 journaled_again edition (Quota kind id) k old rest = rw (enough_2 (length (codes "=>" ∷ rest)), kind_again edition kind old, any_id id k) refl

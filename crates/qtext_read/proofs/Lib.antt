@@ -12,4 +12,5 @@ pub mod CallersFound
 pub mod CallsFound
 pub mod RepliesFound
 mod FewGroups
+pub mod Judged
 pub mod UpperLanes

@@ -11,27 +11,10 @@ use Rattle.qtext.specs.declared.text_fault.TextKind.{TextKind}
 use Rattle.qtext.specs.declared.text_fault.TextKind.TheVariants.{BadHex, BadVerb, WordCount}
 use Rattle.qtext.specs.Reading.{◌>>=◌}
 use Rattle.qtext_read.specs.Calls.{call_of}
+use Rattle.qtext_read.specs.Rows.{arity}
 use Rattle.qtext_read.specs.Verbs.{verb_of}
 use Rattle.qtext_read.specs.declared.verb.Verb.{Verb}
 use Rattle.qtext_read.specs.declared.verb.Verb.TheVariants as verb
-
--- as many arguments as a verb takes, where chown names no project
-abbrev pub arity : Verb → ℕ
-arity verb.Create = 1
-arity verb.Mkdir = 1
-arity verb.Write = 3
-arity verb.Fill = 4
-arity verb.Truncate = 2
-arity verb.Read = 3
-arity verb.Stat = 1
-arity verb.Link = 2
-arity verb.Unlink = 1
-arity verb.Rmdir = 1
-arity verb.Rename = 2
-arity verb.Chown = 3
-arity verb.SetQuota = 6
-arity verb.SetGrace = 2
-arity verb.Quota = 2
 
 -- the fourth word behind chown is a project in edition 2, unless it is the arrow before the reply
 abbrev pub is_project : Edition → List ℕ → Bool

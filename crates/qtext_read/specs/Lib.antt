@@ -1,7 +1,10 @@
--- In reading order: callers, arguments, verbs, calls; how they are spelled out; replies, written, read and spelled out.
+-- In reading order: callers, arguments, verbs, the table of calls, words judged one by one, calls; how they are spelled
+-- out; replies, written, read and spelled out.
 pub mod Callers
 pub mod Arguments
 pub mod Verbs
+pub mod Rows
+pub mod Judged
 pub mod Calls
 pub mod Journaled
 pub mod Spelling

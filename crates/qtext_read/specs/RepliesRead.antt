@@ -19,7 +19,7 @@ use Rattle.qtext.specs.Data.{data_of}
 use Rattle.qtext.specs.Reading.{◌>>=◌}
 use Rattle.qtext.specs.Words.{id_of, number}
 use Rattle.qtext_read.specs.Arguments.{kind_of}
-use Rattle.qtext_read.specs.Calls.{limits_of}
+use Rattle.qtext_read.specs.Arguments.{limits_of}
 use Rattle.qtext_read.specs.declared.reply_word.ReplyWord.{ReplyWord}
 use Rattle.qtext_read.specs.declared.reply_word.ReplyWord.TheVariants.{Done, Bytes, Stat, Quota, Refused}
 

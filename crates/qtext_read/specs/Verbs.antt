@@ -7,6 +7,24 @@ use Rattle.qtext_read.specs.declared.verb.Verb.{Verb}
 use Rattle.qtext_read.specs.declared.verb.Verb.TheVariants.{Create, Mkdir, Write, Fill, Truncate, Read, Stat, Link}
 use Rattle.qtext_read.specs.declared.verb.Verb.TheVariants.{Unlink, Rmdir, Rename, Chown, SetQuota, SetGrace, Quota}
 
+-- the word of a verb
+abbrev pub verb_text : Verb → List ℕ
+verb_text Create = codes "create"
+verb_text Mkdir = codes "mkdir"
+verb_text Write = codes "write"
+verb_text Fill = codes "fill"
+verb_text Truncate = codes "truncate"
+verb_text Read = codes "read"
+verb_text Stat = codes "stat"
+verb_text Link = codes "link"
+verb_text Unlink = codes "unlink"
+verb_text Rmdir = codes "rmdir"
+verb_text Rename = codes "rename"
+verb_text Chown = codes "chown"
+verb_text SetQuota = codes "setquota"
+verb_text SetGrace = codes "setgrace"
+verb_text Quota = codes "quota"
+
 -- the verb that a word spells
 unfoldable pub verb_of : List ℕ → Result Verb TextKind
 verb_of word =

@@ -1,22 +1,23 @@
 //! Calls as words.
-ghost use Rattle.std.specs.Prelude.{map};
+#![tactic(auto, unfolding(crate::specs::Calls::call_of, crate::specs::Calls::call_by, crate::specs::Rows::values_in, crate::specs::Rows::value_in))]
+
+ghost use Rattle.std.specs.Prelude.{map, ◌∷◌, []};
+ghost use Rattle.qplain.specs.declared.edition.Edition.{Edition};
 ghost use Rattle.qtext.specs.Gives.{Gives};
-ghost use Rattle.qtext_read.specs.Calls.{write_of, fill_of, truncate_of, read_of, chown_of, chown_to_project_of};
-ghost use Rattle.qtext_read.specs.Calls.{limits_of, setquota_of, setgrace_of, quota_of, call_of, call_in};
+ghost use Rattle.qtext_read.specs.declared.verb.Verb.TheVariants.{Chown, Fill, Quota, Read, SetGrace, SetQuota};
+ghost use Rattle.qtext_read.specs.declared.verb.Verb.TheVariants.{Truncate, Write};
+ghost use Rattle.qtext_read.specs.Calls.{call_in, call_of};
 
 use crate::argument::{data_of, kind_of, owner_of};
-use crate::path_call::path_call_of;
+use crate::path_call::{create_of, link_of, mkdir_of, rename_of, rmdir_of, stat_of, unlink_of};
 use crate::paths::Paths;
+use crate::row::MAX_FILL;
 use crate::verb::{Verb, verb_of};
 use qplain::{Call, Data, Edition};
 use qrules::{Graces, Limits};
 use qtext::{ReadFault, TextKind, byte_of, id_of, number, number_of};
 use std::alloc::Global;
 
-/// The most bytes that `fill` may ask for.
-pub const MAX_FILL: u64 = 131_072;
-
-#[tactic(auto, unfolding(crate::specs::Calls::write_of))]
 fn write_of<'a>(
     alloc: Global,
     paths: &mut Paths<'a>,
@@ -24,7 +25,7 @@ fn write_of<'a>(
     off: &[u8],
     digits: &[u8],
 ) -> Result<Call, ReadFault>
-    ensures { Gives result (write_of path.now off.now digits.now) }
+    ensures { (edition : Edition) → Gives result (call_of edition Write (path.now ∷ off.now ∷ digits.now ∷ [])) }
 {
     let path = paths.read(alloc, path, &[off, digits])?;
     let off = number(off)?;
@@ -32,7 +33,6 @@ fn write_of<'a>(
     Ok(Call::Write { path, off, bytes })
 }
 
-#[tactic(auto, unfolding(crate::specs::Calls::fill_of))]
 fn fill_of<'a>(
     alloc: Global,
     paths: &mut Paths<'a>,
@@ -41,7 +41,8 @@ fn fill_of<'a>(
     count: &[u8],
     byte: &[u8],
 ) -> Result<Call, ReadFault>
-    ensures { Gives result (fill_of path.now off.now count.now byte.now) }
+    ensures { (edition : Edition) → Gives result
+        (call_of edition Fill (path.now ∷ off.now ∷ count.now ∷ byte.now ∷ [])) }
 {
     let path = paths.read(alloc, path, &[off, count, byte])?;
     let off = number(off)?;
@@ -54,21 +55,19 @@ fn fill_of<'a>(
     })
 }
 
-#[tactic(auto, unfolding(crate::specs::Calls::truncate_of))]
 fn truncate_of<'a>(
     alloc: Global,
     paths: &mut Paths<'a>,
     path: &'a [u8],
     size: &[u8],
 ) -> Result<Call, ReadFault>
-    ensures { Gives result (truncate_of path.now size.now) }
+    ensures { (edition : Edition) → Gives result (call_of edition Truncate (path.now ∷ size.now ∷ [])) }
 {
     let path = paths.read(alloc, path, &[size])?;
     let size = number(size)?;
     Ok(Call::Truncate { path, size })
 }
 
-#[tactic(auto, unfolding(crate::specs::Calls::read_of))]
 fn read_of<'a>(
     alloc: Global,
     paths: &mut Paths<'a>,
@@ -76,7 +75,7 @@ fn read_of<'a>(
     off: &[u8],
     len: &[u8],
 ) -> Result<Call, ReadFault>
-    ensures { Gives result (read_of path.now off.now len.now) }
+    ensures { (edition : Edition) → Gives result (call_of edition Read (path.now ∷ off.now ∷ len.now ∷ [])) }
 {
     let path = paths.read(alloc, path, &[off, len])?;
     let off = number(off)?;
@@ -84,7 +83,6 @@ fn read_of<'a>(
     Ok(Call::Read { path, off, len })
 }
 
-#[tactic(auto, unfolding(crate::specs::Calls::chown_of))]
 fn chown_of<'a>(
     alloc: Global,
     paths: &mut Paths<'a>,
@@ -92,7 +90,7 @@ fn chown_of<'a>(
     uid: &[u8],
     gid: &[u8],
 ) -> Result<Call, ReadFault>
-    ensures { Gives result (chown_of path.now uid.now gid.now) }
+    ensures { (edition : Edition) → Gives result (call_of edition Chown (path.now ∷ uid.now ∷ gid.now ∷ [])) }
 {
     let path = paths.read(alloc, path, &[uid, gid])?;
     let uid = owner_of(uid)?;
@@ -105,7 +103,6 @@ fn chown_of<'a>(
     })
 }
 
-#[tactic(auto, unfolding(crate::specs::Calls::chown_to_project_of))]
 #[inline(never)]
 fn chown_to_project_of<'a>(
     alloc: Global,
@@ -115,7 +112,8 @@ fn chown_to_project_of<'a>(
     gid: &[u8],
     project: &[u8],
 ) -> Result<Call, ReadFault>
-    ensures { Gives result (chown_to_project_of path.now uid.now gid.now project.now) }
+    ensures { (edition : Edition) → Gives result
+        (call_of edition Chown (path.now ∷ uid.now ∷ gid.now ∷ project.now ∷ [])) }
 {
     let path = paths.read(alloc, path, &[uid, gid, project])?;
     let uid = owner_of(uid)?;
@@ -129,28 +127,6 @@ fn chown_to_project_of<'a>(
     })
 }
 
-#[tactic(auto, unfolding(crate::specs::Calls::limits_of))]
-pub(crate) fn limits_of(
-    block_soft: &[u8],
-    block_hard: &[u8],
-    inode_soft: &[u8],
-    inode_hard: &[u8],
-) -> Result<Limits, ReadFault>
-    ensures { Gives result (limits_of block_soft.now block_hard.now inode_soft.now inode_hard.now) }
-{
-    let block_soft = number(block_soft)?;
-    let block_hard = number(block_hard)?;
-    let inode_soft = number(inode_soft)?;
-    let inode_hard = number(inode_hard)?;
-    Ok(Limits {
-        block_soft,
-        block_hard,
-        inode_soft,
-        inode_hard,
-    })
-}
-
-#[tactic(auto, unfolding(crate::specs::Calls::setquota_of))]
 fn setquota_of(
     edition: Edition,
     kind: &[u8],
@@ -160,18 +136,26 @@ fn setquota_of(
     inode_soft: &[u8],
     inode_hard: &[u8],
 ) -> Result<Call, ReadFault>
-    ensures { Gives result (setquota_of edition kind.now id.now block_soft.now block_hard.now inode_soft.now
-        inode_hard.now) }
+    ensures { Gives result (call_of edition SetQuota
+        (kind.now ∷ id.now ∷ block_soft.now ∷ block_hard.now ∷ inode_soft.now ∷ inode_hard.now ∷ [])) }
 {
     let kind = kind_of(edition, kind)?;
     let id = id_of(TextKind::BadNumber, id)?;
-    let limits = limits_of(block_soft, block_hard, inode_soft, inode_hard)?;
+    let block_soft = number(block_soft)?;
+    let block_hard = number(block_hard)?;
+    let inode_soft = number(inode_soft)?;
+    let inode_hard = number(inode_hard)?;
+    let limits = Limits {
+        block_soft,
+        block_hard,
+        inode_soft,
+        inode_hard,
+    };
     Ok(Call::SetQuota { kind, id, limits })
 }
 
-#[tactic(auto, unfolding(crate::specs::Calls::setgrace_of))]
 fn setgrace_of(block: &[u8], inode: &[u8]) -> Result<Call, ReadFault>
-    ensures { Gives result (setgrace_of block.now inode.now) }
+    ensures { (edition : Edition) → Gives result (call_of edition SetGrace (block.now ∷ inode.now ∷ [])) }
 {
     let block = number(block)?;
     let inode = number(inode)?;
@@ -180,9 +164,8 @@ fn setgrace_of(block: &[u8], inode: &[u8]) -> Result<Call, ReadFault>
     })
 }
 
-#[tactic(auto, unfolding(crate::specs::Calls::quota_of))]
 fn quota_of(edition: Edition, kind: &[u8], id: &[u8]) -> Result<Call, ReadFault>
-    ensures { Gives result (quota_of edition kind.now id.now) }
+    ensures { Gives result (call_of edition Quota (kind.now ∷ id.now ∷ [])) }
 {
     let kind = kind_of(edition, kind)?;
     let id = id_of(TextKind::BadNumber, id)?;
@@ -217,16 +200,13 @@ pub(crate) fn call_of<'a>(
         }
         (Verb::SetGrace, [block, inode]) => setgrace_of(block, inode),
         (Verb::Quota, [kind, id]) => quota_of(edition, kind, id),
-        (
-            Verb::Create
-            | Verb::Mkdir
-            | Verb::Stat
-            | Verb::Link
-            | Verb::Unlink
-            | Verb::Rmdir
-            | Verb::Rename,
-            _,
-        ) => path_call_of(alloc, paths, verb, arguments),
+        (Verb::Create, [path]) => create_of(alloc, paths, path),
+        (Verb::Mkdir, [path]) => mkdir_of(alloc, paths, path),
+        (Verb::Stat, [path]) => stat_of(alloc, paths, path),
+        (Verb::Link, [from, to]) => link_of(alloc, paths, from, to),
+        (Verb::Unlink, [path]) => unlink_of(alloc, paths, path),
+        (Verb::Rmdir, [path]) => rmdir_of(alloc, paths, path),
+        (Verb::Rename, [from, to]) => rename_of(alloc, paths, from, to),
         _ => Err(ReadFault::Fault(TextKind::WordCount)),
     }
 }

@@ -1,29 +1,17 @@
 //! Calls as journals have them: without `fill`, and with data in lower case. In edition 1 they name no project.
 ghost use Rattle.std.specs.Prelude.{◌≡◌, ◌≤◌, ◌+◌, length, map, IfOk};
 ghost use Rattle.qtext.specs.Gives.{Gives};
-ghost use Rattle.qtext_read.specs.Journaled.{argument_count, arity, counted_call_of, has_project, in_one_case};
+ghost use Rattle.qtext_read.specs.Journaled.{argument_count, counted_call_of, has_project, in_one_case};
 ghost use Rattle.qtext_read.specs.Journaled.{is_project, journaled_call_in, journaled_call_of, journaled_verb_of};
 
 use crate::call::call_of;
 use crate::paths::Paths;
+use crate::row::arity;
 use crate::upper_case::has_upper_case;
 use crate::verb::{Verb, verb_of};
 use qplain::{Call, Edition};
 use qtext::{ReadFault, TextKind};
 use std::alloc::Global;
-
-/// As many arguments as a verb takes, where chown names no project.
-fn arity(verb: Verb) -> usize
-    ensures { result ≡ arity verb }
-{
-    match verb {
-        Verb::Create | Verb::Mkdir | Verb::Stat | Verb::Unlink | Verb::Rmdir => 1,
-        Verb::Truncate | Verb::Link | Verb::Rename | Verb::SetGrace | Verb::Quota => 2,
-        Verb::Write | Verb::Read | Verb::Chown => 3,
-        Verb::Fill => 4,
-        Verb::SetQuota => 6,
-    }
-}
 
 /// Whether the fourth word behind chown is a project: in edition 2, unless it is the arrow before the reply.
 fn is_project(edition: Edition, word: &[u8]) -> bool

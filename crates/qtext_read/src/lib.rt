@@ -1,11 +1,14 @@
 //! Calls, their callers and their replies as words, read.
 #![tactic(auto)]
 
-pub use call::{MAX_FILL, call_in};
+pub use call::call_in;
 pub use caller::caller_of;
 pub use journaled::journaled_call_in;
 pub use paths::Paths;
 pub use reply::reply_in;
+pub use row::{Argument, MAX_FILL, name_of, row_of, takes};
+pub use value::{is_value, values_before, was_read};
+pub use verb::{VERBS, Verb, verb_of, verb_word};
 
 mod argument;
 mod call;
@@ -15,5 +18,7 @@ mod path_call;
 mod paths;
 mod reply;
 mod reply_word;
+mod row;
 mod upper_case;
+mod value;
 mod verb;

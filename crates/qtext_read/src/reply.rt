@@ -4,8 +4,7 @@ ghost use Rattle.qtext.specs.Gives.{Gives};
 ghost use Rattle.qtext_read.specs.RepliesRead.{as_bad_reply, bytes_of, done_of, edquot_of, end_of, keyword, quota_of};
 ghost use Rattle.qtext_read.specs.RepliesRead.{rise_of, reply_in, reply_of, signed, stat_of, words_of_reply};
 
-use crate::argument::kind_of;
-use crate::call::limits_of;
+use crate::argument::{kind_of, limits_of};
 use crate::reply_word::{ReplyWord, over_of, refusal_of, reply_word_of, type_of};
 use crate::upper_case::has_upper_case;
 use qplain::{Change, Edition, Quota, Refusal, Reply, SharedItems, Stat};

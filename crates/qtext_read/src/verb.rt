@@ -1,11 +1,12 @@
 ghost use Rattle.qtext.specs.Gives.{Gives};
-ghost use Rattle.qtext_read.specs.Verbs.{verb_of};
+ghost use Rattle.qtext_read.specs.Verbs.{verb_of, verb_text};
+ghost use Rattle.std.specs.Prelude.{◌≡◌};
 
 use qtext::{ReadFault, TextKind};
 
 /// The first word of a call.
 #[derive(Clone, Copy, Debug, PartialEq, Eq)]
-pub(crate) enum Verb {
+pub enum Verb {
     Create,
     Mkdir,
     Write,
@@ -23,9 +24,51 @@ pub(crate) enum Verb {
     Quota,
 }
 
+/// All verbs, in the order in which they are told.
+pub const VERBS: [Verb; 15] = [
+    Verb::Create,
+    Verb::Mkdir,
+    Verb::Write,
+    Verb::Fill,
+    Verb::Truncate,
+    Verb::Read,
+    Verb::Stat,
+    Verb::Link,
+    Verb::Unlink,
+    Verb::Rmdir,
+    Verb::Rename,
+    Verb::Chown,
+    Verb::SetQuota,
+    Verb::SetGrace,
+    Verb::Quota,
+];
+
+/// The word of a verb.
+pub fn verb_word(verb: Verb) -> &'static [u8]
+    ensures { result.now ≡ verb_text verb }
+{
+    match verb {
+        Verb::Create => b"create",
+        Verb::Mkdir => b"mkdir",
+        Verb::Write => b"write",
+        Verb::Fill => b"fill",
+        Verb::Truncate => b"truncate",
+        Verb::Read => b"read",
+        Verb::Stat => b"stat",
+        Verb::Link => b"link",
+        Verb::Unlink => b"unlink",
+        Verb::Rmdir => b"rmdir",
+        Verb::Rename => b"rename",
+        Verb::Chown => b"chown",
+        Verb::SetQuota => b"setquota",
+        Verb::SetGrace => b"setgrace",
+        Verb::Quota => b"quota",
+    }
+}
+
 /// The verb that is spelled so. What most lines ask for is looked at first.
 #[tactic(auto, unfolding(crate::specs::Verbs::verb_of))]
-pub(crate) fn verb_of(word: &[u8]) -> Result<Verb, ReadFault>
+pub fn verb_of(word: &[u8]) -> Result<Verb, ReadFault>
     ensures { Gives result (verb_of word.now) }
 {
     if word == b"write".as_slice() {

@@ -2,4 +2,5 @@
 pub mod Digits
 pub mod Escapes
 pub mod LineObjects
+pub mod NamedValues
 pub mod Records

@@ -1,71 +1,43 @@
 -- A line's caller and call as members of its object (profile).
-use Rattle.std.specs.Prelude.{ℕ, List, [], ◌∷◌, Option, codes, decimal}
-use Rattle.std.specs.List.{concat}
+use Rattle.std.specs.Prelude.{ℕ, List, [], ◌∷◌, codes, decimal, map}
+use Rattle.std.specs.List.{concat, flat_map, zip}
 use Rattle.json.specs.Print.{quoted}
-use Rattle.qrules.specs.declared.limits.Limits.{Limits}
 use Rattle.qplain.specs.Caller.{Caller}
 use Rattle.qplain.specs.declared.call.Call.{Call}
-use Rattle.qplain.specs.declared.call.Call.TheVariants.{Create, Mkdir, Write, Truncate, Read, Stat, Link, Unlink}
-use Rattle.qplain.specs.declared.call.Call.TheVariants.{Rmdir, Rename, Chown, SetQuota, SetGrace, Quota}
 use Rattle.qtext.specs.RuleWords.{kind_text}
-use Rattle.qtext_read.specs.Spelling.{caller_text}
+use Rattle.qtext_read.specs.declared.verb.Verb.{Verb}
+use Rattle.qtext_read.specs.declared.verb.Verb.TheVariants as verb
+use Rattle.qtext_read.specs.Rows.{Value, PathValue, DataValue, NumberValue, KindValue, OwnerValue, ProjectValue, name, row}
+use Rattle.qtext_read.specs.Spelling.{Of, Parts, caller_text, parts_of}
+use Rattle.qtext_read.specs.Verbs.{verb_text}
 use Rattle.qtext_rows.specs.Values.{digits_text, member, nested, or_null}
 
--- a call of this name that has a path alone
-abbrev pub on_path : List ℕ → List ℕ → List ℕ
-on_path name path = concat (nested (codes "call") name ∷ member (codes "path") (quoted path) ∷ codes "}" ∷ [])
+-- what stands in the place of an argument: null for an owner that stays
+abbrev pub argument_text : Value → List ℕ
+argument_text (PathValue path) = quoted path
+argument_text (DataValue bytes) = digits_text bytes
+argument_text (NumberValue n) = decimal n
+argument_text (KindValue kind) = quoted (kind_text kind)
+argument_text (OwnerValue owner) = or_null owner
+argument_text (ProjectValue project) = or_null project
 
--- a call of this name that has two paths
-abbrev pub on_paths : List ℕ → List ℕ → List ℕ → List ℕ
-on_paths name from to = concat (nested (codes "call") name ∷ member (codes "from") (quoted from)
-    ∷ member (codes "to") (quoted to) ∷ codes "}" ∷ [])
+-- a call of this verb, with these texts in the places of its arguments, each by the argument's name
+abbrev pub named_call : Verb → List (List ℕ) → List ℕ
+named_call v texts = concat (nested (codes "call") (verb_text v)
+    ∷ flat_map (λ p. member (name p.0) p.1) (zip (row v) texts) ∷ codes "}" ∷ [])
 
--- bytes that are written
-abbrev pub write_members : List ℕ → ℕ → List ℕ → List ℕ
-write_members path off bytes = concat (nested (codes "call") (codes "write")
-    ∷ member (codes "path") (quoted path) ∷ member (codes "offset") (decimal off)
-    ∷ member (codes "data") (digits_text bytes) ∷ codes "}" ∷ [])
-
--- N equal bytes that are written
-abbrev pub fill_members : List ℕ → ℕ → ℕ → ℕ → List ℕ
-fill_members path off count byte = concat (nested (codes "call") (codes "fill")
-    ∷ member (codes "path") (quoted path) ∷ member (codes "offset") (decimal off)
-    ∷ member (codes "count") (decimal count) ∷ member (codes "byte") (digits_text (byte ∷ [])) ∷ codes "}" ∷ [])
-
--- new owners of an inode, null for one that stays
-abbrev pub chown_members : List ℕ → Option ℕ → Option ℕ → Option ℕ → List ℕ
-chown_members path uid gid project = concat (nested (codes "call") (codes "chown")
-    ∷ member (codes "path") (quoted path) ∷ member (codes "uid") (or_null uid) ∷ member (codes "gid") (or_null gid)
-    ∷ member (codes "project") (or_null project) ∷ codes "}" ∷ [])
-
--- new limits of a principal
-abbrev pub setquota_members : List ℕ → ℕ → Limits → List ℕ
-setquota_members kind id l = concat (nested (codes "call") (codes "setquota") ∷ member (codes "kind") (quoted kind)
-    ∷ member (codes "id") (decimal id) ∷ member (codes "block_soft") (decimal l.block_soft)
-    ∷ member (codes "block_hard") (decimal l.block_hard) ∷ member (codes "inode_soft") (decimal l.inode_soft)
-    ∷ member (codes "inode_hard") (decimal l.inode_hard) ∷ codes "}" ∷ [])
+-- a verb and what stands in the places of its arguments
+abbrev pub parts_members : Parts → List ℕ
+parts_members (Of v values) = named_call v (map argument_text values)
 
 -- a call: its name and its arguments by theirs
 abbrev pub call_members : Call → List ℕ
-call_members (Create path) = on_path (codes "create") path
-call_members (Mkdir path) = on_path (codes "mkdir") path
-call_members (Write path off bytes) = write_members path off bytes
-call_members (Truncate path size) = concat (nested (codes "call") (codes "truncate")
-    ∷ member (codes "path") (quoted path) ∷ member (codes "size") (decimal size) ∷ codes "}" ∷ [])
-call_members (Read path off len) = concat (nested (codes "call") (codes "read")
-    ∷ member (codes "path") (quoted path) ∷ member (codes "offset") (decimal off)
-    ∷ member (codes "length") (decimal len) ∷ codes "}" ∷ [])
-call_members (Stat path) = on_path (codes "stat") path
-call_members (Link from to) = on_paths (codes "link") from to
-call_members (Unlink path) = on_path (codes "unlink") path
-call_members (Rmdir path) = on_path (codes "rmdir") path
-call_members (Rename from to) = on_paths (codes "rename") from to
-call_members (Chown path uid gid project) = chown_members path uid gid project
-call_members (SetQuota kind id limits) = setquota_members (kind_text kind) id limits
-call_members (SetGrace graces) = concat (nested (codes "call") (codes "setgrace")
-    ∷ member (codes "block") (decimal graces.block) ∷ member (codes "inode") (decimal graces.inode) ∷ codes "}" ∷ [])
-call_members (Quota kind id) = concat (nested (codes "call") (codes "quota")
-    ∷ member (codes "kind") (quoted (kind_text kind)) ∷ member (codes "id") (decimal id) ∷ codes "}" ∷ [])
+call_members call = parts_members (parts_of call)
+
+-- a write of N equal bytes, as the fill that asks for it
+abbrev pub fill_members : List ℕ → ℕ → ℕ → ℕ → List ℕ
+fill_members path off count byte =
+    parts_members (Of verb.Fill (PathValue path ∷ NumberValue off ∷ NumberValue count ∷ DataValue (byte ∷ []) ∷ []))
 
 -- the moment and the caller of a line
 abbrev pub caller_members : ℕ → Caller → List ℕ

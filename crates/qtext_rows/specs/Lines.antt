@@ -9,7 +9,7 @@ use Rattle.qplain.specs.declared.line.Line.{Line}
 use Rattle.qplain.specs.declared.receipt.Receipt.{Receipt}
 use Rattle.qplain.specs.declared.transcript.Transcript.{Transcript}
 use Rattle.qtext_outcome.specs.Calls.{repeated}
-use Rattle.qtext_rows.specs.Calls.{call_members, caller_members, fill_members, write_members}
+use Rattle.qtext_rows.specs.Calls.{call_members, caller_members, fill_members}
 use Rattle.qtext_rows.specs.Replies.{answer_members}
 use Rattle.qtext_rows.specs.Values.{member, object_start}
 
@@ -20,7 +20,7 @@ line_start worker place = concat (object_start (codes "line") ∷ member (codes 
 
 -- a write, which is told as a fill where all of more than 32 bytes are equal
 abbrev pub shown_write : List ℕ → ℕ → List ℕ → Option ℕ → List ℕ
-shown_write path off bytes None = write_members path off bytes
+shown_write path off bytes None = call_members (Write path off bytes)
 shown_write path off bytes (Some byte) = fill_members path off (length bytes) byte
 
 -- a call as it is shown

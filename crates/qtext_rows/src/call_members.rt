@@ -1,50 +1,83 @@
 //! Callers and calls as members of an object.
+ghost use Rattle.std.specs.Prelude.{◌≡◌, ◌∷◌, [], map};
+ghost use Rattle.std.specs.List.{flat_map, zip};
+ghost use Rattle.json.specs.Print.{quoted};
 ghost use Rattle.qplain.specs.declared.call.Call.TheVariants as Call;
-ghost use Rattle.qblocks.specs.Input.{input_bytes};
 ghost use Rattle.qtext.specs.RuleWords.{kind_text};
 ghost use Rattle.qtext.specs.Written.{Writes};
-ghost use Rattle.qtext_rows.specs.Calls.{call_members, caller_members, chown_members, fill_members};
-ghost use Rattle.qtext_rows.specs.Calls.{on_path, on_paths, setquota_members, write_members};
+ghost use Rattle.qtext_read.specs.Rows.{name};
+ghost use Rattle.qtext_rows.specs.Calls.{call_members, caller_members, fill_members, named_call};
+ghost use Rattle.qtext_rows.specs.Values.{member, value_text};
 
-use crate::part::{Part, put_parts};
+use crate::part::{Part, put_member, put_part, put_parts};
 use crate::value::{Value, id_or_null};
 use qblocks::Input;
 use qplain::{Call, Cred, Path};
-use qrules::{Graces, Kind, Limits};
+use qrules::{Kind, Limits};
 use qtext::{RefusedWrite, TextLine, kind_word};
+use qtext_read::{Argument, Verb, name_of, row_of, verb_word};
 use qtext_write::put_caller;
 use std::io::Write;
 
-fn put_on_path<'a, W: Write>(
+/// Writes values in the places of arguments, each by the argument's name.
+#[tactic(auto, using(qtext::proofs::Fronts::front_of_first, qtext::proofs::Fronts::writes_then))]
+fn put_values<W: Write>(
     out: &mut W,
-    name: &'a [u8],
-    path: &'a Path,
+    row: &[Argument],
+    values: &[Value<'_>],
 ) -> Result<(), RefusedWrite>
-    ensures { Writes (W.contents out.old) (W.contents out.new) result (on_path name.now path.now) }
+    ensures { Writes (W.contents out.old) (W.contents out.new) result
+        (flat_map (λ p. member (name p.0) p.1) (zip row.now (map value_text values.now))) }
 {
-    let parts = [
-        Part::Nested(b"call", name),
-        Part::Member(b"path", Value::Text(path.bytes())),
-        Part::Shut,
-    ];
-    put_parts(out, &parts)
+    let [argument, row @ ..] = row else {
+        return Ok(());
+    };
+    let [value, values @ ..] = values else {
+        return Ok(());
+    };
+    put_member(out, name_of(*argument), value)?;
+    put_values(out, row, values)
 }
 
-fn put_on_paths<'a, W: Write>(
-    out: &mut W,
-    name: &'a [u8],
-    from: &'a Path,
-    to: &'a Path,
-) -> Result<(), RefusedWrite>
-    ensures { Writes (W.contents out.old) (W.contents out.new) result (on_paths name.now from.now to.now) }
+/// Writes a call of this verb as a member, with these values in the places of its arguments.
+#[tactic(auto, using(qtext::proofs::Fronts::front_of_first, qtext::proofs::Fronts::writes_then))]
+fn put_named<W: Write>(out: &mut W, verb: Verb, values: &[Value<'_>]) -> Result<(), RefusedWrite>
+    ensures { Writes (W.contents out.old) (W.contents out.new) result
+        (named_call verb (map value_text values.now)) }
 {
-    let parts = [
-        Part::Nested(b"call", name),
-        Part::Member(b"from", Value::Text(from.bytes())),
-        Part::Member(b"to", Value::Text(to.bytes())),
-        Part::Shut,
-    ];
-    put_parts(out, &parts)
+    put_part(out, &Part::Nested(b"call", verb_word(verb)))?;
+    put_values(out, row_of(verb), values)?;
+    put_part(out, &Part::Shut)
+}
+
+fn path_value(path: &Path) -> Value<'_>
+    ensures { value_text result ≡ quoted path.now }
+{
+    Value::Text(path.bytes())
+}
+
+fn kind_value<'a>(kind: Kind) -> Value<'a>
+    ensures { value_text result ≡ quoted (kind_text kind) }
+{
+    Value::Text(kind_word(kind))
+}
+
+fn put_on_path<W: Write>(out: &mut W, verb: Verb, path: &Path) -> Result<(), RefusedWrite>
+    ensures { Writes (W.contents out.old) (W.contents out.new) result (named_call verb (quoted path.now ∷ [])) }
+{
+    put_named(out, verb, &[path_value(path)])
+}
+
+fn put_on_paths<W: Write>(
+    out: &mut W,
+    verb: Verb,
+    from: &Path,
+    to: &Path,
+) -> Result<(), RefusedWrite>
+    ensures { Writes (W.contents out.old) (W.contents out.new) result
+        (named_call verb (quoted from.now ∷ quoted to.now ∷ [])) }
+{
+    put_named(out, verb, &[path_value(from), path_value(to)])
 }
 
 /// Writes a write of N equal bytes, as a fill.
@@ -57,79 +90,14 @@ pub(crate) fn put_fill<W: Write>(
 ) -> Result<(), RefusedWrite>
     ensures { Writes (W.contents out.old) (W.contents out.new) result (fill_members path.now off count byte) }
 {
-    let parts = [
-        Part::Nested(b"call", b"fill"),
-        Part::Member(b"path", Value::Text(path.bytes())),
-        Part::Member(b"offset", Value::Number(off)),
-        Part::Member(b"count", Value::Number(count)),
-        Part::Member(b"byte", Value::Digits(Input::Fill { count: 1, byte })),
-        Part::Shut,
+    let byte = Value::Digits(Input::Fill { count: 1, byte });
+    let values = [
+        path_value(path),
+        Value::Number(off),
+        Value::Number(count),
+        byte,
     ];
-    put_parts(out, &parts)
-}
-
-fn put_write<'a, W: Write>(
-    out: &mut W,
-    path: &'a Path,
-    off: u64,
-    bytes: Input<'a>,
-) -> Result<(), RefusedWrite>
-    ensures { Writes (W.contents out.old) (W.contents out.new) result
-        (write_members path.now off (input_bytes bytes.entry)) }
-{
-    let parts = [
-        Part::Nested(b"call", b"write"),
-        Part::Member(b"path", Value::Text(path.bytes())),
-        Part::Member(b"offset", Value::Number(off)),
-        Part::Member(b"data", Value::Digits(bytes)),
-        Part::Shut,
-    ];
-    put_parts(out, &parts)
-}
-
-fn put_truncate<W: Write>(out: &mut W, path: &Path, size: u64) -> Result<(), RefusedWrite>
-    ensures { Writes (W.contents out.old) (W.contents out.new) result (call_members (Call.Truncate path.now size)) }
-{
-    let parts = [
-        Part::Nested(b"call", b"truncate"),
-        Part::Member(b"path", Value::Text(path.bytes())),
-        Part::Member(b"size", Value::Number(size)),
-        Part::Shut,
-    ];
-    put_parts(out, &parts)
-}
-
-fn put_read<W: Write>(out: &mut W, path: &Path, off: u64, len: u64) -> Result<(), RefusedWrite>
-    ensures { Writes (W.contents out.old) (W.contents out.new) result (call_members (Call.Read path.now off len)) }
-{
-    let parts = [
-        Part::Nested(b"call", b"read"),
-        Part::Member(b"path", Value::Text(path.bytes())),
-        Part::Member(b"offset", Value::Number(off)),
-        Part::Member(b"length", Value::Number(len)),
-        Part::Shut,
-    ];
-    put_parts(out, &parts)
-}
-
-fn put_chown<W: Write>(
-    out: &mut W,
-    path: &Path,
-    uid: Option<u32>,
-    gid: Option<u32>,
-    project: Option<u32>,
-) -> Result<(), RefusedWrite>
-    ensures { Writes (W.contents out.old) (W.contents out.new) result (chown_members path.now uid gid project) }
-{
-    let parts = [
-        Part::Nested(b"call", b"chown"),
-        Part::Member(b"path", Value::Text(path.bytes())),
-        Part::Member(b"uid", id_or_null(uid)),
-        Part::Member(b"gid", id_or_null(gid)),
-        Part::Member(b"project", id_or_null(project)),
-        Part::Shut,
-    ];
-    put_parts(out, &parts)
+    put_named(out, Verb::Fill, &values)
 }
 
 fn put_setquota<W: Write>(
@@ -139,43 +107,17 @@ fn put_setquota<W: Write>(
     limits: &Limits,
 ) -> Result<(), RefusedWrite>
     ensures { Writes (W.contents out.old) (W.contents out.new) result
-        (setquota_members (kind_text kind) id limits.now) }
+        (call_members (Call.SetQuota kind id limits.now)) }
 {
-    let parts = [
-        Part::Nested(b"call", b"setquota"),
-        Part::Member(b"kind", Value::Text(kind_word(kind))),
-        Part::Member(b"id", Value::Number(id as u64)),
-        Part::Member(b"block_soft", Value::Number(limits.block_soft)),
-        Part::Member(b"block_hard", Value::Number(limits.block_hard)),
-        Part::Member(b"inode_soft", Value::Number(limits.inode_soft)),
-        Part::Member(b"inode_hard", Value::Number(limits.inode_hard)),
-        Part::Shut,
+    let values = [
+        kind_value(kind),
+        Value::Number(id as u64),
+        Value::Number(limits.block_soft),
+        Value::Number(limits.block_hard),
+        Value::Number(limits.inode_soft),
+        Value::Number(limits.inode_hard),
     ];
-    put_parts(out, &parts)
-}
-
-fn put_setgrace<W: Write>(out: &mut W, graces: Graces) -> Result<(), RefusedWrite>
-    ensures { Writes (W.contents out.old) (W.contents out.new) result (call_members (Call.SetGrace graces)) }
-{
-    let parts = [
-        Part::Nested(b"call", b"setgrace"),
-        Part::Member(b"block", Value::Number(graces.block)),
-        Part::Member(b"inode", Value::Number(graces.inode)),
-        Part::Shut,
-    ];
-    put_parts(out, &parts)
-}
-
-fn put_quota<W: Write>(out: &mut W, kind: Kind, id: u32) -> Result<(), RefusedWrite>
-    ensures { Writes (W.contents out.old) (W.contents out.new) result (call_members (Call.Quota kind id)) }
-{
-    let parts = [
-        Part::Nested(b"call", b"quota"),
-        Part::Member(b"kind", Value::Text(kind_word(kind))),
-        Part::Member(b"id", Value::Number(id as u64)),
-        Part::Shut,
-    ];
-    put_parts(out, &parts)
+    put_named(out, Verb::SetQuota, &values)
 }
 
 /// Writes a call as a member.
@@ -183,25 +125,54 @@ pub(crate) fn put_call<W: Write>(out: &mut W, call: &Call) -> Result<(), Refused
     ensures { Writes (W.contents out.old) (W.contents out.new) result (call_members call.now) }
 {
     match call {
-        Call::Create { path } => put_on_path(out, b"create", path),
-        Call::Mkdir { path } => put_on_path(out, b"mkdir", path),
-        Call::Write { path, off, bytes } => put_write(out, path, *off, bytes.input()),
-        Call::Truncate { path, size } => put_truncate(out, path, *size),
-        Call::Read { path, off, len } => put_read(out, path, *off, *len),
-        Call::Stat { path } => put_on_path(out, b"stat", path),
-        Call::Link { from, to } => put_on_paths(out, b"link", from, to),
-        Call::Unlink { path } => put_on_path(out, b"unlink", path),
-        Call::Rmdir { path } => put_on_path(out, b"rmdir", path),
-        Call::Rename { from, to } => put_on_paths(out, b"rename", from, to),
+        Call::Create { path } => put_on_path(out, Verb::Create, path),
+        Call::Mkdir { path } => put_on_path(out, Verb::Mkdir, path),
+        Call::Write { path, off, bytes } => {
+            let bytes = Value::Digits(bytes.input());
+            put_named(
+                out,
+                Verb::Write,
+                &[path_value(path), Value::Number(*off), bytes],
+            )
+        }
+        Call::Truncate { path, size } => put_named(
+            out,
+            Verb::Truncate,
+            &[path_value(path), Value::Number(*size)],
+        ),
+        Call::Read { path, off, len } => {
+            let values = [path_value(path), Value::Number(*off), Value::Number(*len)];
+            put_named(out, Verb::Read, &values)
+        }
+        Call::Stat { path } => put_on_path(out, Verb::Stat, path),
+        Call::Link { from, to } => put_on_paths(out, Verb::Link, from, to),
+        Call::Unlink { path } => put_on_path(out, Verb::Unlink, path),
+        Call::Rmdir { path } => put_on_path(out, Verb::Rmdir, path),
+        Call::Rename { from, to } => put_on_paths(out, Verb::Rename, from, to),
         Call::Chown {
             path,
             uid,
             gid,
             project,
-        } => put_chown(out, path, *uid, *gid, *project),
+        } => {
+            let owners = [
+                path_value(path),
+                id_or_null(*uid),
+                id_or_null(*gid),
+                id_or_null(*project),
+            ];
+            put_named(out, Verb::Chown, &owners)
+        }
         Call::SetQuota { kind, id, limits } => put_setquota(out, *kind, *id, limits),
-        Call::SetGrace { graces } => put_setgrace(out, *graces),
-        Call::Quota { kind, id } => put_quota(out, *kind, *id),
+        Call::SetGrace { graces } => {
+            let values = [Value::Number(graces.block), Value::Number(graces.inode)];
+            put_named(out, Verb::SetGrace, &values)
+        }
+        Call::Quota { kind, id } => put_named(
+            out,
+            Verb::Quota,
+            &[kind_value(*kind), Value::Number(*id as u64)],
+        ),
     }
 }
 

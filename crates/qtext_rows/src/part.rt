@@ -30,14 +30,18 @@ fn put_key<W: Write>(out: &mut W, name: &[u8]) -> Result<(), RefusedWrite>
 }
 
 #[tactic(auto, using(qtext::proofs::Fronts::front_of_first, qtext::proofs::Fronts::writes_then))]
-fn put_member<W: Write>(out: &mut W, name: &[u8], value: &Value<'_>) -> Result<(), RefusedWrite>
+pub(crate) fn put_member<W: Write>(
+    out: &mut W,
+    name: &[u8],
+    value: &Value<'_>,
+) -> Result<(), RefusedWrite>
     ensures { Writes (W.contents out.old) (W.contents out.new) result (member name.now (value_text value.now)) }
 {
     put_key(out, name)?;
     put_value(out, value)
 }
 
-fn put_part<W: Write>(out: &mut W, part: &Part<'_>) -> Result<(), RefusedWrite>
+pub(crate) fn put_part<W: Write>(out: &mut W, part: &Part<'_>) -> Result<(), RefusedWrite>
     ensures { Writes (W.contents out.old) (W.contents out.new) result (part_text part.now) }
 {
     match part {

@@ -1,14 +1,30 @@
-use Rattle.std.proofs.Common.{◌+◌, arith, rules}
+use Rattle.std.proofs.Common.{◌+◌, List, ℕ, refl, arith, rules}
+use Rattle.std.specs.Option.{option_map}
+use Rattle.qtext_files.specs.RawLines.{RawLine}
 use Rattle.qtext_files.proofs.RawLines.{no_line_of}
+use Rattle.qtext_check.specs.declared.fault.Fault.{Fault}
+use Rattle.qtext_check.specs.Faults.{fault_in, line_in, listed}
 use Rattle.qtext_check.proofs.Gathered.{goes_on, is_done}
 use Rattle.qtext_check.proofs.findings.all_findings.Goals as goal
 
 pub loop-rest-preserved : goal.loop-rest-preserved
-loop-rest-preserved c = record {
-  count = omega (arith, c.in_ok-line.ensures.shorter, c.loop-rest.invariant.count);
-  faults = rw c.in_ok-put_some.ensures
-      (goes_on _ _ _ _ _ _ _ c.in_ok-found.ensures (c.in_ok-line.ensures.first (c.loop-rest.number + 1)) c.loop-rest.invariant.faults);
-}
+loop-rest-preserved c =
+    let faults : RawLine → List Fault = λ l. listed (fault_in (option_map (λ s. s.now) c.args.setup) l) in
+    let lines : RawLine → List (List ℕ) = λ l. listed (line_in (option_map (λ s. s.now) c.args.setup) l) in
+    let first = c.in_ok-line.ensures.first (c.loop-rest.number + 1) in
+    record {
+      count = omega (arith, c.in_ok-line.ensures.shorter, c.loop-rest.invariant.count);
+      faults = rw (c.in_ok-put_some.ensures.fault, c.in_ok-found.ensures.fault) (goes_on faults _ _ _ _ _ _ refl first c.loop-rest.invariant.faults);
+      lines = rw (c.in_ok-put_some.ensures.bytes, c.in_ok-found.ensures.bytes) (goes_on lines _ _ _ _ _ _ refl first c.loop-rest.invariant.lines);
+      words = c.in_ok-put_some.ensures.word c.loop-rest.invariant.words c.in_ok-found.ensures.word;
+    }
 
-pub returns : goal.returns
-returns c = is_done _ _ _ _ (no_line_of (c.loop-rest.number + 1) c.loop-rest.rest.now (search rules)) c.loop-rest.invariant.faults
+pub returns-clause-faults : goal.returns-clause-faults
+returns-clause-faults c =
+    let faults : RawLine → List Fault = λ l. listed (fault_in (option_map (λ s. s.now) c.args.setup) l) in
+    is_done faults _ _ _ (no_line_of (c.loop-rest.number + 1) c.loop-rest.rest.now (search rules)) c.loop-rest.invariant.faults
+
+pub returns-clause-lines : goal.returns-clause-lines
+returns-clause-lines c =
+    let lines : RawLine → List (List ℕ) = λ l. listed (line_in (option_map (λ s. s.now) c.args.setup) l) in
+    is_done lines _ _ _ (no_line_of (c.loop-rest.number + 1) c.loop-rest.rest.now (search rules)) c.loop-rest.invariant.lines

@@ -1,8 +1,10 @@
 use Rattle.std.proofs.Common.{◌≡◌, ◌≤◌, ◌+◌, ◌++◌, length, map}
+use Rattle.std.specs.List.{flat_map}
 use Rattle.std.specs.Option.{option_map}
 use Rattle.qtext.specs.Words.{parts}
 use Rattle.qtext_files.specs.RawLines.{raw_lines_from}
-use Rattle.qtext_check.specs.Faults.{faults_in, faults_of}
+use Rattle.qtext_check.specs.Faults.{faults_in, faults_of, line_in, lines_of, listed}
+use Rattle.qtext_check.specs.Found.{AreAtFault}
 use Rattle.qtext_check.proofs.findings.all_findings.Given as goal
 
 -- the faults so far, and those of the lines that are left
@@ -12,6 +14,10 @@ invariant-loop-rest l = record {
   faults : map (λ f. f.fault) l.findings.items
       ++ faults_in (option_map (λ s. s.now) l.setup) (raw_lines_from (l.number + 1) (parts 10 l.rest))
       ≡ faults_of (option_map (λ s. s.now) l.setup) l.text;
+  lines : map (λ f. f.bytes.now) l.findings.items
+      ++ flat_map (λ r. listed (line_in (option_map (λ s. s.now) l.setup) r)) (raw_lines_from (l.number + 1) (parts 10 l.rest))
+      ≡ lines_of (option_map (λ s. s.now) l.setup) l.text;
+  words : AreAtFault l.findings.items;
 }
 
 abbrev pub decreases-loop-rest : goal.decreases-loop-rest

@@ -1,4 +1,4 @@
-use Rattle.std.proofs.Common.{◌≡◌, ◌∙◌, Ok, ap, arith, sym}
+use Rattle.std.proofs.Common.{◌≡◌, arith, sym}
 use Rattle.std.proofs.lemmas.List.{map-append}
 use Rattle.qtext_expand.proofs.Growing.{few_pieces, no_pieces, pieces_more, too_many_pieces}
 use Rattle.qtext_expand.proofs.fill.pieces_of.Goals as goal

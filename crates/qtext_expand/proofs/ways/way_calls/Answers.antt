@@ -1,4 +1,4 @@
-use Rattle.std.proofs.Common.{◌∙◌, sym}
+use Rattle.std.proofs.Common.{sym}
 use Rattle.qtext_expand.proofs.Growing.{no_ways, ways_more}
 use Rattle.qtext_expand.proofs.ways.way_calls.Goals as goal
 

@@ -1,4 +1,4 @@
-use Rattle.std.proofs.Common.{◌∙◌, drop, map, sym}
+use Rattle.std.proofs.Common.{◌∙◌, sym}
 use Rattle.qtext.proofs.Loops.{rest_past}
 use Rattle.qtext_expand.proofs.Growing.{comment, next_word, no_word, rest_from}
 use Rattle.qtext_expand.proofs.words.friendly_words.Goals as goal

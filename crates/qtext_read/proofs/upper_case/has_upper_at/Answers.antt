@@ -1,4 +1,4 @@
-use Rattle.std.proofs.Common.{arith, w8}
+use Rattle.std.proofs.Common.{w8}
 use Rattle.std.proofs.lemmas.Simd.{chunk-fits, length-chunk}
 use lib.Lanes.{chunk}
 use Rattle.qtext_read.proofs.UpperLanes.{upper_lanes}

@@ -1,4 +1,4 @@
-use Rattle.std.proofs.Common.{◌≡◌, ◌||◌, ◌+◌, drop, ap, arith, sym, ◌∙◌}
+use Rattle.std.proofs.Common.{◌||◌, ◌+◌, drop, ap, arith, sym, ◌∙◌}
 use Rattle.std.specs.Char.{is_ascii_uppercase}
 use Rattle.std.specs.List.{list_any}
 use Rattle.qtext_read.proofs.UpperLanes.{upper_on}
