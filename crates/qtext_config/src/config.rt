@@ -9,6 +9,7 @@ ghost use Rattle.qtext_config.specs.Configs.{document_of};
 
 use crate::ConfigFault;
 use keys::known_keys;
+pub use keys::{DOCUMENT_KEYS, PRINCIPAL_KEYS};
 use qplain::Setup;
 use setting::setup_of;
 pub use size::blocks_of_size;

@@ -9,8 +9,7 @@ use crate::reading::{load, text_of};
 use crate::standard::test_scripts;
 use crate::{Config, Files, Setup};
 use qtext::put;
-use qtext_check::{Finding, finding_text, findings_of, put_name};
-use qtext_config_check::{Verdict, check_config};
+use qtext_check::{Finding, Verdict, check_config, finding_text, findings_of, put_name};
 use std::alloc::Global;
 use std::io::Write;
 

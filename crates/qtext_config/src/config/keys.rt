@@ -14,7 +14,7 @@ use std::alloc::Global;
 use toml::Table;
 
 /// The keys of a document.
-const DOCUMENT_KEYS: [&str; 7] = [
+pub const DOCUMENT_KEYS: [&str; 7] = [
     "size",
     "nr_inodes",
     "block_grace",
@@ -25,7 +25,7 @@ const DOCUMENT_KEYS: [&str; 7] = [
 ];
 
 /// The keys of a user's, a group's or a project's table.
-const PRINCIPAL_KEYS: [&str; 6] = [
+pub const PRINCIPAL_KEYS: [&str; 6] = [
     "id",
     "name",
     "block_soft",

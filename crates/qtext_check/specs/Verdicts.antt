@@ -2,12 +2,12 @@
 use Rattle.std.specs.Prelude.{◌≡◌, List, [], ◌∷◌, Option, Some, None, Result, Ok, Err}
 use Rattle.qplain.specs.Setups.{IsSetupOf, Setting}
 use Rattle.qtext_config.specs.ConfigFaults.{Cause, cause_of}
-use Rattle.qtext_config_check.specs.declared.verdict.Verdict.{Verdict}
-use Rattle.qtext_config_check.specs.declared.verdict.Verdict.TheVariants.{Sound, Faulty}
-use Rattle.qtext_config_check.specs.declared.finding.Finding.{Finding}
+use Rattle.qtext_check.specs.declared.config.verdict.Verdict.{Verdict}
+use Rattle.qtext_check.specs.declared.config.verdict.Verdict.TheVariants.{Sound, Faulty}
+use Rattle.qtext_check.specs.declared.config.verdict.ConfigFinding.{ConfigFinding}
 
 -- the cause that the first of the faults tells
-abbrev pub first_cause : List Finding → Option Cause
+abbrev pub first_cause : List ConfigFinding → Option Cause
 first_cause [] = None
 first_cause (finding ∷ others) = cause_of finding.fault
 

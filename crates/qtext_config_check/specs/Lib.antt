@@ -1,2 +1,0 @@
--- What a check of a configuration tells.
-pub mod Verdicts
