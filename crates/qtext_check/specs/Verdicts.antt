@@ -2,9 +2,9 @@
 use Rattle.std.specs.Prelude.{◌≡◌, List, [], ◌∷◌, Option, Some, None, Result, Ok, Err}
 use Rattle.qplain.specs.Setups.{IsSetupOf, Setting}
 use Rattle.qtext_config.specs.ConfigFaults.{Cause, cause_of}
-use Rattle.qtext_check.specs.declared.config.verdict.Verdict.{Verdict}
-use Rattle.qtext_check.specs.declared.config.verdict.Verdict.TheVariants.{Sound, Faulty}
-use Rattle.qtext_check.specs.declared.config.verdict.ConfigFinding.{ConfigFinding}
+use Rattle.qtext_check.specs.declared.config.Verdict.{Verdict}
+use Rattle.qtext_check.specs.declared.config.Verdict.TheVariants.{Sound, Faulty}
+use Rattle.qtext_check.specs.declared.config.ConfigFinding.{ConfigFinding}
 
 -- the cause that the first of the faults tells
 abbrev pub first_cause : List ConfigFinding → Option Cause

@@ -30,14 +30,13 @@ impl Check<'_> {
     fn value(&mut self, at: (Site, &str), value: Option<&Value>) -> Done {
         let (is_needed, form) = rule_of(at.1);
         let field = ConfigFault::Field(String::from_str(self.alloc, at.1)?);
+        let range = ConfigFault::Range;
         match (value, value.and_then(|value| is_in_range(form, value))) {
             (None, _) if is_needed => self.tell(field, at, Said::Missing(form)),
             (None, _) | (_, Some(true)) => Ok(()),
             (_, None) => self.tell(field, at, Said::Value(form)),
-            (Some(Value::Array(list)), _) => {
-                self.tell(ConfigFault::Range, at, Said::Count(list.len(), form))
-            }
-            _ => self.tell(ConfigFault::Range, at, Said::Value(form)),
+            (Some(Value::Array(list)), _) => self.tell(range, at, Said::Count(list.len(), form)),
+            _ => self.tell(range, at, Said::Value(form)),
         }
     }
 

@@ -18,40 +18,60 @@ fn next(s: &str) -> &str {
 
 /// What follows the value with which a text begins: the one fault of such a text is that it does not end there.
 fn behind_value(alloc: Global, s: &str) -> Result<&str, AllocError> {
-    let Err(error) = Value::from_str(alloc, s) else {
-        return Ok("");
-    };
-    let end = error.span().ok_or(AllocError)?.start;
-    Ok(s.get(end..).unwrap_or(""))
+    match Value::from_str(alloc, s) {
+        Ok(_) => Ok(""),
+        Err(error) => Ok(s.get(error.span().ok_or(AllocError)?.start..).unwrap_or("")),
+    }
 }
 
 impl<'a> Check<'a> {
     /// The texts from a key, its value and what follows on, or from its table where the key has no byte.
     pub(super) fn find(&self, site: Site, key: &str) -> Option<[&'a str; 3]> {
-        let mut places = self.places.iter();
-        let place = places.find(|place| place.0 == site && place.1.as_str() == key)?;
-        Some(place.2)
+        for place in &self.places {
+            if place.0 == site && place.1.as_str() == key {
+                return Some(place.2);
+            }
+        }
+        None
     }
 
     /// How many tables a list has had.
     fn count(&self, list: &str) -> usize {
-        for place in self.places.iter().rev() {
-            match place.0 {
-                Site::Of(other, index) if other == list => return index.saturating_add(1),
-                _ => {}
-            }
+        let mut sites = self.places.iter().rev().map(|place| place.0);
+        match sites.find(|site| matches!(site, Site::Of(other, _) if *other == list)) {
+            Some(Site::Of(_, index)) => index.saturating_add(1),
+            _ => 0,
         }
-        0
     }
 
     fn put_place(&mut self, site: Site, key: String, at: &'a str) -> Done {
         Ok(self.places.push(Place(site, key, [at, "", ""]))?)
     }
 
-    /// Puts the key of a line, or those and the table of a header, moves on, and answers the table of which keys follow.
+    /// Puts the keys of a header, and the next table of a list, and answers the table of which keys follow.
+    fn header(&mut self, s: &'a str, keys: (String, Option<String>)) -> Result<Site, AllocError> {
+        let (at, (key, second)) = (skip_ws(s.trim_start_matches('[')), keys);
+        let list = DOCUMENT_KEYS.into_iter().find(|list| key.as_str() == *list);
+        let count = self.count(key.as_str());
+        self.put_place(Site::Document, key, at)?;
+        match (list, second) {
+            (Some(list), None) if s.starts_with("[[") => {
+                self.put_place(Site::Of(list, count), String::new(self.alloc), at)?;
+                Ok(Site::Of(list, count))
+            }
+            (Some(list), Some(key)) if count > 0 => {
+                let second = at.split_once('.').map_or("", |(_, second)| skip_ws(second));
+                self.put_place(Site::Of(list, count - 1), key, second)?;
+                Ok(Site::Elsewhere)
+            }
+            _ => Ok(Site::Elsewhere),
+        }
+    }
+
+    /// Puts the key of a line, or what a header tells, moves on, and answers the table of which keys follow.
     fn line(&mut self, site: Site, s: &mut &'a str) -> Result<Site, AllocError> {
-        let at = skip_ws(s.trim_start_matches('['));
-        let (Key { mut path, last }, rest) = match dotted_key(self.alloc, at) {
+        let (at, start) = (*s, skip_ws(s.trim_start_matches('[')));
+        let (Key { mut path, last }, rest) = match dotted_key(self.alloc, start) {
             Ok(read) => read,
             Err(ParseError::OutOfMemory) => return Err(AllocError),
             Err(_) => return Ok(Site::Elsewhere),
@@ -59,30 +79,14 @@ impl<'a> Check<'a> {
         path.push(last)?;
         let mut parts = path.into_iter();
         let key = parts.next().unwrap_or(String::new(self.alloc));
-        if !s.starts_with('[') {
-            let value = skip_ws(rest.trim_start_matches('='));
-            *s = behind_value(self.alloc, value)?;
-            self.places.push(Place(site, key, [at, value, *s]))?;
-            return Ok(site);
+        if at.starts_with('[') {
+            *s = rest.trim_start_matches(']');
+            return self.header(at, (key, parts.next()));
         }
-        let is_of_list = s.starts_with("[[");
-        *s = rest.trim_start_matches(']');
-        let list = DOCUMENT_KEYS.into_iter().find(|list| key.as_str() == *list);
-        let count = self.count(key.as_str());
-        self.put_place(Site::Document, key, at)?;
-        match (list, parts.next()) {
-            (Some(list), None) if is_of_list => {
-                let site = Site::Of(list, count);
-                self.put_place(site, String::new(self.alloc), at)?;
-                return Ok(site);
-            }
-            (Some(list), Some(key)) if count > 0 => {
-                let second = at.split_once('.').map_or("", |(_, second)| skip_ws(second));
-                self.put_place(Site::Of(list, count - 1), key, second)?;
-            }
-            _ => {}
-        }
-        Ok(Site::Elsewhere)
+        let value = skip_ws(rest.trim_start_matches('='));
+        *s = behind_value(self.alloc, value)?;
+        self.places.push(Place(site, key, [at, value, *s]))?;
+        Ok(site)
     }
 
     /// Puts the keys of a table, and the headers behind them, up to a closing brace or the end of the text.

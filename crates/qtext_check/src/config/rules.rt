@@ -52,9 +52,7 @@ impl fmt::Display for Form {
                 "a text: bytes in 1 to 10 digits, the first not 0, then k, m, g or nothing; at most 4g",
             Form::Name => "a text of 1 to 16 bytes, a to z, 0 to 9, _ and -, the first a letter",
             Form::List => "a list of 1 to 64 tables",
-            Form::Number(of, least, most) => {
-                return write!(f, "a whole number{of}, {least} to {most}");
-            }
+            Form::Number(of, min, max) => return write!(f, "a whole number{of}, {min} to {max}"),
         })
     }
 }

@@ -21,7 +21,6 @@ pub(super) enum Said<'a> {
     NoZero,
 }
 
-/// The words for the first of a list.
 const ORDINALS: [&str; 10] = [
     "first", "second", "third", "fourth", "fifth", "sixth", "seventh", "eighth", "ninth", "tenth",
 ];
