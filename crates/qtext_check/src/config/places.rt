@@ -9,7 +9,7 @@ use toml_parser::{Key, ParseError, dotted_key};
 
 /// A table, a key of it, no byte for the table itself, and the texts from it, its value and what is behind that on.
 #[derive(Drop)]
-pub(super) struct Place<'a>(Site, String, [&'a str; 3]);
+pub(super) struct Place<'a>(Site, String, (&'a str, &'a str, &'a str));
 
 /// What follows blanks, comments and a comma.
 fn next(s: &str) -> &str {
@@ -26,7 +26,7 @@ fn behind_value(alloc: Global, s: &str) -> Result<&str, AllocError> {
 
 impl<'a> Check<'a> {
     /// The texts from a key, its value and what follows on, or from its table where the key has no byte.
-    pub(super) fn find(&self, site: Site, key: &str) -> Option<[&'a str; 3]> {
+    pub(super) fn find(&self, site: Site, key: &str) -> Option<(&'a str, &'a str, &'a str)> {
         for place in &self.places {
             if place.0 == site && place.1.as_str() == key {
                 return Some(place.2);
@@ -45,7 +45,7 @@ impl<'a> Check<'a> {
     }
 
     fn put_place(&mut self, site: Site, key: String, at: &'a str) -> Done {
-        Ok(self.places.push(Place(site, key, [at, "", ""]))?)
+        Ok(self.places.push(Place(site, key, (at, "", "")))?)
     }
 
     /// Puts the keys of a header, and the next table of a list, and answers the table of which keys follow.
@@ -85,7 +85,7 @@ impl<'a> Check<'a> {
         }
         let value = skip_ws(rest.trim_start_matches('='));
         *s = behind_value(self.alloc, value)?;
-        self.places.push(Place(site, key, [at, value, *s]))?;
+        self.places.push(Place(site, key, (at, value, *s)))?;
         Ok(site)
     }
 
@@ -104,7 +104,7 @@ impl<'a> Check<'a> {
 
     /// Puts the elements of the list at a key of the document, where its value is one.
     pub(super) fn put_elements(&mut self, list: &'static str) -> Done {
-        let [_, value, _] = self.find(Site::Document, list).unwrap_or_default();
+        let (_, value, _) = self.find(Site::Document, list).unwrap_or(("", "", ""));
         let mut rest = next(value.strip_prefix('[').unwrap_or(""));
         for index in 0..value.len() {
             if matches!(first(rest), 0 | b']') {
@@ -112,7 +112,7 @@ impl<'a> Check<'a> {
             }
             let (site, no_key) = (Site::Of(list, index), String::new(self.alloc));
             let after = behind_value(self.alloc, rest)?;
-            self.places.push(Place(site, no_key, [rest, rest, after]))?;
+            self.places.push(Place(site, no_key, (rest, rest, after)))?;
             if let Some(inside) = rest.strip_prefix('{') {
                 self.put_keys(site, inside)?;
             }

@@ -96,7 +96,7 @@ impl Check<'_> {
     pub(super) fn tell(&mut self, fault: ConfigFault, at: (Site, &str), said: Said<'_>) -> Done {
         let (site, key) = at;
         let found = self.find(site, key).or(self.find(site, ""));
-        let [at, from, after] = found.unwrap_or(["", "", ""]);
+        let (at, from, after) = found.unwrap_or(("", "", ""));
         let value = shown(self.alloc, from.strip_suffix(after).unwrap_or(""))?;
         let words = words_of(self.alloc, said, &value)?;
         let (table, key) = (table_words(self.alloc, site)?, shown(self.alloc, key)?);
