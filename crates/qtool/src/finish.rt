@@ -27,30 +27,8 @@ fn tell_denials<E: Write>(transcripts: &[PlacedTranscript], telling: Telling, er
     1
 }
 
-/// Writes what came of it, and then tells a strict caller of lines that were not done. Ok is the status.
-fn tell<F: Files, O: Write, E: Write>(
-    outcome: &Outcome,
-    telling: Telling,
-    journal: Option<&str>,
-    files: &mut F,
-    out: &mut O,
-    err: &mut E,
-) -> Result<u8, Ending>
-    ensures told { IfOk result
-        (λ status. IsTold telling outcome.now status (O.contents out.old) (O.contents out.new)) }
-    ensures kept { IfOk result (λ _. IsJournalKept (F.held files.old) (F.held files.new)
-        (option_map (λ n. n.now) journal.entry) outcome.now.journal) }
-    ensures refused { IfErr result (λ ending. ending ≡ Output) }
-{
-    let transcripts = outcome.transcripts.as_slice();
-    let at = report_moment(telling.at, transcripts);
-    match write_run(outcome, telling.view, at, journal, files, out) {
-        Ok(()) => Ok(tell_denials(transcripts, telling, err)),
-        Err(_) => Err(Ending::Output),
-    }
-}
-
-/// The same. The memory of the outcome is left to the system: to give back each piece takes as long as a call.
+/// Writes what came of it, and then tells a strict caller of lines that were not done. Ok is the status. The memory of
+/// the outcome is left to the system: to give back each piece takes as long as a call.
 pub(crate) fn finish<F: Files, O: Write, E: Write>(
     outcome: Outcome,
     telling: Telling,
@@ -65,7 +43,12 @@ pub(crate) fn finish<F: Files, O: Write, E: Write>(
         (option_map (λ n. n.now) journal.entry) outcome.journal) }
     ensures refused { IfErr result (λ ending. ending ≡ Output) }
 {
-    let told = tell(&outcome, telling, journal, files, out, err);
+    let transcripts = outcome.transcripts.as_slice();
+    let at = report_moment(telling.at, transcripts);
+    let told = match write_run(&outcome, telling.view, at, journal, files, out) {
+        Ok(()) => Ok(tell_denials(transcripts, telling, err)),
+        Err(_) => Err(Ending::Output),
+    };
     mem::forget(outcome);
     told
 }

@@ -19,7 +19,9 @@ pub use qtext_job::{Job, LineFault};
 pub use qtext_outcome::{WriteFault, write_outcome};
 pub use qtext_view::{ReportMoment, Telling, View};
 pub use qtool_files::{FileFault, Files, NamedStreams, Refuser, write_run, write_service};
-pub use qtool_runs::{TextReplayFault, check_boards, replay, replay_text, run, run_with, serve};
+pub use qtool_runs::{
+    Machine, TextReplayFault, check_boards, replay, replay_text, run, run_with, serve,
+};
 
 mod checking;
 mod clashes;
@@ -28,7 +30,6 @@ mod ending;
 mod expanding;
 mod fault_text;
 mod finish;
-mod machine;
 mod program;
 mod reading;
 mod replaying;

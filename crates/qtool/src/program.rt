@@ -10,13 +10,11 @@ use crate::clashes::ServiceNames;
 use crate::client_names::{is_output_taken, names_of};
 use crate::ending::Ending;
 use crate::expanding::expand_job;
-use crate::machine::Machine;
 use crate::replaying::{AskedReplay, replay_job};
 use crate::running::{AskedRun, run_job};
 use crate::services::{Asked, serve_job};
-use crate::{Files, Job, LineFault, NamedStreams, Options};
+use crate::{Files, Job, LineFault, Machine, NamedStreams, Options};
 use qtext::put;
-use std::alloc::Global;
 use std::io::Write;
 use std::sync::Wait;
 use std::thread::Threads;
@@ -188,13 +186,11 @@ fn tell_words<O: Write, E: Write>(fault: &LineFault, out: &mut O, err: &mut E) -
 /// journal that refuses, also when it is flushed, 5 for a service that was to stop at a line that fails, and did. Help
 /// and the version go to the output, with 0. The line is flushed, so that a buffered error output gets it by one write.
 ///
-/// The memory of a run is not given back. `seed` is any number, best one that nobody knows beforehand: where it is
+/// The memory of a run is not given back. The machine's seed is any number, best one that nobody knows beforehand: where it is
 /// known, names can be searched that collide, and then calls take long. Neither the output nor the status depends on
 /// it.
 pub fn tool<F, O, E, R>(
-    rt: &R,
-    alloc: Global,
-    seed: u64,
+    machine: &Machine<'_, R>,
     words: &[String],
     files: &mut F,
     out: &mut O,
@@ -214,8 +210,8 @@ where
         (seen (F.held files.old) (O.contents out.old) (E.contents err.old))
         (seen (F.held files.new) (O.contents out.new) (E.contents err.new)) }
 {
-    match Job::read(alloc, words) {
-        Ok(job) => end_job(&Machine { rt, alloc, seed }, &job, files, out, err),
+    match Job::read(machine.alloc, words) {
+        Ok(job) => end_job(machine, &job, files, out, err),
         Err(fault) => tell_words(&fault, out, err),
     }
 }

@@ -9,10 +9,9 @@ ghost use Rattle.qtool.specs.declared.ending.Ending.TheVariants.{TooManyScripts,
 
 use crate::ending::Ending;
 use crate::finish::finish;
-use crate::machine::Machine;
 use crate::reading::{configuration, read_scripts};
 use crate::standard::test_scripts;
-use crate::{Files, NoGate, Options, Outcome, RunFault, Telling, run_with};
+use crate::{Files, Machine, NoGate, Options, Outcome, RunFault, Telling, run_with};
 use qplain::MAX_WORKERS;
 use qtool_files::test_journal;
 use std::io::Write;
@@ -58,14 +57,14 @@ fn run_of<F: Files, R: Threads + Wait + Sync>(
         options.boards) }
     ensures same { F.held files.new ≡ F.held files.old }
 {
-    let Machine { rt, alloc, seed } = *machine;
+    let Machine { rt, alloc, .. } = *machine;
     let config = configuration(alloc, files, config)?;
     test_seats(names.len() as u64, options.boards)?;
     let scripts = read_scripts(rt, alloc, files, names)?;
     let Some(progress) = files.progress(&scripts) else {
-        return run_with(rt, alloc, config, scripts, options, seed, &NoGate).map_err(ending_of_run);
+        return run_with(machine, config, scripts, options, &NoGate).map_err(ending_of_run);
     };
-    let outcome = run_with(rt, alloc, config, scripts, options, seed, &progress);
+    let outcome = run_with(machine, config, scripts, options, &progress);
     files.ended(progress);
     outcome.map_err(ending_of_run)
 }

@@ -11,11 +11,10 @@ ghost use Rattle.qtool.specs.Under.{IsServiceUnder};
 use crate::clashes::{ServiceNames, find_clash};
 use crate::client_names::ClientNames;
 use crate::ending::Ending;
-use crate::machine::Machine;
 use crate::reading::configuration;
 use crate::running::ending_of_run;
 use crate::told_streams::ToldStreams;
-use crate::{Files, NamedStreams, Outcome, Setup, serve, write_service};
+use crate::{Files, Machine, NamedStreams, Outcome, Setup, serve, write_service};
 use qplain::{MAX_WORKERS, NoMemory};
 use qrun::Service;
 use qrun_client::ClientEnd;
@@ -142,7 +141,7 @@ fn serve_of<F: Files + NamedStreams + Send, R: Threads + Wait + Clock + Sync>(
     requires { 0 < length asked.names.clients.now }
     ensures { IfOk result (λ left. IsServiceUnder (F.held files.old) asked.entry.names.config.now left.outcome) }
 {
-    let Machine { rt, alloc, seed } = *machine;
+    let Machine { rt, alloc, .. } = *machine;
     let names = asked.names;
     test_names(alloc, files, names)?;
     let config = configuration(alloc, files, names.config).map_err(|ending| ending.explained(
@@ -156,7 +155,7 @@ fn serve_of<F: Files + NamedStreams + Send, R: Threads + Wait + Clock + Sync>(
     };
     let clients = clients_of(alloc, files, names.clients, stop)?;
     let monitor = monitor_of(rt, alloc, files, names.board, &config.setup)?;
-    match serve(rt, alloc, config, clients, monitor, seed) {
+    match serve(machine, config, clients, monitor) {
         Ok(
             Service {
                 outcome,

@@ -15,6 +15,7 @@ ghost use Rattle.qrun.specs.RunFaults.{IsFaultOf};
 ghost use Rattle.qrun.specs.Serving.{CanServe, IsOfClients, monitors_in};
 ghost use Rattle.qrun.specs.Watching.{seats_for};
 
+use crate::machine::Machine;
 use qaudit_checks::BoardFault;
 use qplain::{Board, Journal, Script};
 use qrun::{Gate, Monitor, NoGate, Options, RunFault, Service, run_scripts};
@@ -31,16 +32,14 @@ use std::thread::Threads;
 /// `options` says how many boards one more thread takes meanwhile, and how many lines a worker makes under one lock;
 /// `gate` is called around each line, or before the first and after the last of those, and may wait.
 ///
-/// The caller owes 1 to 16 scripts, and with boards at most 15. The hashes of names begin at `seed`, which may be any
-/// number; nothing of the outcome depends on it. O(lines), and what each call takes. After an Err all workers that were
-/// started have been joined, and the store is given up; NotStarted names the first of the threads that was refused.
+/// The caller owes 1 to 16 scripts, and with boards at most 15. The machine's seed may be any number; nothing of the
+/// outcome depends on it. O(lines), and what each call takes. After an Err all workers that were started have been
+/// joined, and the store is given up; NotStarted names the first of the threads that was refused.
 pub fn run_with<G: Gate + Sync, R: Threads + Wait + Sync>(
-    rt: &R,
-    alloc: Global,
+    machine: &Machine<'_, R>,
     config: Config,
     scripts: Vec<Script>,
     options: Options,
-    seed: u64,
     gate: &G,
 ) -> Result<Outcome, RunFault>
     requires { CanRun (length scripts.items) options }
@@ -48,23 +47,22 @@ pub fn run_with<G: Gate + Sync, R: Threads + Wait + Sync>(
     ensures looks { IfOk result (λ o. length o.boards ≡ options.boards) }
     ensures fault { IfErr result (IsFaultOf (seats_for (length scripts.items) options.boards)) }
 {
+    let Machine { rt, alloc, seed } = *machine;
     run_scripts(rt, alloc, config.setup, scripts, options, seed, gate)
 }
 
 /// `run_with` without boards, line by line, and with a gate that lets every line pass. The caller owes 1 to 16 scripts.
 pub fn run<R: Threads + Wait + Sync>(
-    rt: &R,
-    alloc: Global,
+    machine: &Machine<'_, R>,
     config: Config,
     scripts: Vec<Script>,
-    seed: u64,
 ) -> Result<Outcome, RunFault>
     requires { (0 < length scripts.items) × (length scripts.items ≤ MAX_SEATS) }
     ensures outcome { IfOk result (IsOutcomeOf config.setup scripts.items) }
     ensures looks { IfOk result (λ o. length o.boards ≡ 0) }
     ensures fault { IfErr result (IsFaultOf (length scripts.items)) }
 {
-    run_with(rt, alloc, config, scripts, Options::plain(), seed, &NoGate)
+    run_with(machine, config, scripts, Options::plain(), &NoGate)
 }
 
 /// Serves 1 to 16 clients, or 1 to 15 beside a monitor, on a new store of the configuration: each by a worker in a
@@ -76,12 +74,10 @@ pub fn run<R: Threads + Wait + Sync>(
 /// journal leaves, and each client's lines were made in order, each with its reply. A journal has at most 1,048,576
 /// entries; then each line is told JournalFull, and in no journal.
 pub fn serve<C, M, R>(
-    rt: &R,
-    alloc: Global,
+    machine: &Machine<'_, R>,
     config: Config,
     clients: Vec<C>,
     monitor: Option<M>,
-    seed: u64,
 ) -> Result<Service<C::Left, M::Left>, RunFault>
 where
     C: Client + Drop + Send,
@@ -95,6 +91,7 @@ where
         s.monitor) }
     ensures fault { IfErr result (IsFaultOf (seats_for (length clients.items) (monitors_in monitor))) }
 {
+    let Machine { rt, alloc, seed } = *machine;
     qrun::serve(rt, alloc, config.setup, clients, monitor, seed)
 }
 

@@ -1,7 +1,7 @@
 //! Runs scripts of calls on a shared store of files in memory, with disk quotas for users, groups and projects.
 #![tactic(auto)]
 
-use qtool::tool;
+use qtool::{Machine, tool};
 use qtool_machine::MachineFiles;
 use std::io::{self, BufWriter, ErrorKind};
 use std::process::ExitCode;
@@ -56,6 +56,10 @@ fn main(rt: HostRuntime) -> ExitCode {
         return out_of_memory(&rt);
     };
     let mut files = MachineFiles { rt: &rt };
-    let seed = seed(&rt);
-    ExitCode::from(tool(&rt, alloc, seed, &words, &mut files, &mut out, &mut err))
+    let machine = Machine {
+        rt: &rt,
+        alloc,
+        seed: seed(&rt),
+    };
+    ExitCode::from(tool(&machine, &words, &mut files, &mut out, &mut err))
 }

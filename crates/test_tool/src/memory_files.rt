@@ -3,7 +3,7 @@
 use crate::memory_streams::MemoryStreams;
 use crate::short::Short;
 use qplain::NoMemory;
-use qtool::{FileFault, Files, NamedStreams, NoGate, Script, tool};
+use qtool::{FileFault, Files, Machine, NamedStreams, NoGate, Script, tool};
 use std::alloc::{AllocError, Global};
 use std::sync::Wait;
 use std::thread::Threads;
@@ -171,6 +171,11 @@ pub(crate) fn told<R: Threads + Wait + Clock + Sync>(
 ) -> Result<(u8, bool), AllocError> {
     let words = words_of(files.alloc, line)?;
     let mut err = Vec::new(files.alloc);
-    let status = tool(rt, files.alloc, 7, &words, files, out, &mut err);
+    let machine = Machine {
+        rt,
+        alloc: files.alloc,
+        seed: 7,
+    };
+    let status = tool(&machine, &words, files, out, &mut err);
     Ok((status, err.as_slice() == wanted))
 }

@@ -1,7 +1,0 @@
-use Rattle.qsession.specs.Holdings.{held_in}
-use Rattle.qsession.proofs.Calling.{caller_cause}
-use Rattle.qsession.proofs.session.Session.call.Goals as goal
-
-pub returns-in-Err-clause-cause : goal.returns-in-Err-clause-cause
-returns-in-Err-clause-cause c =
-    caller_cause (held_in c.args.self.now.slot.kept) c.args.caller.now c.args.call.now c.in-Err.fault c.in-Err.ensures.fault
