@@ -1,5 +1,5 @@
 -- What lies under the lock, and what holds of it whenever the lock is free. No public clause cites this module.
-use Rattle.std.specs.Prelude.{◌≡◌, ℕ, List}
+use Rattle.std.specs.Prelude.{◌≡◌, ℕ, List, []}
 use mathlib.Core.List.{IsPrefix}
 use Rattle.qplain.specs.declared.entry.Entry.{Entry}
 use Rattle.qplain.specs.declared.tallies.Tallies.{Tallies}
@@ -13,6 +13,10 @@ use Rattle.qstore_journaled.specs.Journaled.{IsStoreOf, Journaled}
 pub record Locked : Type 0 where
   pub journal : List Entry
   pub published : List Entry
+
+-- a new store has no entry
+abbrev pub IsNew : Locked → Type 0
+IsNew l = (l.journal ≡ []) × (l.published ≡ [])
 
 -- the journal begins with what is published, which is the history of the store; the tally is the journal's, and nothing
 -- is counted but by its seats

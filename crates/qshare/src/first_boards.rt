@@ -2,12 +2,13 @@
 ghost use Rattle.std.specs.Prelude.{◌≡◌, ◌<◌, ◌≤◌, ◌-◌, [], Err, IfOk};
 ghost use Rattle.qplain.specs.Journal.{board_of, no_tally};
 ghost use Rattle.qplain.specs.Setups.{IsLawfulSetup};
-ghost use Rattle.qshare_history.specs.Histories.{recorded};
-ghost use Rattle.qstore_journaled.specs.Journaled.{IsStoreOf};
+ghost use Rattle.qshare.specs.Locked.{IsNew};
 ghost use Rattle.qshare.specs.Seats.{new_seat, seats_of};
 ghost use Rattle.qshare.specs.declared.opening.TheConstants.{MAX_SEATS};
 ghost use Rattle.qshare.specs.declared.share_fault.ShareFault.TheVariants.{Seats};
 
+use crate::locked_store::LockedStore;
+use crate::no_boards::NoBoards;
 use crate::opening::MAX_SEATS;
 use crate::seat::{Blind, Seat};
 use crate::seating::blind_seats;
@@ -15,9 +16,8 @@ use crate::share_fault::ShareFault;
 use qplain::{Board, NoMemory};
 use qrules::Items;
 use qshare_boards::{Publisher, Viewer};
-use qshare_history::{Prefix, StoreId, TallyPart};
+use qshare_history::{StoreId, TallyPart};
 use qstore::Store;
-use qstore_journaled::JournaledStore;
 use std::alloc::Global;
 use std::sync::Wait;
 
@@ -37,18 +37,16 @@ fn first_board(store: &Store) -> Result<Board, NoMemory>
 pub(crate) fn first_publisher<S: StoreId, R: Wait + Drop>(
     alloc: Global,
     rt: R,
-    store: &JournaledStore,
-    prefix: &Prefix,
+    locked: &LockedStore<S, NoBoards>,
     seats: u64,
 ) -> Result<Publisher<S, R>, NoMemory>
-    requires store { IsStoreOf S.id.setting store.now × (store.now.journal ≡ []) }
-    requires prefix { prefix.now ≡ recorded S.id.history [] }
+    requires new { IsNew locked.now }
     requires seats { (0 < seats) × (seats ≤ MAX_SEATS) }
     ensures published { IfOk result (λ p. p ≡ []) }
     ensures setup { IsLawfulSetup S.id.setting }
 {
-    let board = first_board(store.store())?;
-    Publisher::new(alloc, rt, &board, prefix, seats as usize)
+    let board = first_board(locked.store().store())?;
+    Publisher::new(alloc, rt, &board, &locked.published(), seats as usize)
 }
 
 /// The writing side of the boards of a new store, with a place for one reader, the seats of the workers, numbered from
@@ -56,26 +54,25 @@ pub(crate) fn first_publisher<S: StoreId, R: Wait + Drop>(
 pub(crate) fn observed<S: StoreId, R: Wait + Drop>(
     alloc: Global,
     rt: R,
-    store: &JournaledStore,
-    prefix: &Prefix,
-    seats: u64,
+    locked: &LockedStore<S, NoBoards>,
     mut all: TallyPart<S>,
 ) -> Result<(Publisher<S, R>, Vec<Seat<S, Blind>>, Seat<S, Viewer<S>>), ShareFault>
-    requires store { IsStoreOf S.id.setting store.now × (store.now.journal ≡ []) }
-    requires prefix { prefix.now ≡ recorded S.id.history [] }
-    requires all { (0 < seats) × (all ≡ record { tally = no_tally; parts = seats }) }
+    requires new { IsNew locked.now }
+    requires all { (0 < all.parts) × (all ≡ record { tally = no_tally; parts = S.id.counters.parts }) }
     ensures publisher { IfOk result (λ r. r.0 ≡ []) }
-    ensures seats { IfOk result (λ r. (r.1.items ≡ seats_of (seats - 1)) × (r.2 ≡ new_seat seats)) }
+    ensures workers { IfOk result (λ r. r.1.items ≡ seats_of (S.id.counters.parts - 1)) }
+    ensures observer { IfOk result (λ r. r.2 ≡ new_seat S.id.counters.parts) }
     ensures few { result ≡ Err Seats → ⊥ }
 {
+    let (prefix, seats) = (locked.published(), locked.seats());
     let last = all.split_off();
-    let Ok(mut publisher) = first_publisher::<S, R>(alloc, rt, store, prefix, 1) else {
+    let Ok(mut publisher) = first_publisher::<S, R>(alloc, rt, locked, 1) else {
         return Err(ShareFault::OutOfMemory);
     };
     let Ok(viewer) = Viewer::new(alloc, &mut publisher, prefix.again()) else {
         return Err(ShareFault::NoReader);
     };
     let observer = Seat::new(seats, prefix.again(), last, viewer);
-    let workers = blind_seats(alloc, prefix, seats - 1, all)?;
+    let workers = blind_seats(alloc, &prefix, seats - 1, all)?;
     Ok((publisher, workers, observer))
 }

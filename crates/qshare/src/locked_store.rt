@@ -11,8 +11,10 @@ ghost use Rattle.qstore_journaled.specs.Journaled.{IsStoreOf};
 ghost use Rattle.qstore_journaled.specs.Lines.{line_of};
 ghost use Rattle.qshare.specs.Calls.{IsJournaled, IsToldOf};
 ghost use Rattle.qshare.specs.Ends.{IsEndOf};
+ghost use Rattle.qshare.specs.Locked.{IsNew};
 
 use crate::boards::Boards;
+use crate::no_boards::NoBoards;
 use crate::told::Told;
 use qplain::{Call, CallFault, Cred};
 use qshare_history::{History, Prefix, SeatTally, Share, StoreId, TallyPart, TallyTotal, together};
@@ -45,22 +47,20 @@ impl<S: StoreId, B: Boards<S>> Model for LockedStore<S, B> {
         × B.waits d.boards d.history.entries d.store.journal };
 }
 
-impl<S: StoreId, B: Boards<S>> LockedStore<S, B> {
-    /// A new store under its lock, with an empty journal, for N seats.
+impl<S: StoreId> LockedStore<S, NoBoards> {
+    /// A new store under its lock, with an empty journal, for N seats, whose boards nobody can look at yet.
     pub(crate) fn new(
         store: JournaledStore,
         history: History,
         tally: TallyTotal<S>,
         seats: u64,
         rest: TallyPart<S>,
-        boards: B,
-    ) -> LockedStore<S, B>
+    ) -> LockedStore<S, NoBoards>
         requires store { IsStoreOf S.id.setting store × (store.journal ≡ []) }
         requires history { history ≡ recorded S.id.history [] }
         requires seats { seats ≡ S.id.counters.parts }
         requires tally { (tally ≡ no_tally) × (rest ≡ record { tally = no_tally; parts = 0 }) }
-        requires boards { B.waits boards [] [] }
-        ensures { (result.journal ≡ []) × (result.published ≡ []) }
+        ensures { IsNew result }
     {
         LockedStore {
             store,
@@ -68,8 +68,32 @@ impl<S: StoreId, B: Boards<S>> LockedStore<S, B> {
             tally,
             seats,
             rest,
+            boards: NoBoards,
+        }
+    }
+
+    /// The same, for those who look at these boards.
+    pub(crate) fn with_boards<B: Boards<S>>(self, boards: B) -> LockedStore<S, B>
+        requires { B.waits boards self.published self.journal }
+        ensures { result ≡ self }
+    {
+        LockedStore {
+            store: self.store,
+            history: self.history,
+            tally: self.tally,
+            seats: self.seats,
+            rest: self.rest,
             boards,
         }
+    }
+}
+
+impl<S: StoreId, B: Boards<S>> LockedStore<S, B> {
+    /// The journaled store.
+    pub(crate) fn store(&self) -> &JournaledStore
+        ensures { IsStoreOf S.id.setting result.now × (result.now.journal ≡ self.now.journal) }
+    {
+        &self.store
     }
 
     /// The number of seats.

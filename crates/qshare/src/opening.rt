@@ -1,5 +1,7 @@
 //! How a shared store is made: first a store, then its identity, then its seats.
 ghost use Rattle.std.specs.Prelude.{◌≡◌, ◌<◌, ◌≤◌, ◌⊎◌, ◌-◌, Err, IfOk, IfErr};
+ghost use Rattle.qplain.specs.Journal.{no_tally};
+ghost use Rattle.qshare.specs.Locked.{IsNew};
 ghost use Rattle.qshare.specs.Seats.{new_seat, seats_of};
 ghost use Rattle.qshare.specs.declared.share_fault.ShareFault.TheVariants.{Seats};
 
@@ -15,7 +17,7 @@ use crate::share_fault::ShareFault;
 use crate::shared::Shared;
 use qplain::{NoMemory, Setup};
 use qshare_boards::Viewer;
-use qshare_history::{BlankCounters, History, StoreId};
+use qshare_history::{BlankCounters, History, StoreId, TallyPart};
 use qstore_journaled::JournaledStore;
 use std::alloc::Global;
 use std::marker::Model;
@@ -89,6 +91,25 @@ impl Opened {
         }
     }
 
+    /// The store under its identity, before anybody can look at its boards, and the part of its tally for its seats.
+    fn locked<S: StoreId>(self) -> (LockedStore<S, NoBoards>, TallyPart<S>)
+        requires { self ≡ S.id }
+        ensures store { IsNew result.0 }
+        ensures seats { result.1 ≡ record { tally = no_tally; parts = S.id.counters.parts } }
+        ensures few { (0 < S.id.counters.parts) × (S.id.counters.parts ≤ MAX_SEATS) }
+    {
+        let Opened {
+            store,
+            history,
+            counters,
+            seats,
+            ..
+        } = self;
+        let (tally, mut all) = counters.open::<S>();
+        let rest = all.empty();
+        (LockedStore::new(store, history, tally, seats, rest), all)
+    }
+
     /// The store under its identity, behind its lock, and its seats, which are numbered from 1 and can look at its
     /// boards.
     ///
@@ -102,17 +123,10 @@ impl Opened {
         ensures seats { IfOk result (λ r. r.1.items ≡ seats_of S.id.counters.parts) }
         ensures few { result ≡ Err Seats → ⊥ }
     {
-        let Opened {
-            alloc,
-            store,
-            history,
-            counters,
-            seats,
-        } = self;
-        let (tally, mut all) = counters.open::<S>();
-        let rest = all.empty();
-        let prefix = history.prefix();
-        let Ok(mut publisher) = first_publisher::<S, R>(alloc, rt, &store, &prefix, seats) else {
+        let alloc = self.alloc;
+        let (locked, all) = self.locked::<S>();
+        let (prefix, seats) = (locked.published(), locked.seats());
+        let Ok(mut publisher) = first_publisher::<S, R>(alloc, rt, &locked, seats) else {
             return Err(ShareFault::OutOfMemory);
         };
         let made = viewing_seats(alloc, &mut publisher, &prefix, seats, all)?;
@@ -121,8 +135,7 @@ impl Opened {
             publisher,
             waiting: Vec::new(alloc),
         };
-        let locked = LockedStore::new(store, history, tally, seats, rest, boards);
-        Ok((Shared::over(locked), made))
+        Ok((Shared::over(locked.with_boards(boards)), made))
     }
 
     /// The store under its identity, behind its lock, and its seats, which are numbered from 1. Nobody can look at its
@@ -136,17 +149,9 @@ impl Opened {
         ensures seats { IfOk result (λ r. r.1.items ≡ seats_of S.id.counters.parts) }
         ensures fault { IfErr result (λ fault. fault ≡ ShareFault.OutOfMemory) }
     {
-        let Opened {
-            alloc,
-            store,
-            history,
-            counters,
-            seats,
-        } = self;
-        let (tally, mut all) = counters.open::<S>();
-        let rest = all.empty();
-        let made = blind_seats(alloc, &history.prefix(), seats, all)?;
-        let locked = LockedStore::new(store, history, tally, seats, rest, NoBoards);
+        let alloc = self.alloc;
+        let (locked, all) = self.locked::<S>();
+        let made = blind_seats(alloc, &locked.published(), locked.seats(), all)?;
         Ok((Shared::over(locked), made))
     }
 
@@ -172,26 +177,15 @@ impl Opened {
         ensures observer { IfOk result (λ r. r.2 ≡ new_seat S.id.counters.parts) }
         ensures few { result ≡ Err Seats → ⊥ }
     {
-        let Opened {
-            alloc,
-            store,
-            history,
-            counters,
-            seats,
-        } = self;
-        let (tally, mut all) = counters.open::<S>();
-        let rest = all.empty();
-        let prefix = history.prefix();
-        let (publisher, workers, observer) = observed::<S, R>(
-            alloc, rt, &store, &prefix, seats, all,
-        )?;
+        let alloc = self.alloc;
+        let (locked, all) = self.locked::<S>();
+        let (publisher, workers, observer) = observed::<S, R>(alloc, rt, &locked, all)?;
         let boards = Published {
             alloc,
             publisher,
             waiting: Vec::new(alloc),
         };
-        let locked = LockedStore::new(store, history, tally, seats, rest, boards);
-        Ok((Shared::over(locked), workers, observer))
+        Ok((Shared::over(locked.with_boards(boards)), workers, observer))
     }
 
     /// The store under its identity, behind its lock, the seats of its workers, which are numbered from 1, and the last
@@ -217,25 +211,14 @@ impl Opened {
         ensures observer { IfOk result (λ r. r.2 ≡ new_seat S.id.counters.parts) }
         ensures few { result ≡ Err Seats → ⊥ }
     {
-        let Opened {
-            alloc,
-            store,
-            history,
-            counters,
-            seats,
-        } = self;
-        let (tally, mut all) = counters.open::<S>();
-        let rest = all.empty();
-        let prefix = history.prefix();
-        let (publisher, workers, observer) = observed::<S, R>(
-            alloc, rt, &store, &prefix, seats, all,
-        )?;
+        let alloc = self.alloc;
+        let (locked, all) = self.locked::<S>();
+        let (publisher, workers, observer) = observed::<S, R>(alloc, rt, &locked, all)?;
         let boards = OnDemand {
             alloc,
             publisher,
             wanted,
         };
-        let locked = LockedStore::new(store, history, tally, seats, rest, boards);
-        Ok((Shared::over(locked), workers, observer))
+        Ok((Shared::over(locked.with_boards(boards)), workers, observer))
     }
 }
