@@ -1,4 +1,6 @@
 //! Calls that change the store.
+#![tactic(auto, using(qsession::proofs::Calling::told_of_paths))]
+
 ghost use Rattle.std.specs.Prelude.{◌≡◌, ◌<◌, ◌≤◌, replicate};
 ghost use Rattle.qplain.specs.declared.call.Call.TheVariants.{Create, Mkdir, Write, Truncate, Link, Unlink, Rmdir};
 ghost use Rattle.qplain.specs.declared.call.Call.TheVariants.{Rename, SetQuota, SetGrace};
@@ -11,12 +13,11 @@ use qblocks::Input;
 use qplain::Call;
 use qrules::Graces;
 use qsession::{
-    BorrowedCall, Caller, DoneReply, NewLimits, NewOwners, PathText, Session, kind_of, path_of,
+    Action, Caller, Context, DoneReply, NewLimits, NewOwners, Session, kind_of, path_of,
 };
 use std::alloc::Global;
 
 /// Makes an empty file.
-#[tactic(auto, using(qsession::proofs::Calling::path_faulted, qsession::proofs::Calling::not_granted))]
 #[unsafe(no_mangle)]
 pub extern "C" fn qfs_create(
     alloc: Global,
@@ -31,16 +32,11 @@ pub extern "C" fn qfs_create(
     ensures done { result ≡ 0 → IsReplyTo (held_in session.old.slot.kept)
         (line_by caller.now moment (Create path.now)) (done_in done.new) }
 {
-    let path = match PathText::new(path) {
-        Ok(path) => path,
-        Err(fault) => return fault.code(),
-    };
-    let call = BorrowedCall::Create { path };
-    session.change_borrowed(alloc, caller, moment, call, done)
+    let context = Context { caller, moment };
+    session.change_at(alloc, context, path, Action::Create, done)
 }
 
 /// Makes an empty directory.
-#[tactic(auto, using(qsession::proofs::Calling::path_faulted, qsession::proofs::Calling::not_granted))]
 #[unsafe(no_mangle)]
 pub extern "C" fn qfs_mkdir(
     alloc: Global,
@@ -55,16 +51,11 @@ pub extern "C" fn qfs_mkdir(
     ensures done { result ≡ 0 → IsReplyTo (held_in session.old.slot.kept)
         (line_by caller.now moment (Mkdir path.now)) (done_in done.new) }
 {
-    let path = match PathText::new(path) {
-        Ok(path) => path,
-        Err(fault) => return fault.code(),
-    };
-    let call = BorrowedCall::Mkdir { path };
-    session.change_borrowed(alloc, caller, moment, call, done)
+    let context = Context { caller, moment };
+    session.change_at(alloc, context, path, Action::Mkdir, done)
 }
 
 /// Writes all of the bytes at the offset, or none.
-#[tactic(auto, using(qsession::proofs::Calling::path_faulted, qsession::proofs::Calling::not_granted))]
 #[unsafe(no_mangle)]
 pub extern "C" fn qfs_write(
     alloc: Global,
@@ -81,17 +72,12 @@ pub extern "C" fn qfs_write(
     ensures done { result ≡ 0 → IsReplyTo (held_in session.old.slot.kept)
         (line_by caller.now moment (Write path.now off bytes.now)) (done_in done.new) }
 {
-    let path = match PathText::new(path) {
-        Ok(path) => path,
-        Err(fault) => return fault.code(),
-    };
+    let context = Context { caller, moment };
     let bytes = Input::Bytes(bytes);
-    let call = BorrowedCall::Write { path, off, bytes };
-    session.change_borrowed(alloc, caller, moment, call, done)
+    session.change_at(alloc, context, path, Action::Write { off, bytes }, done)
 }
 
 /// Writes so many equal bytes at the offset, or none.
-#[tactic(auto, using(qsession::proofs::Calling::path_faulted, qsession::proofs::Calling::not_granted))]
 #[unsafe(no_mangle)]
 pub extern "C" fn qfs_fill(
     alloc: Global,
@@ -109,17 +95,12 @@ pub extern "C" fn qfs_fill(
     ensures done { result ≡ 0 → IsReplyTo (held_in session.old.slot.kept)
         (line_by caller.now moment (Write path.now off (replicate count byte))) (done_in done.new) }
 {
-    let path = match PathText::new(path) {
-        Ok(path) => path,
-        Err(fault) => return fault.code(),
-    };
+    let context = Context { caller, moment };
     let bytes = Input::Fill { count, byte };
-    let call = BorrowedCall::Write { path, off, bytes };
-    session.change_borrowed(alloc, caller, moment, call, done)
+    session.change_at(alloc, context, path, Action::Write { off, bytes }, done)
 }
 
 /// Sets a file's size, in bytes.
-#[tactic(auto, using(qsession::proofs::Calling::path_faulted, qsession::proofs::Calling::not_granted))]
 #[unsafe(no_mangle)]
 pub extern "C" fn qfs_truncate(
     alloc: Global,
@@ -140,11 +121,10 @@ pub extern "C" fn qfs_truncate(
         Err(fault) => return fault.code(),
     };
     let call = Call::Truncate { path, size };
-    session.change(alloc, caller, moment, &call, done)
+    session.change(alloc, Context { caller, moment }, &call, done)
 }
 
 /// Gives a file a further name.
-#[tactic(auto, using(qsession::proofs::Calling::path_faulted, qsession::proofs::Calling::not_granted))]
 #[unsafe(no_mangle)]
 pub extern "C" fn qfs_link(
     alloc: Global,
@@ -169,11 +149,10 @@ pub extern "C" fn qfs_link(
         Err(fault) => return fault.code(),
     };
     let call = Call::Link { from, to };
-    session.change(alloc, caller, moment, &call, done)
+    session.change(alloc, Context { caller, moment }, &call, done)
 }
 
 /// Takes a file's name away.
-#[tactic(auto, using(qsession::proofs::Calling::path_faulted, qsession::proofs::Calling::not_granted))]
 #[unsafe(no_mangle)]
 pub extern "C" fn qfs_unlink(
     alloc: Global,
@@ -193,11 +172,10 @@ pub extern "C" fn qfs_unlink(
         Err(fault) => return fault.code(),
     };
     let call = Call::Unlink { path };
-    session.change(alloc, caller, moment, &call, done)
+    session.change(alloc, Context { caller, moment }, &call, done)
 }
 
 /// Takes an empty directory away.
-#[tactic(auto, using(qsession::proofs::Calling::path_faulted, qsession::proofs::Calling::not_granted))]
 #[unsafe(no_mangle)]
 pub extern "C" fn qfs_rmdir(
     alloc: Global,
@@ -217,11 +195,10 @@ pub extern "C" fn qfs_rmdir(
         Err(fault) => return fault.code(),
     };
     let call = Call::Rmdir { path };
-    session.change(alloc, caller, moment, &call, done)
+    session.change(alloc, Context { caller, moment }, &call, done)
 }
 
 /// Gives what has one name another.
-#[tactic(auto, using(qsession::proofs::Calling::path_faulted, qsession::proofs::Calling::not_granted))]
 #[unsafe(no_mangle)]
 pub extern "C" fn qfs_rename(
     alloc: Global,
@@ -246,11 +223,10 @@ pub extern "C" fn qfs_rename(
         Err(fault) => return fault.code(),
     };
     let call = Call::Rename { from, to };
-    session.change(alloc, caller, moment, &call, done)
+    session.change(alloc, Context { caller, moment }, &call, done)
 }
 
 /// Gives an inode another user, group or project.
-#[tactic(auto, using(qsession::proofs::Calling::path_faulted, qsession::proofs::Calling::not_granted))]
 #[unsafe(no_mangle)]
 pub extern "C" fn qfs_chown(
     alloc: Global,
@@ -276,11 +252,10 @@ pub extern "C" fn qfs_chown(
         gid: owners.group(),
         project: owners.project(),
     };
-    session.change(alloc, caller, moment, &call, done)
+    session.change(alloc, Context { caller, moment }, &call, done)
 }
 
 /// Sets the limits of a user, a group or a project: of kind 0, 1 or 2.
-#[tactic(auto, using(qsession::proofs::Calling::path_faulted, qsession::proofs::Calling::not_granted))]
 #[unsafe(no_mangle)]
 pub extern "C" fn qfs_setquota(
     alloc: Global,
@@ -307,7 +282,7 @@ pub extern "C" fn qfs_setquota(
         id,
         limits: limits.limits(),
     };
-    session.change(alloc, caller, moment, &call, done)
+    session.change(alloc, Context { caller, moment }, &call, done)
 }
 
 /// Sets the graces, in seconds.
@@ -329,5 +304,5 @@ pub extern "C" fn qfs_setgrace(
     let call = Call::SetGrace {
         graces: Graces { block, inode },
     };
-    session.change(alloc, caller, moment, &call, done)
+    session.change(alloc, Context { caller, moment }, &call, done)
 }

@@ -1,4 +1,6 @@
 //! Calls that only look.
+#![tactic(auto, using(qsession::proofs::Calling::told_of_paths))]
+
 ghost use Rattle.std.specs.Prelude.{◌≡◌, ◌<◌, ◌≤◌, length, take};
 ghost use Rattle.qplain.specs.declared.call.Call.TheVariants.{Read, Stat as AskStat, Quota as AskQuota};
 ghost use Rattle.qplain.specs.declared.reply.Reply.TheVariants.{Bytes};
@@ -7,11 +9,10 @@ ghost use Rattle.qsession.specs.Holdings.{held_in};
 ghost use Rattle.qsession.specs.Replies.{quota_in, stat_in};
 ghost use Rattle.qsession.specs.Requests.{kind_in, line_by};
 
-use qsession::{Caller, PathText, QuotaReply, Session, StatReply, kind_of};
+use qsession::{Caller, Context, PathText, QuotaReply, ReadFrom, Session, StatReply, kind_of};
 use std::alloc::Global;
 
 /// Reads as many bytes from the offset on as the buffer has, up to the end of the file.
-#[tactic(auto, using(qsession::proofs::Calling::path_faulted, qsession::proofs::Calling::not_granted))]
 #[unsafe(no_mangle)]
 pub extern "C" fn qfs_read(
     alloc: Global,
@@ -33,11 +34,11 @@ pub extern "C" fn qfs_read(
         Ok(path) => path,
         Err(fault) => return fault.code(),
     };
-    session.read(alloc, caller, moment, path, off, buffer, len)
+    let from = ReadFrom { path, off };
+    session.read(alloc, Context { caller, moment }, from, buffer, len)
 }
 
 /// Asks for an inode's numbers.
-#[tactic(auto, using(qsession::proofs::Calling::path_faulted, qsession::proofs::Calling::not_granted))]
 #[unsafe(no_mangle)]
 pub extern "C" fn qfs_stat(
     alloc: Global,
@@ -52,15 +53,10 @@ pub extern "C" fn qfs_stat(
     ensures stat { result ≡ 0 → IsReplyTo (held_in session.old.slot.kept) (line_by caller.now moment (AskStat path.now))
         (stat_in stat.new) }
 {
-    let path = match PathText::new(path) {
-        Ok(path) => path,
-        Err(fault) => return fault.code(),
-    };
-    session.stat(alloc, caller, moment, path, stat)
+    session.stat(alloc, Context { caller, moment }, path, stat)
 }
 
 /// Asks for the quota record of a user, a group or a project: of kind 0, 1 or 2.
-#[tactic(auto, using(qsession::proofs::Calling::path_faulted, qsession::proofs::Calling::not_granted))]
 #[unsafe(no_mangle)]
 pub extern "C" fn qfs_quota(
     alloc: Global,
@@ -81,5 +77,5 @@ pub extern "C" fn qfs_quota(
         Ok(kind) => kind,
         Err(fault) => return fault.code(),
     };
-    session.quota(alloc, caller, moment, kind, id, quota)
+    session.quota(alloc, Context { caller, moment }, kind, id, quota)
 }

@@ -1,11 +1,12 @@
 -- From what a call came to, to what a caller of another language is told of it.
-use Rattle.std.proofs.Common.{◌≡◌, ◌⊎◌, inl, inr, ℕ, ◌<◌, ◌≤◌, Bool, true, false, All, List, ◌∷◌, Option, Some, None, Result, Ok, Err, IfOk, IfErr, OnErr, IsErr, refl, sym, ap, subst, ◌∙◌, arith, lit<}
-use Rattle.std.proofs.lemmas.List.Elements.{All-head, All-tail}
+use Rattle.std.proofs.Common.{◌≡◌, ◌⊎◌, inl, inr, ℕ, ◌<◌, ◌≤◌, Bool, true, false, All, List, [], ◌∷◌, Option, Some, None, Result, Ok, Err, IfOk, IfErr, OnErr, IsErr, refl, sym, ap, subst, ◌∙◌, arith, lit<}
+use Rattle.std.proofs.lemmas.List.Elements.{All-cons, All-head, All-nil, All-tail}
 use Rattle.qrules.specs.declared.kind.Kind.{Kind as WhoseKind}
 use Rattle.qrules.specs.declared.kind.Kind.TheVariants.{User, Group, Project}
 use Rattle.qrules.specs.declared.over.Over.{Over}
 use Rattle.qrules.specs.declared.over.Over.TheVariants.{InodeHard, InodeSoft, BlockHard, BlockSoft}
 use Rattle.qplain.specs.declared.call.Call.{Call}
+use Rattle.qplain.specs.declared.call.Call.TheVariants.{Stat as AskStat, Quota as AskQuota}
 use Rattle.qplain.specs.declared.line.Line.{Line}
 use Rattle.qplain.specs.declared.refusal.Refusal.{Refusal}
 use Rattle.qplain.specs.declared.refusal.Refusal.TheVariants.{EINVAL, ENAMETOOLONG, ENOENT, ENOTDIR, EEXIST, ENOSPC, EDQUOT, EISDIR, EACCES}
@@ -13,21 +14,27 @@ use Rattle.qplain.specs.declared.refusal.Refusal.TheVariants.{EFBIG, EPERM, EMLI
 use Rattle.qplain.specs.declared.reply.Reply.{Reply}
 use Rattle.qplain.specs.declared.reply.Reply.TheVariants.{Done, Bytes, Stat, Quota, Refused}
 use Rattle.qplain.specs.Arguments.{paths_of}
+use Rattle.qplain.specs.Caller.{Caller as PlainCaller}
 use Rattle.qplain.specs.Paths.{ArePathBytes}
 use Rattle.qplain.specs.State.{State}
+use Rattle.qstore_journaled.specs.Lines.{line_of}
+use Rattle.qsession.specs.declared.kept.Kept.{Kept as KeptValue}
 use Rattle.qsession.specs.declared.caller.Caller.{Caller as BroughtCaller}
+use Rattle.qsession.specs.declared.caller.Context.{Context}
+use Rattle.qsession.specs.declared.borrowed_call.Action.{Action}
+use Rattle.qsession.specs.declared.borrowed_call.Action.TheVariants.{Create, Mkdir, Write, Stat as StatAt}
+use Rattle.qsession.specs.BorrowedCalls.{call_at}
 use Rattle.qsession.specs.declared.fault.Fault.{Fault}
 use Rattle.qsession.specs.declared.fault.Fault.TheVariants.{Closed, Memory, Path, Caller, Open, Room, JournalFull, Kind, NoJournal}
 use Rattle.qsession.specs.declared.fault.Fault.TheVariants.{Line as NoLine}
+use Rattle.qsession.specs.Answers.{ChangesAreDone, QuotasTellRecords, StatsTellNumbers, is_change, tells_done, tells_quota, tells_stat}
 use Rattle.qsession.specs.Brought.{HasBadPath, HasTooManyGroups, IsCauseOfCaller, IsCauseOfPath}
-use Rattle.qsession.specs.Called.{IsCalled, IsCause, IsReplyTo, IsStepOf, IsToldStep, code_of}
+use Rattle.qsession.specs.Called.{IsAnswered, IsCalled, IsCalledIn, IsCause, IsReplyTo, IsStepOf, IsToldStep, code_of}
 use Rattle.qsession.specs.Codes.{FAULTS, over_code, refusal_code, reply_code}
 use Rattle.qsession.specs.Faults.{fault_code}
-use Rattle.qsession.specs.Holdings.{Holding}
-use Rattle.qsession.specs.declared.read_reply.ReadReply.{ReadReply}
-use Rattle.qsession.specs.ReadReplies.{answer_in, read_in}
-use Rattle.qsession.specs.Requests.{line_by}
-use Rattle.qsession.specs.Steps.{HasCause, IsFull, stepped}
+use Rattle.qsession.specs.Holdings.{Holding, held_in, holding_of}
+use Rattle.qsession.specs.Requests.{caller_in, line_in}
+use Rattle.qsession.specs.Steps.{HasCause, IsFull, IsStep, stepped}
 
 -- where each reply to the line's call passes a test, the one that was given does
 pub passes : (test : Reply → Bool) (old new : Option Holding) (line : Line) (answer : Result Reply Fault)
@@ -36,6 +43,30 @@ passes test (Some old) (Some new) line (Ok reply) each is = ap test is.reply_is 
 passes test (Some old) None line (Ok reply) each is = absurd is
 passes test None new line (Ok reply) each is = absurd is
 passes test old new line (Err fault) each is = tt
+
+-- ---- an answer is one of its call's kind
+
+module _ (old new : Option Holding) (context : Context) (answer : Result Reply Fault) where
+  -- that of a call which changes something
+  pub answers_done : (call : Call) → ChangesAreDone → is_change call ≡ true → IsAnswered old new context call answer
+      → IfOk answer (λ reply. tells_done reply ≡ true)
+  answers_done call each change answered =
+      let line = line_in context call in
+      passes tells_done old new line answer (λ S. each S line.cred line.moment call change) answered.ok
+
+  -- that of a stat
+  pub answers_stat : (path : List ℕ) → StatsTellNumbers → IsAnswered old new context (AskStat path) answer
+      → IfOk answer (λ reply. tells_stat reply ≡ true)
+  answers_stat path each answered =
+      let line = line_in context (AskStat path) in
+      passes tells_stat old new line answer (λ S. each S line.cred line.moment path) answered.ok
+
+  -- that of a question for a quota
+  pub answers_quota : (kind : WhoseKind) (id : ℕ) → QuotasTellRecords → IsAnswered old new context (AskQuota kind id) answer
+      → IfOk answer (λ reply. tells_quota reply ≡ true)
+  answers_quota kind id each answered =
+      let line = line_in context (AskQuota kind id) in
+      passes tells_quota old new line answer (λ S. each S line.cred line.moment kind id) answered.ok
 
 -- ---- a fault of what is brought to a call
 
@@ -121,8 +152,24 @@ caller_cause held caller call JournalFull cause = absurd cause
 caller_cause held caller call Kind cause = absurd cause
 caller_cause held caller call NoJournal cause = absurd cause
 
+-- a call of one good path is of good paths
+pub good_path : (path : List ℕ) → ArePathBytes path → All ArePathBytes (path ∷ [])
+good_path path good = All-cons ArePathBytes path [] good (All-nil ArePathBytes)
+
+pub good_at : (path : List ℕ) (action : Action) → ArePathBytes path → All ArePathBytes (paths_of (call_at path action))
+good_at path Create good = good_path path good
+good_at path Mkdir good = good_path path good
+good_at path (Write off bytes) good = good_path path good
+good_at path StatAt good = good_path path good
+
+-- a caller of few groups and good paths bring nothing wrong
+not_brought : (caller : BroughtCaller) (call : Call) → (HasTooManyGroups caller → ⊥) → All ArePathBytes (paths_of call)
+    → HasTooManyGroups caller ⊎ HasBadPath call → ⊥
+not_brought caller call few good (inl many) = few many
+not_brought caller call few good (inr bad) = bad good
+
 -- and so is a call that what is held did not make
-pub held_cause : (h : Holding) (caller : BroughtCaller) (call : Call) (fault : Fault) → HasCause h fault → IsCause (Some h) caller call fault
+held_cause : (h : Holding) (caller : BroughtCaller) (call : Call) (fault : Fault) → HasCause h fault → IsCause (Some h) caller call fault
 held_cause h caller call Closed cause = absurd cause
 held_cause h caller call Memory cause = tt
 held_cause h caller call Path cause = absurd cause
@@ -133,6 +180,50 @@ held_cause h caller call NoLine cause = absurd cause
 held_cause h caller call JournalFull cause = cause
 held_cause h caller call Kind cause = absurd cause
 held_cause h caller call NoJournal cause = absurd cause
+
+-- ---- an answer to a call
+
+-- a call for which nothing was taken is answered why
+pub untaken : (old new : Option KeptValue) (context : Context) (call : Call) (fault : Fault) → new ≡ old
+    → IsCause (held_in old) context.caller.now call fault → IsAnswered (held_in old) (held_in new) context call (Err fault)
+untaken old new context call fault same cause = record {
+  ok = tt;
+  err = ap held_in same;
+  cause = cause;
+  full = λ full. refl;
+  brought = λ brought. refl;
+}
+
+-- one that what is held did or did not make, by a caller that was taken, of good paths, is answered so
+answers : (old new : Holding) (context : Context) (call : Call) (answer : Result Reply Fault)
+    → (HasTooManyGroups context.caller.now → ⊥) → All ArePathBytes (paths_of call) → IfOk answer (IsStep old new (line_in context call))
+    → OnErr answer (new ≡ old) → IfErr answer (HasCause old) → (IsFull (Some old) → IsErr answer)
+    → IsAnswered (Some old) (Some new) context call answer
+answers old new context call (Ok reply) few good ok err cause full = record {
+  ok = ok;
+  err = tt;
+  cause = tt;
+  full = full;
+  brought = λ brought. absurd (not_brought context.caller.now call few good brought);
+}
+answers old new context call (Err fault) few good ok err cause full = record {
+  ok = tt;
+  err = ap Some err;
+  cause = held_cause old context.caller.now call fault cause;
+  full = full;
+  brought = λ brought. refl;
+}
+
+-- and so is one of what was taken out of a session
+pub taken : (kept : Option KeptValue) (old new : KeptValue) (cred : PlainCaller) (context : Context) (call : Call) (answer : Result Reply Fault)
+    → kept ≡ Some old → cred ≡ caller_in context.caller.now → (HasTooManyGroups context.caller.now → ⊥) → All ArePathBytes (paths_of call)
+    → IfOk answer (IsStep (holding_of old) (holding_of new) (line_of cred context.moment call)) → OnErr answer (holding_of new ≡ holding_of old)
+    → IfErr answer (HasCause (holding_of old)) → (IsFull (Some (holding_of old)) → IsErr answer)
+    → IsAnswered (held_in kept) (Some (holding_of new)) context call answer
+taken kept old new cred context call answer is own few good ok err cause full =
+    subst (λ (k : Option KeptValue). IsAnswered (held_in k) (Some (holding_of new)) context call answer) (sym is)
+    (answers (holding_of old) (holding_of new) context call answer few good
+    (subst (λ (c : PlainCaller). IfOk answer (IsStep (holding_of old) (holding_of new) (line_of c context.moment call))) own ok) err cause full)
 
 module _ (old : Option Holding) (caller : BroughtCaller) (moment : ℕ) (call : Call) (number : ℕ) where
   path_cause : (fault : Fault) (path : List ℕ) → IsCauseOfPath path fault → ((ArePathBytes path → ⊥) → HasBadPath call)
@@ -179,31 +270,24 @@ module _ (old : Option Holding) (caller : BroughtCaller) (moment : ℕ) (call : 
       faulted fault is (path_cause fault path cause (λ bad all.
       bad (All-head ArePathBytes path rest (All-tail ArePathBytes first (path ∷ rest) (subst (λ ps. All ArePathBytes ps) paths all)))))
 
-  -- what an answer came to is told by its number
-  pub called : (new : Option Holding) (answer : Result Reply Fault) → number ≡ code_of answer
-      → IfOk answer (IsStepOf old new (line_by caller moment call)) → OnErr answer (new ≡ old) → IfErr answer (IsCause old caller call)
-      → (IsFull old → IsErr answer) → (HasTooManyGroups caller ⊎ HasBadPath call → IsErr answer) → IsCalled old new caller moment call number
-  called new (Ok reply) is ok err cause full brought =
-      let step = told_step old new (line_by caller moment call) reply ok in
-      let below : number < FAULTS = subst (λ (n : ℕ). n < FAULTS) (sym is) (reply_low reply) in
-      record {
-        told = λ low. subst (λ (n : ℕ). IsToldStep old new (line_by caller moment call) n) (sym is) step;
-        fault = λ above. absurd (absurd_of number FAULTS below above);
-        cause = λ above. absurd (absurd_of number FAULTS below above);
-        full = λ f. absurd (no_err reply (full f));
-        path = λ bad. absurd (no_err reply (brought (inr bad)));
-        groups = λ many. absurd (no_err reply (brought (inl many)));
-      }
-  called new (Err fault) is ok err cause full brought =
-      subst (λ (n : Option Holding). IsCalled old n caller moment call number) (sym err) (faulted fault is cause)
-
-  -- so is what a read into a buffer came to
-  pub called-read : (new : Option Holding) (buffer : List ℕ) (answer : Result ReadReply Fault) → number ≡ code_of (answer_in buffer answer)
-      → IfOk (answer_in buffer answer) (IsStepOf old new (line_by caller moment call)) → OnErr answer (new ≡ old)
-      → IfErr answer (IsCause old caller call) → (IsFull old → IsErr answer)
-      → (HasTooManyGroups caller ⊎ HasBadPath call → IsErr answer) → IsCalled old new caller moment call number
-  called-read new buffer (Ok reply) is ok err cause full brought = called new (Ok (read_in buffer reply)) is ok tt tt full brought
-  called-read new buffer (Err fault) is ok err cause full brought = called new (Err fault) is tt err cause full brought
+-- what an answer came to is told by its number
+pub called : (old new : Option Holding) (context : Context) (call : Call) (answer : Result Reply Fault) (number : ℕ)
+    → number ≡ code_of answer → IsAnswered old new context call answer → IsCalledIn old new context call number
+called old new context call (Ok reply) number is answered =
+    let line = line_in context call in
+    let step = told_step old new line reply answered.ok in
+    let below : number < FAULTS = subst (λ (n : ℕ). n < FAULTS) (sym is) (reply_low reply) in
+    record {
+      told = λ low. subst (λ (n : ℕ). IsToldStep old new line n) (sym is) step;
+      fault = λ above. absurd (absurd_of number FAULTS below above);
+      cause = λ above. absurd (absurd_of number FAULTS below above);
+      full = λ f. absurd (no_err reply (answered.full f));
+      path = λ bad. absurd (no_err reply (answered.brought (inr bad)));
+      groups = λ many. absurd (no_err reply (answered.brought (inl many)));
+    }
+called old new context call (Err fault) number is answered =
+    subst (λ (n : Option Holding). IsCalledIn old n context call number) (sym answered.err)
+    (faulted old context.caller.now context.moment call number fault is answered.cause)
 
 -- and is not told as granted
 pub not_granted : (old : Option Holding) (line : Line) (reply : Reply) (fault : Fault) (number : ℕ) → number ≡ fault_code fault → number ≡ 0
@@ -214,3 +298,9 @@ not_granted old line reply fault number is zero =
 -- nor with any bytes
 pub no_bytes : (fault : Fault) (number len room : ℕ) → number ≡ fault_code fault → number ≡ 0 → len ≤ room
 no_bytes fault number len room is zero = absurd (low_fault fault number is (subst (λ (n : ℕ). n < FAULTS) (sym zero) (lit< tt)))
+
+-- what the calls of a session that tell a number are proved by
+pub ruleset told_of_answers = (called, answers_done, answers_stat, answers_quota, path_faulted, not_granted)
+
+-- what exports are proved by which make a path of bytes before they call
+pub ruleset told_of_paths = (path_faulted, not_granted)

@@ -8,6 +8,7 @@ use Rattle.qplain.specs.declared.call.Call.TheVariants.{Chown}
 use Rattle.qplain.specs.declared.line.Line.{Line}
 use Rattle.qplain.specs.Caller.{Caller}
 use Rattle.qsession.specs.declared.caller.Caller.{Caller as BroughtCaller}
+use Rattle.qsession.specs.declared.caller.Context.{Context}
 use Rattle.qsession.specs.declared.requests.NewLimits.{NewLimits}
 use Rattle.qsession.specs.declared.requests.NewOwners.{NewOwners}
 
@@ -18,6 +19,10 @@ caller_in c = record { uid = c.uid; gid = c.gid; more = take c.count c.groups }
 -- the line of a call that a caller makes at a moment
 abbrev pub line_by : BroughtCaller → ℕ → Call → Line
 line_by c moment call = record { cred = caller_in c; moment = moment; call = call }
+
+-- the line of a call in its context
+abbrev pub line_in : Context → Call → Line
+line_in context call = line_by context.caller.now context.moment call
 
 -- an id, where one is named
 abbrev pub named : Bool → ℕ → Option ℕ

@@ -12,23 +12,27 @@ use qplain::{Call, Cred, Data, NoMemory, Reply};
 use qstore::Store;
 use std::alloc::Global;
 
+/// What a borrowed call does at its path, or asks of it.
+#[derive(Clone, Copy)]
+pub enum Action<'a> {
+    Create,
+    Mkdir,
+    Write { off: u64, bytes: Input<'a> },
+    Stat,
+}
+
 /// A call of a path and bytes that are borrowed.
 #[derive(Clone, Copy)]
-pub enum BorrowedCall<'a> {
-    Create {
-        path: PathText<'a>,
-    },
-    Mkdir {
-        path: PathText<'a>,
-    },
-    Write {
-        path: PathText<'a>,
-        off: u64,
-        bytes: Input<'a>,
-    },
-    Stat {
-        path: PathText<'a>,
-    },
+pub struct BorrowedCall<'a> {
+    pub path: PathText<'a>,
+    pub action: Action<'a>,
+}
+
+/// Where a read begins: the path of a file, and the offset in it.
+#[derive(Clone, Copy)]
+pub struct ReadFrom<'a> {
+    pub path: PathText<'a>,
+    pub off: u64,
 }
 
 /// The bytes of a write, which are copied, unless they are N equal ones. Err is Memory.
@@ -49,24 +53,15 @@ impl<'a> BorrowedCall<'a> {
         ensures call { IfOk result (λ call. call ≡ call_of self.entry) }
         ensures fault { IfErr result (λ fault. fault ≡ Fault.Memory) }
     {
-        match self {
-            BorrowedCall::Create { path } => {
-                let path = path.owned(alloc)?;
-                Ok(Call::Create { path })
-            }
-            BorrowedCall::Mkdir { path } => {
-                let path = path.owned(alloc)?;
-                Ok(Call::Mkdir { path })
-            }
-            BorrowedCall::Write { path, off, bytes } => {
-                let path = path.owned(alloc)?;
+        let path = self.path.owned(alloc)?;
+        match self.action {
+            Action::Create => Ok(Call::Create { path }),
+            Action::Mkdir => Ok(Call::Mkdir { path }),
+            Action::Write { off, bytes } => {
                 let bytes = owned_bytes(alloc, bytes)?;
                 Ok(Call::Write { path, off, bytes })
             }
-            BorrowedCall::Stat { path } => {
-                let path = path.owned(alloc)?;
-                Ok(Call::Stat { path })
-            }
+            Action::Stat => Ok(Call::Stat { path }),
         }
     }
 
@@ -80,13 +75,12 @@ impl<'a> BorrowedCall<'a> {
     ) -> Result<Reply, NoMemory>
         ensures { IsApplied store.old.state store.new.state cred.now moment (call_of self.entry) result }
     {
-        match self {
-            BorrowedCall::Create { path } => store.create(cred, moment, path.text),
-            BorrowedCall::Mkdir { path } => store.mkdir(cred, moment, path.text),
-            BorrowedCall::Write { path, off, bytes } => {
-                store.write(cred, moment, path.text, off, bytes)
-            }
-            BorrowedCall::Stat { path } => Ok(store.stat(cred, moment, path.text)),
+        let path = self.path.text;
+        match self.action {
+            Action::Create => store.create(cred, moment, path),
+            Action::Mkdir => store.mkdir(cred, moment, path),
+            Action::Write { off, bytes } => store.write(cred, moment, path, off, bytes),
+            Action::Stat => Ok(store.stat(cred, moment, path)),
         }
     }
 }

@@ -1,4 +1,4 @@
-//! Who makes a call.
+//! Who makes a call, and when.
 ghost use Rattle.std.specs.Prelude.{◌≡◌, ◌<◌, ◌↔◌, Err, IfOk, IfErr};
 ghost use Rattle.qplain.specs.declared.cred.TheConstants.{MAX_MORE_GROUPS};
 ghost use Rattle.qsession.specs.Requests.{caller_in};
@@ -16,6 +16,13 @@ pub struct Caller {
     pub gid: u32,
     pub count: u32,
     pub groups: [u32; MAX_MORE_GROUPS],
+}
+
+/// What every call comes with: who makes it, and the moment.
+#[derive(Clone, Copy)]
+pub struct Context<'a> {
+    pub caller: &'a Caller,
+    pub moment: u64,
 }
 
 impl Caller {

@@ -6,16 +6,15 @@ ghost use Rattle.qplain.specs.declared.call.Call.TheVariants.{Read};
 ghost use Rattle.qplain.specs.declared.edition.Edition.TheVariants.{Two};
 ghost use Rattle.qstore_journaled.specs.Lines.{line_of};
 ghost use Rattle.qsession.specs.declared.kept.Kept.TheVariants.{Journaled as KeptJournaled};
-ghost use Rattle.qsession.specs.BorrowedCalls.{call_of};
+ghost use Rattle.qsession.specs.BorrowedCalls.{call_of, read_of};
 ghost use Rattle.qsession.specs.Faults.{fault_told};
 ghost use Rattle.qsession.specs.Holdings.{HoldsTrue, holding_of, new_journaled, new_plain};
 ghost use Rattle.qsession.specs.ReadReplies.{answer_in, count_in};
 ghost use Rattle.qsession.specs.Steps.{CanCommit, HasCause, IsFull, IsReadyFor, IsStep};
 
-use crate::borrowed_call::BorrowedCall;
+use crate::borrowed_call::{BorrowedCall, ReadFrom};
 use crate::fault::Fault;
 use crate::laws::replies_are_of_their_kind;
-use crate::path_text::PathText;
 use crate::read_reply::{ReadReply, put_answer};
 use crate::recorder::Recorder;
 use qplain::{Call, CallFault, Cred, NoMemory, Path, Reply, Setup};
@@ -148,17 +147,17 @@ impl Kept {
         alloc: Global,
         cred: &Cred,
         moment: u64,
-        path: PathText<'_>,
-        off: u64,
+        from: ReadFrom<'_>,
         buffer: &mut [u8],
     ) -> Result<ReadReply, Fault>
         ensures ok { IfOk (answer_in buffer.new result) (IsStep (holding_of self.old) (holding_of self.new)
-            (line_of cred.now moment (Read path.entry.text.now off (length buffer.old)))) }
+            (line_of cred.now moment (read_of from.entry (length buffer.old)))) }
         ensures room { IfOk result (λ reply. count_in reply ≤ length buffer.old) }
         ensures err { OnErr result (holding_of self.new ≡ holding_of self.old) }
         ensures cause { IfErr result (HasCause (holding_of self.old)) }
         ensures full { IsFull (Some (holding_of self.old)) → IsErr result }
     {
+        let ReadFrom { path, off } = from;
         if let Kept::Plain(store) = self {
             return match store.read_into(cred, moment, path.text, off, buffer) {
                 Ok(count) => Ok(ReadReply::Bytes(count)),

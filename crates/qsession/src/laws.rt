@@ -2,10 +2,8 @@
 ghost use Rattle.std.specs.Prelude.{All};
 ghost use Rattle.qplain.specs.Arguments.{paths_of};
 ghost use Rattle.qplain.specs.Paths.{ArePathBytes};
-ghost use Rattle.qsession.specs.BorrowedCalls.{call_of};
 ghost use Rattle.qsession.specs.Answers.{ChangesAreDone, QuotasTellRecords, ReadsTellBytes, StatsTellNumbers};
 
-use crate::borrowed_call::BorrowedCall;
 use qplain::Call;
 
 /// Each call has a reply of its kind, or a refusal.
@@ -37,19 +35,5 @@ pub(crate) fn paths_are_good(call: &Call)
             let _second = to.bytes();
         }
         Call::SetQuota { .. } | Call::SetGrace { .. } | Call::Quota { .. } => {}
-    }
-}
-
-/// So is that of a borrowed call.
-pub(crate) fn borrowed_paths_are_good(call: &BorrowedCall)
-    ensures { All ArePathBytes (paths_of (call_of call.now)) }
-{
-    match call {
-        BorrowedCall::Create { path }
-        | BorrowedCall::Mkdir { path }
-        | BorrowedCall::Write { path, .. }
-        | BorrowedCall::Stat { path } => {
-            let _text = path.text;
-        }
     }
 }

@@ -3,8 +3,8 @@
 #![tactic(auto)]
 
 pub use asking::{data_of, kind_of, path_of};
-pub use borrowed_call::BorrowedCall;
-pub use caller::Caller;
+pub use borrowed_call::{Action, BorrowedCall, ReadFrom};
+pub use caller::{Caller, Context};
 pub use fault::Fault;
 pub use inodes::{ListedInode, list_inodes};
 pub use kept::Kept;

@@ -1,24 +1,22 @@
 //! Sessions.
-ghost use Rattle.std.specs.Prelude.{◌≡◌, ◌≤◌, ◌⊎◌, Some, None, IsErr, IfSome, IfNone, IfOk, IfErr, OnErr, is_some, length};
-ghost use Rattle.qplain.specs.declared.call.Call.TheVariants.{Read};
-ghost use Rattle.qsession.specs.BorrowedCalls.{call_of};
-ghost use Rattle.qsession.specs.Brought.{HasBadPath, HasTooManyGroups};
-ghost use Rattle.qsession.specs.Called.{IsCause, IsStepOf};
+ghost use Rattle.std.specs.Prelude.{◌≡◌, ◌≤◌, Some, None, IfSome, IfNone, IfOk, IfErr, OnErr, is_some, length};
+ghost use Rattle.qplain.specs.declared.call.Call.{Call as CallValue};
+ghost use Rattle.qsession.specs.BorrowedCalls.{call_of, read_of};
+ghost use Rattle.qsession.specs.Brought.{HasTooManyGroups};
+ghost use Rattle.qsession.specs.Called.{IsAnswered, IsCause};
 ghost use Rattle.qsession.specs.Holdings.{HoldsLawful, HoldsTrue, held_in};
 ghost use Rattle.qsession.specs.ReadReplies.{answer_in, count_in};
-ghost use Rattle.qsession.specs.Requests.{line_by};
-ghost use Rattle.qsession.specs.Steps.{IsFull};
+ghost use Rattle.qsession.specs.Requests.{caller_in};
 
-use crate::borrowed_call::BorrowedCall;
-use crate::caller::Caller;
+use crate::borrowed_call::{BorrowedCall, ReadFrom};
+use crate::caller::{Caller, Context};
 use crate::fault::Fault;
 use crate::kept::Kept;
-use crate::laws::{borrowed_paths_are_good, paths_are_good};
+use crate::laws::paths_are_good;
 use crate::loose::Loose;
-use crate::path_text::PathText;
 use crate::read_reply::ReadReply;
 use crate::slot::Slot;
-use qplain::{Call, Reply};
+use qplain::{Call, Cred, Reply};
 use std::alloc::Global;
 use std::mem::replace;
 
@@ -113,30 +111,35 @@ impl Session {
         *self = Session::of(held);
     }
 
-    /// One call. A fault is Caller, before Closed, before those of the store.
-    fn call(
-        &mut self,
-        alloc: Global,
-        caller: &Caller,
-        moment: u64,
-        call: &Call,
-    ) -> Result<Reply, Fault>
-        ensures ok { IfOk result (IsStepOf (held_in self.old.slot.kept) (held_in self.new.slot.kept)
-            (line_by caller.now moment call.now)) }
-        ensures err { OnErr result (held_in self.new.slot.kept ≡ held_in self.old.slot.kept) }
-        ensures cause { IfErr result (IsCause (held_in self.old.slot.kept) caller.now call.now) }
-        ensures full { IsFull (held_in self.old.slot.kept) → IsErr result }
-        ensures brought { HasTooManyGroups caller.now ⊎ HasBadPath call.now → IsErr result }
+    /// Who calls, and what is kept, which is taken out for the call. A fault is Caller, before Closed.
+    #[inline(always)]
+    fn take_for(&mut self, alloc: Global, caller: &Caller) -> Result<(Cred, Box<Kept>), Fault>
+        ensures cred { IfOk result (λ taken. taken.0 ≡ caller_in caller.now) }
+        ensures kept { IfOk result (λ taken. self.old.slot.kept ≡ Some taken.1.value) }
+        ensures few { IfOk result (λ _. HasTooManyGroups caller.now → ⊥) }
+        ensures err { OnErr result (self.new.slot.kept ≡ self.old.slot.kept) }
+        ensures cause { (call : CallValue) → IfErr result (IsCause (held_in self.old.slot.kept) caller.now call) }
     {
-        paths_are_good(call);
         let cred = match caller.cred(alloc) {
             Ok(cred) => cred,
             Err(fault) => return Err(fault),
         };
-        let Some(mut kept) = self.take(alloc) else {
-            return Err(Fault::Closed);
+        match self.take(alloc) {
+            Some(kept) => Ok((cred, kept)),
+            None => Err(Fault::Closed),
+        }
+    }
+
+    /// One call. A fault is Caller, before Closed, before those of the store.
+    fn call(&mut self, alloc: Global, context: Context<'_>, call: &Call) -> Result<Reply, Fault>
+        ensures { IsAnswered (held_in self.old.slot.kept) (held_in self.new.slot.kept) context.entry call.now result }
+    {
+        paths_are_good(call);
+        let (cred, mut kept) = match self.take_for(alloc, context.caller) {
+            Ok(taken) => taken,
+            Err(fault) => return Err(fault),
         };
-        let answer = kept.call(&cred, moment, call);
+        let answer = kept.call(&cred, context.moment, call);
         *self = Session::of(kept);
         answer
     }
@@ -146,26 +149,17 @@ impl Session {
     fn ask(
         &mut self,
         alloc: Global,
-        caller: &Caller,
-        moment: u64,
+        context: Context<'_>,
         call: BorrowedCall<'_>,
     ) -> Result<Reply, Fault>
-        ensures ok { IfOk result (IsStepOf (held_in self.old.slot.kept) (held_in self.new.slot.kept)
-            (line_by caller.now moment (call_of call.entry))) }
-        ensures err { OnErr result (held_in self.new.slot.kept ≡ held_in self.old.slot.kept) }
-        ensures cause { IfErr result (IsCause (held_in self.old.slot.kept) caller.now (call_of call.entry)) }
-        ensures full { IsFull (held_in self.old.slot.kept) → IsErr result }
-        ensures brought { HasTooManyGroups caller.now ⊎ HasBadPath (call_of call.entry) → IsErr result }
+        ensures { IsAnswered (held_in self.old.slot.kept) (held_in self.new.slot.kept) context.entry
+            (call_of call.entry) result }
     {
-        borrowed_paths_are_good(&call);
-        let cred = match caller.cred(alloc) {
-            Ok(cred) => cred,
+        let (cred, mut kept) = match self.take_for(alloc, context.caller) {
+            Ok(taken) => taken,
             Err(fault) => return Err(fault),
         };
-        let Some(mut kept) = self.take(alloc) else {
-            return Err(Fault::Closed);
-        };
-        let answer = kept.ask(alloc, &cred, moment, call);
+        let answer = kept.ask(alloc, &cred, context.moment, call);
         *self = Session::of(kept);
         answer
     }
@@ -175,32 +169,19 @@ impl Session {
     fn ask_bytes(
         &mut self,
         alloc: Global,
-        caller: &Caller,
-        moment: u64,
-        path: PathText<'_>,
-        off: u64,
+        context: Context<'_>,
+        from: ReadFrom<'_>,
         buffer: &mut [u8],
     ) -> Result<ReadReply, Fault>
-        ensures ok { IfOk (answer_in buffer.new result) (IsStepOf (held_in self.old.slot.kept)
-            (held_in self.new.slot.kept)
-            (line_by caller.now moment (Read path.entry.text.now off (length buffer.old)))) }
+        ensures answered { IsAnswered (held_in self.old.slot.kept) (held_in self.new.slot.kept) context.entry
+            (read_of from.entry (length buffer.old)) (answer_in buffer.new result) }
         ensures room { IfOk result (λ reply. count_in reply ≤ length buffer.old) }
-        ensures err { OnErr result (held_in self.new.slot.kept ≡ held_in self.old.slot.kept) }
-        ensures cause { IfErr result (IsCause (held_in self.old.slot.kept) caller.now
-            (Read path.entry.text.now off (length buffer.old))) }
-        ensures full { IsFull (held_in self.old.slot.kept) → IsErr result }
-        ensures brought { HasTooManyGroups caller.now ⊎ HasBadPath (Read path.entry.text.now off (length buffer.old))
-            → IsErr result }
     {
-        borrowed_paths_are_good(&BorrowedCall::Stat { path });
-        let cred = match caller.cred(alloc) {
-            Ok(cred) => cred,
+        let (cred, mut kept) = match self.take_for(alloc, context.caller) {
+            Ok(taken) => taken,
             Err(fault) => return Err(fault),
         };
-        let Some(mut kept) = self.take(alloc) else {
-            return Err(Fault::Closed);
-        };
-        let answer = kept.read(alloc, &cred, moment, path, off, buffer);
+        let answer = kept.read(alloc, &cred, context.moment, from, buffer);
         *self = Session::of(kept);
         answer
     }

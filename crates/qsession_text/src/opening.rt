@@ -27,15 +27,9 @@ pub fn keep_plain(alloc: Global, text: &[u8], seed: u64) -> Result<Box<Kept>, Co
     ensures ok { IfOk result (λ kept. IsOpened new_plain (Some (holding_of kept.value)) (config_in text.now)) }
     ensures err { IfErr result (λ fault. EndsFor fault (config_in text.now)) }
 {
-    let config = match config_of(alloc, text) {
-        Ok(config) => config,
-        Err(fault) => return Err(fault),
-    };
-    let Ok(kept) = Kept::plain(alloc, config.setup, seed) else {
-        return Err(ConfigFault::Memory);
-    };
-    match Box::new(alloc, kept) {
-        Ok(kept) => Ok(kept),
+    let config = config_of(alloc, text)?;
+    match Kept::plain(alloc, config.setup, seed) {
+        Ok(kept) => Ok(Box::new(alloc, kept)?),
         Err(_) => Err(ConfigFault::Memory),
     }
 }
@@ -45,15 +39,9 @@ pub fn keep_journaled(alloc: Global, text: &[u8], seed: u64) -> Result<Box<Kept>
     ensures ok { IfOk result (λ kept. IsOpened new_journaled (Some (holding_of kept.value)) (config_in text.now)) }
     ensures err { IfErr result (λ fault. EndsFor fault (config_in text.now)) }
 {
-    let config = match config_of(alloc, text) {
-        Ok(config) => config,
-        Err(fault) => return Err(fault),
-    };
-    let Ok(kept) = Kept::journaled(alloc, config.setup, seed) else {
-        return Err(ConfigFault::Memory);
-    };
-    match Box::new(alloc, kept) {
-        Ok(kept) => Ok(kept),
+    let config = config_of(alloc, text)?;
+    match Kept::journaled(alloc, config.setup, seed) {
+        Ok(kept) => Ok(Box::new(alloc, kept)?),
         Err(_) => Err(ConfigFault::Memory),
     }
 }
