@@ -1,6 +1,6 @@
 -- From what a call came to, to what a caller of another language is told of it.
-use Rattle.std.proofs.Common.{◌≡◌, ◌⊎◌, inl, inr, ℕ, ◌<◌, ◌≤◌, Bool, true, false, All, List, [], ◌∷◌, Option, Some, None, Result, Ok, Err, IfOk, IfErr, OnErr, IsErr, refl, sym, ap, subst, ◌∙◌, arith, lit<}
-use Rattle.std.proofs.lemmas.List.Elements.{All-cons, All-head, All-nil, All-tail}
+use Rattle.std.proofs.Common.{◌≡◌, inl, inr, ℕ, ◌<◌, ◌≤◌, Bool, true, false, All, List, ◌∷◌, Option, Some, None, Result, Ok, Err, IfOk, IsErr, refl, sym, ap, subst, ◌∙◌, arith, lit<}
+use Rattle.std.proofs.lemmas.List.Elements.{All-head, All-tail}
 use Rattle.qrules.specs.declared.kind.Kind.{Kind as WhoseKind}
 use Rattle.qrules.specs.declared.kind.Kind.TheVariants.{User, Group, Project}
 use Rattle.qrules.specs.declared.over.Over.{Over}
@@ -14,27 +14,22 @@ use Rattle.qplain.specs.declared.refusal.Refusal.TheVariants.{EFBIG, EPERM, EMLI
 use Rattle.qplain.specs.declared.reply.Reply.{Reply}
 use Rattle.qplain.specs.declared.reply.Reply.TheVariants.{Done, Bytes, Stat, Quota, Refused}
 use Rattle.qplain.specs.Arguments.{paths_of}
-use Rattle.qplain.specs.Caller.{Caller as PlainCaller}
 use Rattle.qplain.specs.Paths.{ArePathBytes}
 use Rattle.qplain.specs.State.{State}
-use Rattle.qstore_journaled.specs.Lines.{line_of}
 use Rattle.qsession.specs.declared.kept.Kept.{Kept as KeptValue}
 use Rattle.qsession.specs.declared.caller.Caller.{Caller as BroughtCaller}
 use Rattle.qsession.specs.declared.caller.Context.{Context}
-use Rattle.qsession.specs.declared.borrowed_call.Action.{Action}
-use Rattle.qsession.specs.declared.borrowed_call.Action.TheVariants.{Create, Mkdir, Write, Stat as StatAt}
-use Rattle.qsession.specs.BorrowedCalls.{call_at}
 use Rattle.qsession.specs.declared.fault.Fault.{Fault}
 use Rattle.qsession.specs.declared.fault.Fault.TheVariants.{Closed, Memory, Path, Caller, Open, Room, JournalFull, Kind, NoJournal}
 use Rattle.qsession.specs.declared.fault.Fault.TheVariants.{Line as NoLine}
 use Rattle.qsession.specs.Answers.{ChangesAreDone, QuotasTellRecords, StatsTellNumbers, is_change, tells_done, tells_quota, tells_stat}
-use Rattle.qsession.specs.Brought.{HasBadPath, HasTooManyGroups, IsCauseOfCaller, IsCauseOfPath}
+use Rattle.qsession.specs.Brought.{HasBadPath, HasTooManyGroups, IsCauseOfPath}
 use Rattle.qsession.specs.Called.{IsAnswered, IsCalled, IsCalledIn, IsCause, IsReplyTo, IsStepOf, IsToldStep, code_of}
 use Rattle.qsession.specs.Codes.{FAULTS, over_code, refusal_code, reply_code}
 use Rattle.qsession.specs.Faults.{fault_code}
-use Rattle.qsession.specs.Holdings.{Holding, held_in, holding_of}
-use Rattle.qsession.specs.Requests.{caller_in, line_in}
-use Rattle.qsession.specs.Steps.{HasCause, IsFull, IsStep, stepped}
+use Rattle.qsession.specs.Holdings.{Holding, held_in}
+use Rattle.qsession.specs.Requests.{line_in}
+use Rattle.qsession.specs.Steps.{stepped}
 
 -- where each reply to the line's call passes a test, the one that was given does
 pub passes : (test : Reply → Bool) (old new : Option Holding) (line : Line) (answer : Result Reply Fault)
@@ -138,49 +133,6 @@ told_step (Some old) (Some new) line reply is = (ap Some is.held, ap reply_code 
 told_step (Some old) None line reply is = absurd is
 told_step None new line reply is = absurd is
 
--- a caller that was not taken is a cause
-pub caller_cause : (held : Option Holding) (caller : BroughtCaller) (call : Call) (fault : Fault) → IsCauseOfCaller caller fault
-    → IsCause held caller call fault
-caller_cause held caller call Closed cause = absurd cause
-caller_cause held caller call Memory cause = tt
-caller_cause held caller call Path cause = absurd cause
-caller_cause held caller call Caller cause = cause
-caller_cause held caller call Open cause = absurd cause
-caller_cause held caller call Room cause = absurd cause
-caller_cause held caller call NoLine cause = absurd cause
-caller_cause held caller call JournalFull cause = absurd cause
-caller_cause held caller call Kind cause = absurd cause
-caller_cause held caller call NoJournal cause = absurd cause
-
--- a call of one good path is of good paths
-pub good_path : (path : List ℕ) → ArePathBytes path → All ArePathBytes (path ∷ [])
-good_path path good = All-cons ArePathBytes path [] good (All-nil ArePathBytes)
-
-pub good_at : (path : List ℕ) (action : Action) → ArePathBytes path → All ArePathBytes (paths_of (call_at path action))
-good_at path Create good = good_path path good
-good_at path Mkdir good = good_path path good
-good_at path (Write off bytes) good = good_path path good
-good_at path StatAt good = good_path path good
-
--- a caller of few groups and good paths bring nothing wrong
-not_brought : (caller : BroughtCaller) (call : Call) → (HasTooManyGroups caller → ⊥) → All ArePathBytes (paths_of call)
-    → HasTooManyGroups caller ⊎ HasBadPath call → ⊥
-not_brought caller call few good (inl many) = few many
-not_brought caller call few good (inr bad) = bad good
-
--- and so is a call that what is held did not make
-held_cause : (h : Holding) (caller : BroughtCaller) (call : Call) (fault : Fault) → HasCause h fault → IsCause (Some h) caller call fault
-held_cause h caller call Closed cause = absurd cause
-held_cause h caller call Memory cause = tt
-held_cause h caller call Path cause = absurd cause
-held_cause h caller call Caller cause = absurd cause
-held_cause h caller call Open cause = absurd cause
-held_cause h caller call Room cause = absurd cause
-held_cause h caller call NoLine cause = absurd cause
-held_cause h caller call JournalFull cause = cause
-held_cause h caller call Kind cause = absurd cause
-held_cause h caller call NoJournal cause = absurd cause
-
 -- ---- an answer to a call
 
 -- a call for which nothing was taken is answered why
@@ -193,37 +145,6 @@ untaken old new context call fault same cause = record {
   full = λ full. refl;
   brought = λ brought. refl;
 }
-
--- one that what is held did or did not make, by a caller that was taken, of good paths, is answered so
-answers : (old new : Holding) (context : Context) (call : Call) (answer : Result Reply Fault)
-    → (HasTooManyGroups context.caller.now → ⊥) → All ArePathBytes (paths_of call) → IfOk answer (IsStep old new (line_in context call))
-    → OnErr answer (new ≡ old) → IfErr answer (HasCause old) → (IsFull (Some old) → IsErr answer)
-    → IsAnswered (Some old) (Some new) context call answer
-answers old new context call (Ok reply) few good ok err cause full = record {
-  ok = ok;
-  err = tt;
-  cause = tt;
-  full = full;
-  brought = λ brought. absurd (not_brought context.caller.now call few good brought);
-}
-answers old new context call (Err fault) few good ok err cause full = record {
-  ok = tt;
-  err = ap Some err;
-  cause = held_cause old context.caller.now call fault cause;
-  full = full;
-  brought = λ brought. refl;
-}
-
--- and so is one of what was taken out of a session
-pub taken : (kept : Option KeptValue) (old new : KeptValue) (cred : PlainCaller) (context : Context) (call : Call) (answer : Result Reply Fault)
-    → kept ≡ Some old → cred ≡ caller_in context.caller.now → (HasTooManyGroups context.caller.now → ⊥) → All ArePathBytes (paths_of call)
-    → IfOk answer (IsStep (holding_of old) (holding_of new) (line_of cred context.moment call)) → OnErr answer (holding_of new ≡ holding_of old)
-    → IfErr answer (HasCause (holding_of old)) → (IsFull (Some (holding_of old)) → IsErr answer)
-    → IsAnswered (held_in kept) (Some (holding_of new)) context call answer
-taken kept old new cred context call answer is own few good ok err cause full =
-    subst (λ (k : Option KeptValue). IsAnswered (held_in k) (Some (holding_of new)) context call answer) (sym is)
-    (answers (holding_of old) (holding_of new) context call answer few good
-    (subst (λ (c : PlainCaller). IfOk answer (IsStep (holding_of old) (holding_of new) (line_of c context.moment call))) own ok) err cause full)
 
 module _ (old : Option Holding) (caller : BroughtCaller) (moment : ℕ) (call : Call) (number : ℕ) where
   path_cause : (fault : Fault) (path : List ℕ) → IsCauseOfPath path fault → ((ArePathBytes path → ⊥) → HasBadPath call)

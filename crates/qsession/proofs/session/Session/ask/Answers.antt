@@ -1,0 +1,10 @@
+use Rattle.qsession.specs.BorrowedCalls.{call_of}
+use Rattle.qsession.proofs.Calling.{untaken}
+use Rattle.qsession.proofs.session.Session.ask.Goals as goal
+
+pub returns-in-Err : goal.returns-in-Err
+returns-in-Err c =
+    let x = c.args in
+    let call = call_of x.call in
+    untaken x.self.now.slot.kept c.take_for.new.self.slot.kept x.context call c.in-Err.fault c.in-Err.ensures.err
+    (c.in-Err.ensures.cause call)
