@@ -23,7 +23,7 @@ use Rattle.qsession.specs.declared.fault.Fault.{Fault}
 use Rattle.qsession.specs.declared.fault.Fault.TheVariants.{Closed, Memory, Path, Caller, Open, Room, JournalFull, Kind, NoJournal}
 use Rattle.qsession.specs.declared.fault.Fault.TheVariants.{Line as NoLine}
 use Rattle.qsession.specs.Answers.{ChangesAreDone, QuotasTellRecords, StatsTellNumbers, is_change, tells_done, tells_quota, tells_stat}
-use Rattle.qsession.specs.Brought.{HasBadPath, HasTooManyGroups, IsCauseOfPath}
+use Rattle.qsession.specs.Brought.{HasBadPath, IsCauseOfPath}
 use Rattle.qsession.specs.Called.{IsAnswered, IsCalled, IsCalledIn, IsCause, IsReplyTo, IsStepOf, IsToldStep, code_of}
 use Rattle.qsession.specs.Codes.{FAULTS, over_code, refusal_code, reply_code}
 use Rattle.qsession.specs.Faults.{fault_code}
