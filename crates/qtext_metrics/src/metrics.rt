@@ -6,6 +6,7 @@ ghost use Rattle.qtext.specs.Written.{Writes};
 ghost use Rattle.qtext.specs.Pieces.{piece_text};
 ghost use Rattle.qtext_metrics.specs.Metrics.{family_text, head_text, holder_text, metrics_text, row_text, total_text};
 
+use crate::Written;
 use crate::family::Family;
 use qplain::{Board, Principal, Setup};
 use qrules::{BoardRow, Kind};
@@ -38,7 +39,7 @@ fn holder<'a>(setup: &'a Setup, row: &BoardRow) -> Piece<'a>
     }
 }
 
-fn put_head<W: Write>(out: &mut W, family: Family) -> Result<(), RefusedWrite>
+fn put_head<W: Write>(out: &mut W, family: Family) -> Written
     ensures { Writes (W.contents out.old) (W.contents out.new) result (head_text family) }
 {
     let name = Piece::Text(family.name());
@@ -56,7 +57,7 @@ fn put_head<W: Write>(out: &mut W, family: Family) -> Result<(), RefusedWrite>
     )
 }
 
-fn put_total<W: Write>(out: &mut W, family: Family, value: Option<u64>) -> Result<(), RefusedWrite>
+fn put_total<W: Write>(out: &mut W, family: Family, value: Option<u64>) -> Written
     ensures { Writes (W.contents out.old) (W.contents out.new) result (total_text family value) }
 {
     let Some(value) = value else {
@@ -74,12 +75,7 @@ fn put_total<W: Write>(out: &mut W, family: Family, value: Option<u64>) -> Resul
 }
 
 /// Writes the sample of a row. No label needs an escape: a name is of `a` to `z`, `0` to `9`, `_` and `-`.
-fn put_row<W: Write>(
-    out: &mut W,
-    setup: &Setup,
-    family: Family,
-    row: &BoardRow,
-) -> Result<(), RefusedWrite>
+fn put_row<W: Write>(out: &mut W, setup: &Setup, family: Family, row: &BoardRow) -> Written
     ensures { Writes (W.contents out.old) (W.contents out.new) result (row_text setup.now family row.now) }
 {
     let Some(value) = family.value(row) else {
@@ -100,12 +96,7 @@ fn put_row<W: Write>(
     )
 }
 
-fn put_rows<W: Write>(
-    out: &mut W,
-    setup: &Setup,
-    family: Family,
-    rows: &[BoardRow],
-) -> Result<(), RefusedWrite>
+fn put_rows<W: Write>(out: &mut W, setup: &Setup, family: Family, rows: &[BoardRow]) -> Written
     ensures { Writes (W.contents out.old) (W.contents out.new) result
         (flat_map (row_text setup.now family) rows.now) }
 {
@@ -115,12 +106,7 @@ fn put_rows<W: Write>(
     Ok(())
 }
 
-fn put_family<W: Write>(
-    out: &mut W,
-    setup: &Setup,
-    board: &Board,
-    family: Family,
-) -> Result<(), RefusedWrite>
+fn put_family<W: Write>(out: &mut W, setup: &Setup, board: &Board, family: Family) -> Written
     ensures { Writes (W.contents out.old) (W.contents out.new) result (family_text setup.now board.now family) }
 {
     put_head(out, family)?;
@@ -128,12 +114,7 @@ fn put_family<W: Write>(
     put_rows(out, setup, family, board.rows.as_slice())
 }
 
-fn put_families<W: Write>(
-    out: &mut W,
-    setup: &Setup,
-    board: &Board,
-    families: &[Family],
-) -> Result<(), RefusedWrite>
+fn put_families<W: Write>(out: &mut W, setup: &Setup, board: &Board, families: &[Family]) -> Written
     ensures { Writes (W.contents out.old) (W.contents out.new) result
         (flat_map (family_text setup.now board.now) families.now) }
 {
