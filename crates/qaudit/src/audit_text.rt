@@ -4,17 +4,12 @@ ghost use Rattle.std.specs.List.{flat_map};
 ghost use Rattle.qtext.specs.Written.{Writes};
 ghost use Rattle.qaudit.specs.Audits.{audit_head, audit_text, difference_text, link_text, owner_text, use_text};
 
-use crate::{CountRow, Difference, LinkRow};
+use crate::{CountRow, Difference, LinkRow, Written};
 use qrules::{Kind, RecordRow};
 use qtext::{Piece, RefusedWrite, kind_word, put_pieces};
 use std::io::Write;
 
-fn put_use<W: Write>(
-    out: &mut W,
-    kind: Kind,
-    row: &RecordRow,
-    counted: &CountRow,
-) -> Result<(), RefusedWrite>
+fn put_use<W: Write>(out: &mut W, kind: Kind, row: &RecordRow, counted: &CountRow) -> Written
     ensures { Writes (W.contents out.old) (W.contents out.new) result (use_text kind row.now counted.now) }
 {
     let pieces = [
@@ -34,7 +29,7 @@ fn put_use<W: Write>(
     put_pieces(out, &pieces)
 }
 
-fn put_owner<W: Write>(out: &mut W, kind: Kind, counted: &CountRow) -> Result<(), RefusedWrite>
+fn put_owner<W: Write>(out: &mut W, kind: Kind, counted: &CountRow) -> Written
     ensures { Writes (W.contents out.old) (W.contents out.new) result (owner_text kind counted.now) }
 {
     let pieces = [
@@ -50,7 +45,7 @@ fn put_owner<W: Write>(out: &mut W, kind: Kind, counted: &CountRow) -> Result<()
     put_pieces(out, &pieces)
 }
 
-fn put_link<W: Write>(out: &mut W, link: &LinkRow) -> Result<(), RefusedWrite>
+fn put_link<W: Write>(out: &mut W, link: &LinkRow) -> Written
     ensures { Writes (W.contents out.old) (W.contents out.new) result (link_text link.now) }
 {
     let pieces = [
@@ -65,7 +60,7 @@ fn put_link<W: Write>(out: &mut W, link: &LinkRow) -> Result<(), RefusedWrite>
     put_pieces(out, &pieces)
 }
 
-fn put_difference<W: Write>(out: &mut W, difference: &Difference) -> Result<(), RefusedWrite>
+fn put_difference<W: Write>(out: &mut W, difference: &Difference) -> Written
     ensures { Writes (W.contents out.old) (W.contents out.new) result (difference_text difference.now) }
 {
     match difference {
@@ -75,7 +70,7 @@ fn put_difference<W: Write>(out: &mut W, difference: &Difference) -> Result<(), 
     }
 }
 
-fn put_differences<W: Write>(out: &mut W, differences: &[Difference]) -> Result<(), RefusedWrite>
+fn put_differences<W: Write>(out: &mut W, differences: &[Difference]) -> Written
     ensures { Writes (W.contents out.old) (W.contents out.new) result (flat_map difference_text differences.now) }
 {
     for difference in differences {
@@ -84,7 +79,7 @@ fn put_differences<W: Write>(out: &mut W, differences: &[Difference]) -> Result<
     Ok(())
 }
 
-fn put_head<W: Write>(out: &mut W, count: u64) -> Result<(), RefusedWrite>
+fn put_head<W: Write>(out: &mut W, count: u64) -> Written
     ensures { Writes (W.contents out.old) (W.contents out.new) result (audit_head count) }
 {
     if count == 0 {

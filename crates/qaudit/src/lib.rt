@@ -19,3 +19,6 @@ mod owners;
 mod recounts;
 mod reports;
 mod tallies;
+
+/// What comes of writing to an output, which may refuse.
+type Written = Result<(), qtext::RefusedWrite>;

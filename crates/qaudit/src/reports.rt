@@ -5,6 +5,7 @@ ghost use Rattle.qtext.specs.Written.{Writes};
 ghost use Rattle.qtext.specs.Pieces.{piece_text, right_in};
 ghost use Rattle.qaudit.specs.Reports.{flag_text, grace_text, report_text, row_text};
 
+use crate::Written;
 use qrules::{KIB_PER_BLOCK, RecordRow};
 use qtext::{Piece, RefusedWrite, kind_word, put_pieces};
 use std::io::Write;
@@ -53,7 +54,7 @@ fn number<'a>(n: u64) -> Piece<'a>
     Piece::RightNumber(n as u128, 10)
 }
 
-fn put_row<W: Write>(out: &mut W, row: &RecordRow, moment: u64) -> Result<(), RefusedWrite>
+fn put_row<W: Write>(out: &mut W, row: &RecordRow, moment: u64) -> Written
     ensures { Writes (W.contents out.old) (W.contents out.new) result (row_text moment row.now) }
 {
     let kib = KIB_PER_BLOCK as u128 * row.blocks as u128;
