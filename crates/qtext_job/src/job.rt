@@ -7,9 +7,10 @@ ghost use Rattle.qtext_job.specs.Jobs.{AreScriptsIn, FailsUnless, IsAskedBy, IsJ
 ghost use Rattle.qtext_job.specs.Jobs.{IsRefusalOf, IsToldBy, checked_in};
 ghost use Rattle.qtext_job.specs.Numbers.{IsNumberAt};
 
+use crate::line_fault::mistake;
 use crate::number::number_at;
 use crate::pair::clients;
-use crate::telling::{is_set, telling};
+use crate::report_options::{is_set, telling};
 use crate::{LineFault, Pair};
 use clap::error::ErrorKind;
 use clap::{ArgMatches, Error};
@@ -92,10 +93,7 @@ fn fault(alloc: Global, error: &Error) -> LineFault
 fn missing(alloc: Global) -> LineFault
     ensures { FailsUnless ⊥ result }
 {
-    match String::from_str(alloc, "error: missing argument\n") {
-        Ok(text) => LineFault::Line { help: false, text },
-        Err(_) => LineFault::Memory,
-    }
+    mistake(String::from_str(alloc, "error: missing argument\n"))
 }
 
 fn named(alloc: Global, matches: &ArgMatches<'_>, id: &str) -> Result<String, LineFault>

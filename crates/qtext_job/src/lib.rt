@@ -9,4 +9,4 @@ mod job;
 mod line_fault;
 mod number;
 mod pair;
-mod telling;
+mod report_options;

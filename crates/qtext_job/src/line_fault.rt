@@ -1,8 +1,9 @@
 ghost use Rattle.std.specs.Prelude.{◌≡◌};
 ghost use Rattle.qtext_job.specs.declared.line_fault.LineFault.TheVariants.{Memory};
+ghost use Rattle.qtext_job.specs.Jobs.{FailsUnless};
 ghost use Rattle.qtext_job.specs.LineFaults.{line_fault_number};
 
-use std::alloc::{AllocError, AllocFailed};
+use std::alloc::{AllocError, AllocFailed, Global};
 
 /// Why the words of a command line are no job.
 #[derive(Debug, Drop)]
@@ -39,4 +40,29 @@ impl<T: Drop> From<AllocFailed<T>> for LineFault {
     fn from(_e: AllocFailed<T>) -> LineFault {
         LineFault::Memory
     }
+}
+
+/// A mistake that is told by this text.
+pub(crate) fn mistake(text: Result<String, AllocError>) -> LineFault
+    ensures { FailsUnless ⊥ result }
+{
+    match text {
+        Ok(text) => LineFault::Line { help: false, text },
+        Err(_) => LineFault::Memory,
+    }
+}
+
+/// What is said of a word that its place does not take, and of what is wanted there.
+fn text_of(alloc: Global, word: &str, place: &str, wanted: &str) -> Result<String, AllocError> {
+    format!(in alloc;
+        "error: invalid value {word:?} for '{place}': {wanted} wanted\n\n\
+         For more information, try '--help'.\n"
+    )
+}
+
+/// A word that its place does not take.
+pub(crate) fn invalid(alloc: Global, word: &str, place: &str, wanted: &str) -> LineFault
+    ensures { FailsUnless ⊥ result }
+{
+    mistake(text_of(alloc, word, place, wanted))
 }

@@ -5,8 +5,9 @@ ghost use Rattle.qtext_job.specs.Jobs.{FailsUnless};
 ghost use Rattle.qtext_job.specs.Pairs.{AreClientsIn, ArePairs, IsCutInto, IsPairOf};
 
 use crate::LineFault;
+use crate::line_fault::invalid;
 use clap::ArgMatches;
-use std::alloc::{AllocError, Global};
+use std::alloc::Global;
 
 /// Where the lines of a client come from, and where its replies go: names of files as they stand on the command line.
 /// `-` is standard input, or standard output.
@@ -16,21 +17,11 @@ pub struct Pair {
     pub output: String,
 }
 
-/// What is said of a word that is no pair.
-fn text_of(alloc: Global, word: &str) -> Result<String, AllocError> {
-    format!(in alloc;
-        "error: invalid value {word:?} for '[IN:OUT]...': two names with a colon between them are wanted\n\n\
-         For more information, try '--help'.\n"
-    )
-}
-
 fn no_pair(alloc: Global, word: &str) -> LineFault
     ensures { FailsUnless ⊥ result }
 {
-    match text_of(alloc, word) {
-        Ok(text) => LineFault::Line { help: false, text },
-        Err(_) => LineFault::Memory,
-    }
+    let wanted = "two names with a colon between them are";
+    invalid(alloc, word, "[IN:OUT]...", wanted)
 }
 
 /// The two names of a word, where it has them.

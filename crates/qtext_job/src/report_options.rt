@@ -8,11 +8,12 @@ ghost use Rattle.qtext_view.specs.declared.report_moment.ReportMoment.{ReportMom
 ghost use Rattle.qtext_view.specs.declared.telling.Telling.{Telling};
 
 use crate::LineFault;
+use crate::line_fault::invalid;
 use crate::number::number_at;
 use clap::ArgMatches;
 use qrules::MAX_MOMENT;
 use qtext_view::{Format, ReportMoment, Telling, View};
-use std::alloc::{AllocError, Global};
+use std::alloc::Global;
 
 /// Whether this word stands at an option.
 fn is_word_at(matches: &ArgMatches<'_>, id: &str, word: &str) -> bool
@@ -31,21 +32,12 @@ pub(crate) fn is_set(matches: &ArgMatches<'_>, id: &str) -> bool
     is_word_at(matches, id, "true")
 }
 
-/// What is said of a word that is no moment.
-fn text_of(alloc: Global, word: &str) -> Result<String, AllocError> {
-    format!(in alloc;
-        "error: invalid value {word:?} for '--at <MOMENT>': a number from 0 to {MAX_MOMENT}, or last, is wanted\n\n\
-         For more information, try '--help'.\n"
-    )
-}
-
 fn no_moment(alloc: Global, matches: &ArgMatches<'_>) -> LineFault
     ensures { FailsUnless ⊥ result }
 {
-    match text_of(alloc, matches.get_str("at").unwrap_or("")) {
-        Ok(text) => LineFault::Line { help: false, text },
-        Err(_) => LineFault::Memory,
-    }
+    let word = matches.get_str("at").unwrap_or("");
+    let wanted = "a number from 0 to 1099511627776, or last, is";
+    invalid(alloc, word, "--at <MOMENT>", wanted)
 }
 
 /// The moment of the report.
@@ -85,21 +77,11 @@ fn format(matches: &ArgMatches<'_>) -> Format
     }
 }
 
-/// What is said of a word that is no format.
-fn format_text_of(alloc: Global, word: &str) -> Result<String, AllocError> {
-    format!(in alloc;
-        "error: invalid value {word:?} for '--format <FORMAT>': text, json or csv is wanted\n\n\
-         For more information, try '--help'.\n"
-    )
-}
-
 fn no_format(alloc: Global, matches: &ArgMatches<'_>) -> LineFault
     ensures { FailsUnless ⊥ result }
 {
-    match format_text_of(alloc, matches.get_str("format").unwrap_or("")) {
-        Ok(text) => LineFault::Line { help: false, text },
-        Err(_) => LineFault::Memory,
-    }
+    let word = matches.get_str("format").unwrap_or("");
+    invalid(alloc, word, "--format <FORMAT>", "text, json or csv is")
 }
 
 fn test_format(alloc: Global, matches: &ArgMatches<'_>) -> Result<(), LineFault>

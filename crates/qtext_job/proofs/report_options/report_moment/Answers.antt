@@ -1,7 +1,7 @@
 use Rattle.std.proofs.Common.{◌≡◌, true, false, refl, ◌∙◌}
 use Rattle.clap.specs.Words.{found_of, rows_of}
 use Rattle.qtext_job.proofs.TellingLaws.{no_moment_there}
-use Rattle.qtext_job.proofs.telling.report_moment.Goals as goal
+use Rattle.qtext_job.proofs.report_options.report_moment.Goals as goal
 
 pub returns-in-None-clause-err : goal.returns-in-None-clause-err
 returns-in-None-clause-err c = no_moment_there (rows_of (found_of c.args.matches.now)) c.no_moment.result
