@@ -1,3 +1,4 @@
--- Lines beside what they were answered, and the greatest moment of lines.
+-- Counts behind words, lines beside what they were answered, and the greatest moment of lines.
+pub mod CountedLines
 pub mod CalledLines
 pub mod LastMoments

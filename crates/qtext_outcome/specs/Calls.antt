@@ -1,7 +1,7 @@
 -- Replies behind the lines of scripts that they answer (profile).
-use Rattle.std.specs.Prelude.{ℕ, ◌+◌, ◌==◌, ◌&&◌, nat_lt, List, [], ◌∷◌, ◌++◌, codes, decimal, length}
+use Rattle.std.specs.Prelude.{ℕ, Bool, ◌+◌, ◌==◌, ◌&&◌, nat_lt, List, [], ◌∷◌, ◌++◌, codes, decimal, length}
 use Rattle.std.specs.Prelude.{Option, Some, None, Result, if◌then◌else◌}
-use Rattle.std.specs.List.{concat, join_with_byte, list_all}
+use Rattle.std.specs.List.{concat, flat_map, join_with_byte, list_all}
 use Rattle.hex.specs.Hex.{encode_lower}
 use Rattle.qplain.specs.declared.call.Call.{Call}
 use Rattle.qplain.specs.declared.call.Call.TheVariants.{Write}
@@ -48,6 +48,10 @@ called_lines place (l ∷ ls) (answer ∷ answers) = called_text place l answer 
 called_lines place [] answers = []
 called_lines place (l ∷ ls) [] = []
 
--- a transcript with its lines
-abbrev pub called_transcript : Transcript → List ℕ
-called_transcript t = worker_text t.worker ++ called_lines 1 t.lines t.answers
+-- what each line was answered, behind the line where calls are asked for
+abbrev pub answers_text : Bool → Transcript → List ℕ
+answers_text calls t = if calls then called_lines 1 t.lines t.answers else flat_map answer_text t.answers
+
+-- a worker's number, and that
+abbrev pub shown_transcript : Bool → Transcript → List ℕ
+shown_transcript calls t = worker_text t.worker ++ answers_text calls t

@@ -1,5 +1,6 @@
--- In reading order: looks at the boards, outcomes of runs, and how they are told: as of which moment, beside which
+-- In reading order: lines of counts, looks at the boards, outcomes of runs, and how they are told: as of which moment, beside which
 -- calls, in which units, under which view, and which lines were refused or failed.
+pub mod Counts
 pub mod Boards
 pub mod Outcomes
 pub mod Moments

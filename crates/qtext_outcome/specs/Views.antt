@@ -5,9 +5,9 @@ use Rattle.qtext_view.specs.declared.format.Format.TheVariants.{Text}
 use Rattle.qtext_view.specs.declared.view.View.{View}
 use Rattle.qrun_replay.specs.declared.outcome.Outcome.{Outcome}
 use Rattle.qtext_outcome.specs.Boards.{boards_text}
-use Rattle.qtext_outcome.specs.Calls.{called_transcript}
+use Rattle.qtext_outcome.specs.Calls.{shown_transcript}
 use Rattle.qtext_outcome.specs.Reports.{shown_report}
-use Rattle.qtext_outcome.specs.Outcomes.{moment_text, rest_text, told_text}
+use Rattle.qtext_outcome.specs.Outcomes.{moment_text, rest_text}
 
 -- a view that asks for nothing
 abbrev pub plain : View
@@ -20,7 +20,7 @@ shown_left view o moment = moment_text moment ++ shown_report view o.records mom
 -- what the workers were answered, beside their calls where that is asked for, and then what looks at the boards were
 -- given
 abbrev pub shown_told : View → Outcome → List ℕ
-shown_told view o = if view.calls then flat_map called_transcript o.transcripts ++ boards_text o.boards else told_text o
+shown_told view o = flat_map (shown_transcript view.calls) o.transcripts ++ boards_text o.boards
 
 -- an outcome as it is shown: the report alone, or all of its text
 abbrev pub shown_text : View → Outcome → ℕ → List ℕ

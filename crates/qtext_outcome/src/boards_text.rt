@@ -4,8 +4,10 @@ ghost use Rattle.std.specs.List.{flat_map};
 ghost use Rattle.qtext.specs.Written.{Writes};
 ghost use Rattle.qtext_outcome.specs.Boards.{boards_head, boards_text, look_fault_text, look_text};
 
+use crate::Written;
+use crate::counts::put_counts;
 use qplain::{Board, LookFault};
-use qtext::{Piece, RefusedWrite, put_pieces};
+use qtext::{Piece, put_pieces};
 use std::io::Write;
 
 /// The word of a look that was shown no board.
@@ -19,22 +21,18 @@ pub fn look_fault_word(fault: LookFault) -> &'static [u8]
     }
 }
 
-fn put_board<W: Write>(out: &mut W, board: &Board) -> Result<(), RefusedWrite>
+fn put_board<W: Write>(out: &mut W, board: &Board) -> Written
     ensures { Writes (W.contents out.old) (W.contents out.new) result (look_text (Ok board.now)) }
 {
-    let pieces = [
-        Piece::Text(b"board "),
-        Piece::Number(board.version),
-        Piece::Text(b" blocks "),
-        Piece::Number(board.blocks),
-        Piece::Text(b" inodes "),
-        Piece::Number(board.inodes),
-        Piece::Text(b"\n"),
+    let counts: [(&[u8], u64); 3] = [
+        (b"board ", board.version),
+        (b" blocks ", board.blocks),
+        (b" inodes ", board.inodes),
     ];
-    put_pieces(out, &pieces)
+    put_counts(out, &counts)
 }
 
-fn put_no_board<W: Write>(out: &mut W, fault: LookFault) -> Result<(), RefusedWrite>
+fn put_no_board<W: Write>(out: &mut W, fault: LookFault) -> Written
     ensures { Writes (W.contents out.old) (W.contents out.new) result (look_text (Err fault)) }
 {
     let pieces = [
@@ -45,7 +43,7 @@ fn put_no_board<W: Write>(out: &mut W, fault: LookFault) -> Result<(), RefusedWr
     put_pieces(out, &pieces)
 }
 
-fn put_look<W: Write>(out: &mut W, look: &Result<Board, LookFault>) -> Result<(), RefusedWrite>
+fn put_look<W: Write>(out: &mut W, look: &Result<Board, LookFault>) -> Written
     ensures { Writes (W.contents out.old) (W.contents out.new) result (look_text look.now) }
 {
     match look {
@@ -54,7 +52,7 @@ fn put_look<W: Write>(out: &mut W, look: &Result<Board, LookFault>) -> Result<()
     }
 }
 
-fn put_looks<W: Write>(out: &mut W, looks: &[Result<Board, LookFault>]) -> Result<(), RefusedWrite>
+fn put_looks<W: Write>(out: &mut W, looks: &[Result<Board, LookFault>]) -> Written
     ensures { Writes (W.contents out.old) (W.contents out.new) result (flat_map look_text looks.now) }
 {
     for look in looks {
@@ -63,26 +61,18 @@ fn put_looks<W: Write>(out: &mut W, looks: &[Result<Board, LookFault>]) -> Resul
     Ok(())
 }
 
-fn put_head<W: Write>(out: &mut W, count: u64) -> Result<(), RefusedWrite>
+fn put_head<W: Write>(out: &mut W, count: u64) -> Written
     ensures { Writes (W.contents out.old) (W.contents out.new) result (boards_head count) }
 {
     if count == 0 {
         return Ok(());
     }
-    let pieces = [
-        Piece::Text(b"boards "),
-        Piece::Number(count),
-        Piece::Text(b"\n"),
-    ];
-    put_pieces(out, &pieces)
+    put_counts(out, &[(b"boards ", count)])
 }
 
 /// Writes how many looks there were and a line for each, and nothing where there were none.
 #[tactic(auto, using(qtext::proofs::Fronts::front_of_first, qtext::proofs::Fronts::writes_then))]
-pub(crate) fn put_boards<W: Write>(
-    out: &mut W,
-    looks: &[Result<Board, LookFault>],
-) -> Result<(), RefusedWrite>
+pub(crate) fn put_boards<W: Write>(out: &mut W, looks: &[Result<Board, LookFault>]) -> Written
     ensures { Writes (W.contents out.old) (W.contents out.new) result (boards_text looks.now) }
 {
     put_head(out, looks.len() as u64)?;

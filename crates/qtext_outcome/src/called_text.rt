@@ -1,17 +1,17 @@
-//! Transcripts with the lines of the scripts.
+//! The lines of the scripts, each with what it was answered.
 ghost use Rattle.std.specs.Prelude.{◌≡◌, ◌≤◌, ◌++◌, ◌==◌, length, IfOk};
-ghost use Rattle.std.specs.List.{flat_map, list_all};
+ghost use Rattle.std.specs.List.{list_all};
 ghost use Rattle.qblocks.specs.Input.{input_bytes};
 ghost use Rattle.qtext.specs.Written.{Passes, Writes};
 ghost use Rattle.qtext_write.specs.declared.call_text.TheConstants.{CALL_PLACE, CALL_ROOM};
-ghost use Rattle.qtext_outcome.specs.Calls.{called_lines, called_text, called_transcript, fill_text, repeated};
-ghost use Rattle.qtext_outcome.specs.Calls.{shown_call};
+ghost use Rattle.qtext_outcome.specs.Calls.{called_lines, called_text, fill_text, repeated, shown_call};
 
-use crate::transcript_text::{put_answer, put_worker};
+use crate::Written;
+use crate::transcript_text::put_answer;
 use qblocks::Input;
 use qplain::{Call, CallFault, Path};
 use qrun_replay::{PlacedLine, PlacedReply, PlacedTranscript};
-use qtext::{RefusedWrite, TextLine};
+use qtext::TextLine;
 use qtext_write::{CALL_PLACE, CALL_ROOM, put_call, put_caller};
 use std::io::Write;
 
@@ -58,7 +58,7 @@ fn put_fill<W: Write>(
     off: u64,
     count: u64,
     byte: u8,
-) -> Result<(), RefusedWrite>
+) -> Written
     requires { length line.old ≤ CALL_PLACE }
     ensures passes { Passes (W.contents out.old) (W.contents out.new) result
         (line.old ++ fill_text path.now off count byte) line.new }
@@ -74,11 +74,7 @@ fn put_fill<W: Write>(
 }
 
 /// A write, or a fill where all of its bytes are equal.
-fn put_shown_call<W: Write>(
-    out: &mut W,
-    line: &mut TextLine,
-    call: &Call,
-) -> Result<(), RefusedWrite>
+fn put_shown_call<W: Write>(out: &mut W, line: &mut TextLine, call: &Call) -> Written
     requires { length line.old ≤ CALL_PLACE }
     ensures passes { Passes (W.contents out.old) (W.contents out.new) result
         (line.old ++ shown_call call.now) line.new }
@@ -100,7 +96,7 @@ fn put_called<W: Write>(
     place: u64,
     line: &PlacedLine<'_>,
     answer: Result<PlacedReply<'_>, CallFault>,
-) -> Result<(), RefusedWrite>
+) -> Written
     ensures { Writes (W.contents out.old) (W.contents out.new) result (called_text place line.now answer.entry) }
 {
     text.clear();
@@ -116,10 +112,7 @@ fn put_called<W: Write>(
 }
 
 /// Writes each line with what it was answered.
-fn put_called_lines<W: Write>(
-    out: &mut W,
-    transcript: &PlacedTranscript,
-) -> Result<(), RefusedWrite>
+pub(crate) fn put_called_lines<W: Write>(out: &mut W, transcript: &PlacedTranscript) -> Written
     ensures { Writes (W.contents out.old) (W.contents out.new) result
         (called_lines 1 transcript.now.lines transcript.now.answers) }
 {
@@ -128,30 +121,6 @@ fn put_called_lines<W: Write>(
         let line = transcript.line(at);
         let answer = transcript.answer(at);
         put_called(out, &mut text, at as u64 + 1, &line, answer)?;
-    }
-    Ok(())
-}
-
-#[tactic(auto, using(qtext::proofs::Fronts::front_of_first, qtext::proofs::Fronts::writes_then))]
-fn put_called_transcript<W: Write>(
-    out: &mut W,
-    transcript: &PlacedTranscript,
-) -> Result<(), RefusedWrite>
-    ensures { Writes (W.contents out.old) (W.contents out.new) result (called_transcript transcript.now) }
-{
-    put_worker(out, transcript.worker())?;
-    put_called_lines(out, transcript)
-}
-
-/// Writes the transcripts with the lines of the scripts, one after the other.
-pub(crate) fn put_called_transcripts<W: Write>(
-    out: &mut W,
-    transcripts: &[PlacedTranscript],
-) -> Result<(), RefusedWrite>
-    ensures { Writes (W.contents out.old) (W.contents out.new) result (flat_map called_transcript transcripts.now) }
-{
-    for transcript in transcripts {
-        put_called_transcript(out, transcript)?;
     }
     Ok(())
 }

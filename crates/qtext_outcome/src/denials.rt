@@ -12,6 +12,7 @@ ghost use Rattle.qtext_outcome.specs.Denials.{
   refused_number,
 };
 
+use crate::Written;
 use qplain::{CallFault, Reply};
 use qrun_replay::{PlacedReply, PlacedTranscript};
 use qtext::{Piece, RefusedWrite, put_pieces};
@@ -78,7 +79,7 @@ fn denied(number: u32, transcripts: &[PlacedTranscript]) -> u128
     count
 }
 
-fn put_denial<W: Write>(out: &mut W, count: u128, words: &[u8]) -> Result<(), RefusedWrite>
+fn put_denial<W: Write>(out: &mut W, count: u128, words: &[u8]) -> Written
     ensures { Writes (W.contents out.old) (W.contents out.new) result (denial_line count words.now) }
 {
     if count == 0 {
@@ -99,7 +100,7 @@ fn put_kinds<W: Write>(
     out: &mut W,
     transcripts: &[PlacedTranscript],
     kinds: &[(u32, &[u8])],
-) -> Result<(), RefusedWrite>
+) -> Written
     ensures { Writes (W.contents out.old) (W.contents out.new) result
         (kinds_text transcripts.now (map (λ kind. (kind.0, kind.1.now)) kinds.now)) }
 {

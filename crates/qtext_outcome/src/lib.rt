@@ -7,15 +7,21 @@ pub use denials::{are_all_done, put_denials};
 pub use moments::report_moment;
 pub use outcome_text::{put_left, put_outcome, write_outcome};
 pub use qtext_write::WriteFault;
+pub use shown::Shown;
 pub use shown_report::{is_over, is_over_any, kib_of};
 pub use shown_text::put_shown;
 
 mod boards_text;
 mod called_text;
+mod counts;
 mod denials;
 mod moments;
 mod outcome_text;
+mod shown;
 mod shown_report;
 mod shown_text;
 mod transcript_text;
 mod units;
+
+/// What comes of writing to an output, which may refuse.
+type Written = Result<(), qtext::RefusedWrite>;

@@ -8,9 +8,10 @@ ghost use Rattle.qtext_outcome.specs.Reports.{heads_text, human_row, inode_colum
 ghost use Rattle.qtext_outcome.specs.Reports.{shown_report, shown_row, shown_rows, space_columns};
 
 use crate::units::{count, space};
+use crate::{Shown, Written};
 use qaudit::put_report;
 use qrules::{KIB_PER_BLOCK, RecordRow};
-use qtext::{Piece, RefusedWrite, TextLine, kind_word, put, put_pieces};
+use qtext::{Piece, TextLine, kind_word, put, put_pieces};
 use qtext_view::View;
 use std::io::Write;
 use std::slice;
@@ -25,7 +26,7 @@ const HUMAN_HEADS: &[u8] = b"\
 kind    name             bi      space       soft       hard      grace\
 \x20    inodes       soft       hard      grace\n";
 
-fn put_heads<W: Write>(out: &mut W, view: View) -> Result<(), RefusedWrite>
+fn put_heads<W: Write>(out: &mut W, view: View) -> Written
     ensures { Writes (W.contents out.old) (W.contents out.new) result (heads_text view) }
 {
     if view.human_readable {
@@ -85,14 +86,14 @@ fn grace(moment: u64, end: Option<u64>) -> TextLine
     text
 }
 
-fn put_column<W: Write>(out: &mut W, text: &TextLine) -> Result<(), RefusedWrite>
+fn put_column<W: Write>(out: &mut W, text: &TextLine) -> Written
     ensures { Writes (W.contents out.old) (W.contents out.new) result (column text.now) }
 {
     put_pieces(out, &[Piece::Text(b" "), Piece::Right(text.as_slice(), 10)])
 }
 
 #[tactic(auto, using(qtext::proofs::Fronts::front_of_first, qtext::proofs::Fronts::writes_then))]
-fn put_two<W: Write>(out: &mut W, one: &TextLine, other: &TextLine) -> Result<(), RefusedWrite>
+fn put_two<W: Write>(out: &mut W, one: &TextLine, other: &TextLine) -> Written
     ensures { Writes (W.contents out.old) (W.contents out.new) result (column one.now ++ column other.now) }
 {
     put_column(out, one)?;
@@ -101,7 +102,7 @@ fn put_two<W: Write>(out: &mut W, one: &TextLine, other: &TextLine) -> Result<()
 
 /// Writes the columns of blocks.
 #[tactic(auto, using(qtext::proofs::Fronts::front_of_first, qtext::proofs::Fronts::writes_then))]
-fn put_space<W: Write>(out: &mut W, row: &RecordRow, moment: u64) -> Result<(), RefusedWrite>
+fn put_space<W: Write>(out: &mut W, row: &RecordRow, moment: u64) -> Written
     ensures { Writes (W.contents out.old) (W.contents out.new) result (space_columns moment row.now) }
 {
     let limits = &row.limits;
@@ -115,7 +116,7 @@ fn put_space<W: Write>(out: &mut W, row: &RecordRow, moment: u64) -> Result<(), 
 
 /// Writes the columns of inodes.
 #[tactic(auto, using(qtext::proofs::Fronts::front_of_first, qtext::proofs::Fronts::writes_then))]
-fn put_inodes<W: Write>(out: &mut W, row: &RecordRow, moment: u64) -> Result<(), RefusedWrite>
+fn put_inodes<W: Write>(out: &mut W, row: &RecordRow, moment: u64) -> Written
     ensures { Writes (W.contents out.old) (W.contents out.new) result (inode_columns moment row.now) }
 {
     let limits = &row.limits;
@@ -129,7 +130,7 @@ fn put_inodes<W: Write>(out: &mut W, row: &RecordRow, moment: u64) -> Result<(),
 
 /// Writes the columns of inodes, and the line's end.
 #[tactic(auto, using(qtext::proofs::Fronts::front_of_first, qtext::proofs::Fronts::writes_then))]
-fn put_last<W: Write>(out: &mut W, row: &RecordRow, moment: u64) -> Result<(), RefusedWrite>
+fn put_last<W: Write>(out: &mut W, row: &RecordRow, moment: u64) -> Written
     ensures { Writes (W.contents out.old) (W.contents out.new) result
         (inode_columns moment row.now ++ codes "\n") }
 {
@@ -139,7 +140,7 @@ fn put_last<W: Write>(out: &mut W, row: &RecordRow, moment: u64) -> Result<(), R
 
 /// Writes all columns of amounts, and the line's end.
 #[tactic(auto, using(qtext::proofs::Fronts::front_of_first, qtext::proofs::Fronts::writes_then))]
-fn put_amounts<W: Write>(out: &mut W, row: &RecordRow, moment: u64) -> Result<(), RefusedWrite>
+fn put_amounts<W: Write>(out: &mut W, row: &RecordRow, moment: u64) -> Written
     ensures { Writes (W.contents out.old) (W.contents out.new) result
         (space_columns moment row.now ++ (inode_columns moment row.now ++ codes "\n")) }
 {
@@ -148,7 +149,7 @@ fn put_amounts<W: Write>(out: &mut W, row: &RecordRow, moment: u64) -> Result<()
 }
 
 /// Writes the kind, the name and the flags.
-fn put_start<W: Write>(out: &mut W, row: &RecordRow) -> Result<(), RefusedWrite>
+fn put_start<W: Write>(out: &mut W, row: &RecordRow) -> Written
     ensures { Writes (W.contents out.old) (W.contents out.new) result (row_start row.now) }
 {
     put_pieces(
@@ -166,7 +167,7 @@ fn put_start<W: Write>(out: &mut W, row: &RecordRow) -> Result<(), RefusedWrite>
 
 /// Writes a line with amounts in larger units.
 #[tactic(auto, using(qtext::proofs::Fronts::front_of_first, qtext::proofs::Fronts::writes_then))]
-fn put_human_row<W: Write>(out: &mut W, row: &RecordRow, moment: u64) -> Result<(), RefusedWrite>
+fn put_human_row<W: Write>(out: &mut W, row: &RecordRow, moment: u64) -> Written
     ensures { Writes (W.contents out.old) (W.contents out.new) result (human_row moment row.now) }
 {
     put_start(out, row)?;
@@ -174,14 +175,10 @@ fn put_human_row<W: Write>(out: &mut W, row: &RecordRow, moment: u64) -> Result<
 }
 
 /// Writes a record's line, and none of one that is over no limit where only those are asked for.
-fn put_shown_row<W: Write>(
-    out: &mut W,
-    view: View,
-    row: &RecordRow,
-    moment: u64,
-) -> Result<(), RefusedWrite>
-    ensures { Writes (W.contents out.old) (W.contents out.new) result (shown_row view moment row.now) }
+fn put_shown_row<W: Write>(out: &mut W, shown: Shown, row: &RecordRow) -> Written
+    ensures { Writes (W.contents out.old) (W.contents out.new) result (shown_row shown.view shown.moment row.now) }
 {
+    let Shown { view, moment } = shown;
     if view.over && !is_over_any(row) {
         return Ok(());
     }
@@ -192,46 +189,32 @@ fn put_shown_row<W: Write>(
     }
 }
 
-fn put_rows<W: Write>(
-    out: &mut W,
-    view: View,
-    rows: &[RecordRow],
-    moment: u64,
-) -> Result<(), RefusedWrite>
-    ensures { Writes (W.contents out.old) (W.contents out.new) result (shown_rows view rows.now moment) }
+fn put_rows<W: Write>(out: &mut W, shown: Shown, rows: &[RecordRow]) -> Written
+    ensures { Writes (W.contents out.old) (W.contents out.new) result (shown_rows shown.view rows.now shown.moment) }
 {
     for row in rows {
-        put_shown_row(out, view, row, moment)?;
+        put_shown_row(out, shown, row)?;
     }
     Ok(())
 }
 
 /// Writes the report under its heads.
-fn put_headed<W: Write>(
-    out: &mut W,
-    view: View,
-    rows: &[RecordRow],
-    moment: u64,
-) -> Result<(), RefusedWrite>
+fn put_headed<W: Write>(out: &mut W, shown: Shown, rows: &[RecordRow]) -> Written
     ensures { Writes (W.contents out.old) (W.contents out.new) result
-        (heads_text view ++ shown_rows view rows.now moment) }
+        (heads_text shown.view ++ shown_rows shown.view rows.now shown.moment) }
 {
-    put_heads(out, view)?;
-    put_rows(out, view, rows, moment)
+    put_heads(out, shown.view)?;
+    put_rows(out, shown, rows)
 }
 
 /// Writes the report, under its heads where they are asked for.
-pub(crate) fn put_shown_report<W: Write>(
-    out: &mut W,
-    view: View,
-    rows: &[RecordRow],
-    moment: u64,
-) -> Result<(), RefusedWrite>
-    ensures { Writes (W.contents out.old) (W.contents out.new) result (shown_report view rows.now moment) }
+pub(crate) fn put_shown_report<W: Write>(out: &mut W, shown: Shown, rows: &[RecordRow]) -> Written
+    ensures { Writes (W.contents out.old) (W.contents out.new) result
+        (shown_report shown.view rows.now shown.moment) }
 {
-    if view.heads {
-        put_headed(out, view, rows, moment)
+    if shown.view.heads {
+        put_headed(out, shown, rows)
     } else {
-        put_rows(out, view, rows, moment)
+        put_rows(out, shown, rows)
     }
 }

@@ -1,53 +1,36 @@
 //! Outcomes as a view shows them.
-ghost use Rattle.std.specs.Prelude.{◌≡◌, ◌++◌};
+ghost use Rattle.std.specs.Prelude.{◌≡◌};
 ghost use Rattle.qtext.specs.Written.{Writes};
-ghost use Rattle.std.specs.List.{flat_map};
-ghost use Rattle.qtext_outcome.specs.Boards.{boards_text};
-ghost use Rattle.qtext_outcome.specs.Calls.{called_transcript};
 ghost use Rattle.qtext_outcome.specs.Outcomes.{outcome_text};
 ghost use Rattle.qtext_outcome.specs.Reports.{shown_report};
 ghost use Rattle.qtext_outcome.specs.Views.{plain, shown_left, shown_text, shown_told};
 
 use crate::boards_text::put_boards;
-use crate::called_text::put_called_transcripts;
-use crate::outcome_text::{put_moment, put_rest, put_told};
+use crate::outcome_text::{put_moment, put_rest};
 use crate::shown_report::put_shown_report;
+use crate::transcript_text::put_transcripts;
+use crate::{Shown, Written};
 use qrun_replay::Outcome;
 use qtext::RefusedWrite;
 use qtext_view::View;
 use std::io::Write;
 
-/// Writes the transcripts with the calls, and then the boards.
-fn put_called<W: Write>(out: &mut W, outcome: &Outcome) -> Result<(), RefusedWrite>
-    ensures { Writes (W.contents out.old) (W.contents out.new) result
-        (flat_map called_transcript outcome.now.transcripts ++ boards_text outcome.now.boards) }
+/// Writes the transcripts, with the calls where they are asked for, and then the boards.
+#[tactic(auto, using(qtext::proofs::Fronts::front_of_first, qtext::proofs::Fronts::writes_then))]
+fn put_told<W: Write>(out: &mut W, view: View, outcome: &Outcome) -> Written
+    ensures { Writes (W.contents out.old) (W.contents out.new) result (shown_told view outcome.now) }
 {
-    put_called_transcripts(out, outcome.transcripts.as_slice())?;
+    put_transcripts(out, view.calls, outcome.transcripts.as_slice())?;
     put_boards(out, outcome.boards.as_slice())
 }
 
-/// Writes the transcripts, with the calls where they are asked for, and then the boards.
-fn put_shown_told<W: Write>(out: &mut W, view: View, outcome: &Outcome) -> Result<(), RefusedWrite>
-    ensures { Writes (W.contents out.old) (W.contents out.new) result (shown_told view outcome.now) }
-{
-    if view.calls {
-        put_called(out, outcome)
-    } else {
-        put_told(out, outcome)
-    }
-}
-
 /// Writes what is left at the end.
-fn put_shown_left<W: Write>(
-    out: &mut W,
-    view: View,
-    outcome: &Outcome,
-    moment: u64,
-) -> Result<(), RefusedWrite>
-    ensures { Writes (W.contents out.old) (W.contents out.new) result (shown_left view outcome.now moment) }
+pub(crate) fn put_shown_left<W: Write>(out: &mut W, shown: Shown, outcome: &Outcome) -> Written
+    ensures { Writes (W.contents out.old) (W.contents out.new) result
+        (shown_left shown.view outcome.now shown.moment) }
 {
-    put_moment(out, moment)?;
-    put_shown_report(out, view, outcome.records.as_slice(), moment)?;
+    put_moment(out, shown.moment)?;
+    put_shown_report(out, shown, outcome.records.as_slice())?;
     put_rest(out, outcome)
 }
 
@@ -64,9 +47,10 @@ pub fn put_shown<W: Write>(
     ensures writes { Writes (W.contents out.old) (W.contents out.new) result (shown_text view outcome.now moment) }
     ensures plain { view ≡ plain → shown_text view outcome.now moment ≡ outcome_text outcome.now moment }
 {
+    let shown = Shown { view, moment };
     if view.quiet {
-        return put_shown_report(out, view, outcome.records.as_slice(), moment);
+        return put_shown_report(out, shown, outcome.records.as_slice());
     }
-    put_shown_told(out, view, outcome)?;
-    put_shown_left(out, view, outcome, moment)
+    put_told(out, view, outcome)?;
+    put_shown_left(out, shown, outcome)
 }

@@ -1,21 +1,20 @@
 //! Transcripts as text.
 ghost use Rattle.std.specs.List.{flat_map};
 ghost use Rattle.qtext.specs.Written.{Writes};
-ghost use Rattle.qtext_outcome.specs.Outcomes.{transcript_text, worker_text};
+ghost use Rattle.qtext_outcome.specs.Calls.{answers_text, shown_transcript};
 ghost use Rattle.qtext_write.specs.Answers.{answer_text};
 
+use crate::Written;
+use crate::called_text::put_called_lines;
+use crate::counts::put_counts;
 use qplain::CallFault;
 use qrun_replay::{PlacedReply, PlacedTranscript};
-use qtext::{Piece, RefusedWrite, TextLine, put_pieces};
+use qtext::TextLine;
 use qtext_write::put_reply;
 use std::io::Write;
 
 /// Writes the line of a journaled call, which is put together in place of what the text line holds.
-fn put_receipt<W: Write>(
-    out: &mut W,
-    line: &mut TextLine,
-    receipt: PlacedReply<'_>,
-) -> Result<(), RefusedWrite>
+fn put_receipt<W: Write>(out: &mut W, line: &mut TextLine, receipt: PlacedReply<'_>) -> Written
     ensures { Writes (W.contents out.old) (W.contents out.new) result (answer_text (Ok receipt.entry)) }
 {
     line.clear();
@@ -29,7 +28,7 @@ pub(crate) fn put_answer<W: Write>(
     out: &mut W,
     line: &mut TextLine,
     answer: Result<PlacedReply<'_>, CallFault>,
-) -> Result<(), RefusedWrite>
+) -> Written
     ensures { Writes (W.contents out.old) (W.contents out.new) result (answer_text answer.entry) }
 {
     match answer {
@@ -38,7 +37,7 @@ pub(crate) fn put_answer<W: Write>(
     }
 }
 
-fn put_lines<W: Write>(out: &mut W, transcript: &PlacedTranscript) -> Result<(), RefusedWrite>
+fn put_lines<W: Write>(out: &mut W, transcript: &PlacedTranscript) -> Written
     ensures { Writes (W.contents out.old) (W.contents out.new) result (flat_map answer_text transcript.now.answers) }
 {
     let mut line = TextLine::new();
@@ -48,35 +47,36 @@ fn put_lines<W: Write>(out: &mut W, transcript: &PlacedTranscript) -> Result<(),
     Ok(())
 }
 
-/// Writes the line over a transcript.
-pub(crate) fn put_worker<W: Write>(out: &mut W, worker: u64) -> Result<(), RefusedWrite>
-    ensures { Writes (W.contents out.old) (W.contents out.new) result (worker_text worker) }
+/// Writes what each line was answered, behind the line where calls are asked for.
+fn put_answers<W: Write>(out: &mut W, calls: bool, transcript: &PlacedTranscript) -> Written
+    ensures { Writes (W.contents out.old) (W.contents out.new) result (answers_text calls transcript.now) }
 {
-    let head = [
-        Piece::Text(b"worker "),
-        Piece::Number(worker),
-        Piece::Text(b"\n"),
-    ];
-    put_pieces(out, &head)
+    if calls {
+        put_called_lines(out, transcript)
+    } else {
+        put_lines(out, transcript)
+    }
 }
 
 #[tactic(auto, using(qtext::proofs::Fronts::front_of_first, qtext::proofs::Fronts::writes_then))]
-fn put_transcript<W: Write>(out: &mut W, transcript: &PlacedTranscript) -> Result<(), RefusedWrite>
-    ensures { Writes (W.contents out.old) (W.contents out.new) result (transcript_text transcript.now) }
+fn put_transcript<W: Write>(out: &mut W, calls: bool, transcript: &PlacedTranscript) -> Written
+    ensures { Writes (W.contents out.old) (W.contents out.new) result (shown_transcript calls transcript.now) }
 {
-    put_worker(out, transcript.worker())?;
-    put_lines(out, transcript)
+    put_counts(out, &[(b"worker ", transcript.worker())])?;
+    put_answers(out, calls, transcript)
 }
 
-/// Writes the transcripts, one after the other.
+/// Writes the transcripts, one after the other, with the lines of the scripts where calls are asked for.
 pub(crate) fn put_transcripts<W: Write>(
     out: &mut W,
+    calls: bool,
     transcripts: &[PlacedTranscript],
-) -> Result<(), RefusedWrite>
-    ensures { Writes (W.contents out.old) (W.contents out.new) result (flat_map transcript_text transcripts.now) }
+) -> Written
+    ensures { Writes (W.contents out.old) (W.contents out.new) result
+        (flat_map (shown_transcript calls) transcripts.now) }
 {
     for transcript in transcripts {
-        put_transcript(out, transcript)?;
+        put_transcript(out, calls, transcript)?;
     }
     Ok(())
 }
