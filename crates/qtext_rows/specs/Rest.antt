@@ -1,10 +1,9 @@
 -- What stands beside transcripts and records, as objects, one a line (profile).
-use Rattle.std.specs.Prelude.{ℕ, List, [], ◌∷◌, ◌++◌, Result, Ok, Err, codes, decimal, length}
+use Rattle.std.specs.Prelude.{ℕ, List, [], ◌∷◌, ◌++◌, Option, Some, None, Result, Ok, Err, codes, decimal, length}
 use Rattle.std.specs.List.{concat, flat_map}
 use Rattle.json.specs.Print.{quoted}
 use Rattle.qrules.specs.Sort.{Inodes, Blocks}
 use Rattle.qrules.specs.declared.kind.Kind.{Kind}
-use Rattle.qrules.specs.declared.record_row.RecordRow.{RecordRow}
 use Rattle.qplain.specs.Use.{total_of}
 use Rattle.qplain.specs.declared.board.Board.{Board}
 use Rattle.qplain.specs.declared.look_fault.LookFault.{LookFault}
@@ -16,7 +15,7 @@ use Rattle.qaudit.specs.declared.difference.Difference.{Difference}
 use Rattle.qaudit.specs.declared.difference.Difference.TheVariants.{Uses, NoRow, Links}
 use Rattle.qrun_replay.specs.declared.outcome.Outcome.{Outcome}
 use Rattle.qtext_outcome.specs.Boards.{look_fault_text}
-use Rattle.qtext_rows.specs.Values.{member, object_start}
+use Rattle.qtext_rows.specs.Values.{member, object_start, or_null}
 
 -- a look: the board's version and its totals, or why none was shown
 abbrev pub look_object : Result Board LookFault → List ℕ
@@ -47,21 +46,13 @@ tally_object t = concat (object_start (codes "tally") ∷ member (codes "blocks_
     ∷ member (codes "inodes_released") (decimal t.inodes_released) ∷ member (codes "calls") (decimal t.calls)
     ∷ codes "}\n" ∷ [])
 
--- a record that shows other uses than were counted
-abbrev pub use_object : Kind → RecordRow → CountRow → List ℕ
-use_object kind r counted = concat (object_start (codes "difference")
+-- what an owner uses by its record, and null where it has none, beside what was counted
+abbrev pub use_object : Kind → ℕ → Option ℕ → Option ℕ → CountRow → List ℕ
+use_object kind id blocks inodes counted = concat (object_start (codes "difference")
     ∷ member (codes "kind") (quoted (kind_text kind))
-    ∷ member (codes "id") (decimal r.id) ∷ member (codes "blocks") (decimal r.blocks)
-    ∷ member (codes "blocks_counted") (decimal counted.blocks) ∷ member (codes "inodes") (decimal r.inodes)
+    ∷ member (codes "id") (decimal id) ∷ member (codes "blocks") (or_null blocks)
+    ∷ member (codes "blocks_counted") (decimal counted.blocks) ∷ member (codes "inodes") (or_null inodes)
     ∷ member (codes "inodes_counted") (decimal counted.inodes) ∷ codes "}\n" ∷ [])
-
--- an owner without a record
-abbrev pub owner_object : Kind → CountRow → List ℕ
-owner_object kind counted = concat (object_start (codes "difference")
-    ∷ member (codes "kind") (quoted (kind_text kind)) ∷ member (codes "id") (decimal counted.id)
-    ∷ member (codes "blocks") (codes "null") ∷ member (codes "blocks_counted") (decimal counted.blocks)
-    ∷ member (codes "inodes") (codes "null") ∷ member (codes "inodes_counted") (decimal counted.inodes)
-    ∷ codes "}\n" ∷ [])
 
 -- an inode whose link counts differ
 abbrev pub link_object : LinkRow → List ℕ
@@ -71,8 +62,8 @@ link_object l = concat (object_start (codes "difference") ∷ member (codes "ino
 
 -- a difference that an audit found
 abbrev pub difference_object : Difference → List ℕ
-difference_object (Uses kind r counted) = use_object kind r counted
-difference_object (NoRow kind counted) = owner_object kind counted
+difference_object (Uses kind r counted) = use_object kind r.id (Some r.blocks) (Some r.inodes) counted
+difference_object (NoRow kind counted) = use_object kind counted.id None None counted
 difference_object (Links l) = link_object l
 
 -- how many differences an audit found

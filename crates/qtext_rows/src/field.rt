@@ -5,7 +5,8 @@ ghost use Rattle.csv.specs.Writing.{default_writer, escaped, field_text, needs_b
 ghost use Rattle.qtext.specs.Written.{Writes};
 ghost use Rattle.qtext_rows.specs.Csv.{doubled_byte, next_field};
 
-use qtext::{RefusedWrite, put};
+use crate::Written;
+use qtext::put;
 use std::io::Write;
 
 /// Whether a field with this byte has quotes.
@@ -21,7 +22,7 @@ fn needs_quotes(field: &[u8]) -> bool
     field.iter().any(|byte| is_special(*byte))
 }
 
-fn put_doubled_byte<W: Write>(out: &mut W, byte: u8) -> Result<(), RefusedWrite>
+fn put_doubled_byte<W: Write>(out: &mut W, byte: u8) -> Written
     ensures { Writes (W.contents out.old) (W.contents out.new) result (doubled_byte byte) }
 {
     if byte == b'"' {
@@ -32,7 +33,7 @@ fn put_doubled_byte<W: Write>(out: &mut W, byte: u8) -> Result<(), RefusedWrite>
 }
 
 /// Writes what stands between the quotes of a field.
-fn put_doubled<W: Write>(out: &mut W, field: &[u8]) -> Result<(), RefusedWrite>
+fn put_doubled<W: Write>(out: &mut W, field: &[u8]) -> Written
     ensures { Writes (W.contents out.old) (W.contents out.new) result (escaped default_writer field.now) }
 {
     for byte in field {
@@ -42,7 +43,7 @@ fn put_doubled<W: Write>(out: &mut W, field: &[u8]) -> Result<(), RefusedWrite>
 }
 
 #[tactic(auto, using(qtext::proofs::Fronts::front_of_first, qtext::proofs::Fronts::writes_then))]
-fn put_inside<W: Write>(out: &mut W, field: &[u8]) -> Result<(), RefusedWrite>
+fn put_inside<W: Write>(out: &mut W, field: &[u8]) -> Written
     ensures { Writes (W.contents out.old) (W.contents out.new) result
         (escaped default_writer field.now ++ codes "\"") }
 {
@@ -51,14 +52,14 @@ fn put_inside<W: Write>(out: &mut W, field: &[u8]) -> Result<(), RefusedWrite>
 }
 
 #[tactic(auto, using(qtext::proofs::Fronts::front_of_first, qtext::proofs::Fronts::writes_then))]
-fn put_quoted<W: Write>(out: &mut W, field: &[u8]) -> Result<(), RefusedWrite>
+fn put_quoted<W: Write>(out: &mut W, field: &[u8]) -> Written
     ensures { Writes (W.contents out.old) (W.contents out.new) result (quoted default_writer field.now) }
 {
     put(out, b"\"")?;
     put_inside(out, field)
 }
 
-fn put_field<W: Write>(out: &mut W, field: &[u8]) -> Result<(), RefusedWrite>
+fn put_field<W: Write>(out: &mut W, field: &[u8]) -> Written
     ensures { Writes (W.contents out.old) (W.contents out.new) result (field_text default_writer field.now) }
 {
     if needs_quotes(field) {
@@ -70,14 +71,14 @@ fn put_field<W: Write>(out: &mut W, field: &[u8]) -> Result<(), RefusedWrite>
 
 /// Writes a field behind another.
 #[tactic(auto, using(qtext::proofs::Fronts::front_of_first, qtext::proofs::Fronts::writes_then))]
-fn put_next<W: Write>(out: &mut W, field: &[u8]) -> Result<(), RefusedWrite>
+fn put_next<W: Write>(out: &mut W, field: &[u8]) -> Written
     ensures { Writes (W.contents out.old) (W.contents out.new) result (next_field field.now) }
 {
     put(out, b",")?;
     put_field(out, field)
 }
 
-fn put_fields<W: Write>(out: &mut W, fields: &[&[u8]]) -> Result<(), RefusedWrite>
+fn put_fields<W: Write>(out: &mut W, fields: &[&[u8]]) -> Written
     ensures { Writes (W.contents out.old) (W.contents out.new) result
         (flat_map (λ field. next_field field.now) fields.now) }
 {
@@ -88,7 +89,7 @@ fn put_fields<W: Write>(out: &mut W, fields: &[&[u8]]) -> Result<(), RefusedWrit
 }
 
 #[tactic(auto, using(qtext::proofs::Fronts::front_of_first, qtext::proofs::Fronts::writes_then))]
-fn put_rest<W: Write>(out: &mut W, fields: &[&[u8]]) -> Result<(), RefusedWrite>
+fn put_rest<W: Write>(out: &mut W, fields: &[&[u8]]) -> Written
     ensures { Writes (W.contents out.old) (W.contents out.new) result
         (flat_map (λ field. next_field field.now) fields.now ++ codes "\n") }
 {
@@ -97,11 +98,7 @@ fn put_rest<W: Write>(out: &mut W, fields: &[&[u8]]) -> Result<(), RefusedWrite>
 }
 
 /// Writes a record of at least two fields.
-pub(crate) fn put_row<W: Write>(
-    out: &mut W,
-    first: &[u8],
-    fields: &[&[u8]],
-) -> Result<(), RefusedWrite>
+pub(crate) fn put_row<W: Write>(out: &mut W, first: &[u8], fields: &[&[u8]]) -> Written
     requires { 0 < length fields.now }
     ensures { Writes (W.contents out.old) (W.contents out.new) result
         (row_text default_writer (first.now ∷ map (λ field. field.now) fields.now)) }

@@ -6,7 +6,7 @@ use crate::objects::put_json;
 use crate::report_rows::put_csv;
 use qrun_replay::Outcome;
 use qtext::RefusedWrite;
-use qtext_outcome::put_shown;
+use qtext_outcome::{Shown, put_shown};
 use qtext_view::{Format, View};
 use std::io::Write;
 
@@ -24,9 +24,10 @@ pub fn put_formatted<W: Write>(
 ) -> Result<(), RefusedWrite>
     ensures { Writes (W.contents out.old) (W.contents out.new) result (formatted_text view outcome.now moment) }
 {
+    let shown = Shown { view, moment };
     match view.format {
         Format::Text => put_shown(out, view, outcome, moment),
-        Format::Json => put_json(out, view, outcome, moment),
-        Format::Csv => put_csv(out, view, outcome.records.as_slice(), moment),
+        Format::Json => put_json(out, shown, outcome),
+        Format::Csv => put_csv(out, shown, outcome.records.as_slice()),
     }
 }

@@ -5,17 +5,17 @@ ghost use Rattle.qtext_rows.specs.Lines.{asked_members, line_object, line_start,
 ghost use Rattle.qtext_rows.specs.Lines.{transcript_objects, transcripts_objects};
 ghost use Rattle.qtext_rows.specs.Replies.{answer_members};
 
+use crate::Written;
 use crate::call_members::{put_call, put_caller_members, put_fill};
 use crate::part::{Part, put_parts};
 use crate::reply_members::{put_failed, put_receipt};
 use crate::value::Value;
 use qplain::{Call, CallFault};
 use qrun_replay::{PlacedLine, PlacedReply, PlacedTranscript};
-use qtext::RefusedWrite;
 use qtext_outcome::repeated;
 use std::io::Write;
 
-fn put_start<W: Write>(out: &mut W, worker: u64, place: u64) -> Result<(), RefusedWrite>
+fn put_start<W: Write>(out: &mut W, worker: u64, place: u64) -> Written
     ensures { Writes (W.contents out.old) (W.contents out.new) result (line_start worker place) }
 {
     let parts = [
@@ -27,7 +27,7 @@ fn put_start<W: Write>(out: &mut W, worker: u64, place: u64) -> Result<(), Refus
 }
 
 /// Writes a call, of which a write is told as a fill where all of its bytes are equal.
-fn put_shown_call<W: Write>(out: &mut W, call: &Call) -> Result<(), RefusedWrite>
+fn put_shown_call<W: Write>(out: &mut W, call: &Call) -> Written
     ensures { Writes (W.contents out.old) (W.contents out.new) result (shown_call call.now) }
 {
     match call {
@@ -39,7 +39,7 @@ fn put_shown_call<W: Write>(out: &mut W, call: &Call) -> Result<(), RefusedWrite
     }
 }
 
-fn put_asked<W: Write>(out: &mut W, line: &PlacedLine<'_>) -> Result<(), RefusedWrite>
+fn put_asked<W: Write>(out: &mut W, line: &PlacedLine<'_>) -> Written
     ensures { Writes (W.contents out.old) (W.contents out.new) result (asked_members line.now) }
 {
     put_caller_members(out, line.moment(), line.cred())?;
@@ -47,17 +47,14 @@ fn put_asked<W: Write>(out: &mut W, line: &PlacedLine<'_>) -> Result<(), Refused
 }
 
 /// Writes what a line asked for, where calls are to be shown.
-fn put_shown<W: Write>(out: &mut W, calls: bool, line: &PlacedLine<'_>) -> Result<(), RefusedWrite>
+fn put_shown<W: Write>(out: &mut W, calls: bool, line: &PlacedLine<'_>) -> Written
     ensures { Writes (W.contents out.old) (W.contents out.new) result (if calls then asked_members line.now else []) }
 {
     if calls { put_asked(out, line) } else { Ok(()) }
 }
 
 /// Writes what a line was answered.
-fn put_answer<W: Write>(
-    out: &mut W,
-    answer: Result<PlacedReply<'_>, CallFault>,
-) -> Result<(), RefusedWrite>
+fn put_answer<W: Write>(out: &mut W, answer: Result<PlacedReply<'_>, CallFault>) -> Written
     ensures { Writes (W.contents out.old) (W.contents out.new) result (answer_members answer.entry) }
 {
     match answer {
@@ -72,7 +69,7 @@ fn put_rest<W: Write>(
     calls: bool,
     line: &PlacedLine<'_>,
     answer: Result<PlacedReply<'_>, CallFault>,
-) -> Result<(), RefusedWrite>
+) -> Written
     ensures { Writes (W.contents out.old) (W.contents out.new) result
         ((if calls then asked_members line.now else []) ++ answer_members answer.entry) }
 {
@@ -89,7 +86,7 @@ fn put_line<W: Write>(
     place: u64,
     line: &PlacedLine<'_>,
     answer: Result<PlacedReply<'_>, CallFault>,
-) -> Result<(), RefusedWrite>
+) -> Written
     ensures { Writes (W.contents out.old) (W.contents out.new) result
         (line_object calls worker place line.now answer.entry) }
 {
@@ -98,11 +95,7 @@ fn put_line<W: Write>(
 }
 
 /// Writes an object for each line of a transcript with what it was answered.
-fn put_transcript<W: Write>(
-    out: &mut W,
-    calls: bool,
-    transcript: &PlacedTranscript,
-) -> Result<(), RefusedWrite>
+fn put_transcript<W: Write>(out: &mut W, calls: bool, transcript: &PlacedTranscript) -> Written
     ensures { Writes (W.contents out.old) (W.contents out.new) result (transcript_objects calls transcript.now) }
 {
     let worker = transcript.worker();
@@ -119,7 +112,7 @@ pub(crate) fn put_transcripts<W: Write>(
     out: &mut W,
     calls: bool,
     transcripts: &[PlacedTranscript],
-) -> Result<(), RefusedWrite>
+) -> Written
     ensures { Writes (W.contents out.old) (W.contents out.new) result (transcripts_objects calls transcripts.now) }
 {
     for transcript in transcripts {

@@ -3,8 +3,9 @@ ghost use Rattle.std.specs.Prelude.{◌++◌};
 ghost use Rattle.qtext.specs.Written.{Writes};
 ghost use Rattle.qtext_rows.specs.Values.{key, member, part_text, parts_text, value_text};
 
+use crate::Written;
 use crate::value::{Value, put_value};
-use qtext::{Piece, RefusedWrite, put, put_pieces};
+use qtext::{Piece, put, put_pieces};
 use std::io::Write;
 
 /// A part of an object.
@@ -22,7 +23,7 @@ pub(crate) enum Part<'a> {
     Close,
 }
 
-fn put_key<W: Write>(out: &mut W, name: &[u8]) -> Result<(), RefusedWrite>
+fn put_key<W: Write>(out: &mut W, name: &[u8]) -> Written
     ensures { Writes (W.contents out.old) (W.contents out.new) result (key name.now) }
 {
     let pieces = [Piece::Text(b",\""), Piece::Text(name), Piece::Text(b"\":")];
@@ -30,18 +31,14 @@ fn put_key<W: Write>(out: &mut W, name: &[u8]) -> Result<(), RefusedWrite>
 }
 
 #[tactic(auto, using(qtext::proofs::Fronts::front_of_first, qtext::proofs::Fronts::writes_then))]
-pub(crate) fn put_member<W: Write>(
-    out: &mut W,
-    name: &[u8],
-    value: &Value<'_>,
-) -> Result<(), RefusedWrite>
+pub(crate) fn put_member<W: Write>(out: &mut W, name: &[u8], value: &Value<'_>) -> Written
     ensures { Writes (W.contents out.old) (W.contents out.new) result (member name.now (value_text value.now)) }
 {
     put_key(out, name)?;
     put_value(out, value)
 }
 
-pub(crate) fn put_part<W: Write>(out: &mut W, part: &Part<'_>) -> Result<(), RefusedWrite>
+pub(crate) fn put_part<W: Write>(out: &mut W, part: &Part<'_>) -> Written
     ensures { Writes (W.contents out.old) (W.contents out.new) result (part_text part.now) }
 {
     match part {
@@ -70,7 +67,7 @@ pub(crate) fn put_part<W: Write>(out: &mut W, part: &Part<'_>) -> Result<(), Ref
 }
 
 /// Writes the parts one after the other. After an Err some beginning of their text went out.
-pub(crate) fn put_parts<W: Write>(out: &mut W, parts: &[Part<'_>]) -> Result<(), RefusedWrite>
+pub(crate) fn put_parts<W: Write>(out: &mut W, parts: &[Part<'_>]) -> Written
     ensures { Writes (W.contents out.old) (W.contents out.new) result (parts_text parts.now) }
 {
     for part in parts {

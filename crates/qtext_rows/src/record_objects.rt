@@ -4,12 +4,12 @@ ghost use Rattle.qtext.specs.Written.{Writes};
 ghost use Rattle.qtext_rows.specs.Records.{grace_left, record_object, record_objects, shown_object};
 ghost use Rattle.qtext_rows.specs.Values.{value_text};
 
+use crate::Written;
 use crate::part::{Part, put_parts};
 use crate::value::Value;
 use qrules::RecordRow;
-use qtext::{RefusedWrite, kind_word};
-use qtext_outcome::{is_over, is_over_any, kib_of};
-use qtext_view::View;
+use qtext::kind_word;
+use qtext_outcome::{Shown, is_over, is_over_any, kib_of};
 use std::io::Write;
 
 /// What is left of a grace.
@@ -22,7 +22,7 @@ fn grace<'a>(moment: u64, end: Option<u64>) -> Value<'a>
     }
 }
 
-fn put_record<W: Write>(out: &mut W, row: &RecordRow, moment: u64) -> Result<(), RefusedWrite>
+fn put_record<W: Write>(out: &mut W, row: &RecordRow, moment: u64) -> Written
     ensures { Writes (W.contents out.old) (W.contents out.new) result (record_object moment row.now) }
 {
     let limits = &row.limits;
@@ -53,31 +53,23 @@ fn put_record<W: Write>(out: &mut W, row: &RecordRow, moment: u64) -> Result<(),
 }
 
 /// Writes a record's object, and none of one that is over no limit where only those are asked for.
-fn put_shown<W: Write>(
-    out: &mut W,
-    view: View,
-    row: &RecordRow,
-    moment: u64,
-) -> Result<(), RefusedWrite>
-    ensures { Writes (W.contents out.old) (W.contents out.new) result (shown_object view moment row.now) }
+fn put_shown<W: Write>(out: &mut W, shown: Shown, row: &RecordRow) -> Written
+    ensures { Writes (W.contents out.old) (W.contents out.new) result
+        (shown_object shown.view shown.moment row.now) }
 {
-    if view.over && !is_over_any(row) {
+    if shown.view.over && !is_over_any(row) {
         return Ok(());
     }
-    put_record(out, row, moment)
+    put_record(out, row, shown.moment)
 }
 
 /// Writes the objects of the records that are asked for.
-pub(crate) fn put_records<W: Write>(
-    out: &mut W,
-    view: View,
-    rows: &[RecordRow],
-    moment: u64,
-) -> Result<(), RefusedWrite>
-    ensures { Writes (W.contents out.old) (W.contents out.new) result (record_objects view rows.now moment) }
+pub(crate) fn put_records<W: Write>(out: &mut W, shown: Shown, rows: &[RecordRow]) -> Written
+    ensures { Writes (W.contents out.old) (W.contents out.new) result
+        (record_objects shown.view rows.now shown.moment) }
 {
     for row in rows {
-        put_shown(out, view, row, moment)?;
+        put_shown(out, shown, row)?;
     }
     Ok(())
 }

@@ -7,12 +7,13 @@ ghost use Rattle.qtext_rows.specs.Replies.{quota_members, refusal_name, refused_
 ghost use Rattle.qtext_rows.specs.Values.{member};
 ghost use Rattle.qplain.specs.declared.refusal.Refusal.TheVariants.{EDQUOT};
 
+use crate::Written;
 use crate::part::{Part, put_parts};
 use crate::value::{Value, or_null};
 use qblocks::Input;
 use qplain::{CallFault, Change, Quota, Refusal, Reply, Stat};
 use qrules::{Kind, Over};
-use qtext::{RefusedWrite, kind_word, over_word};
+use qtext::{kind_word, over_word};
 use std::io::Write;
 
 fn refusal_name(refusal: Refusal) -> &'static [u8]
@@ -37,7 +38,7 @@ fn refusal_name(refusal: Refusal) -> &'static [u8]
     }
 }
 
-fn put_done<W: Write>(out: &mut W, number: u64, change: &Change) -> Result<(), RefusedWrite>
+fn put_done<W: Write>(out: &mut W, number: u64, change: &Change) -> Written
     ensures { Writes (W.contents out.old) (W.contents out.new) result (done_members number change.now) }
 {
     let parts = [
@@ -52,7 +53,7 @@ fn put_done<W: Write>(out: &mut W, number: u64, change: &Change) -> Result<(), R
     put_parts(out, &parts)
 }
 
-fn put_bytes<W: Write>(out: &mut W, bytes: &[u8]) -> Result<(), RefusedWrite>
+fn put_bytes<W: Write>(out: &mut W, bytes: &[u8]) -> Written
     ensures { Writes (W.contents out.old) (W.contents out.new) result (bytes_members bytes.now) }
 {
     let parts = [
@@ -63,7 +64,7 @@ fn put_bytes<W: Write>(out: &mut W, bytes: &[u8]) -> Result<(), RefusedWrite>
     put_parts(out, &parts)
 }
 
-fn put_stat<W: Write>(out: &mut W, stat: &Stat) -> Result<(), RefusedWrite>
+fn put_stat<W: Write>(out: &mut W, stat: &Stat) -> Written
     ensures { Writes (W.contents out.old) (W.contents out.new) result (stat_members stat.now) }
 {
     let parts = [
@@ -80,7 +81,7 @@ fn put_stat<W: Write>(out: &mut W, stat: &Stat) -> Result<(), RefusedWrite>
     put_parts(out, &parts)
 }
 
-fn put_quota<W: Write>(out: &mut W, quota: &Quota) -> Result<(), RefusedWrite>
+fn put_quota<W: Write>(out: &mut W, quota: &Quota) -> Written
     ensures { Writes (W.contents out.old) (W.contents out.new) result (quota_members quota.now) }
 {
     let limits = &quota.limits;
@@ -99,7 +100,7 @@ fn put_quota<W: Write>(out: &mut W, quota: &Quota) -> Result<(), RefusedWrite>
     put_parts(out, &parts)
 }
 
-fn put_over<W: Write>(out: &mut W, kind: Kind, over: Over) -> Result<(), RefusedWrite>
+fn put_over<W: Write>(out: &mut W, kind: Kind, over: Over) -> Written
     ensures { Writes (W.contents out.old) (W.contents out.new) result (refused_members (EDQUOT kind over)) }
 {
     let parts = [
@@ -112,7 +113,7 @@ fn put_over<W: Write>(out: &mut W, kind: Kind, over: Over) -> Result<(), Refused
     put_parts(out, &parts)
 }
 
-fn put_refused<W: Write>(out: &mut W, refusal: Refusal) -> Result<(), RefusedWrite>
+fn put_refused<W: Write>(out: &mut W, refusal: Refusal) -> Written
     ensures { Writes (W.contents out.old) (W.contents out.new) result (refused_members refusal) }
 {
     if let Refusal::EDQUOT(kind, over) = refusal {
@@ -126,7 +127,7 @@ fn put_refused<W: Write>(out: &mut W, refusal: Refusal) -> Result<(), RefusedWri
     put_parts(out, &parts)
 }
 
-fn put_reply<W: Write>(out: &mut W, reply: &Reply) -> Result<(), RefusedWrite>
+fn put_reply<W: Write>(out: &mut W, reply: &Reply) -> Written
     ensures { Writes (W.contents out.old) (W.contents out.new) result (reply_members reply.now) }
 {
     match reply {
@@ -138,7 +139,7 @@ fn put_reply<W: Write>(out: &mut W, reply: &Reply) -> Result<(), RefusedWrite>
     }
 }
 
-fn put_place<W: Write>(out: &mut W, place: u64) -> Result<(), RefusedWrite>
+fn put_place<W: Write>(out: &mut W, place: u64) -> Written
     ensures { Writes (W.contents out.old) (W.contents out.new) result (member (codes "place") (decimal place)) }
 {
     put_parts(out, &[Part::Member(b"place", Value::Number(place))])
@@ -154,7 +155,7 @@ fn call_fault_word(fault: CallFault) -> &'static [u8]
 }
 
 /// Writes why a call was not journaled, and the object's end.
-pub(crate) fn put_failed<W: Write>(out: &mut W, fault: CallFault) -> Result<(), RefusedWrite>
+pub(crate) fn put_failed<W: Write>(out: &mut W, fault: CallFault) -> Written
     ensures { Writes (W.contents out.old) (W.contents out.new) result (answer_members (Err fault)) }
 {
     let parts = [
@@ -168,11 +169,7 @@ pub(crate) fn put_failed<W: Write>(out: &mut W, fault: CallFault) -> Result<(), 
 
 /// Writes what a journaled call was answered, and the object's end.
 #[tactic(auto, using(qtext::proofs::Fronts::front_of_first, qtext::proofs::Fronts::writes_then))]
-pub(crate) fn put_receipt<W: Write>(
-    out: &mut W,
-    place: u64,
-    reply: &Reply,
-) -> Result<(), RefusedWrite>
+pub(crate) fn put_receipt<W: Write>(out: &mut W, place: u64, reply: &Reply) -> Written
     ensures { Writes (W.contents out.old) (W.contents out.new) result
         (answer_members (Ok (record { place = place; reply = reply.now }))) }
 {

@@ -8,12 +8,12 @@ ghost use Rattle.qtext.specs.Written.{Writes};
 ghost use Rattle.qtext_rows.specs.Csv.{csv_fields, csv_heads, csv_kind, csv_record, csv_text, kind_head, left_text};
 ghost use Rattle.qtext_rows.specs.Csv.{status_text};
 
+use crate::Written;
 use crate::field::put_row;
 use itoa::Buffer;
 use qrules::{Kind, RecordRow};
-use qtext::{RefusedWrite, TextLine};
-use qtext_outcome::{is_over, is_over_any, kib_of};
-use qtext_view::View;
+use qtext::TextLine;
+use qtext_outcome::{Shown, is_over, is_over_any, kib_of};
 use std::io::Write;
 
 fn kind_head(kind: Kind) -> &'static [u8]
@@ -26,7 +26,7 @@ fn kind_head(kind: Kind) -> &'static [u8]
     }
 }
 
-fn put_heads<W: Write>(out: &mut W, kind: Kind) -> Result<(), RefusedWrite>
+fn put_heads<W: Write>(out: &mut W, kind: Kind) -> Written
     ensures { Writes (W.contents out.old) (W.contents out.new) result (row_text default_writer (csv_heads kind)) }
 {
     let heads: [&[u8]; 10] = [
@@ -81,7 +81,7 @@ fn left(moment: u64, end: Option<u64>) -> TextLine
     }
 }
 
-fn put_record<W: Write>(out: &mut W, row: &RecordRow, moment: u64) -> Result<(), RefusedWrite>
+fn put_record<W: Write>(out: &mut W, row: &RecordRow, moment: u64) -> Written
     ensures { Writes (W.contents out.old) (W.contents out.new) result
         (row_text default_writer (csv_fields moment row.now)) }
 {
@@ -106,50 +106,33 @@ fn put_record<W: Write>(out: &mut W, row: &RecordRow, moment: u64) -> Result<(),
 }
 
 /// Writes a record of this kind, and nothing of one of another, nor of one that is not asked for.
-fn put_shown<W: Write>(
-    out: &mut W,
-    view: View,
-    kind: Kind,
-    row: &RecordRow,
-    moment: u64,
-) -> Result<(), RefusedWrite>
-    ensures { Writes (W.contents out.old) (W.contents out.new) result (csv_record view kind moment row.now) }
+fn put_shown<W: Write>(out: &mut W, shown: Shown, kind: Kind, row: &RecordRow) -> Written
+    ensures { Writes (W.contents out.old) (W.contents out.new) result
+        (csv_record shown.view kind shown.moment row.now) }
 {
-    if !row.kind.is_same(kind) || view.over && !is_over_any(row) {
+    if !row.kind.is_same(kind) || shown.view.over && !is_over_any(row) {
         return Ok(());
     }
-    put_record(out, row, moment)
+    put_record(out, row, shown.moment)
 }
 
-fn put_records<W: Write>(
-    out: &mut W,
-    view: View,
-    kind: Kind,
-    rows: &[RecordRow],
-    moment: u64,
-) -> Result<(), RefusedWrite>
+fn put_records<W: Write>(out: &mut W, shown: Shown, kind: Kind, rows: &[RecordRow]) -> Written
     ensures { Writes (W.contents out.old) (W.contents out.new) result
-        (flat_map (csv_record view kind moment) rows.now) }
+        (flat_map (csv_record shown.view kind shown.moment) rows.now) }
 {
     for row in rows {
-        put_shown(out, view, kind, row, moment)?;
+        put_shown(out, shown, kind, row)?;
     }
     Ok(())
 }
 
 #[tactic(auto, using(qtext::proofs::Fronts::front_of_first, qtext::proofs::Fronts::writes_then))]
-fn put_headed<W: Write>(
-    out: &mut W,
-    view: View,
-    kind: Kind,
-    rows: &[RecordRow],
-    moment: u64,
-) -> Result<(), RefusedWrite>
-    ensures { Writes (W.contents out.old) (W.contents out.new) result
-        (row_text default_writer (csv_heads kind) ++ flat_map (csv_record view kind moment) rows.now) }
+fn put_headed<W: Write>(out: &mut W, shown: Shown, kind: Kind, rows: &[RecordRow]) -> Written
+    ensures { Writes (W.contents out.old) (W.contents out.new) result (row_text default_writer (csv_heads kind)
+        ++ flat_map (csv_record shown.view kind shown.moment) rows.now) }
 {
     put_heads(out, kind)?;
-    put_records(out, view, kind, rows, moment)
+    put_records(out, shown, kind, rows)
 }
 
 /// Whether any record is of this kind.
@@ -159,46 +142,32 @@ fn has_kind(rows: &[RecordRow], kind: Kind) -> bool
     rows.iter().any(|row| row.kind.is_same(kind))
 }
 
-fn put_kind<W: Write>(
-    out: &mut W,
-    view: View,
-    kind: Kind,
-    rows: &[RecordRow],
-    moment: u64,
-) -> Result<(), RefusedWrite>
-    ensures { Writes (W.contents out.old) (W.contents out.new) result (csv_kind view kind rows.now moment) }
+fn put_kind<W: Write>(out: &mut W, shown: Shown, kind: Kind, rows: &[RecordRow]) -> Written
+    ensures { Writes (W.contents out.old) (W.contents out.new) result
+        (csv_kind shown.view kind rows.now shown.moment) }
 {
     if has_kind(rows, kind) {
-        put_headed(out, view, kind, rows, moment)
+        put_headed(out, shown, kind, rows)
     } else {
         Ok(())
     }
 }
 
 #[tactic(auto, using(qtext::proofs::Fronts::front_of_first, qtext::proofs::Fronts::writes_then))]
-fn put_last_kinds<W: Write>(
-    out: &mut W,
-    view: View,
-    rows: &[RecordRow],
-    moment: u64,
-) -> Result<(), RefusedWrite>
+fn put_last_kinds<W: Write>(out: &mut W, shown: Shown, rows: &[RecordRow]) -> Written
     ensures { Writes (W.contents out.old) (W.contents out.new) result
-        (csv_kind view Group rows.now moment ++ csv_kind view Project rows.now moment) }
+        (csv_kind shown.view Group rows.now shown.moment ++ csv_kind shown.view Project rows.now shown.moment) }
 {
-    put_kind(out, view, Kind::Group, rows, moment)?;
-    put_kind(out, view, Kind::Project, rows, moment)
+    put_kind(out, shown, Kind::Group, rows)?;
+    put_kind(out, shown, Kind::Project, rows)
 }
 
 /// Writes the report as records of CSV, kind by kind under the heads of its columns.
 #[tactic(auto, using(qtext::proofs::Fronts::front_of_first, qtext::proofs::Fronts::writes_then))]
-pub(crate) fn put_csv<W: Write>(
-    out: &mut W,
-    view: View,
-    rows: &[RecordRow],
-    moment: u64,
-) -> Result<(), RefusedWrite>
-    ensures { Writes (W.contents out.old) (W.contents out.new) result (csv_text view rows.now moment) }
+pub(crate) fn put_csv<W: Write>(out: &mut W, shown: Shown, rows: &[RecordRow]) -> Written
+    ensures { Writes (W.contents out.old) (W.contents out.new) result
+        (csv_text shown.view rows.now shown.moment) }
 {
-    put_kind(out, view, Kind::User, rows, moment)?;
-    put_last_kinds(out, view, rows, moment)
+    put_kind(out, shown, Kind::User, rows)?;
+    put_last_kinds(out, shown, rows)
 }

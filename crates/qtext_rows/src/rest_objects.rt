@@ -3,20 +3,20 @@ ghost use Rattle.std.specs.Prelude.{◌++◌, Ok, Err, length};
 ghost use Rattle.std.specs.List.{flat_map};
 ghost use Rattle.qtext.specs.Written.{Writes};
 ghost use Rattle.qtext_rows.specs.Rest.{audit_objects, audit_start, difference_object, link_object, look_object};
-ghost use Rattle.qtext_rows.specs.Rest.{moment_object, owner_object, rest_objects, tally_object, totals_object};
-ghost use Rattle.qtext_rows.specs.Rest.{use_object};
+ghost use Rattle.qtext_rows.specs.Rest.{moment_object, rest_objects, tally_object, totals_object, use_object};
 
+use crate::Written;
 use crate::part::{Part, put_parts};
-use crate::value::Value;
+use crate::value::{Value, or_null};
 use qaudit::{CountRow, Difference, LinkRow};
 use qplain::{Board, LookFault, Tallies};
-use qrules::{Kind, RecordRow};
+use qrules::Kind;
 use qrun_replay::Outcome;
-use qtext::{RefusedWrite, kind_word};
+use qtext::kind_word;
 use qtext_outcome::look_fault_word;
 use std::io::Write;
 
-fn put_board<W: Write>(out: &mut W, board: &Board) -> Result<(), RefusedWrite>
+fn put_board<W: Write>(out: &mut W, board: &Board) -> Written
     ensures { Writes (W.contents out.old) (W.contents out.new) result (look_object (Ok board.now)) }
 {
     let parts = [
@@ -29,7 +29,7 @@ fn put_board<W: Write>(out: &mut W, board: &Board) -> Result<(), RefusedWrite>
     put_parts(out, &parts)
 }
 
-fn put_no_board<W: Write>(out: &mut W, fault: LookFault) -> Result<(), RefusedWrite>
+fn put_no_board<W: Write>(out: &mut W, fault: LookFault) -> Written
     ensures { Writes (W.contents out.old) (W.contents out.new) result (look_object (Err fault)) }
 {
     let parts = [
@@ -41,7 +41,7 @@ fn put_no_board<W: Write>(out: &mut W, fault: LookFault) -> Result<(), RefusedWr
     put_parts(out, &parts)
 }
 
-fn put_look<W: Write>(out: &mut W, look: &Result<Board, LookFault>) -> Result<(), RefusedWrite>
+fn put_look<W: Write>(out: &mut W, look: &Result<Board, LookFault>) -> Written
     ensures { Writes (W.contents out.old) (W.contents out.new) result (look_object look.now) }
 {
     match look {
@@ -51,10 +51,7 @@ fn put_look<W: Write>(out: &mut W, look: &Result<Board, LookFault>) -> Result<()
 }
 
 /// Writes what each look was given.
-pub(crate) fn put_looks<W: Write>(
-    out: &mut W,
-    looks: &[Result<Board, LookFault>],
-) -> Result<(), RefusedWrite>
+pub(crate) fn put_looks<W: Write>(out: &mut W, looks: &[Result<Board, LookFault>]) -> Written
     ensures { Writes (W.contents out.old) (W.contents out.new) result (flat_map look_object looks.now) }
 {
     for look in looks {
@@ -64,7 +61,7 @@ pub(crate) fn put_looks<W: Write>(
 }
 
 /// Writes the moment of a report.
-pub(crate) fn put_moment<W: Write>(out: &mut W, moment: u64) -> Result<(), RefusedWrite>
+pub(crate) fn put_moment<W: Write>(out: &mut W, moment: u64) -> Written
     ensures { Writes (W.contents out.old) (W.contents out.new) result (moment_object moment) }
 {
     let parts = [
@@ -75,7 +72,7 @@ pub(crate) fn put_moment<W: Write>(out: &mut W, moment: u64) -> Result<(), Refus
     put_parts(out, &parts)
 }
 
-fn put_totals<W: Write>(out: &mut W, outcome: &Outcome) -> Result<(), RefusedWrite>
+fn put_totals<W: Write>(out: &mut W, outcome: &Outcome) -> Written
     ensures { Writes (W.contents out.old) (W.contents out.new) result (totals_object outcome.now) }
 {
     let parts = [
@@ -89,7 +86,7 @@ fn put_totals<W: Write>(out: &mut W, outcome: &Outcome) -> Result<(), RefusedWri
     put_parts(out, &parts)
 }
 
-fn put_tally<W: Write>(out: &mut W, tallies: Tallies) -> Result<(), RefusedWrite>
+fn put_tally<W: Write>(out: &mut W, tallies: Tallies) -> Written
     ensures { Writes (W.contents out.old) (W.contents out.new) result (tally_object tallies) }
 {
     let parts = [
@@ -104,44 +101,32 @@ fn put_tally<W: Write>(out: &mut W, tallies: Tallies) -> Result<(), RefusedWrite
     put_parts(out, &parts)
 }
 
+/// Writes what an owner uses by its record, where it has one, and what was counted.
 fn put_use<W: Write>(
     out: &mut W,
     kind: Kind,
-    row: &RecordRow,
+    id: u32,
+    blocks: Option<u64>,
+    inodes: Option<u64>,
     counted: &CountRow,
-) -> Result<(), RefusedWrite>
-    ensures { Writes (W.contents out.old) (W.contents out.new) result (use_object kind row.now counted.now) }
+) -> Written
+    ensures { Writes (W.contents out.old) (W.contents out.new) result
+        (use_object kind id blocks inodes counted.now) }
 {
     let parts = [
         Part::Open(b"difference"),
         Part::Member(b"kind", Value::Text(kind_word(kind))),
-        Part::Member(b"id", Value::Number(row.id as u64)),
-        Part::Member(b"blocks", Value::Number(row.blocks)),
+        Part::Member(b"id", Value::Number(id as u64)),
+        Part::Member(b"blocks", or_null(blocks)),
         Part::Member(b"blocks_counted", Value::Number(counted.blocks)),
-        Part::Member(b"inodes", Value::Number(row.inodes)),
+        Part::Member(b"inodes", or_null(inodes)),
         Part::Member(b"inodes_counted", Value::Number(counted.inodes)),
         Part::Close,
     ];
     put_parts(out, &parts)
 }
 
-fn put_owner<W: Write>(out: &mut W, kind: Kind, counted: &CountRow) -> Result<(), RefusedWrite>
-    ensures { Writes (W.contents out.old) (W.contents out.new) result (owner_object kind counted.now) }
-{
-    let parts = [
-        Part::Open(b"difference"),
-        Part::Member(b"kind", Value::Text(kind_word(kind))),
-        Part::Member(b"id", Value::Number(counted.id as u64)),
-        Part::Member(b"blocks", Value::Null),
-        Part::Member(b"blocks_counted", Value::Number(counted.blocks)),
-        Part::Member(b"inodes", Value::Null),
-        Part::Member(b"inodes_counted", Value::Number(counted.inodes)),
-        Part::Close,
-    ];
-    put_parts(out, &parts)
-}
-
-fn put_link<W: Write>(out: &mut W, link: &LinkRow) -> Result<(), RefusedWrite>
+fn put_link<W: Write>(out: &mut W, link: &LinkRow) -> Written
     ensures { Writes (W.contents out.old) (W.contents out.new) result (link_object link.now) }
 {
     let parts = [
@@ -154,17 +139,20 @@ fn put_link<W: Write>(out: &mut W, link: &LinkRow) -> Result<(), RefusedWrite>
     put_parts(out, &parts)
 }
 
-fn put_difference<W: Write>(out: &mut W, difference: &Difference) -> Result<(), RefusedWrite>
+fn put_difference<W: Write>(out: &mut W, difference: &Difference) -> Written
     ensures { Writes (W.contents out.old) (W.contents out.new) result (difference_object difference.now) }
 {
     match difference {
-        Difference::Uses { kind, row, counted } => put_use(out, *kind, row, counted),
-        Difference::NoRow { kind, counted } => put_owner(out, *kind, counted),
+        Difference::Uses { kind, row, counted } => {
+            let (blocks, inodes) = (Some(row.blocks), Some(row.inodes));
+            put_use(out, *kind, row.id, blocks, inodes, counted)
+        }
+        Difference::NoRow { kind, counted } => put_use(out, *kind, counted.id, None, None, counted),
         Difference::Links(link) => put_link(out, link),
     }
 }
 
-fn put_differences<W: Write>(out: &mut W, differences: &[Difference]) -> Result<(), RefusedWrite>
+fn put_differences<W: Write>(out: &mut W, differences: &[Difference]) -> Written
     ensures { Writes (W.contents out.old) (W.contents out.new) result (flat_map difference_object differences.now) }
 {
     for difference in differences {
@@ -173,7 +161,7 @@ fn put_differences<W: Write>(out: &mut W, differences: &[Difference]) -> Result<
     Ok(())
 }
 
-fn put_audit_start<W: Write>(out: &mut W, count: u64) -> Result<(), RefusedWrite>
+fn put_audit_start<W: Write>(out: &mut W, count: u64) -> Written
     ensures { Writes (W.contents out.old) (W.contents out.new) result (audit_start count) }
 {
     let parts = [
@@ -185,7 +173,7 @@ fn put_audit_start<W: Write>(out: &mut W, count: u64) -> Result<(), RefusedWrite
 }
 
 #[tactic(auto, using(qtext::proofs::Fronts::front_of_first, qtext::proofs::Fronts::writes_then))]
-fn put_audit<W: Write>(out: &mut W, differences: &[Difference]) -> Result<(), RefusedWrite>
+fn put_audit<W: Write>(out: &mut W, differences: &[Difference]) -> Written
     ensures { Writes (W.contents out.old) (W.contents out.new) result (audit_objects differences.now) }
 {
     put_audit_start(out, differences.len() as u64)?;
@@ -193,7 +181,7 @@ fn put_audit<W: Write>(out: &mut W, differences: &[Difference]) -> Result<(), Re
 }
 
 #[tactic(auto, using(qtext::proofs::Fronts::front_of_first, qtext::proofs::Fronts::writes_then))]
-fn put_ledger<W: Write>(out: &mut W, outcome: &Outcome) -> Result<(), RefusedWrite>
+fn put_ledger<W: Write>(out: &mut W, outcome: &Outcome) -> Written
     ensures { Writes (W.contents out.old) (W.contents out.new) result
         (tally_object outcome.now.tallies ++ audit_objects outcome.now.differences) }
 {
@@ -203,7 +191,7 @@ fn put_ledger<W: Write>(out: &mut W, outcome: &Outcome) -> Result<(), RefusedWri
 
 /// Writes what stands below the records: the totals, the tallies of the journal, and what an audit of the store found.
 #[tactic(auto, using(qtext::proofs::Fronts::front_of_first, qtext::proofs::Fronts::writes_then))]
-pub(crate) fn put_rest<W: Write>(out: &mut W, outcome: &Outcome) -> Result<(), RefusedWrite>
+pub(crate) fn put_rest<W: Write>(out: &mut W, outcome: &Outcome) -> Written
     ensures { Writes (W.contents out.old) (W.contents out.new) result (rest_objects outcome.now) }
 {
     put_totals(out, outcome)?;

@@ -8,8 +8,9 @@ ghost use Rattle.qblocks.specs.Input.{input_bytes};
 ghost use Rattle.qtext.specs.Written.{Writes};
 ghost use Rattle.qtext_rows.specs.Values.{digits_text, flag_text, or_null, value_text};
 
+use crate::Written;
 use qblocks::Input;
-use qtext::{Piece, RefusedWrite, TextLine, put, put_pieces};
+use qtext::{Piece, TextLine, put, put_pieces};
 use std::io::Write;
 
 /// A value that has no members.
@@ -73,7 +74,7 @@ fn hex_digit(digit: u8) -> u8
 
 /// Writes what stands in a text for a byte.
 #[tactic(auto, using(crate::proofs::Escapes::short, crate::proofs::Escapes::plain, crate::proofs::Escapes::long))]
-fn put_escaped<W: Write>(out: &mut W, byte: u8) -> Result<(), RefusedWrite>
+fn put_escaped<W: Write>(out: &mut W, byte: u8) -> Written
     ensures { Writes (W.contents out.old) (W.contents out.new) result (escape_byte byte) }
 {
     let letter = letter(byte);
@@ -87,7 +88,7 @@ fn put_escaped<W: Write>(out: &mut W, byte: u8) -> Result<(), RefusedWrite>
     put(out, &[b'\\', b'u', b'0', b'0', high, low])
 }
 
-fn put_all_escaped<W: Write>(out: &mut W, text: &[u8]) -> Result<(), RefusedWrite>
+fn put_all_escaped<W: Write>(out: &mut W, text: &[u8]) -> Written
     ensures { Writes (W.contents out.old) (W.contents out.new) result (flat_map escape_byte text.now) }
 {
     for byte in text {
@@ -98,7 +99,7 @@ fn put_all_escaped<W: Write>(out: &mut W, text: &[u8]) -> Result<(), RefusedWrit
 
 /// Writes what stands in a text, and its end.
 #[tactic(auto, using(qtext::proofs::Fronts::front_of_first, qtext::proofs::Fronts::writes_then))]
-fn put_inside<W: Write>(out: &mut W, text: &[u8]) -> Result<(), RefusedWrite>
+fn put_inside<W: Write>(out: &mut W, text: &[u8]) -> Written
     ensures { Writes (W.contents out.old) (W.contents out.new) result (escape text.now ++ codes "\"") }
 {
     put_all_escaped(out, text)?;
@@ -107,7 +108,7 @@ fn put_inside<W: Write>(out: &mut W, text: &[u8]) -> Result<(), RefusedWrite>
 
 /// Writes a text, with what has to be escaped.
 #[tactic(auto, using(qtext::proofs::Fronts::front_of_first, qtext::proofs::Fronts::writes_then))]
-fn put_quoted<W: Write>(out: &mut W, text: &[u8]) -> Result<(), RefusedWrite>
+fn put_quoted<W: Write>(out: &mut W, text: &[u8]) -> Written
     ensures { Writes (W.contents out.old) (W.contents out.new) result (quoted text.now) }
 {
     put(out, b"\"")?;
@@ -115,7 +116,7 @@ fn put_quoted<W: Write>(out: &mut W, text: &[u8]) -> Result<(), RefusedWrite>
 }
 
 /// Writes the digits of N equal bytes.
-fn put_equal<W: Write>(out: &mut W, count: u64, byte: u8) -> Result<(), RefusedWrite>
+fn put_equal<W: Write>(out: &mut W, count: u64, byte: u8) -> Written
     ensures { Writes (W.contents out.old) (W.contents out.new) result (encode_lower (replicate count byte)) }
 {
     for _ in 0..count {
@@ -125,7 +126,7 @@ fn put_equal<W: Write>(out: &mut W, count: u64, byte: u8) -> Result<(), RefusedW
 }
 
 /// Writes the digits of bytes that are laid out.
-fn put_laid_out<W: Write>(out: &mut W, bytes: &[u8]) -> Result<(), RefusedWrite>
+fn put_laid_out<W: Write>(out: &mut W, bytes: &[u8]) -> Written
     ensures { Writes (W.contents out.old) (W.contents out.new) result (encode_lower bytes.now) }
 {
     if bytes.is_empty() {
@@ -137,7 +138,7 @@ fn put_laid_out<W: Write>(out: &mut W, bytes: &[u8]) -> Result<(), RefusedWrite>
 }
 
 /// Writes the digits of bytes.
-fn put_digits<W: Write>(out: &mut W, bytes: Input<'_>) -> Result<(), RefusedWrite>
+fn put_digits<W: Write>(out: &mut W, bytes: Input<'_>) -> Written
     ensures { Writes (W.contents out.old) (W.contents out.new) result (encode_lower (input_bytes bytes.entry)) }
 {
     match bytes {
@@ -148,7 +149,7 @@ fn put_digits<W: Write>(out: &mut W, bytes: Input<'_>) -> Result<(), RefusedWrit
 
 /// Writes the digits of bytes, and the end of their text.
 #[tactic(auto, using(qtext::proofs::Fronts::front_of_first, qtext::proofs::Fronts::writes_then))]
-fn put_ended<W: Write>(out: &mut W, bytes: Input<'_>) -> Result<(), RefusedWrite>
+fn put_ended<W: Write>(out: &mut W, bytes: Input<'_>) -> Written
     ensures { Writes (W.contents out.old) (W.contents out.new) result
         (encode_lower (input_bytes bytes.entry) ++ codes "\"") }
 {
@@ -158,14 +159,14 @@ fn put_ended<W: Write>(out: &mut W, bytes: Input<'_>) -> Result<(), RefusedWrite
 
 /// Writes bytes as a text of hexadecimal digits.
 #[tactic(auto, using(qtext::proofs::Fronts::front_of_first, qtext::proofs::Fronts::writes_then))]
-fn put_digits_text<W: Write>(out: &mut W, bytes: Input<'_>) -> Result<(), RefusedWrite>
+fn put_digits_text<W: Write>(out: &mut W, bytes: Input<'_>) -> Written
     ensures { Writes (W.contents out.old) (W.contents out.new) result (digits_text (input_bytes bytes.entry)) }
 {
     put(out, b"\"")?;
     put_ended(out, bytes)
 }
 
-fn put_flag<W: Write>(out: &mut W, holds: bool) -> Result<(), RefusedWrite>
+fn put_flag<W: Write>(out: &mut W, holds: bool) -> Written
     ensures { Writes (W.contents out.old) (W.contents out.new) result (flag_text holds) }
 {
     if holds {
@@ -176,7 +177,7 @@ fn put_flag<W: Write>(out: &mut W, holds: bool) -> Result<(), RefusedWrite>
 }
 
 /// Writes a value.
-pub(crate) fn put_value<W: Write>(out: &mut W, value: &Value<'_>) -> Result<(), RefusedWrite>
+pub(crate) fn put_value<W: Write>(out: &mut W, value: &Value<'_>) -> Written
     ensures { Writes (W.contents out.old) (W.contents out.new) result (value_text value.now) }
 {
     match value {
