@@ -3,7 +3,8 @@ use Rattle.qtext_rows.specs.Csv.{csv_record}
 use Rattle.qtext_rows.proofs.report_rows.put_records.Goals as goal
 
 pub loop-row-preserved : goal.loop-row-preserved
-loop-row-preserved g c = rows_go_on _ _ _ (csv_record c.args.shown.view c.args.kind c.args.shown.moment) _ _ c.row-item.result _ c.row-item.is c.loop-row.invariant
+loop-row-preserved g c = rows_go_on _ _ _ (csv_record c.args.shown.view c.args.kind c.args.shown.moment) _ _ c.row-item.result _
+    c.row-item.is c.loop-row.invariant
     c.in_ok-put_shown.ensures c.loop-row-test.true
 
 pub returns-in_err-put_shown : goal.returns-in_err-put_shown
