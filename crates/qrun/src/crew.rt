@@ -6,6 +6,7 @@ ghost use Rattle.qshare.specs.Seats.{seats_of};
 ghost use Rattle.qrun.specs.Crews.{ArePlayed, AreReady, IsCrew};
 ghost use Rattle.qrun_worker.specs.Work.{ArePrepared};
 
+use crate::machine::Machine;
 use crate::options::Options;
 use crate::run_fault::RunFault;
 use crate::watcher::{Watch, watch_all};
@@ -16,7 +17,6 @@ use qrun_worker::{Gate, Work, Worker, play, worker_of};
 use qshare::{Boards, Seat, Shared};
 use qshare_boards::Viewer;
 use qshare_history::StoreId;
-use std::alloc::Global;
 use std::marker::Model;
 use std::snapshot::Snapshot;
 use std::sync::Wait;
@@ -52,8 +52,7 @@ fn lines_in(scripts: &[Script]) -> u64 {
 
 /// A worker for each script, each with room for its answers.
 fn crew_of<'a, S: StoreId, B: Boards<S>, V: Drop, G: Gate, R: Wait>(
-    alloc: Global,
-    rt: &'a R,
+    machine: &Machine<'a, R>,
     shared: &'a Shared<S, B>,
     gate: &'a G,
     scripts: Vec<Script>,
@@ -64,13 +63,13 @@ fn crew_of<'a, S: StoreId, B: Boards<S>, V: Drop, G: Gate, R: Wait>(
     requires batch { (0 < batch) × (batch ≤ MAX_BATCH) }
     ensures { IfOk result (λ workers. ArePrepared scripts.items workers.items) }
 {
-    let mut workers = Vec::with_capacity(alloc, scripts.len())?;
+    let mut workers = Vec::with_capacity(machine.alloc, scripts.len())?;
     let mut free = seats.into_iter();
     for script in scripts {
         let Some(seat) = free.next() else {
             unreachable!();
         };
-        let worker = worker_of(alloc, rt, shared, gate, script, batch, seat)?;
+        let worker = worker_of(machine.alloc, machine.rt, shared, gate, script, batch, seat)?;
         workers.push_reserved(worker);
     }
     Ok(workers)
@@ -81,8 +80,7 @@ fn crew_of<'a, S: StoreId, B: Boards<S>, V: Drop, G: Gate, R: Wait>(
 ///
 /// Where a start is refused, no later one is made, and those before are waited for; the worker is named.
 pub(crate) fn play_all<S, B, V, G, R>(
-    rt: &R,
-    alloc: Global,
+    machine: &Machine<'_, R>,
     shared: &Shared<S, B>,
     gate: &G,
     options: Options,
@@ -99,10 +97,11 @@ where
     requires { IsCrew (length scripts.items) options seats.items watcher }
     ensures { ArePlayed S.id.setting scripts.items options.boards result }
 {
+    let Machine { rt, alloc, .. } = *machine;
     let given = Snapshot::of(&scripts);
     let lines = lines_in(&scripts);
     let looks = Vec::with_capacity(alloc, options.boards as usize)?;
-    let workers = crew_of(alloc, rt, shared, gate, scripts, options.batch, seats)?;
+    let workers = crew_of(machine, shared, gate, scripts, options.batch, seats)?;
     thread::scope(
         thread::scope_env(),
         rt,

@@ -1,6 +1,7 @@
 //! Runs and services: 1 to 16 scripts or clients, each with a worker in a thread of its own, on one shared store.
 #![tactic(auto)]
 
+pub use machine::Machine;
 pub use monitor::Monitor;
 pub use options::Options;
 pub use qrun_worker::{Gate, NoGate};
@@ -11,6 +12,7 @@ pub use worker_end::{WorkerEnd, conclude};
 
 mod concluding;
 mod crew;
+mod machine;
 mod monitor;
 mod options;
 mod pace;

@@ -10,6 +10,7 @@ ghost use Rattle.qrun.specs.Watching.{seats_for};
 
 use crate::concluding::make_outcome;
 use crate::crew::{Played, play_all};
+use crate::machine::Machine;
 use crate::options::Options;
 use crate::run_fault::RunFault;
 use crate::telling::{hand_in, part_works};
@@ -19,7 +20,6 @@ use qrun_worker::Gate;
 use qshare::{Boards, Opened, Seat, ShareFault, Shared};
 use qshare_boards::Viewer;
 use qshare_history::StoreId;
-use std::alloc::Global;
 use std::marker::Brand;
 use std::sync::Wait;
 use std::thread::Threads;
@@ -36,14 +36,12 @@ pub(crate) fn fault_of(fault: ShareFault) -> RunFault
 
 /// Plays the scripts on a shared store, ends it, and makes the outcome.
 fn play_and_end<S, B, V, G, R>(
-    rt: &R,
-    alloc: Global,
+    machine: &Machine<'_, R>,
     shared: Shared<S, B>,
     seats: Vec<Seat<S, V>>,
     watcher: Option<Seat<S, Viewer<S>>>,
     scripts: Vec<Script>,
     options: Options,
-    seed: u64,
     gate: &G,
 ) -> Result<Outcome, RunFault>
 where
@@ -59,8 +57,9 @@ where
     ensures { IsRun S.id.setting scripts.items options.boards result }
 {
     let Played { works, watch } = play_all(
-        rt, alloc, &shared, gate, options, seats, watcher, scripts,
+        machine, &shared, gate, options, seats, watcher, scripts,
     )?;
+    let Machine { rt, alloc, seed } = *machine;
     let (own, answered) = part_works(alloc, works)?;
     let (shares, looks) = hand_in(alloc, own, watch)?;
     match shared.end(rt, shares) {
@@ -71,12 +70,10 @@ where
 
 /// Plays the scripts on a shared store of this identity, at whose boards one more thread looks.
 fn run_viewed<S, G, R>(
-    rt: &R,
-    alloc: Global,
+    machine: &Machine<'_, R>,
     opened: Opened,
     scripts: Vec<Script>,
     options: Options,
-    seed: u64,
     gate: &G,
 ) -> Result<Outcome, RunFault>
 where
@@ -90,24 +87,20 @@ where
     requires seats { S.id.counters.parts ≡ seats_for (length scripts.items) options.boards }
     ensures { IsRun S.id.setting scripts.items options.boards result }
 {
-    let (shared, seats, last) = match opened.with_observer::<S, &R>(rt) {
+    let (shared, seats, last) = match opened.with_observer::<S, &R>(machine.rt) {
         Ok(made) => made,
         Err(fault) => return Err(fault_of(fault)),
     };
     let watcher = Some(last);
-    play_and_end(
-        rt, alloc, shared, seats, watcher, scripts, options, seed, gate,
-    )
+    play_and_end(machine, shared, seats, watcher, scripts, options, gate)
 }
 
 /// Plays the scripts on a shared store of this identity, at whose boards nobody can look.
 fn run_unviewed<S, G, R>(
-    rt: &R,
-    alloc: Global,
+    machine: &Machine<'_, R>,
     opened: Opened,
     scripts: Vec<Script>,
     options: Options,
-    seed: u64,
     gate: &G,
 ) -> Result<Outcome, RunFault>
 where
@@ -125,7 +118,7 @@ where
         Ok(made) => made,
         Err(fault) => return Err(fault_of(fault)),
     };
-    play_and_end(rt, alloc, shared, seats, None, scripts, options, seed, gate)
+    play_and_end(machine, shared, seats, None, scripts, options, gate)
 }
 
 /// The number of seats: one for each script, and one more where boards are looked at.
@@ -150,17 +143,14 @@ fn seats_for(scripts: usize, boards: u64) -> u64
 /// boards are the journal's own, each that of its version, and versions never fall; when they are looked at is open.
 ///
 /// `gate` is called around each line, or, where the lock is taken for several, before the first and after the last of
-/// them, and may wait; this is promised if the run returns. The hashes of names begin at `seed`, which may be any
-/// number; nothing of the outcome depends on it. An Err is Memory, NoReader, or NotStarted with the first worker whose
+/// them, and may wait; this is promised if the run returns. An Err is Memory, NoReader, or NotStarted with the first worker whose
 /// thread was refused; then all workers that were started have been joined and the store is given up. Mismatch never
 /// comes: each worker's receipts are proved to be its entries, and the boards to be the journal's.
 pub fn run_scripts<G: Gate + Sync, R: Threads + Wait + Sync>(
-    rt: &R,
-    alloc: Global,
+    machine: &Machine<'_, R>,
     setup: Setup,
     scripts: Vec<Script>,
     options: Options,
-    seed: u64,
     gate: &G,
 ) -> Result<Outcome, RunFault>
     requires edition { setup.edition ≡ Two }
@@ -170,13 +160,13 @@ pub fn run_scripts<G: Gate + Sync, R: Threads + Wait + Sync>(
     ensures fault { IfErr result (IsFaultOf (seats_for (length scripts.items) options.boards)) }
 {
     let seats = seats_for(scripts.len(), options.boards);
-    let opened = match Opened::new(alloc, setup, seats, seed) {
+    let opened = match Opened::new(machine.alloc, setup, seats, machine.seed) {
         Ok(opened) => opened,
         Err(fault) => return Err(fault_of(fault)),
     };
     if options.boards == 0 {
-        run_unviewed::<Brand, G, R>(rt, alloc, opened, scripts, options, seed, gate)
+        run_unviewed::<Brand, G, R>(machine, opened, scripts, options, gate)
     } else {
-        run_viewed::<Brand, G, R>(rt, alloc, opened, scripts, options, seed, gate)
+        run_viewed::<Brand, G, R>(machine, opened, scripts, options, gate)
     }
 }

@@ -8,6 +8,7 @@ ghost use Rattle.qrun.specs.Serving.{CanServe, IsOfClients, IsStaff, monitors_in
 ghost use Rattle.qrun.specs.Watching.{seats_for};
 
 use crate::concluding::make_outcome;
+use crate::machine::Machine;
 use crate::monitor::{Monitor, Observer, no_observer, part_observed, showing_of};
 use crate::run_fault::RunFault;
 use crate::runs::fault_of;
@@ -18,7 +19,6 @@ use qrun_client::Client;
 use qrun_replay::Outcome;
 use qshare::{Boards, Opened, Seat, Shared};
 use qshare_history::StoreId;
-use std::alloc::Global;
 use std::marker::Brand;
 use std::sync::Wait;
 use std::sync::atomic::AtomicBool;
@@ -34,14 +34,12 @@ pub struct Service<L: Drop, W: Drop> {
 
 /// Serves the clients on a shared store, ends it, and makes the outcome.
 fn serve_and_end<S, B, V, C, M, R>(
-    rt: &R,
-    alloc: Global,
+    machine: &Machine<'_, R>,
     shared: Shared<S, B>,
     seats: Vec<Seat<S, V>>,
     observer: Option<Observer<'_, S, M>>,
     ended: &AtomicBool,
     clients: Vec<C>,
-    seed: u64,
 ) -> Result<Service<C::Left, M::Left>, RunFault>
 where
     S: StoreId + Send + Sync + 'static,
@@ -59,6 +57,7 @@ where
         (option_map (λ o. o.monitor) observer.entry) s.monitor) }
     ensures fault { IfErr result (IsFaultOf S.id.counters.parts) }
 {
+    let Machine { rt, alloc, seed } = *machine;
     let showing = showing_of(rt, alloc, &shared, observer, ended);
     let attendants = attendants_of(alloc, rt, &shared, seats, clients)?;
     let (served, observed) = attend_all(rt, alloc, attendants, showing, ended)?;
@@ -80,12 +79,10 @@ where
 
 /// Serves the clients on a shared store of this identity, whose boards are shown to a monitor.
 fn serve_shown<S, C, M, R>(
-    rt: &R,
-    alloc: Global,
+    machine: &Machine<'_, R>,
     opened: Opened,
     clients: Vec<C>,
     monitor: M,
-    seed: u64,
 ) -> Result<Service<C::Left, M::Left>, RunFault>
 where
     S: StoreId + Send + Sync + 'static,
@@ -102,22 +99,20 @@ where
     ensures fault { IfErr result (IsFaultOf S.id.counters.parts) }
 {
     let wanted = AtomicBool::new(false);
-    let (shared, seats, last) = match opened.on_demand::<S, &R>(rt, &wanted) {
+    let (shared, seats, last) = match opened.on_demand::<S, &R>(machine.rt, &wanted) {
         Ok(made) => made,
         Err(fault) => return Err(fault_of(fault)),
     };
     let ended = AtomicBool::new(false);
     let observer = Some(Observer::new(last, &wanted, monitor));
-    serve_and_end(rt, alloc, shared, seats, observer, &ended, clients, seed)
+    serve_and_end(machine, shared, seats, observer, &ended, clients)
 }
 
 /// Serves the clients on a shared store of this identity, at whose boards nobody can look.
 fn serve_unshown<S, C, M, R>(
-    rt: &R,
-    alloc: Global,
+    machine: &Machine<'_, R>,
     opened: Opened,
     clients: Vec<C>,
-    seed: u64,
 ) -> Result<Service<C::Left, M::Left>, RunFault>
 where
     S: StoreId + Send + Sync + 'static,
@@ -138,7 +133,7 @@ where
     };
     let ended = AtomicBool::new(false);
     let nobody = no_observer::<S, M>(&ended);
-    serve_and_end(rt, alloc, shared, seats, nobody, &ended, clients, seed)
+    serve_and_end(machine, shared, seats, nobody, &ended, clients)
 }
 
 /// Serves 1 to 16 clients on one new store of the setup, which is of edition 2: each by a worker in a thread of its
@@ -151,17 +146,14 @@ where
 /// each with the reply of its entry in the journal. A line may fail with JournalFull, and does so only where the
 /// journal has its 1,048,576 entries. The outcome keeps no boards.
 ///
-/// This is promised if the service returns: a client that does not end holds it up, and no other client. The hashes of
-/// names begin at `seed`, which may be any number; nothing of the outcome depends on it. An Err is Memory, NoReader, or
-/// NotStarted with the first thread that was refused; then the clients of all workers that were started have been
+/// This is promised if the service returns: a client that does not end holds it up, and no other client. An Err is
+/// Memory, NoReader, or NotStarted with the first thread that was refused; then the clients of all workers that were started have been
 /// served to their ends, and the store is given up.
 pub fn serve<C, M, R>(
-    rt: &R,
-    alloc: Global,
+    machine: &Machine<'_, R>,
     setup: Setup,
     clients: Vec<C>,
     monitor: Option<M>,
-    seed: u64,
 ) -> Result<Service<C::Left, M::Left>, RunFault>
 where
     C: Client + Drop + Send,
@@ -174,15 +166,14 @@ where
     ensures shown { IfOk result (λ s. IsShownTo M.sees (start setup) s.outcome.journal.entries monitor s.monitor) }
     ensures fault { IfErr result (IsFaultOf (seats_for (length clients.items) (monitors_in monitor))) }
 {
+    let Machine { alloc, seed, .. } = *machine;
     match monitor {
         Some(monitor) => match Opened::new(alloc, setup, clients.len() as u64 + 1, seed) {
-            Ok(opened) => {
-                serve_shown::<Brand, C, M, R>(rt, alloc, opened, clients, monitor, seed)
-            }
+            Ok(opened) => { serve_shown::<Brand, C, M, R>(machine, opened, clients, monitor) }
             Err(fault) => Err(fault_of(fault)),
         },
         None => match Opened::new(alloc, setup, clients.len() as u64, seed) {
-            Ok(opened) => serve_unshown::<Brand, C, M, R>(rt, alloc, opened, clients, seed),
+            Ok(opened) => serve_unshown::<Brand, C, M, R>(machine, opened, clients),
             Err(fault) => Err(fault_of(fault)),
         },
     }

@@ -5,11 +5,11 @@ use Rattle.qplain.specs.declared.edition.Edition.TheVariants.{Two}
 use Rattle.qtext.specs.declared.text_fault.TextKind.{TextKind}
 use Rattle.qtext.specs.declared.text_fault.TextKind.TheVariants.{Cut, BadByte, TooMany}
 use Rattle.qtext.specs.Words.{number, words}
-use Rattle.qtext_read.specs.declared.verb.Verb.{Verb}
+use Rattle.qtext_read.specs.declared.row.Verb.{Verb}
 use Rattle.qtext_read.specs.Callers.{caller_of}
 use Rattle.qtext_read.specs.Judged.{values_before}
 use Rattle.qtext_read.specs.Rows.{row, takes}
-use Rattle.qtext_read.specs.Verbs.{verb_of}
+use Rattle.qtext_read.specs.Rows.{verb_of}
 use Rattle.qtext_check.specs.declared.fault.Wrong.{Wrong}
 use Rattle.qtext_check.specs.declared.fault.Wrong.TheVariants.{Text, Refused}
 

@@ -11,9 +11,9 @@ use Rattle.qtext.specs.declared.text_fault.TextKind.{TextKind}
 use Rattle.qtext.specs.declared.text_fault.TextKind.TheVariants.{TooMany, WordCount}
 use Rattle.qtext_read.specs.declared.row.Argument.{Argument}
 use Rattle.qtext_read.specs.declared.row.Argument.TheVariants as argument
-use Rattle.qtext_read.specs.declared.verb.Verb.{Verb}
+use Rattle.qtext_read.specs.declared.row.Verb.{Verb}
 use Rattle.qtext_read.specs.Rows.{row, takes}
-use Rattle.qtext_read.specs.Verbs.{verb_of}
+use Rattle.qtext_read.specs.Rows.{verb_of}
 use Rattle.qtext_expand.specs.declared.fill.TheConstants.{PIECE}
 use Rattle.qtext_expand.specs.declared.value.Measure.TheVariants.{Bytes, Kibibytes, Seconds}
 use Rattle.qtext_expand.specs.FriendlyWords.{spaced}

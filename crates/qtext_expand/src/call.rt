@@ -1,7 +1,7 @@
 //! The calls that a friendly line asks for, as words with a space before each.
 ghost use Rattle.std.specs.Prelude.{◌≡◌, ◌++◌, map, IfOk};
 ghost use Rattle.qtext.specs.Pieces.{piece_text};
-ghost use Rattle.qtext_read.specs.Verbs.{verb_of};
+ghost use Rattle.qtext_read.specs.Rows.{verb_of};
 ghost use Rattle.qtext_expand.specs.FriendlyCalls.{all_worked, arguments_of, calls_by, calls_of, first_of, one_call};
 ghost use Rattle.qtext_expand.specs.FriendlyCalls.{plain_calls, removals_of, ways_of, worked};
 ghost use Rattle.qtext_expand.specs.FriendlyWords.{spaced};

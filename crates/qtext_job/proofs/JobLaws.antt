@@ -18,7 +18,7 @@ use Rattle.qtext_job.specs.declared.job.Job.{Job}
 use Rattle.qtext_job.specs.declared.job.Job.TheVariants.{Run, Serve, Replay, Expand, Check}
 use Rattle.qtext_job.specs.declared.line_fault.LineFault.{LineFault}
 use Rattle.qtext_job.specs.declared.line_fault.LineFault.TheVariants.{Line, Memory}
-use Rattle.qtext_view.specs.declared.telling.Telling.{Telling}
+use Rattle.qtext.specs.declared.telling.Telling.{Telling}
 use Rattle.qtext_job.specs.Jobs.{AreBoardsIn, AreScriptsIn, FailsUnless, IsAskedBy, IsBatchIn, IsJobOf, IsNamedBy, IsRefusalOf, IsToldBy}
 use Rattle.qtext_job.specs.Numbers.{IsNumberAt, Spells}
 use Rattle.qtext_job.specs.Tellings.{IsMomentIn, IsTellingIn}

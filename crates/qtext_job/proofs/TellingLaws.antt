@@ -1,8 +1,8 @@
 -- Why words are no moment.
 use Rattle.std.proofs.Common.{ℕ, List}
 use Rattle.clap.specs.Words.{Row}
-use Rattle.qtext_view.specs.declared.report_moment.ReportMoment.{ReportMoment}
-use Rattle.qtext_view.specs.declared.report_moment.ReportMoment.TheVariants.{At, Last}
+use Rattle.qtext.specs.declared.report_moment.ReportMoment.{ReportMoment}
+use Rattle.qtext.specs.declared.report_moment.ReportMoment.TheVariants.{At, Last}
 use Rattle.qtext_job.specs.declared.line_fault.LineFault.{LineFault}
 use Rattle.qtext_job.specs.Jobs.{FailsUnless}
 use Rattle.qtext_job.specs.Tellings.{IsMomentIn, IsReportAt}

@@ -3,12 +3,12 @@ use Rattle.std.specs.Prelude.{◌≡◌, ◌^◌, ◌||◌, ℕ, Bool, false, tr
 use Rattle.std.specs.Option.{option_map_or}
 use Rattle.std.specs.Str.{bytes_eq}
 use Rattle.clap.specs.Words.{Row, Text, first_of}
-use Rattle.qtext_view.specs.declared.format.Format.{Format}
-use Rattle.qtext_view.specs.declared.format.Format.TheVariants.{Text as TextFormat, Json, Csv}
-use Rattle.qtext_view.specs.declared.report_moment.ReportMoment.{ReportMoment}
-use Rattle.qtext_view.specs.declared.report_moment.ReportMoment.TheVariants.{At, Last}
-use Rattle.qtext_view.specs.declared.telling.Telling.{Telling}
-use Rattle.qtext_view.specs.declared.view.View.{View}
+use Rattle.qtext.specs.declared.format.Format.{Format}
+use Rattle.qtext.specs.declared.format.Format.TheVariants.{Text as TextFormat, Json, Csv}
+use Rattle.qtext.specs.declared.report_moment.ReportMoment.{ReportMoment}
+use Rattle.qtext.specs.declared.report_moment.ReportMoment.TheVariants.{At, Last}
+use Rattle.qtext.specs.declared.telling.Telling.{Telling}
+use Rattle.qtext.specs.declared.view.View.{View}
 use Rattle.qtext_job.specs.Numbers.{IsNumberAt}
 
 -- the moment is the number at `--at`, at most 2^40

@@ -16,7 +16,7 @@ use clap::error::ErrorKind;
 use clap::{ArgMatches, Error};
 use command::command;
 use qrules::MAX_MOMENT;
-use qtext_view::Telling;
+use qtext::Telling;
 use std::alloc::{AllocError, Global};
 
 mod command;

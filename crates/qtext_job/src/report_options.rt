@@ -4,15 +4,15 @@ ghost use Rattle.clap.specs.Words.{found_of, rows_of};
 ghost use Rattle.qtext_job.specs.Jobs.{FailsUnless};
 ghost use Rattle.qtext_job.specs.Tellings.{IsReportAt, IsTellingIn, format_of, has_format, is_given, is_word_at};
 ghost use Rattle.qtext_job.specs.Tellings.{view_of};
-ghost use Rattle.qtext_view.specs.declared.report_moment.ReportMoment.{ReportMoment};
-ghost use Rattle.qtext_view.specs.declared.telling.Telling.{Telling};
+ghost use Rattle.qtext.specs.declared.report_moment.ReportMoment.{ReportMoment};
+ghost use Rattle.qtext.specs.declared.telling.Telling.{Telling};
 
 use crate::LineFault;
 use crate::line_fault::invalid;
 use crate::number::number_at;
 use clap::ArgMatches;
 use qrules::MAX_MOMENT;
-use qtext_view::{Format, ReportMoment, Telling, View};
+use qtext::{Format, ReportMoment, Telling, View};
 use std::alloc::Global;
 
 /// Whether this word stands at an option.

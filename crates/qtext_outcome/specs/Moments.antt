@@ -2,8 +2,8 @@
 use Rattle.std.specs.Prelude.{ℕ, List, map, fold, max}
 use Rattle.std.specs.List.{flat_map}
 use Rattle.qplain.specs.declared.transcript.Transcript.{Transcript}
-use Rattle.qtext_view.specs.declared.report_moment.ReportMoment.{ReportMoment}
-use Rattle.qtext_view.specs.declared.report_moment.ReportMoment.TheVariants.{At, Last}
+use Rattle.qtext.specs.declared.report_moment.ReportMoment.{ReportMoment}
+use Rattle.qtext.specs.declared.report_moment.ReportMoment.TheVariants.{At, Last}
 
 -- the moments of all lines
 abbrev pub moments_in : List Transcript → List ℕ

@@ -5,7 +5,7 @@ use Rattle.qrules.specs.Sort.{Inodes, Blocks, amount_of, is_over}
 use Rattle.qrules.specs.declared.record_row.RecordRow.{RecordRow}
 use Rattle.qtext.specs.Pieces.{left_in}
 use Rattle.qtext.specs.RuleWords.{kind_text}
-use Rattle.qtext_view.specs.declared.view.View.{View}
+use Rattle.qtext.specs.declared.view.View.{View}
 use Rattle.qaudit.specs.Reports.{column, flag_text, grace_text, row_text}
 use Rattle.qtext_outcome.specs.Units.{count_text, space_text}
 

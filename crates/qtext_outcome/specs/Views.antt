@@ -1,8 +1,8 @@
 -- Outcomes as a view shows them (profile, after repquota(8)).
 use Rattle.std.specs.Prelude.{ℕ, false, List, ◌++◌, if◌then◌else◌}
 use Rattle.std.specs.List.{flat_map}
-use Rattle.qtext_view.specs.declared.format.Format.TheVariants.{Text}
-use Rattle.qtext_view.specs.declared.view.View.{View}
+use Rattle.qtext.specs.declared.format.Format.TheVariants.{Text}
+use Rattle.qtext.specs.declared.view.View.{View}
 use Rattle.qrun_replay.specs.declared.outcome.Outcome.{Outcome}
 use Rattle.qtext_outcome.specs.Boards.{boards_text}
 use Rattle.qtext_outcome.specs.Calls.{shown_transcript}

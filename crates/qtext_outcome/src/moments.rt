@@ -3,7 +3,7 @@ ghost use Rattle.std.specs.Prelude.{◌≡◌, fold, map, max};
 ghost use Rattle.qtext_outcome.specs.Moments.{moment_of, moments_in};
 
 use qrun_replay::PlacedTranscript;
-use qtext_view::ReportMoment;
+use qtext::ReportMoment;
 
 /// The greatest of a moment and those of a transcript's lines.
 fn last_of(transcript: &PlacedTranscript, least: u64) -> u64

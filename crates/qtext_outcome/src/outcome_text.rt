@@ -11,8 +11,7 @@ use crate::{Shown, WriteFault, Written};
 use qaudit::put_audit;
 use qplain::Tallies;
 use qrun_replay::Outcome;
-use qtext::RefusedWrite;
-use qtext_view::{Format, View};
+use qtext::{Format, RefusedWrite, View};
 use std::io::Write;
 
 /// A view that asks for nothing.

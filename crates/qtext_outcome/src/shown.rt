@@ -1,5 +1,5 @@
 //! How an outcome is shown.
-use qtext_view::View;
+use qtext::View;
 
 /// What of an outcome is shown, and as of which moment its report is made.
 #[derive(Clone, Copy)]

@@ -11,8 +11,7 @@ use crate::units::{count, space};
 use crate::{Shown, Written};
 use qaudit::put_report;
 use qrules::{KIB_PER_BLOCK, RecordRow};
-use qtext::{Piece, TextLine, kind_word, put, put_pieces};
-use qtext_view::View;
+use qtext::{Piece, TextLine, View, kind_word, put, put_pieces};
 use std::io::Write;
 use std::slice;
 

@@ -11,8 +11,7 @@ use crate::shown_report::put_shown_report;
 use crate::transcript_text::put_transcripts;
 use crate::{Shown, Written};
 use qrun_replay::Outcome;
-use qtext::RefusedWrite;
-use qtext_view::View;
+use qtext::{RefusedWrite, View};
 use std::io::Write;
 
 /// Writes the transcripts, with the calls where they are asked for, and then the boards.

@@ -1,6 +1,6 @@
 -- Paths, kinds and owners that are spelled out are read again; and words are of bytes that print.
 use Rattle.std.proofs.Common.{◌≡◌, ℕ, ◌-◌, ◌<◌, ◌^◌, true, false, not, eqb, List, [], ◌∷◌, Option, Some, None, Ok, refl, arith, codes, decimal}
-use Rattle.std.specs.List.{list_all, AllByRecursion}
+use Rattle.std.specs.List.{list_all}
 use Rattle.std.specs.Char.{is_ascii_digit}
 use Rattle.std.specs.Str.{bytes_eq}
 use Rattle.std.proofs.lemmas.Bool.Decides.{nat_tests}
@@ -20,7 +20,7 @@ use Rattle.qtext.specs.RuleWords.{kind_text}
 use Rattle.qtext.proofs.Joining.{passes_weaker}
 use Rattle.qtext.proofs.WordsAgain.{are_digits, decoded, number_again}
 use Rattle.qtext_read.specs.Arguments.{path_of, kind_of, project_kind_of, owner_of}
-use Rattle.qtext_read.specs.Spelling.{owner_text, project_words}
+use Rattle.qtext_read.specs.Spelling.{owner_text}
 use Rattle.qplain.specs.Held.{IsOwner}
 use Rattle.qtext_read.proofs.Editions.{OnlyInTwo}
 
@@ -70,10 +70,6 @@ id_word n lt = decimal_word n (omega arith)
 pub owner_word : (owner : Option ℕ) → IsOwner owner → list_all is_path_byte (owner_text owner) ≡ true
 owner_word None is = refl
 owner_word (Some id) is = id_word id is
-
-pub project_word : (project : Option ℕ) → IsOwner project → AllByRecursion (λ w. list_all is_path_byte w ≡ true) (project_words project)
-project_word None is = tt
-project_word (Some id) is = (id_word id is, tt)
 
 -- digits are no arrow
 pub digits_lack_arrow : (w : List ℕ) → list_all is_ascii_digit w ≡ true → bytes_eq w (codes "=>") ≡ false

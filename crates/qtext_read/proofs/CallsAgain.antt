@@ -11,9 +11,9 @@ use Rattle.qplain.specs.declared.call.Call.TheVariants.{Create, Mkdir, Write, Tr
 use Rattle.qtext.specs.declared.text_fault.TextKind.TheVariants.{BadNumber}
 use Rattle.qtext.specs.Words.{number}
 use Rattle.qtext.proofs.WordsAgain.{number_again, data_again}
-use Rattle.qtext_read.specs.Verbs.{verb_of}
-use Rattle.qtext_read.specs.Arguments.{limits_of}
-use Rattle.qtext_read.specs.Rows.{value_in, values_in}
+use Rattle.qtext_read.specs.Rows.{verb_of}
+use Rattle.qtext_read.specs.RepliesRead.{limits_of}
+use Rattle.qtext_read.specs.Rows.{values_in}
 use Rattle.qtext_read.specs.Calls.{call_by, call_of, call_in}
 use Rattle.qtext_read.specs.Spelling.{call_words}
 use Rattle.qplain.specs.Held.{AreLimits, IsCall}
@@ -73,7 +73,7 @@ limits_again l fits = rw (
 
 -- the call of a script whose words these are
 pub call_again : (k : Call) → IsCall k → call_in (call_words k) ≡ Ok k
-unfolding call_in verb_of call_of values_in value_in call_by
+unfolding call_in verb_of call_of values_in call_by
 call_again (Create p) k = rw (path_again p k) refl
 call_again (Mkdir p) k = rw (path_again p k) refl
 call_again (Stat p) k = rw (path_again p k) refl

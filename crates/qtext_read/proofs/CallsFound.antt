@@ -21,10 +21,10 @@ use Rattle.qtext.proofs.Joining.{not_true}
 use Rattle.qtext.proofs.StepsFound.{kept, not_false, passed, same_ok, Spells, step_found, told}
 use Rattle.qtext.proofs.DataFound.{byte_fits, data_fits, data_found, equal_fits}
 use Rattle.qtext_read.specs.declared.row.TheConstants.{MAX_FILL}
-use Rattle.qtext_read.specs.declared.verb.Verb.{Verb}
+use Rattle.qtext_read.specs.declared.row.Verb.{Verb}
 use Rattle.qtext_read.specs.declared.row.Argument.{Argument}
-use Rattle.qtext_read.specs.declared.verb.Verb.TheVariants as verb
-use Rattle.qtext_read.specs.Verbs.{verb_of, verb_text}
+use Rattle.qtext_read.specs.declared.row.Verb.TheVariants as verb
+use Rattle.qtext_read.specs.Rows.{verb_of, verb_text}
 use Rattle.qtext_read.specs.Rows.{row, Value, PathValue, DataValue, NumberValue, KindValue, OwnerValue, ProjectValue, arity, takes, value_in, values_in}
 use Rattle.qtext_read.specs.Calls.{call_by, call_of, call_in}
 use Rattle.qtext_read.specs.Journaled.{argument_count, counted_call_of, has_project, in_one_case, is_fill, journaled_call_in, journaled_call_of}
@@ -110,7 +110,7 @@ none_left {arguments = a ∷ arguments} e = e.is
 
 left_read : (edition : Edition) (v : Verb) (arguments : List (List ℕ)) (call : Call) → takes v (length arguments) ≡ true
     → IsLeft edition v [] (row v) arguments call → IsRead edition v arguments call
-unfolding in_one_case value_in call_by
+unfolding in_one_case call_by
 left_read edition verb.Create (p ∷ []) call many e =
     next_word any_path PathValue p refl e λ path is fits e.
     rw (← same_ok {x = Create path} (none_left e))

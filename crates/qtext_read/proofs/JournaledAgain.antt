@@ -7,8 +7,8 @@ use Rattle.qplain.specs.declared.edition.Edition.TheVariants.{One, Two}
 use Rattle.qplain.specs.Projects.{call_names_project}
 use Rattle.qplain.specs.declared.call.Call.TheVariants.{Create, Mkdir, Write, Truncate, Read, Stat, Link, Unlink, Rmdir, Rename, Chown, SetQuota, SetGrace, Quota}
 use Rattle.qtext.proofs.WordsAgain.{are_digits, data_again}
-use Rattle.qtext_read.specs.Verbs.{verb_of}
-use Rattle.qtext_read.specs.Rows.{value_in, values_in}
+use Rattle.qtext_read.specs.Rows.{verb_of}
+use Rattle.qtext_read.specs.Rows.{values_in}
 use Rattle.qtext_read.specs.Calls.{call_by, call_of}
 use Rattle.qtext_read.specs.Journaled.{counted_call_of, in_one_case, is_project, journaled_call_in, journaled_call_of, journaled_verb_of}
 use Rattle.qtext_read.specs.Spelling.{call_words}
@@ -46,7 +46,7 @@ id_is_project id lt = rw (digits_lack_arrow (decimal id) (are_digits id (omega (
 -- the call whose words these are, and how many they are, where an arrow stands after them
 pub journaled_again : (edition : Edition) (k : Call) → IsCall k → OnlyInTwo edition (call_names_project k) → (rest : List (List ℕ))
     → journaled_call_in edition (call_words k ++ codes "=>" ∷ rest) ≡ Ok (k, length (call_words k))
-unfolding journaled_call_in counted_call_of journaled_verb_of journaled_call_of in_one_case verb_of call_of values_in value_in call_by
+unfolding journaled_call_in counted_call_of journaled_verb_of journaled_call_of in_one_case verb_of call_of values_in call_by
 journaled_again edition (Create p) k old rest = rw (enough_1 (length (codes "=>" ∷ rest)), path_again p k) refl
 journaled_again edition (Mkdir p) k old rest = rw (enough_1 (length (codes "=>" ∷ rest)), path_again p k) refl
 journaled_again edition (Stat p) k old rest = rw (enough_1 (length (codes "=>" ∷ rest)), path_again p k) refl

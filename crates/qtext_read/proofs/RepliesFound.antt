@@ -18,7 +18,7 @@ use Rattle.qtext.specs.RuleWords.{over_text}
 use Rattle.qtext.specs.Words.{number}
 use Rattle.qtext.proofs.DataFound.{data_fits, data_found}
 use Rattle.qtext.proofs.StepsFound.{not_false, Spells, chosen, kept, passed, same_ok, same_word, step_found, told, word_found}
-use Rattle.qtext_read.specs.Arguments.{limits_of}
+use Rattle.qtext_read.specs.RepliesRead.{limits_of}
 use Rattle.qtext_read.specs.Replies.{end_text}
 use Rattle.qtext_read.specs.RepliesRead.{as_bad_reply, bytes_of, done_of, edquot_of, end_of, keyword, over_of, quota_of, refusal_of, reply_in, reply_of, reply_word_of, rise_of, signed, stat_of, type_of, words_of_reply}
 use Rattle.qtext_read.specs.RepliesSpelled.{refusal_words, reply_words}

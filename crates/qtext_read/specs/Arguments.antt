@@ -3,7 +3,6 @@ use Rattle.std.specs.Prelude.{ℕ, ◌==◌, ◌&&◌, not, List, length, codes,
 use Rattle.std.specs.Prelude.{if◌then◌else◌}
 use Rattle.std.specs.List.{list_all}
 use Rattle.std.specs.Str.{bytes_eq}
-use Rattle.qrules.specs.declared.limits.Limits.{Limits}
 use Rattle.qrules.specs.declared.kind.Kind.{Kind}
 use Rattle.qrules.specs.declared.kind.Kind.TheVariants.{User, Group, Project}
 use Rattle.qplain.specs.Paths.{is_path_byte}
@@ -12,7 +11,7 @@ use Rattle.qplain.specs.declared.edition.Edition.TheVariants.{One, Two}
 use Rattle.qtext.specs.declared.text_fault.TextKind.{TextKind}
 use Rattle.qtext.specs.declared.text_fault.TextKind.TheVariants.{BadNumber, BadWord}
 use Rattle.qtext.specs.Reading.{◌>>=◌}
-use Rattle.qtext.specs.Words.{id_of, number}
+use Rattle.qtext.specs.Words.{id_of}
 
 -- a path is any word that is not empty
 unfoldable pub path_of : List ℕ → Result (List ℕ) TextKind
@@ -36,12 +35,3 @@ unfoldable pub owner_of : List ℕ → Result (Option ℕ) TextKind
 owner_of word = if bytes_eq word (codes "-") then Ok None else (do
   id ← id_of BadNumber word
   Ok (Some id))
-
--- BSOFT BHARD ISOFT IHARD
-unfoldable pub limits_of : List ℕ → List ℕ → List ℕ → List ℕ → Result Limits TextKind
-limits_of bs bh is ih = do
-  block_soft ← number bs
-  block_hard ← number bh
-  inode_soft ← number is
-  inode_hard ← number ih
-  Ok (record { block_soft = block_soft; block_hard = block_hard; inode_soft = inode_soft; inode_hard = inode_hard })

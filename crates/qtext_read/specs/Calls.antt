@@ -1,4 +1,4 @@
--- The call that a verb and its arguments spell in texts of an edition.
+-- A call is its verb and the values in the places of its arguments; and the call that words spell.
 use Rattle.std.specs.Prelude.{ℕ, List, [], ◌∷◌, length, None, Result, Ok, Err, replicate, if◌then◌else◌}
 use Rattle.qplain.specs.declared.call.Call.{Call}
 use Rattle.qplain.specs.declared.call.Call.TheVariants.{Create, Mkdir, Write, Truncate, Read, Stat, Link, Unlink}
@@ -8,13 +8,13 @@ use Rattle.qplain.specs.declared.edition.Edition.TheVariants.{Two}
 use Rattle.qtext.specs.declared.text_fault.TextKind.{TextKind}
 use Rattle.qtext.specs.declared.text_fault.TextKind.TheVariants.{BadVerb, WordCount}
 use Rattle.qtext.specs.Reading.{◌>>=◌}
-use Rattle.qtext_read.specs.declared.verb.Verb.{Verb}
-use Rattle.qtext_read.specs.declared.verb.Verb.TheVariants as verb
+use Rattle.qtext_read.specs.declared.row.Verb.{Verb}
+use Rattle.qtext_read.specs.declared.row.Verb.TheVariants as verb
 use Rattle.qtext_read.specs.Rows.{Value, PathValue, DataValue, NumberValue, KindValue, OwnerValue, ProjectValue}
-use Rattle.qtext_read.specs.Rows.{row, takes, values_in}
-use Rattle.qtext_read.specs.Verbs.{verb_of}
+use Rattle.qtext_read.specs.Rows.{row, takes, values_in, verb_of}
 
--- the call of a verb and what stands in the places of its arguments; a fill is a write of that many equal bytes
+-- the call of a verb and the values in the places of its arguments, where they are those that it takes; a fill is a
+-- write of that many equal bytes
 unfoldable pub call_by : Verb → List Value → Result Call TextKind
 call_by verb.Create (PathValue path ∷ []) = Ok (Create path)
 call_by verb.Mkdir (PathValue path ∷ []) = Ok (Mkdir path)
@@ -53,3 +53,26 @@ call_in [] = Err BadVerb
 call_in (v ∷ arguments) = do
   verb ← verb_of v
   call_of Two verb arguments
+
+-- a verb, and the values in the places of its arguments
+pub data Parts : Type 0 where
+  Of : Verb → List Value → Parts
+
+-- the parts of a call
+abbrev pub parts_of : Call → Parts
+parts_of (Create path) = Of verb.Create (PathValue path ∷ [])
+parts_of (Mkdir path) = Of verb.Mkdir (PathValue path ∷ [])
+parts_of (Write path off bytes) = Of verb.Write (PathValue path ∷ NumberValue off ∷ DataValue bytes ∷ [])
+parts_of (Truncate path size) = Of verb.Truncate (PathValue path ∷ NumberValue size ∷ [])
+parts_of (Read path off len) = Of verb.Read (PathValue path ∷ NumberValue off ∷ NumberValue len ∷ [])
+parts_of (Stat path) = Of verb.Stat (PathValue path ∷ [])
+parts_of (Link from to) = Of verb.Link (PathValue from ∷ PathValue to ∷ [])
+parts_of (Unlink path) = Of verb.Unlink (PathValue path ∷ [])
+parts_of (Rmdir path) = Of verb.Rmdir (PathValue path ∷ [])
+parts_of (Rename from to) = Of verb.Rename (PathValue from ∷ PathValue to ∷ [])
+parts_of (Chown path uid gid project) =
+    Of verb.Chown (PathValue path ∷ OwnerValue uid ∷ OwnerValue gid ∷ ProjectValue project ∷ [])
+parts_of (SetQuota kind id l) = Of verb.SetQuota (KindValue kind ∷ NumberValue id ∷ NumberValue l.block_soft
+    ∷ NumberValue l.block_hard ∷ NumberValue l.inode_soft ∷ NumberValue l.inode_hard ∷ [])
+parts_of (SetGrace graces) = Of verb.SetGrace (NumberValue graces.block ∷ NumberValue graces.inode ∷ [])
+parts_of (Quota kind id) = Of verb.Quota (KindValue kind ∷ NumberValue id ∷ [])

@@ -12,9 +12,9 @@ use Rattle.qtext.specs.declared.text_fault.TextKind.TheVariants.{BadHex, BadVerb
 use Rattle.qtext.specs.Reading.{◌>>=◌}
 use Rattle.qtext_read.specs.Calls.{call_of}
 use Rattle.qtext_read.specs.Rows.{arity}
-use Rattle.qtext_read.specs.Verbs.{verb_of}
-use Rattle.qtext_read.specs.declared.verb.Verb.{Verb}
-use Rattle.qtext_read.specs.declared.verb.Verb.TheVariants as verb
+use Rattle.qtext_read.specs.Rows.{verb_of}
+use Rattle.qtext_read.specs.declared.row.Verb.{Verb}
+use Rattle.qtext_read.specs.declared.row.Verb.TheVariants as verb
 
 -- the fourth word behind chown is a project in edition 2, unless it is the arrow before the reply
 abbrev pub is_project : Edition → List ℕ → Bool

@@ -16,7 +16,7 @@ IsJudged is (Err faults.Memory) = ⊥
 abbrev pub is_value : Edition → Argument → List ℕ → Bool
 is_value edition a word = is_ok (value_in edition a word)
 
--- how many words stand before the first that is none in the place of its argument
+-- how many words stand before the first that is none in the place of its argument, as far as there are both
 unfoldable pub values_before : Edition → List Argument → List (List ℕ) → ℕ
 values_before edition (a ∷ arguments) (w ∷ words) =
     if is_value edition a w then 1 + values_before edition arguments words else 0

@@ -1,8 +1,7 @@
--- In reading order: callers, arguments, verbs, the table of calls, words judged one by one, calls; how they are spelled
+-- In reading order: callers, arguments, the table of calls, words judged one by one, calls; how they are spelled
 -- out; replies, written, read and spelled out.
 pub mod Callers
 pub mod Arguments
-pub mod Verbs
 pub mod Rows
 pub mod Judged
 pub mod Calls

@@ -4,6 +4,7 @@ use Rattle.std.specs.Prelude.{Result, Ok, Err, if◌then◌else◌}
 use Rattle.std.specs.Char.{is_ascii_uppercase}
 use Rattle.std.specs.List.{list_any}
 use Rattle.std.specs.Str.{bytes_eq}
+use Rattle.qrules.specs.declared.limits.Limits.{Limits}
 use Rattle.qrules.specs.declared.over.Over.{Over}
 use Rattle.qrules.specs.declared.over.Over.TheVariants.{InodeHard, InodeSoft, BlockHard, BlockSoft}
 use Rattle.qplain.specs.declared.edition.Edition.{Edition}
@@ -19,7 +20,6 @@ use Rattle.qtext.specs.Data.{data_of}
 use Rattle.qtext.specs.Reading.{◌>>=◌}
 use Rattle.qtext.specs.Words.{id_of, number}
 use Rattle.qtext_read.specs.Arguments.{kind_of}
-use Rattle.qtext_read.specs.Arguments.{limits_of}
 use Rattle.qtext_read.specs.declared.reply_word.ReplyWord.{ReplyWord}
 use Rattle.qtext_read.specs.declared.reply_word.ReplyWord.TheVariants.{Done, Bytes, Stat, Quota, Refused}
 
@@ -129,6 +129,15 @@ unfoldable pub end_of : List ℕ → Result (Option ℕ) TextKind
 end_of word = if bytes_eq word (codes "-") then Ok None else (do
   end ← number word
   Ok (Some end))
+
+-- BSOFT BHARD ISOFT IHARD
+unfoldable pub limits_of : List ℕ → List ℕ → List ℕ → List ℕ → Result Limits TextKind
+limits_of bs bh is ih = do
+  block_soft ← number bs
+  block_hard ← number bh
+  inode_soft ← number is
+  inode_hard ← number ih
+  Ok (record { block_soft = block_soft; block_hard = block_hard; inode_soft = inode_soft; inode_hard = inode_hard })
 
 -- BLOCKS INODES BSOFT BHARD ISOFT IHARD BEND IEND
 unfoldable pub quota_of : List ℕ → List ℕ → List ℕ → List ℕ → List ℕ → List ℕ → List ℕ → List ℕ → Result Reply TextKind

@@ -1,20 +1,60 @@
--- The one table of calls: what each verb takes, and what a word is in the place of an argument.
-use Rattle.std.specs.Prelude.{ℕ, ◌==◌, ◌||◌, Bool, List, [], ◌∷◌, codes, length, Option, Some, Result, Ok}
+-- The one table of calls: the word of each verb, what it takes, and what a word is in the place of an argument.
+use Rattle.std.specs.Prelude.{ℕ, ◌==◌, ◌||◌, Bool, List, [], ◌∷◌, codes, length, Option, Some, Result, Ok, Err}
+use Rattle.std.specs.Prelude.{if◌then◌else◌}
+use Rattle.std.specs.Str.{bytes_eq}
 use Rattle.qrules.specs.declared.kind.Kind.{Kind}
 use Rattle.qplain.specs.declared.edition.Edition.{Edition}
 use Rattle.qtext.specs.declared.text_fault.TextKind.{TextKind}
-use Rattle.qtext.specs.declared.text_fault.TextKind.TheVariants.{BadNumber}
+use Rattle.qtext.specs.declared.text_fault.TextKind.TheVariants.{BadNumber, BadVerb}
 use Rattle.qtext.specs.Reading.{◌>>=◌}
 use Rattle.qtext.specs.Words.{number, number_of, id_of}
 use Rattle.qtext.specs.Data.{data_of, byte_of}
 use Rattle.qtext_read.specs.declared.row.Argument.{Argument}
 use Rattle.qtext_read.specs.declared.row.Argument.TheVariants as argument
 use Rattle.qtext_read.specs.declared.row.TheConstants.{MAX_FILL}
-use Rattle.qtext_read.specs.declared.verb.Verb.{Verb}
-use Rattle.qtext_read.specs.declared.verb.Verb.TheVariants as verb
+use Rattle.qtext_read.specs.declared.row.Verb.{Verb}
+use Rattle.qtext_read.specs.declared.row.Verb.TheVariants as verb
 use Rattle.qtext_read.specs.Arguments.{path_of, kind_of, owner_of}
 
--- the name of an argument
+-- the word of a verb
+abbrev pub verb_text : Verb → List ℕ
+verb_text verb.Create = codes "create"
+verb_text verb.Mkdir = codes "mkdir"
+verb_text verb.Write = codes "write"
+verb_text verb.Fill = codes "fill"
+verb_text verb.Truncate = codes "truncate"
+verb_text verb.Read = codes "read"
+verb_text verb.Stat = codes "stat"
+verb_text verb.Link = codes "link"
+verb_text verb.Unlink = codes "unlink"
+verb_text verb.Rmdir = codes "rmdir"
+verb_text verb.Rename = codes "rename"
+verb_text verb.Chown = codes "chown"
+verb_text verb.SetQuota = codes "setquota"
+verb_text verb.SetGrace = codes "setgrace"
+verb_text verb.Quota = codes "quota"
+
+-- the verb that a word spells
+unfoldable pub verb_of : List ℕ → Result Verb TextKind
+verb_of word =
+    if bytes_eq word (codes "write") then Ok verb.Write
+    else if bytes_eq word (codes "stat") then Ok verb.Stat
+    else if bytes_eq word (codes "read") then Ok verb.Read
+    else if bytes_eq word (codes "create") then Ok verb.Create
+    else if bytes_eq word (codes "mkdir") then Ok verb.Mkdir
+    else if bytes_eq word (codes "fill") then Ok verb.Fill
+    else if bytes_eq word (codes "truncate") then Ok verb.Truncate
+    else if bytes_eq word (codes "link") then Ok verb.Link
+    else if bytes_eq word (codes "unlink") then Ok verb.Unlink
+    else if bytes_eq word (codes "rmdir") then Ok verb.Rmdir
+    else if bytes_eq word (codes "rename") then Ok verb.Rename
+    else if bytes_eq word (codes "chown") then Ok verb.Chown
+    else if bytes_eq word (codes "setquota") then Ok verb.SetQuota
+    else if bytes_eq word (codes "setgrace") then Ok verb.SetGrace
+    else if bytes_eq word (codes "quota") then Ok verb.Quota
+    else Err BadVerb
+
+-- the name of an argument, as data for programs have it
 abbrev pub name : Argument → List ℕ
 name argument.Path = codes "path"
 name argument.From = codes "from"
@@ -65,7 +105,7 @@ arity v = length (row v)
 abbrev pub takes : Verb → ℕ → Bool
 takes v count = count == arity v || count == length (row v)
 
--- what a word is in the place of an argument
+-- what stands in the place of an argument
 pub data Value : Type 0 where
   PathValue : List ℕ → Value
   DataValue : List ℕ → Value
@@ -74,8 +114,8 @@ pub data Value : Type 0 where
   OwnerValue : Option ℕ → Value
   ProjectValue : Option ℕ → Value
 
--- what a word is in the place of an argument, in texts of an edition, or the fault of one that is none
-unfoldable pub value_in : Edition → Argument → List ℕ → Result Value TextKind
+-- what a word stands for in the place of an argument, in texts of an edition, or the fault of one that is none
+abbrev pub value_in : Edition → Argument → List ℕ → Result Value TextKind
 value_in edition argument.Path word = path_of word >>= λ path. Ok (PathValue path)
 value_in edition argument.From word = path_of word >>= λ path. Ok (PathValue path)
 value_in edition argument.To word = path_of word >>= λ path. Ok (PathValue path)
@@ -89,7 +129,7 @@ value_in edition argument.Kind word = kind_of edition word >>= λ kind. Ok (Kind
 value_in edition argument.Id word = id_of BadNumber word >>= λ id. Ok (NumberValue id)
 value_in edition other word = number word >>= λ n. Ok (NumberValue n)
 
--- what words are in the places of arguments, from left to right
+-- what words stand for in the places of arguments, from left to right, as far as there are both
 unfoldable pub values_in : Edition → List Argument → List (List ℕ) → Result (List Value) TextKind
 values_in edition (a ∷ arguments) (w ∷ words) = do
   value ← value_in edition a w

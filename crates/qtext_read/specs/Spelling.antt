@@ -4,14 +4,11 @@ use Rattle.std.specs.List.{flat_map, join_with_byte}
 use Rattle.qrules.specs.declared.limits.Limits.{Limits}
 use Rattle.qplain.specs.Caller.{Caller}
 use Rattle.qplain.specs.declared.call.Call.{Call}
-use Rattle.qplain.specs.declared.call.Call.TheVariants.{Create, Mkdir, Write, Truncate, Read, Stat, Link, Unlink}
-use Rattle.qplain.specs.declared.call.Call.TheVariants.{Rmdir, Rename, Chown, SetQuota, SetGrace, Quota}
 use Rattle.qtext.specs.Pieces.{data_text}
 use Rattle.qtext.specs.RuleWords.{kind_text}
-use Rattle.qtext_read.specs.declared.verb.Verb.{Verb}
-use Rattle.qtext_read.specs.declared.verb.Verb.TheVariants as verb
 use Rattle.qtext_read.specs.Rows.{Value, PathValue, DataValue, NumberValue, KindValue, OwnerValue, ProjectValue}
-use Rattle.qtext_read.specs.Verbs.{verb_text}
+use Rattle.qtext_read.specs.Rows.{verb_text}
+use Rattle.qtext_read.specs.Calls.{Parts, Of, parts_of}
 
 -- UID:GID
 abbrev pub own_ids_text : Caller → List ℕ
@@ -35,30 +32,7 @@ project_words (Some id) = decimal id ∷ []
 abbrev pub limits_words : Limits → List (List ℕ)
 limits_words l = decimal l.block_soft ∷ decimal l.block_hard ∷ decimal l.inode_soft ∷ decimal l.inode_hard ∷ []
 
--- a verb, and what stands in the places of its arguments
-pub data Parts : Type 0 where
-  Of : Verb → List Value → Parts
-
--- the parts of a call
-abbrev pub parts_of : Call → Parts
-parts_of (Create path) = Of verb.Create (PathValue path ∷ [])
-parts_of (Mkdir path) = Of verb.Mkdir (PathValue path ∷ [])
-parts_of (Write path off bytes) = Of verb.Write (PathValue path ∷ NumberValue off ∷ DataValue bytes ∷ [])
-parts_of (Truncate path size) = Of verb.Truncate (PathValue path ∷ NumberValue size ∷ [])
-parts_of (Read path off len) = Of verb.Read (PathValue path ∷ NumberValue off ∷ NumberValue len ∷ [])
-parts_of (Stat path) = Of verb.Stat (PathValue path ∷ [])
-parts_of (Link from to) = Of verb.Link (PathValue from ∷ PathValue to ∷ [])
-parts_of (Unlink path) = Of verb.Unlink (PathValue path ∷ [])
-parts_of (Rmdir path) = Of verb.Rmdir (PathValue path ∷ [])
-parts_of (Rename from to) = Of verb.Rename (PathValue from ∷ PathValue to ∷ [])
-parts_of (Chown path uid gid project) =
-    Of verb.Chown (PathValue path ∷ OwnerValue uid ∷ OwnerValue gid ∷ ProjectValue project ∷ [])
-parts_of (SetQuota kind id l) = Of verb.SetQuota (KindValue kind ∷ NumberValue id ∷ NumberValue l.block_soft
-    ∷ NumberValue l.block_hard ∷ NumberValue l.inode_soft ∷ NumberValue l.inode_hard ∷ [])
-parts_of (SetGrace graces) = Of verb.SetGrace (NumberValue graces.block ∷ NumberValue graces.inode ∷ [])
-parts_of (Quota kind id) = Of verb.Quota (KindValue kind ∷ NumberValue id ∷ [])
-
--- what stands in the place of an argument as words: a project that is not named has none
+-- a value as words: a project that is not named has none
 abbrev pub value_words : Value → List (List ℕ)
 value_words (PathValue path) = path ∷ []
 value_words (DataValue bytes) = data_text bytes ∷ []

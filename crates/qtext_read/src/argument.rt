@@ -2,11 +2,11 @@
 ghost use Rattle.std.specs.Prelude.{◌≡◌};
 ghost use Rattle.qtext.specs.Gives.{Gives};
 ghost use Rattle.qtext.specs.Data.{data_of};
-ghost use Rattle.qtext_read.specs.Arguments.{kind_of, limits_of, owner_of, path_of, project_kind_of};
+ghost use Rattle.qtext_read.specs.Arguments.{kind_of, owner_of, path_of, project_kind_of};
 
 use qplain::{Data, Edition, Path, SharedItems};
-use qrules::{Kind, Limits};
-use qtext::{ReadFault, TextKind, data_of as bytes_of, id_of, number};
+use qrules::Kind;
+use qtext::{ReadFault, TextKind, data_of as bytes_of, id_of};
 use std::alloc::Global;
 
 /// A path: whether it leads anywhere is for the store to say.
@@ -68,23 +68,10 @@ pub(crate) fn owner_of(word: &[u8]) -> Result<Option<u32>, ReadFault>
 }
 
 /// `BSOFT BHARD ISOFT IHARD`.
-#[tactic(auto, unfolding(crate::specs::Arguments::limits_of))]
-pub(crate) fn limits_of(
-    block_soft: &[u8],
-    block_hard: &[u8],
-    inode_soft: &[u8],
-    inode_hard: &[u8],
-) -> Result<Limits, ReadFault>
-    ensures { Gives result (limits_of block_soft.now block_hard.now inode_soft.now inode_hard.now) }
-{
-    let block_soft = number(block_soft)?;
-    let block_hard = number(block_hard)?;
-    let inode_soft = number(inode_soft)?;
-    let inode_hard = number(inode_hard)?;
-    Ok(Limits {
-        block_soft,
-        block_hard,
-        inode_soft,
-        inode_hard,
-    })
+#[derive(Clone, Copy)]
+pub(crate) struct LimitsWords<'a> {
+    pub(crate) block_soft: &'a [u8],
+    pub(crate) block_hard: &'a [u8],
+    pub(crate) inode_soft: &'a [u8],
+    pub(crate) inode_hard: &'a [u8],
 }

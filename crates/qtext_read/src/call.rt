@@ -1,18 +1,17 @@
 //! Calls as words.
-#![tactic(auto, unfolding(crate::specs::Calls::call_of, crate::specs::Calls::call_by, crate::specs::Rows::values_in, crate::specs::Rows::value_in))]
+#![tactic(auto, unfolding(crate::specs::Calls::call_of, crate::specs::Calls::call_by, crate::specs::Rows::values_in))]
 
 ghost use Rattle.std.specs.Prelude.{map, ◌∷◌, []};
 ghost use Rattle.qplain.specs.declared.edition.Edition.{Edition};
 ghost use Rattle.qtext.specs.Gives.{Gives};
-ghost use Rattle.qtext_read.specs.declared.verb.Verb.TheVariants.{Chown, Fill, Quota, Read, SetGrace, SetQuota};
-ghost use Rattle.qtext_read.specs.declared.verb.Verb.TheVariants.{Truncate, Write};
+ghost use Rattle.qtext_read.specs.declared.row.Verb.TheVariants.{Chown, Fill, Quota, Read, SetGrace, SetQuota};
+ghost use Rattle.qtext_read.specs.declared.row.Verb.TheVariants.{Truncate, Write};
 ghost use Rattle.qtext_read.specs.Calls.{call_in, call_of};
 
-use crate::argument::{data_of, kind_of, owner_of};
+use crate::argument::{LimitsWords, data_of, kind_of, owner_of};
 use crate::path_call::{create_of, link_of, mkdir_of, rename_of, rmdir_of, stat_of, unlink_of};
 use crate::paths::Paths;
-use crate::row::MAX_FILL;
-use crate::verb::{Verb, verb_of};
+use crate::row::{MAX_FILL, Verb, verb_of};
 use qplain::{Call, Data, Edition};
 use qrules::{Graces, Limits};
 use qtext::{ReadFault, TextKind, byte_of, id_of, number, number_of};
@@ -131,20 +130,17 @@ fn setquota_of(
     edition: Edition,
     kind: &[u8],
     id: &[u8],
-    block_soft: &[u8],
-    block_hard: &[u8],
-    inode_soft: &[u8],
-    inode_hard: &[u8],
+    limits: LimitsWords<'_>,
 ) -> Result<Call, ReadFault>
-    ensures { Gives result (call_of edition SetQuota
-        (kind.now ∷ id.now ∷ block_soft.now ∷ block_hard.now ∷ inode_soft.now ∷ inode_hard.now ∷ [])) }
+    ensures { Gives result (call_of edition SetQuota (kind.now ∷ id.now ∷ limits.entry.block_soft.now
+        ∷ limits.entry.block_hard.now ∷ limits.entry.inode_soft.now ∷ limits.entry.inode_hard.now ∷ [])) }
 {
     let kind = kind_of(edition, kind)?;
     let id = id_of(TextKind::BadNumber, id)?;
-    let block_soft = number(block_soft)?;
-    let block_hard = number(block_hard)?;
-    let inode_soft = number(inode_soft)?;
-    let inode_hard = number(inode_hard)?;
+    let block_soft = number(limits.block_soft)?;
+    let block_hard = number(limits.block_hard)?;
+    let inode_soft = number(limits.inode_soft)?;
+    let inode_hard = number(limits.inode_hard)?;
     let limits = Limits {
         block_soft,
         block_hard,
@@ -194,9 +190,13 @@ pub(crate) fn call_of<'a>(
             chown_to_project_of(alloc, paths, path, uid, gid, project)
         }
         (Verb::SetQuota, [kind, id, block_soft, block_hard, inode_soft, inode_hard]) => {
-            setquota_of(
-                edition, kind, id, block_soft, block_hard, inode_soft, inode_hard,
-            )
+            let limits = LimitsWords {
+                block_soft,
+                block_hard,
+                inode_soft,
+                inode_hard,
+            };
+            setquota_of(edition, kind, id, limits)
         }
         (Verb::SetGrace, [block, inode]) => setgrace_of(block, inode),
         (Verb::Quota, [kind, id]) => quota_of(edition, kind, id),

@@ -6,9 +6,8 @@ ghost use Rattle.qtext_read.specs.Journaled.{is_project, journaled_call_in, jour
 
 use crate::call::call_of;
 use crate::paths::Paths;
-use crate::row::arity;
+use crate::row::{Verb, arity, verb_of};
 use crate::upper_case::has_upper_case;
-use crate::verb::{Verb, verb_of};
 use qplain::{Call, Edition};
 use qtext::{ReadFault, TextKind};
 use std::alloc::Global;

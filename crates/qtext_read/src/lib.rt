@@ -6,9 +6,8 @@ pub use caller::caller_of;
 pub use journaled::journaled_call_in;
 pub use paths::Paths;
 pub use reply::reply_in;
-pub use row::{Argument, MAX_FILL, name_of, row_of, takes};
-pub use value::{is_value, values_before, was_read};
-pub use verb::{VERBS, Verb, verb_of, verb_word};
+pub use row::{Argument, MAX_FILL, VERBS, Verb, name_of, row_of, takes, verb_of, verb_word};
+pub use value::{values_before, was_read};
 
 mod argument;
 mod call;
@@ -21,4 +20,3 @@ mod reply_word;
 mod row;
 mod upper_case;
 mod value;
-mod verb;

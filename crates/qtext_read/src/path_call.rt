@@ -1,10 +1,10 @@
 //! The calls whose arguments are paths alone.
-#![tactic(auto, unfolding(crate::specs::Calls::call_of, crate::specs::Calls::call_by, crate::specs::Rows::values_in, crate::specs::Rows::value_in))]
+#![tactic(auto, unfolding(crate::specs::Calls::call_of, crate::specs::Calls::call_by, crate::specs::Rows::values_in))]
 
 ghost use Rattle.std.specs.Prelude.{◌∷◌, []};
 ghost use Rattle.qplain.specs.declared.edition.Edition.{Edition};
 ghost use Rattle.qtext.specs.Gives.{Gives};
-ghost use Rattle.qtext_read.specs.declared.verb.Verb.TheVariants.{Create, Link, Mkdir, Rename, Rmdir, Stat, Unlink};
+ghost use Rattle.qtext_read.specs.declared.row.Verb.TheVariants.{Create, Link, Mkdir, Rename, Rmdir, Stat, Unlink};
 ghost use Rattle.qtext_read.specs.Calls.{call_of};
 
 use crate::paths::Paths;

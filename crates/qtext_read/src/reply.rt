@@ -1,13 +1,14 @@
 //! Replies read from words.
 ghost use Rattle.std.specs.Prelude.{map};
 ghost use Rattle.qtext.specs.Gives.{Gives};
-ghost use Rattle.qtext_read.specs.RepliesRead.{as_bad_reply, bytes_of, done_of, edquot_of, end_of, keyword, quota_of};
-ghost use Rattle.qtext_read.specs.RepliesRead.{rise_of, reply_in, reply_of, signed, stat_of, words_of_reply};
+ghost use Rattle.qtext_read.specs.RepliesRead.{as_bad_reply, bytes_of, done_of, edquot_of, end_of, keyword, limits_of};
+ghost use Rattle.qtext_read.specs.RepliesRead.{quota_of, reply_in, reply_of, rise_of, signed, stat_of, words_of_reply};
 
-use crate::argument::{kind_of, limits_of};
+use crate::argument::{LimitsWords, kind_of};
 use crate::reply_word::{ReplyWord, over_of, refusal_of, reply_word_of, type_of};
 use crate::upper_case::has_upper_case;
 use qplain::{Change, Edition, Quota, Refusal, Reply, SharedItems, Stat};
+use qrules::Limits;
 use qtext::{ReadFault, TextKind, data_of, id_of, number};
 use std::alloc::Global;
 
@@ -38,43 +39,111 @@ fn signed(sign: u8, word: &[u8]) -> Result<u64, ReadFault>
     }
 }
 
+/// `blocks +C -R` or `inodes +C -R`.
+#[derive(Clone, Copy)]
+struct RiseWords<'a> {
+    total: &'a [u8],
+    up: &'a [u8],
+    down: &'a [u8],
+}
+
 /// A total, and by how much it rose and fell.
 #[tactic(auto, unfolding(crate::specs::RepliesRead::rise_of))]
-fn rise_of(wanted: &[u8], total: &[u8], up: &[u8], down: &[u8]) -> Result<(u64, u64), ReadFault>
-    ensures { Gives result (rise_of wanted.now total.now up.now down.now) }
+fn rise_of(wanted: &[u8], words: RiseWords<'_>) -> Result<(u64, u64), ReadFault>
+    ensures { Gives result (rise_of wanted.now words.entry.total.now words.entry.up.now words.entry.down.now) }
 {
-    keyword(wanted, total)?;
-    let charged = signed(b'+', up)?;
-    let released = signed(b'-', down)?;
+    keyword(wanted, words.total)?;
+    let charged = signed(b'+', words.up)?;
+    let released = signed(b'-', words.down)?;
     Ok((charged, released))
 }
 
 /// `INO blocks +C -R inodes +C -R`.
 #[tactic(auto, unfolding(crate::specs::RepliesRead::done_of))]
-fn done_of(
-    ino: &[u8],
-    blocks: &[u8],
-    blocks_up: &[u8],
-    blocks_down: &[u8],
-    inodes: &[u8],
-    inodes_up: &[u8],
-    inodes_down: &[u8],
-) -> Result<Reply, ReadFault>
-    ensures { Gives result (done_of ino.now blocks.now blocks_up.now blocks_down.now
-        inodes.now inodes_up.now inodes_down.now) }
+fn done_of(ino: &[u8], blocks: RiseWords<'_>, inodes: RiseWords<'_>) -> Result<Reply, ReadFault>
+    ensures { Gives result (done_of ino.now blocks.entry.total.now blocks.entry.up.now blocks.entry.down.now
+        inodes.entry.total.now inodes.entry.up.now inodes.entry.down.now) }
 {
     let ino = number(ino)?;
-    let blocks = rise_of(b"blocks", blocks, blocks_up, blocks_down)?;
-    let inodes = rise_of(b"inodes", inodes, inodes_up, inodes_down)?;
-    Ok(Reply::Done(
-        ino,
-        Change {
-            blocks_charged: blocks.0,
-            blocks_released: blocks.1,
-            inodes_charged: inodes.0,
-            inodes_released: inodes.1,
-        },
-    ))
+    let blocks = rise_of(b"blocks", blocks)?;
+    let inodes = rise_of(b"inodes", inodes)?;
+    let change = Change {
+        blocks_charged: blocks.0,
+        blocks_released: blocks.1,
+        inodes_charged: inodes.0,
+        inodes_released: inodes.1,
+    };
+    Ok(Reply::Done(ino, change))
+}
+
+/// `SIZE BLOCKS LINKS`.
+#[derive(Clone, Copy)]
+struct SizeWords<'a> {
+    size: &'a [u8],
+    blocks: &'a [u8],
+    links: &'a [u8],
+}
+
+/// `INO dir UID GID 0 0 LINKS` or `INO file UID GID SIZE BLOCKS LINKS`.
+#[tactic(auto, unfolding(crate::specs::RepliesRead::stat_of))]
+fn stat_of(
+    ino: &[u8],
+    dir: &[u8],
+    uid: &[u8],
+    gid: &[u8],
+    words: SizeWords<'_>,
+) -> Result<Reply, ReadFault>
+    ensures { Gives result (stat_of ino.now dir.now uid.now gid.now
+        words.entry.size.now words.entry.blocks.now words.entry.links.now) }
+{
+    let stat = Stat {
+        ino: number(ino)?,
+        dir: type_of(dir)?,
+        uid: id_of(TextKind::BadReply, uid)?,
+        gid: id_of(TextKind::BadReply, gid)?,
+        size: number(words.size)?,
+        blocks: number(words.blocks)?,
+        links: number(words.links)?,
+    };
+    if stat.dir && (stat.size != 0 || stat.blocks != 0) {
+        return Err(ReadFault::Fault(TextKind::BadReply));
+    }
+    Ok(Reply::Stat(stat))
+}
+
+/// `BSOFT BHARD ISOFT IHARD`.
+#[tactic(auto, unfolding(crate::specs::RepliesRead::limits_of))]
+fn limits_of(words: LimitsWords<'_>) -> Result<Limits, ReadFault>
+    ensures { Gives result (limits_of words.entry.block_soft.now words.entry.block_hard.now
+        words.entry.inode_soft.now words.entry.inode_hard.now) }
+{
+    Ok(Limits {
+        block_soft: number(words.block_soft)?,
+        block_hard: number(words.block_hard)?,
+        inode_soft: number(words.inode_soft)?,
+        inode_hard: number(words.inode_hard)?,
+    })
+}
+
+/// `BLOCKS INODES BSOFT BHARD ISOFT IHARD BEND IEND`.
+#[tactic(auto, unfolding(crate::specs::RepliesRead::quota_of))]
+fn quota_of(
+    blocks: &[u8],
+    inodes: &[u8],
+    limits: LimitsWords<'_>,
+    block_end: &[u8],
+    inode_end: &[u8],
+) -> Result<Reply, ReadFault>
+    ensures { Gives result (quota_of blocks.now inodes.now limits.entry.block_soft.now limits.entry.block_hard.now
+        limits.entry.inode_soft.now limits.entry.inode_hard.now block_end.now inode_end.now) }
+{
+    Ok(Reply::Quota(Quota {
+        blocks: number(blocks)?,
+        inodes: number(inodes)?,
+        limits: limits_of(limits)?,
+        block_end: end_of(block_end)?,
+        inode_end: end_of(inode_end)?,
+    }))
 }
 
 /// The bytes that were read, in lower case.
@@ -89,40 +158,6 @@ fn bytes_of(alloc: Global, digits: &[u8]) -> Result<Reply, ReadFault>
     Ok(Reply::Bytes(SharedItems::new(bytes.into_vec())?))
 }
 
-/// `INO dir UID GID 0 0 LINKS` or `INO file UID GID SIZE BLOCKS LINKS`.
-#[tactic(auto, unfolding(crate::specs::RepliesRead::stat_of))]
-fn stat_of(
-    ino: &[u8],
-    dir: &[u8],
-    uid: &[u8],
-    gid: &[u8],
-    size: &[u8],
-    blocks: &[u8],
-    links: &[u8],
-) -> Result<Reply, ReadFault>
-    ensures { Gives result (stat_of ino.now dir.now uid.now gid.now size.now blocks.now links.now) }
-{
-    let ino = number(ino)?;
-    let dir = type_of(dir)?;
-    let uid = id_of(TextKind::BadReply, uid)?;
-    let gid = id_of(TextKind::BadReply, gid)?;
-    let size = number(size)?;
-    let blocks = number(blocks)?;
-    let links = number(links)?;
-    if dir && (size != 0 || blocks != 0) {
-        return Err(ReadFault::Fault(TextKind::BadReply));
-    }
-    Ok(Reply::Stat(Stat {
-        ino,
-        dir,
-        uid,
-        gid,
-        size,
-        blocks,
-        links,
-    }))
-}
-
 /// A grace end, or a dash where none stands.
 #[tactic(auto, unfolding(crate::specs::RepliesRead::end_of))]
 fn end_of(word: &[u8]) -> Result<Option<u64>, ReadFault>
@@ -133,35 +168,6 @@ fn end_of(word: &[u8]) -> Result<Option<u64>, ReadFault>
     }
     let end = number(word)?;
     Ok(Some(end))
-}
-
-/// `BLOCKS INODES BSOFT BHARD ISOFT IHARD BEND IEND`.
-#[tactic(auto, unfolding(crate::specs::RepliesRead::quota_of))]
-fn quota_of(
-    blocks: &[u8],
-    inodes: &[u8],
-    block_soft: &[u8],
-    block_hard: &[u8],
-    inode_soft: &[u8],
-    inode_hard: &[u8],
-    block_end: &[u8],
-    inode_end: &[u8],
-) -> Result<Reply, ReadFault>
-    ensures { Gives result (quota_of blocks.now inodes.now block_soft.now block_hard.now inode_soft.now
-        inode_hard.now block_end.now inode_end.now) }
-{
-    let blocks = number(blocks)?;
-    let inodes = number(inodes)?;
-    let limits = limits_of(block_soft, block_hard, inode_soft, inode_hard)?;
-    let block_end = end_of(block_end)?;
-    let inode_end = end_of(inode_end)?;
-    Ok(Reply::Quota(Quota {
-        blocks,
-        inodes,
-        limits,
-        block_end,
-        inode_end,
-    }))
 }
 
 /// `EDQUOT KIND OVER`.
@@ -187,11 +193,26 @@ fn reply_of(
 {
     match (first, words) {
         (ReplyWord::Done, [ino, blocks, up, down, inodes, inodes_up, inodes_down]) => {
-            done_of(ino, blocks, up, down, inodes, inodes_up, inodes_down)
+            let blocks = RiseWords {
+                total: blocks,
+                up,
+                down,
+            };
+            let inodes = RiseWords {
+                total: inodes,
+                up: inodes_up,
+                down: inodes_down,
+            };
+            done_of(ino, blocks, inodes)
         }
         (ReplyWord::Bytes, [digits]) => bytes_of(alloc, digits),
         (ReplyWord::Stat, [ino, dir, uid, gid, size, blocks, links]) => {
-            stat_of(ino, dir, uid, gid, size, blocks, links)
+            let words = SizeWords {
+                size,
+                blocks,
+                links,
+            };
+            stat_of(ino, dir, uid, gid, words)
         }
         (
             ReplyWord::Quota,
@@ -205,9 +226,15 @@ fn reply_of(
                 block_end,
                 inode_end,
             ],
-        ) => quota_of(
-            blocks, inodes, block_soft, block_hard, inode_soft, inode_hard, block_end, inode_end,
-        ),
+        ) => {
+            let limits = LimitsWords {
+                block_soft,
+                block_hard,
+                inode_soft,
+                inode_hard,
+            };
+            quota_of(blocks, inodes, limits, block_end, inode_end)
+        }
         (ReplyWord::Refused, [name]) => Ok(Reply::Refused(refusal_of(name)?)),
         (ReplyWord::Refused, [name, kind, over]) => edquot_of(edition, name, kind, over),
         _ => Err(ReadFault::Fault(TextKind::BadReply)),

@@ -5,8 +5,7 @@ ghost use Rattle.qtext_read.specs.Judged.{IsJudged, is_value, values_before};
 ghost use Rattle.qtext_read.specs.Rows.{row};
 
 use crate::argument::{data_of, kind_of, owner_of, path_of};
-use crate::row::{Argument, MAX_FILL, row_of};
-use crate::verb::Verb;
+use crate::row::{Argument, MAX_FILL, Verb, row_of};
 use qplain::Edition;
 use qtext::{ReadFault, TextKind, byte_of, id_of, number, number_of};
 use std::alloc::{AllocError, Global};
@@ -24,8 +23,8 @@ pub fn was_read<T: Drop>(read: Result<T, ReadFault>) -> Result<bool, AllocError>
 
 /// Whether a word of a script is one in the place of an argument. An Err is out of memory, for the copy of a path or of
 /// data.
-#[tactic(auto, using(crate::proofs::Judged::judged), unfolding(crate::specs::Rows::value_in))]
-pub fn is_value(alloc: Global, argument: Argument, word: &[u8]) -> Result<bool, AllocError>
+#[tactic(auto, using(crate::proofs::Judged::judged))]
+fn is_value(alloc: Global, argument: Argument, word: &[u8]) -> Result<bool, AllocError>
     ensures { IfOk result (λ is. is ≡ is_value Two argument word.now) }
 {
     match argument {

@@ -5,11 +5,12 @@ use Rattle.json.specs.Print.{quoted}
 use Rattle.qplain.specs.Caller.{Caller}
 use Rattle.qplain.specs.declared.call.Call.{Call}
 use Rattle.qtext.specs.RuleWords.{kind_text}
-use Rattle.qtext_read.specs.declared.verb.Verb.{Verb}
-use Rattle.qtext_read.specs.declared.verb.Verb.TheVariants as verb
+use Rattle.qtext_read.specs.declared.row.Verb.{Verb}
+use Rattle.qtext_read.specs.declared.row.Verb.TheVariants as verb
 use Rattle.qtext_read.specs.Rows.{Value, PathValue, DataValue, NumberValue, KindValue, OwnerValue, ProjectValue, name, row}
-use Rattle.qtext_read.specs.Spelling.{Of, Parts, caller_text, parts_of}
-use Rattle.qtext_read.specs.Verbs.{verb_text}
+use Rattle.qtext_read.specs.Calls.{Of, Parts, parts_of}
+use Rattle.qtext_read.specs.Spelling.{caller_text}
+use Rattle.qtext_read.specs.Rows.{verb_text}
 use Rattle.qtext_rows.specs.Values.{digits_text, member, nested, or_null}
 
 -- what stands in the place of an argument: null for an owner that stays

@@ -8,7 +8,7 @@ use Rattle.qrules.specs.Sort.{Inodes, Blocks, amount_of, is_over}
 use Rattle.qrules.specs.declared.kind.Kind.{Kind}
 use Rattle.qrules.specs.declared.kind.Kind.TheVariants.{User, Group, Project}
 use Rattle.qrules.specs.declared.record_row.RecordRow.{RecordRow}
-use Rattle.qtext_view.specs.declared.view.View.{View}
+use Rattle.qtext.specs.declared.view.View.{View}
 use Rattle.qtext_outcome.specs.Reports.{is_over_any}
 
 -- what stands for a byte between the quotes of a field

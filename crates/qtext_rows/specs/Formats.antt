@@ -1,8 +1,8 @@
 -- An outcome in the format that a view asks for (profile).
 use Rattle.std.specs.Prelude.{ℕ, List}
-use Rattle.qtext_view.specs.declared.format.Format.{Format}
-use Rattle.qtext_view.specs.declared.format.Format.TheVariants.{Text, Json, Csv}
-use Rattle.qtext_view.specs.declared.view.View.{View}
+use Rattle.qtext.specs.declared.format.Format.{Format}
+use Rattle.qtext.specs.declared.format.Format.TheVariants.{Text, Json, Csv}
+use Rattle.qtext.specs.declared.view.View.{View}
 use Rattle.qrun_replay.specs.declared.outcome.Outcome.{Outcome}
 use Rattle.qtext_outcome.specs.Views.{shown_text}
 use Rattle.qtext_rows.specs.Csv.{csv_text}

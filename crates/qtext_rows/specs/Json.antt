@@ -1,7 +1,7 @@
 -- An outcome as lines of JSON, an object a line, and the report alone (profile).
 use Rattle.std.specs.Prelude.{ℕ, List, ◌++◌, if◌then◌else◌}
 use Rattle.std.specs.List.{flat_map}
-use Rattle.qtext_view.specs.declared.view.View.{View}
+use Rattle.qtext.specs.declared.view.View.{View}
 use Rattle.qrun_replay.specs.declared.outcome.Outcome.{Outcome}
 use Rattle.qtext_rows.specs.Lines.{transcripts_objects}
 use Rattle.qtext_rows.specs.Records.{record_objects}

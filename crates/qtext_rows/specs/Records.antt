@@ -5,7 +5,7 @@ use Rattle.json.specs.Print.{quoted}
 use Rattle.qrules.specs.Sort.{Inodes, Blocks, amount_of, is_over}
 use Rattle.qrules.specs.declared.record_row.RecordRow.{RecordRow}
 use Rattle.qtext.specs.RuleWords.{kind_text}
-use Rattle.qtext_view.specs.declared.view.View.{View}
+use Rattle.qtext.specs.declared.view.View.{View}
 use Rattle.qtext_outcome.specs.Reports.{is_over_any}
 use Rattle.qtext_rows.specs.Values.{flag_text, member, object_start}
 

@@ -5,9 +5,8 @@ ghost use Rattle.qtext_rows.specs.Formats.{formatted_text};
 use crate::objects::put_json;
 use crate::report_rows::put_csv;
 use qrun_replay::Outcome;
-use qtext::RefusedWrite;
+use qtext::{Format, RefusedWrite, View};
 use qtext_outcome::{Shown, put_shown};
-use qtext_view::{Format, View};
 use std::io::Write;
 
 /// Writes what came of a run as the view shows it, in the format that it asks for, with the report as of the moment:

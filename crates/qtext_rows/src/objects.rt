@@ -7,8 +7,8 @@ use crate::line_objects::put_transcripts;
 use crate::record_objects::put_records;
 use crate::rest_objects::{put_looks, put_moment, put_rest};
 use qrun_replay::Outcome;
+use qtext::View;
 use qtext_outcome::Shown;
-use qtext_view::View;
 use std::io::Write;
 
 /// Writes the objects of the lines, and then those of the boards.

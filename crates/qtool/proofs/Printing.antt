@@ -1,7 +1,7 @@
 -- What was printed of a run, from what was read and what was told.
 use Rattle.std.proofs.Common.{◌≡◌, ℕ, List, Option, Result, Ok, Err, IfOk, subst}
 use Rattle.qrun_replay.specs.declared.outcome.Outcome.{Outcome}
-use Rattle.qtext_view.specs.declared.telling.Telling.{Telling}
+use Rattle.qtext.specs.declared.telling.Telling.{Telling}
 use Rattle.qtool_files.specs.Held.{Held}
 use Rattle.qtool.specs.Printed.{IsJournalKept, IsTold, PrintsRun}
 use Rattle.qtool.specs.Under.{IsRunUnder}

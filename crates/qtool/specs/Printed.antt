@@ -11,7 +11,7 @@ use Rattle.qplain.specs.Journals.{Written}
 use Rattle.qplain.specs.Setups.{Setting}
 use Rattle.qplain.specs.declared.transcript.Transcript.{Transcript}
 use Rattle.qrun_replay.specs.declared.outcome.Outcome.{Outcome}
-use Rattle.qtext_view.specs.declared.telling.Telling.{Telling}
+use Rattle.qtext.specs.declared.telling.Telling.{Telling}
 use Rattle.qtext_outcome.specs.Denials.{IsDone}
 use Rattle.qtext_outcome.specs.Moments.{moment_of}
 use Rattle.qtext_outcome.specs.Outcomes.{left_text}

@@ -6,8 +6,8 @@ ghost use Rattle.qtool.specs.declared.ending.Ending.TheVariants.{Output};
 use crate::ending::Ending;
 use crate::{Files, Outcome, write_run};
 use qrun_replay::PlacedTranscript;
+use qtext::Telling;
 use qtext_outcome::{are_all_done, put_denials, report_moment};
-use qtext_view::Telling;
 use std::io::Write;
 use std::mem;
 

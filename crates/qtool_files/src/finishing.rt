@@ -11,11 +11,10 @@ ghost use Rattle.qtool_files.specs.declared.finishing.Refuser.TheVariants.{Outpu
 use crate::Files;
 use qplain::Journal;
 use qrun_replay::Outcome;
-use qtext::RefusedWrite;
+use qtext::{RefusedWrite, View};
 use qtext_files::put_journal;
 use qtext_outcome::put_left;
 use qtext_rows::put_formatted;
-use qtext_view::View;
 use std::io::Write;
 
 /// What refused what came of a run.

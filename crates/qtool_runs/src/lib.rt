@@ -1,13 +1,11 @@
 //! Runs, services and replays under a configuration.
 #![tactic(auto)]
 
-pub use machine::Machine;
 pub use replicas::hosts_agree;
 pub use runs::{check_boards, replay, run, run_with, serve};
 pub use script_reader::{ScriptFault, ScriptReader, finish_all};
 pub use text_replay::{TextReplayFault, replay_text};
 
-mod machine;
 mod replicas;
 mod runs;
 mod script_reader;

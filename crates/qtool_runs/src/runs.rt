@@ -15,10 +15,9 @@ ghost use Rattle.qrun.specs.RunFaults.{IsFaultOf};
 ghost use Rattle.qrun.specs.Serving.{CanServe, IsOfClients, monitors_in};
 ghost use Rattle.qrun.specs.Watching.{seats_for};
 
-use crate::machine::Machine;
 use qaudit_checks::BoardFault;
 use qplain::{Board, Journal, Script};
-use qrun::{Gate, Monitor, NoGate, Options, RunFault, Service, run_scripts};
+use qrun::{Gate, Machine, Monitor, NoGate, Options, RunFault, Service, run_scripts};
 use qrun_client::Client;
 use qrun_replay::{Outcome, ReplayFault};
 use qtext_config::Config;
@@ -47,8 +46,7 @@ pub fn run_with<G: Gate + Sync, R: Threads + Wait + Sync>(
     ensures looks { IfOk result (λ o. length o.boards ≡ options.boards) }
     ensures fault { IfErr result (IsFaultOf (seats_for (length scripts.items) options.boards)) }
 {
-    let Machine { rt, alloc, seed } = *machine;
-    run_scripts(rt, alloc, config.setup, scripts, options, seed, gate)
+    run_scripts(machine, config.setup, scripts, options, gate)
 }
 
 /// `run_with` without boards, line by line, and with a gate that lets every line pass. The caller owes 1 to 16 scripts.
@@ -91,8 +89,7 @@ where
         s.monitor) }
     ensures fault { IfErr result (IsFaultOf (seats_for (length clients.items) (monitors_in monitor))) }
 {
-    let Machine { rt, alloc, seed } = *machine;
-    qrun::serve(rt, alloc, config.setup, clients, monitor, seed)
+    qrun::serve(machine, config.setup, clients, monitor)
 }
 
 /// Plays a journal again on a new store of the configuration in the journal's edition, one entry after the other.

@@ -4,7 +4,7 @@ use crate::given::{journal, lines, setup};
 use qaudit_checks::{BoardFault, check_boards, check_looks};
 use qplain::{Board, Edition, Line, LookFault, MAX_LINES, Script};
 use qrules::{BoardRow, Items, Kind, Limits};
-use qrun::{NoGate, Options, run_scripts};
+use qrun::{Machine, NoGate, Options, run_scripts};
 use qrun_replay::Outcome;
 use std::alloc::Global;
 use std::sync::Wait;
@@ -128,7 +128,8 @@ fn crowd<R: Threads + Wait + Sync>(rt: &R, alloc: Global, batch: u64) -> Result<
         batch,
     };
     let setup = setup(alloc)?.edition(Edition::Two);
-    match run_scripts(rt, alloc, setup, scripts, options, 0, &NoGate) {
+    let machine = Machine { rt, alloc, seed: 0 };
+    match run_scripts(&machine, setup, scripts, options, &NoGate) {
         Ok(outcome) => Ok(outcome),
         Err(_) => Err(Fail::from("an outcome")),
     }

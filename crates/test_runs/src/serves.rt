@@ -6,7 +6,7 @@ ghost use Rattle.qplain.specs.declared.bounds.TheConstants.{MAX_LINES};
 use crate::given::{FIRST_FILES, OTHER_FILES, script, setup};
 use qplain::{Board, Edition, Line, NoMemory, Script, Transcript};
 use qrules::Items;
-use qrun::{Monitor, serve};
+use qrun::{Machine, Monitor, serve};
 use qrun_client::{Answer, Client};
 use std::alloc::Global;
 use std::hint::spin_loop;
@@ -135,7 +135,12 @@ fn the_last_board_of_a_service_is_shown(rt: HostRuntime) -> Result<(), Fail> {
         boards: &boards,
         version: &version,
     };
-    let Ok(service) = serve(&rt, alloc, setup, clients, Some(monitor), 0) else {
+    let machine = Machine {
+        rt: &rt,
+        alloc,
+        seed: 0,
+    };
+    let Ok(service) = serve(&machine, setup, clients, Some(monitor)) else {
         return Err(Fail::from("an outcome"));
     };
     let entries = service.outcome.journal.get().entries().len();

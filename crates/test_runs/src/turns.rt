@@ -3,7 +3,7 @@ ghost use Rattle.std.specs.Prelude.{◌<◌, ◌≤◌};
 
 use crate::given::{FIRST_FILES, OTHER_FILES, script, setup};
 use qplain::{CallFault, Edition, Refusal, Reply};
-use qrun::{Gate, Options, run_scripts};
+use qrun::{Gate, Machine, Options, run_scripts};
 use qrun_replay::{Outcome, PlacedReply};
 use std::alloc::Global;
 use std::hint::spin_loop;
@@ -98,7 +98,8 @@ fn run<R: Threads + Wait + Sync>(
     let setup = setup(alloc)?.edition(Edition::Two);
     let scripts = vec![in alloc; script(alloc, FIRST_FILES)?, script(alloc, OTHER_FILES)?]?;
     let options = Options { boards: 0, batch };
-    match run_scripts(rt, alloc, setup, scripts, options, 0, gate) {
+    let machine = Machine { rt, alloc, seed: 0 };
+    match run_scripts(&machine, setup, scripts, options, gate) {
         Ok(outcome) => Ok(outcome),
         Err(_) => Err(Fail::from("an outcome")),
     }

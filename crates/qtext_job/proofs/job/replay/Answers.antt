@@ -1,6 +1,6 @@
 use Rattle.std.proofs.Common.{codes}
 use Rattle.clap.specs.Words.{found_of, rows_of}
-use Rattle.qtext_view.specs.declared.telling.Telling.{Telling}
+use Rattle.qtext.specs.declared.telling.Telling.{Telling}
 use Rattle.qtext_job.specs.declared.job.Job.{Job}
 use Rattle.qtext_job.specs.Jobs.{IsNamedBy}
 use Rattle.qtext_job.specs.Tellings.{IsTellingIn}

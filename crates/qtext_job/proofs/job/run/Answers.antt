@@ -1,7 +1,7 @@
 use Rattle.std.proofs.Common.{ℕ, codes}
 use Rattle.clap.specs.Words.{found_of, rows_of}
 use Rattle.qtext_job.specs.declared.job.Job.{Job}
-use Rattle.qtext_view.specs.declared.telling.Telling.{Telling}
+use Rattle.qtext.specs.declared.telling.Telling.{Telling}
 use Rattle.qtext_job.specs.Jobs.{AreBoardsIn, IsBatchIn, IsNamedBy}
 use Rattle.qtext_job.specs.Tellings.{IsTellingIn}
 use Rattle.qtext_job.proofs.JobLaws.{its_numbers, passed_on}

@@ -2,7 +2,7 @@ use Rattle.std.proofs.Common.{codes, map}
 use Rattle.std.specs.List.{flat_map, zip}
 use Rattle.qtext.proofs.Fronts.{refused_first, writes_then}
 use Rattle.qtext_read.specs.Rows.{name, row}
-use Rattle.qtext_read.specs.Verbs.{verb_text}
+use Rattle.qtext_read.specs.Rows.{verb_text}
 use Rattle.qtext_rows.specs.Values.{member, nested, value_text}
 use Rattle.qtext_rows.proofs.call_members.put_named.Goals as goal
 

@@ -1,6 +1,6 @@
 use Rattle.std.proofs.Common.{ap, append-nil, sym, ◌∙◌, []}
 use Rattle.qplain.specs.Journal.{tally_of}
-use Rattle.qshare.proofs.locked_store.LockedStore.new.Goals as goal
+use Rattle.qshare.proofs.locked_store.LockedStore+S+NoBoards.new.Goals as goal
 
 pub invariant_of-result : goal.invariant_of-result
 invariant_of-result g c =
@@ -14,5 +14,5 @@ invariant_of-result g c =
         rest_is = c.requires.tally.1;
         seats_are = c.requires.seats;
       },
-      rw (unpublished, empty) c.requires.boards,
+      tt,
     )
