@@ -143,9 +143,9 @@ fn seats_for(scripts: usize, boards: u64) -> u64
 /// boards are the journal's own, each that of its version, and versions never fall; when they are looked at is open.
 ///
 /// `gate` is called around each line, or, where the lock is taken for several, before the first and after the last of
-/// them, and may wait; this is promised if the run returns. An Err is Memory, NoReader, or NotStarted with the first worker whose
-/// thread was refused; then all workers that were started have been joined and the store is given up. Mismatch never
-/// comes: each worker's receipts are proved to be its entries, and the boards to be the journal's.
+/// them, and may wait; this is promised if the run returns. An Err is Memory, NoReader, or NotStarted with the first
+/// worker whose thread was refused; then all workers that were started have been joined and the store is given up.
+/// Mismatch never comes: each worker's receipts are proved to be its entries, and the boards to be the journal's.
 pub fn run_scripts<G: Gate + Sync, R: Threads + Wait + Sync>(
     machine: &Machine<'_, R>,
     setup: Setup,

@@ -147,8 +147,8 @@ where
 /// journal has its 1,048,576 entries. The outcome keeps no boards.
 ///
 /// This is promised if the service returns: a client that does not end holds it up, and no other client. An Err is
-/// Memory, NoReader, or NotStarted with the first thread that was refused; then the clients of all workers that were started have been
-/// served to their ends, and the store is given up.
+/// Memory, NoReader, or NotStarted with the first thread that was refused; then the clients of all workers that were
+/// started have been served to their ends, and the store is given up.
 pub fn serve<C, M, R>(
     machine: &Machine<'_, R>,
     setup: Setup,
