@@ -6,7 +6,7 @@ use Rattle.std.proofs.lemmas.List.Elements.{All-cons, All-head, All-nil, All-tai
 use Rattle.qrules.specs.declared.kind.Kind.{Kind}
 use Rattle.qrules.specs.Kinds.{is_same_kind}
 use Rattle.qrules.proofs.Ranks.{each_kind}
-use Rattle.qplain.specs.Arguments.{is_declared}
+use Rattle.qplain.specs.Known.{is_declared}
 use Rattle.qplain.specs.State.{Inode, State}
 use Rattle.qplain.specs.Use.{owner}
 use Rattle.qplain_laws.specs.Laws.{AreKnown, is_known_owner}

@@ -1,15 +1,12 @@
--- What the types of calls, replies, lines and entries can hold.
-use Rattle.std.specs.Prelude.{◌≡◌, ℕ, ◌<◌, ◌≤◌, ◌^◌, true, List, length, slice_index, Option, Some, None}
+-- What the types of replies, lines and entries can hold.
+use Rattle.std.specs.Prelude.{◌≡◌, ℕ, ◌<◌, ◌≤◌, ◌^◌, true, List, length, Option, Some, None}
 use Rattle.std.specs.List.{AllByRecursion}
-use Rattle.qrules.specs.declared.limits.Limits.{Limits}
 use Rattle.qplain.specs.Caller.{Caller}
-use Rattle.qplain.specs.Paths.{ArePathBytes}
+use Rattle.qplain.specs.Ranges.{AreBytes, AreLimits}
+use Rattle.qplain.specs.Calls.{IsCall}
 use Rattle.qplain.specs.declared.bounds.TheConstants.{MAX_LINES}
 use Rattle.qplain.specs.declared.cred.TheConstants.{MAX_MORE_GROUPS}
 use Rattle.qplain.specs.declared.change.Change.{Change}
-use Rattle.qplain.specs.declared.call.Call.{Call}
-use Rattle.qplain.specs.declared.call.Call.TheVariants.{Create, Mkdir, Write, Truncate, Read, Stat, Link, Unlink}
-use Rattle.qplain.specs.declared.call.Call.TheVariants.{Rmdir, Rename, Chown, SetQuota, SetGrace, Quota}
 use Rattle.qplain.specs.declared.entry.Entry.{Entry}
 use Rattle.qplain.specs.declared.line.Line.{Line}
 use Rattle.qplain.specs.declared.quota.Quota.{Quota as QuotaOf}
@@ -17,45 +14,12 @@ use Rattle.qplain.specs.declared.reply.Reply.{Reply}
 use Rattle.qplain.specs.declared.reply.Reply.TheVariants.{Done, Bytes, Stat as StatReply, Quota as QuotaReply, Refused}
 use Rattle.qplain.specs.declared.stat.Stat.{Stat as StatOf}
 
--- each is a byte
-abbrev pub AreBytes : List ℕ → Type 0
-AreBytes xs = (i : ℕ) → slice_index xs i < 256
-
 -- the caller's ids are ids, and its further groups are not too many
 pub record IsCaller (cred : Caller) : Type 0 where
   pub uid : cred.uid < 2 ^ 32
   pub gid : cred.gid < 2 ^ 32
   pub few : length cred.more ≤ MAX_MORE_GROUPS
   pub more : AllByRecursion (λ g. g < 2 ^ 32) cred.more
-
--- an owner that is named has an id of 32 bits
-abbrev pub IsOwner : Option ℕ → Type 0
-IsOwner None = Unit {0}
-IsOwner (Some id) = id < 2 ^ 32
-
--- each limit is a number of 64 bits
-pub record AreLimits (l : Limits) : Type 0 where
-  pub block_soft : l.block_soft < 2 ^ 64
-  pub block_hard : l.block_hard < 2 ^ 64
-  pub inode_soft : l.inode_soft < 2 ^ 64
-  pub inode_hard : l.inode_hard < 2 ^ 64
-
--- the parts of a call are what their types can hold
-abbrev pub IsCall : Call → Type 0
-IsCall (Create path) = ArePathBytes path
-IsCall (Mkdir path) = ArePathBytes path
-IsCall (Write path off bytes) = ArePathBytes path × (off < 2 ^ 64) × AreBytes bytes
-IsCall (Truncate path size) = ArePathBytes path × (size < 2 ^ 64)
-IsCall (Read path off len) = ArePathBytes path × (off < 2 ^ 64) × (len < 2 ^ 64)
-IsCall (Stat path) = ArePathBytes path
-IsCall (Link from to) = ArePathBytes from × ArePathBytes to
-IsCall (Unlink path) = ArePathBytes path
-IsCall (Rmdir path) = ArePathBytes path
-IsCall (Rename from to) = ArePathBytes from × ArePathBytes to
-IsCall (Chown path uid gid project) = ArePathBytes path × IsOwner uid × IsOwner gid × IsOwner project
-IsCall (SetQuota kind id limits) = (id < 2 ^ 32) × AreLimits limits
-IsCall (SetGrace graces) = (graces.block < 2 ^ 64) × (graces.inode < 2 ^ 64)
-IsCall (Quota kind id) = id < 2 ^ 32
 
 -- a grace end that stands is a number of 64 bits
 abbrev pub IsEnd : Option ℕ → Type 0

@@ -11,7 +11,7 @@ pub mod State
 pub mod Use
 pub mod Walk
 pub mod Decision
-pub mod Arguments
+pub mod Known
 pub mod Attempt
 pub mod Rights
 pub mod Files
@@ -19,6 +19,7 @@ pub mod Names
 pub mod Renames
 pub mod Owners
 pub mod Quotas
+pub mod Ranges
 pub mod Calls
 pub mod Step
 pub mod Journal

@@ -10,7 +10,7 @@ use Rattle.qplain.specs.declared.reply.Reply.TheVariants.{Quota as QuotaReply}
 use Rattle.qplain.specs.Caller.{Caller, is_superuser}
 use Rattle.qplain.specs.State.{Holder, State}
 use Rattle.qplain.specs.Use.{account_of}
-use Rattle.qplain.specs.Arguments.{is_declared, is_holder}
+use Rattle.qplain.specs.Known.{is_declared, is_holder}
 use Rattle.qplain.specs.Attempt.{Attempt, Refuse, Answer, Becomes}
 use Rattle.qplain.specs.Rights.{is_own}
 

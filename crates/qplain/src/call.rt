@@ -1,5 +1,6 @@
 //! What is asked of a store.
 ghost use Rattle.std.specs.Prelude.{◌≡◌, IfOk};
+ghost use Rattle.qplain.specs.Calls.{listed, paths_of};
 
 use crate::{Data, NoMemory, Path};
 use qrules::{Graces, Kind, Limits};
@@ -88,7 +89,35 @@ pub enum Call {
     },
 }
 
+/// The paths of a call, in their order.
+#[derive(Clone, Copy, Debug)]
+pub enum CallPaths<'a> {
+    None,
+    One(&'a Path),
+    Two(&'a Path, &'a Path),
+}
+
 impl Call {
+    /// Its paths, in their order.
+    #[inline(always)]
+    pub fn paths(&self) -> CallPaths<'_>
+        ensures { listed result ≡ paths_of self.now }
+    {
+        match self {
+            Call::Create { path }
+            | Call::Mkdir { path }
+            | Call::Write { path, .. }
+            | Call::Truncate { path, .. }
+            | Call::Read { path, .. }
+            | Call::Stat { path }
+            | Call::Unlink { path }
+            | Call::Rmdir { path }
+            | Call::Chown { path, .. } => CallPaths::One(path),
+            Call::Link { from, to } | Call::Rename { from, to } => CallPaths::Two(from, to),
+            Call::SetQuota { .. } | Call::SetGrace { .. } | Call::Quota { .. } => CallPaths::None,
+        }
+    }
+
     /// An equal call, which shares its path and its bytes. No memory is taken: an Err says that they have 2^63 owners.
     pub fn copy(&self) -> Result<Self, NoMemory>
         ensures { IfOk result (λ copy. copy ≡ self.now) }

@@ -6,7 +6,7 @@ pub use bounds::{
     FILE_LIMIT, MAX_DATA, MAX_ENTRIES, MAX_LINES, MAX_LINKS, MAX_NAME, MAX_NUMBER, MAX_PATH,
     MAX_WORKERS, OLD_FILE_LIMIT, OLD_MAX_ENTRIES, ROOT,
 };
-pub use call::Call;
+pub use call::{Call, CallPaths};
 pub use call_fault::CallFault;
 pub use change::{Change, NO_CHANGE};
 pub use cred::{Cred, MAX_MORE_GROUPS};

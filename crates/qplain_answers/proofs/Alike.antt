@@ -22,7 +22,7 @@ use Rattle.qplain.specs.Caller.{Caller, is_superuser}
 use Rattle.qplain.specs.State.{Holder, State}
 use Rattle.qplain.specs.Use.{account_of, use_of}
 use Rattle.qplain.specs.Decision.{ends_after, fault_of_holder, first_refusal, refusal_between, with_ends_of}
-use Rattle.qplain.specs.Arguments.{is_holder}
+use Rattle.qplain.specs.Known.{is_holder}
 use Rattle.qplain.specs.Attempt.{Attempt, Refuse, Answer, Becomes}
 use Rattle.qplain.specs.Quotas.{relimited}
 use Rattle.qplain.specs.Calls.{attempt}

@@ -17,7 +17,8 @@ use Rattle.qplain.specs.declared.reply.Reply.TheVariants.{Quota as QuotaReply}
 use Rattle.qplain.specs.Caller.{Caller, is_superuser}
 use Rattle.qplain.specs.State.{Holder, Inode, State, named}
 use Rattle.qplain.specs.Walk.{components, is_too_long, is_well_formed}
-use Rattle.qplain.specs.Arguments.{has_bad_number, is_declared, is_holder, is_known, is_undeclared, paths_of, refusal_of_arguments}
+use Rattle.qplain.specs.Calls.{attempt, attempt_of, has_bad_number, paths_of, refusal_of_arguments, unless}
+use Rattle.qplain.specs.Known.{is_declared, is_holder, is_known, is_undeclared}
 use Rattle.qplain.specs.Attempt.{Attempt, Refuse, Answer, Becomes}
 use Rattle.qplain.specs.Rights.{is_member, is_own, is_owner, is_same_id, may_give}
 use Rattle.qplain.specs.Files.{read_from, stat_at, truncate_at, with_inode, write_into}
@@ -25,7 +26,6 @@ use Rattle.qplain.specs.Names.{create_as, link_as, link_to, mkdir_as, rmdir_as, 
 use Rattle.qplain.specs.Renames.{rename_as, rename_from, rename_to}
 use Rattle.qplain.specs.Owners.{chown_at, renewed, with_owners}
 use Rattle.qplain.specs.Quotas.{ask_quota, quota_from, quota_of, relimited, set_grace, set_quota, with_limits_of}
-use Rattle.qplain.specs.Calls.{attempt, attempt_of, unless}
 use Rattle.qplain_answers.specs.WithoutProjects.{is_project, names_project, of_no_project, without_projects}
 use Rattle.qplain_answers.proofs.Entries.{any-staying, filter-staying, find-staying, stays}
 use Rattle.qplain_answers.proofs.Looks.{use-same}

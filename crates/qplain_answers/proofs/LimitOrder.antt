@@ -18,7 +18,7 @@ use Rattle.qplain.specs.Caller.{Caller, is_superuser}
 use Rattle.qplain.specs.State.{Holder, Inode, State, holder_cmp, inode_at}
 use Rattle.qplain.specs.Use.{owner, use_of, weight}
 use Rattle.qplain.specs.Decision.{fault_of_holder, first_refusal, is_too_full, refusal_between}
-use Rattle.qplain.specs.Arguments.{is_holder}
+use Rattle.qplain.specs.Known.{is_holder}
 use Rattle.qplain.specs.Attempt.{Attempt, Refuse, Answer, Becomes}
 use Rattle.qplain.specs.Calls.{attempt}
 use Rattle.qplain.specs.Step.{settle, settled}

@@ -10,10 +10,9 @@ use Rattle.qplain.specs.Caller.{Caller}
 use Rattle.qplain.specs.State.{Inode, State, inode_at, named, new_directory, new_file}
 use Rattle.qplain.specs.Use.{has_too_many_links}
 use Rattle.qplain.specs.Decision.{refusal_between}
-use Rattle.qplain.specs.Arguments.{refusal_of_arguments}
+use Rattle.qplain.specs.Calls.{attempt, attempt_of, refusal_of_arguments, unless}
 use Rattle.qplain.specs.Attempt.{Attempt, Refuse, Answer, Becomes}
 use Rattle.qplain.specs.Names.{create_as, created, mkdir_as, owners_by, unless_too_many_links}
-use Rattle.qplain.specs.Calls.{attempt, attempt_of, unless}
 use Rattle.qplain.specs.Step.{settle, settled}
 use Rattle.qplain_laws.specs.Laws.{IsLawful}
 use Rattle.qplain_laws.proofs.Doing.{OnDone, in_parent-done, unless_refused}

@@ -13,7 +13,7 @@ use Rattle.qplain.specs.declared.reply.Reply.TheVariants.{Refused}
 use Rattle.qplain.specs.Caller.{Caller, is_superuser}
 use Rattle.qplain.specs.State.{Holder, Inode, State, inode_at}
 use Rattle.qplain.specs.Use.{owner, use_of}
-use Rattle.qplain.specs.Arguments.{is_holder}
+use Rattle.qplain.specs.Known.{is_holder}
 use Rattle.qplain.specs.Attempt.{Becomes}
 use Rattle.qplain.specs.Calls.{attempt}
 use Rattle.qplain.specs.Step.{step}

@@ -16,7 +16,8 @@ use Rattle.qplain.specs.Caller.{Caller, is_superuser}
 use Rattle.qplain.specs.State.{Holder, Inode, NameKey, State, inode_at, is_directory, named, new_directory}
 use Rattle.qplain.specs.Use.{has_name, has_too_many_links, is_empty, total_of}
 use Rattle.qplain.specs.Walk.{components, is_too_long, last_name, led_to, parent, walk}
-use Rattle.qplain.specs.Arguments.{is_declared, is_holder, is_invalid, paths_of}
+use Rattle.qplain.specs.Known.{is_declared, is_holder}
+use Rattle.qplain.specs.Calls.{attempt, attempt_of, is_invalid, paths_of, unless}
 use Rattle.qplain.specs.Attempt.{Attempt, Refuse, Answer, Becomes, at_inode, at_name, at_path, at_reached, in_parent, in_reached, no_change, under}
 use Rattle.qplain.specs.Rights.{is_own, may_give, may_remove, may_write}
 use Rattle.qplain.specs.Names.{create_as, created, link_as, link_to, mkdir_as, owners_by, rmdir_as, rmdir_at, swept, unless_too_many_links, unlink_as, unlink_at, with_name, without_name}
@@ -24,7 +25,6 @@ use Rattle.qplain.specs.Renames.{meets, passes, rename_as, rename_from, rename_o
 use Rattle.qplain.specs.Files.{read_from, stat_at, stat_of, truncate_at, with_inode, write_into}
 use Rattle.qplain.specs.Owners.{chown_at, renewed, with_owners}
 use Rattle.qplain.specs.Quotas.{quota_from, quota_of, with_limits_of}
-use Rattle.qplain.specs.Calls.{attempt, attempt_of, unless}
 use Rattle.qplain.specs.Journal.{change_of}
 use Rattle.qplain_laws.specs.Laws.{is_for_limits}
 use Rattle.qplain_laws.specs.Replaces.{Replaces}

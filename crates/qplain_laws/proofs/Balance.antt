@@ -16,7 +16,7 @@ use Rattle.qrules.specs.Sort.{Sort}
 use Rattle.qplain.specs.declared.bounds.TheConstants.{ROOT}
 use Rattle.qplain.specs.State.{Holder, Inode, State, holder_cmp, inode_at, is_dir}
 use Rattle.qplain.specs.Use.{belongs_to, charge_to, owner, weight}
-use Rattle.qplain.specs.Arguments.{is_holder}
+use Rattle.qplain.specs.Known.{is_holder}
 use Rattle.qplain_laws.specs.Laws.{AreKnown, UsersAndGroupsStand, UsesAddUp, has_kind, is_known_owner}
 use Rattle.qplain_laws.proofs.Fitting.{known-owners}
 

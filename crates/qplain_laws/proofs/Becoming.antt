@@ -19,7 +19,8 @@ use Rattle.qplain.specs.State.{Holder, Inode, State, inode_at, is_directory, nam
 use Rattle.qplain.specs.Use.{has_too_many_links, is_empty}
 use Rattle.qplain.specs.Walk.{components, is_well_formed, is_too_long, parent}
 use Rattle.qplain.specs.Decision.{ends_after, refusal_between}
-use Rattle.qplain.specs.Arguments.{has_bad_number, is_declared, is_holder, is_known, is_undeclared, paths_of, refusal_of_arguments}
+use Rattle.qplain.specs.Calls.{attempt, attempt_of, has_bad_number, paths_of, refusal_of_arguments}
+use Rattle.qplain.specs.Known.{is_declared, is_holder, is_known, is_undeclared}
 use Rattle.qplain.specs.Attempt.{Attempt, Refuse, Answer, Becomes, no_change}
 use Rattle.qplain.specs.Rights.{is_member, is_own, is_owner, is_same_id, may_give, may_remove, may_write}
 use Rattle.qplain.specs.Files.{read_from, stat_at, truncate_at, with_file, with_inode, write_into}
@@ -27,7 +28,6 @@ use Rattle.qplain.specs.Names.{create_as, created, link_as, link_to, mkdir_as, o
 use Rattle.qplain.specs.Renames.{meets, passes, rename_as, rename_from, rename_over, rename_to, renamed}
 use Rattle.qplain.specs.Owners.{chown_at, renewed, with_owners}
 use Rattle.qplain.specs.Quotas.{ask_quota, quota_from, set_quota, set_grace, with_limits_of}
-use Rattle.qplain.specs.Calls.{attempt, attempt_of}
 use Rattle.qplain_laws.specs.Laws.{IsSound}
 use Rattle.qplain.specs.Step.{settle, settled, step}
 use Rattle.qplain_laws.proofs.Trying.{OnBecomes, at_name-becomes, at_path-becomes, choice, in_parent-becomes, none-from_not_some, true-from_not, unless-becomes}

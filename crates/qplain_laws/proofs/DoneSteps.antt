@@ -9,9 +9,8 @@ use Rattle.qplain.specs.Caller.{Caller}
 use Rattle.qplain.specs.State.{State}
 use Rattle.qplain.specs.Walk.{components}
 use Rattle.qplain.specs.Decision.{ends_after, refusal_between}
-use Rattle.qplain.specs.Arguments.{refusal_of_arguments}
+use Rattle.qplain.specs.Calls.{attempt, attempt_of, refusal_of_arguments, unless}
 use Rattle.qplain.specs.Attempt.{Attempt, Refuse, Answer, Becomes}
-use Rattle.qplain.specs.Calls.{attempt, attempt_of, unless}
 use Rattle.qplain.specs.Step.{settle, settled}
 use Rattle.qplain_laws.specs.Done.{DoneIsDone, HasDone, LeadsTo}
 use Rattle.qplain_laws.specs.Laws.{IsLawful}

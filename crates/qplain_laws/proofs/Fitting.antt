@@ -15,7 +15,7 @@ use Rattle.qrules.specs.Kinds.{is_same_kind, rank_of}
 use Rattle.qplain.specs.declared.bounds.TheConstants.{MAX_LINKS, ROOT}
 use Rattle.qplain.specs.State.{Holder, Inode, NameKey, State, holder_cmp, inode_at, is_dir, is_directory, name_key_cmp, named}
 use Rattle.qplain.specs.Use.{has_too_many_links, links_of, names_to, owner}
-use Rattle.qplain.specs.Arguments.{is_holder}
+use Rattle.qplain.specs.Known.{is_holder}
 use Rattle.qplain.specs.Files.{with_inode}
 use Rattle.qplain.specs.Names.{created, project_of}
 use Rattle.qplain_laws.specs.Laws.{AreKnown, FitsTogether, IsSound, has_right_names, is_known_owner, leads}

@@ -17,12 +17,11 @@ use Rattle.qplain.specs.State.{Holder, Inode, State, inode_at, is_directory, nam
 use Rattle.qplain.specs.Use.{account_of, belongs_to, is_empty, names_to, use_of, weight}
 use Rattle.qplain.specs.Walk.{components, is_too_long, led_to, parent, walk}
 use Rattle.qplain.specs.Decision.{fault_of_holder, first_refusal, is_too_full, refusal_between}
-use Rattle.qplain.specs.Arguments.{is_invalid, paths_of}
+use Rattle.qplain.specs.Calls.{attempt, attempt_of, is_invalid, paths_of, unless}
 use Rattle.qplain.specs.Attempt.{Attempt, Refuse, Answer, Becomes, at_inode, at_name, at_path, at_reached, in_reached, under}
 use Rattle.qplain.specs.Rights.{may_remove, may_write}
 use Rattle.qplain.specs.Files.{truncate_at, with_file}
 use Rattle.qplain.specs.Names.{rmdir_as, rmdir_at, swept, unlink_as, unlink_at, without_name}
-use Rattle.qplain.specs.Calls.{attempt, attempt_of, unless}
 use Rattle.qplain.specs.Step.{settle, settled}
 use Rattle.qplain_laws.specs.Laws.{FitsTogether, IsLawful, RefusesForNoLimit, is_for_limits}
 use Rattle.qplain_laws.specs.Replaces.{Replaces, charge_of, weight_of}

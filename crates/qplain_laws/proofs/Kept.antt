@@ -4,7 +4,7 @@ use Rattle.qrules.specs.declared.limits.Limits.{Limits}
 use Rattle.qplain.specs.Caller.{Caller, is_superuser}
 use Rattle.qplain.specs.State.{Holder, State}
 use Rattle.qplain.specs.Decision.{with_ends_of}
-use Rattle.qplain.specs.Arguments.{is_holder}
+use Rattle.qplain.specs.Known.{is_holder}
 use Rattle.qplain.specs.Quotas.{relimited}
 use Rattle.qplain_laws.specs.Laws.{EndsAreTheRules, KeepsLimits, KeepsSetup, LimitsStay, NewLimitsAreTheRules, SetupsStay, identity_of}
 use Rattle.qplain_laws.proofs.Becoming.{HoldsOfResults, step-becomes}

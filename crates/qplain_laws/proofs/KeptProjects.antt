@@ -15,14 +15,13 @@ use Rattle.qplain.specs.declared.reply.Reply.TheVariants.{Done}
 use Rattle.qplain.specs.Caller.{Caller}
 use Rattle.qplain.specs.State.{Inode, State, inode_at, named, new_directory, new_file}
 use Rattle.qplain.specs.Use.{has_too_many_links}
-use Rattle.qplain.specs.Arguments.{refusal_of_arguments}
+use Rattle.qplain.specs.Calls.{attempt, attempt_of, refusal_of_arguments}
 use Rattle.qplain.specs.Attempt.{Attempt, Refuse, Answer, Becomes, no_change}
 use Rattle.qplain.specs.Rights.{may_give, may_write}
 use Rattle.qplain.specs.Files.{truncate_at, with_file, with_inode, write_into}
 use Rattle.qplain.specs.Names.{create_as, created, mkdir_as, owners_by, unless_too_many_links}
 use Rattle.qplain.specs.Owners.{chown_at, renewed, with_owners}
 use Rattle.qplain.specs.Decision.{refusal_between}
-use Rattle.qplain.specs.Calls.{attempt, attempt_of}
 use Rattle.qplain.specs.Step.{settle, settled}
 use Rattle.qplain_laws.specs.ProjectLaws.{KeepsProjects, ProjectsStay, gives_project}
 use Rattle.qplain_laws.proofs.Answering.{MayBecome, Sweeps, TellsNone, attempt-none}

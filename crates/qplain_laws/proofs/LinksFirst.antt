@@ -9,10 +9,9 @@ use Rattle.qplain.specs.Caller.{Caller}
 use Rattle.qplain.specs.State.{Inode, State, inode_at, is_dir, is_directory, named, new_directory}
 use Rattle.qplain.specs.Use.{has_too_many_links, links_of}
 use Rattle.qplain.specs.Walk.{components, parent}
-use Rattle.qplain.specs.Arguments.{refusal_of_arguments}
+use Rattle.qplain.specs.Calls.{attempt, attempt_of, refusal_of_arguments}
 use Rattle.qplain.specs.Attempt.{Attempt, Refuse, Answer, Becomes}
 use Rattle.qplain.specs.Names.{created, mkdir_as, owners_by, unless_too_many_links}
-use Rattle.qplain.specs.Calls.{attempt, attempt_of}
 use Rattle.qplain.specs.Step.{settle}
 use Rattle.qplain_laws.specs.Laws.{FitsTogether, IsLawful, is_for_limits}
 use Rattle.qplain_laws.specs.Order.{LinksComeFirst}

@@ -18,7 +18,7 @@ use Rattle.qplain.specs.declared.reply.Reply.TheVariants.{Bytes, Done}
 use Rattle.qplain.specs.Caller.{Caller, is_superuser}
 use Rattle.qplain.specs.State.{Holder, Inode, State, inode_at, is_directory, named, new_directory, new_file}
 use Rattle.qplain.specs.Use.{has_too_many_links}
-use Rattle.qplain.specs.Arguments.{is_declared, is_holder}
+use Rattle.qplain.specs.Known.{is_declared, is_holder}
 use Rattle.qplain.specs.Attempt.{Attempt, Refuse, Answer, Becomes, no_change}
 use Rattle.qplain.specs.Rights.{is_own, may_give, may_write}
 use Rattle.qplain.specs.Files.{read_from, truncate_at, with_file, with_inode, write_into}

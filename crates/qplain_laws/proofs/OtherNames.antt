@@ -13,7 +13,8 @@ use Rattle.qplain.specs.State.{Holder, State, is_directory, named, new_directory
 use Rattle.qplain.specs.Use.{has_too_many_links, is_empty}
 use Rattle.qplain.specs.Walk.{components}
 use Rattle.qplain.specs.Decision.{refusal_between}
-use Rattle.qplain.specs.Arguments.{is_declared, is_holder, refusal_of_arguments}
+use Rattle.qplain.specs.Known.{is_declared, is_holder}
+use Rattle.qplain.specs.Calls.{attempt, attempt_of, refusal_of_arguments, unless}
 use Rattle.qplain.specs.Attempt.{Attempt, Refuse, Answer, Becomes, no_change}
 use Rattle.qplain.specs.Rights.{is_own, may_give, may_remove, may_write}
 use Rattle.qplain.specs.Files.{read_from, stat_at, truncate_at, with_file, with_inode, write_into}
@@ -21,7 +22,6 @@ use Rattle.qplain.specs.Names.{create_as, created, link_as, link_to, mkdir_as, o
 use Rattle.qplain.specs.Renames.{meets, passes, rename_as, rename_from, rename_to, renamed}
 use Rattle.qplain.specs.Owners.{chown_at, renewed, with_owners}
 use Rattle.qplain.specs.Quotas.{quota_from, with_limits_of}
-use Rattle.qplain.specs.Calls.{attempt, attempt_of, unless}
 use Rattle.qplain.specs.Step.{settle, settled}
 use Rattle.qplain_laws.specs.Changes.{OtherNamesStay, changed_paths}
 use Rattle.qplain_laws.specs.Laws.{IsLawful}

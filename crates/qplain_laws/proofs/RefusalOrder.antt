@@ -15,7 +15,8 @@ use Rattle.qplain.specs.State.{Holder, Inode, State, inode_at, is_directory, nam
 use Rattle.qplain.specs.Use.{has_too_many_links, is_empty}
 use Rattle.qplain.specs.Walk.{components, last_name, led_to, parent, walk}
 use Rattle.qplain.specs.Decision.{fault_of_holder, first_refusal, is_too_full, refusal_between}
-use Rattle.qplain.specs.Arguments.{is_declared, is_holder, refusal_of_arguments}
+use Rattle.qplain.specs.Known.{is_declared, is_holder}
+use Rattle.qplain.specs.Calls.{attempt, attempt_of, refusal_of_arguments, unless}
 use Rattle.qplain.specs.Attempt.{Attempt, Refuse, Answer, Becomes, at_inode, at_path, at_reached, in_parent, in_reached, no_change, under}
 use Rattle.qplain.specs.Rights.{is_own, may_give, may_remove, may_write}
 use Rattle.qplain.specs.Files.{read_from, stat_at, truncate_at, write_into}
@@ -23,7 +24,6 @@ use Rattle.qplain.specs.Names.{create_as, created, link_as, link_to, mkdir_as, o
 use Rattle.qplain.specs.Renames.{meets, passes, rename_as, rename_from, rename_over, rename_to, renamed}
 use Rattle.qplain.specs.Owners.{chown_at, renewed}
 use Rattle.qplain.specs.Quotas.{quota_from}
-use Rattle.qplain.specs.Calls.{attempt, attempt_of, unless}
 use Rattle.qplain.specs.Step.{settle, settled}
 use Rattle.qplain_laws.specs.Laws.{is_for_limits}
 use Rattle.qplain_laws.specs.Refusals.{RefusalsComeInOrder, Test, first_failed, first_refusal_of, in_directory, of_found, of_last, of_reached, rename_tests}

@@ -7,7 +7,7 @@ use Rattle.qplain.specs.Caller.{Caller}
 use Rattle.qplain.specs.declared.bounds.TheConstants.{MAX_LINKS}
 use Rattle.qplain.specs.State.{Holder, Inode, State, is_directory, named}
 use Rattle.qplain.specs.Use.{has_too_many_links, links_of}
-use Rattle.qplain.specs.Arguments.{is_holder, is_known}
+use Rattle.qplain.specs.Known.{is_holder, is_known}
 use Rattle.qplain.specs.Names.{created}
 use Rattle.qplain.specs.Quotas.{relimited}
 use Rattle.qplain_laws.specs.Laws.{AreKnown, FitsTogether, IsSound}

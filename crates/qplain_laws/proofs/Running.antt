@@ -16,7 +16,7 @@ use Rattle.qplain.specs.Caller.{Caller}
 use Rattle.qplain.specs.State.{Holder, State}
 use Rattle.qplain.specs.Use.{account_of}
 use Rattle.qrules.specs.Kinds.{is_same_kind}
-use Rattle.qplain.specs.Arguments.{is_holder}
+use Rattle.qplain.specs.Known.{is_holder}
 use Rattle.qplain.specs.Decision.{ends_after, refusal_between, with_ends_of}
 use Rattle.qplain.specs.Attempt.{Attempt, Refuse, Answer, Becomes}
 use Rattle.qplain.specs.Quotas.{relimited}

@@ -17,10 +17,9 @@ use Rattle.qplain.specs.Caller.{Caller, is_superuser}
 use Rattle.qplain.specs.State.{Holder, State, inode_at}
 use Rattle.qplain.specs.Use.{account_of, total_of}
 use Rattle.qplain.specs.Decision.{ends_after, fault_of_holder, first_refusal, refusal_between, refusal_of_charge}
-use Rattle.qplain.specs.Arguments.{refusal_of_arguments}
+use Rattle.qplain.specs.Calls.{attempt_of, refusal_of_arguments, unless}
 use Rattle.qplain.specs.Attempt.{Becomes, no_change}
 use Rattle.qplain.specs.Quotas.{with_limits_of}
-use Rattle.qplain.specs.Calls.{attempt_of, unless}
 use Rattle.qplain.specs.Step.{change_between, settle, settled, step}
 use Rattle.qplain_laws.specs.Laws.{IsLawful, KeepsSetup}
 use Rattle.qplain_laws.proofs.Tables.{absent-fresh}

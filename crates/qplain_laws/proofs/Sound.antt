@@ -11,7 +11,7 @@ use Rattle.qrules.specs.declared.kind.Kind.{Kind}
 use Rattle.qrules.specs.declared.kind.Kind.TheVariants.{User, Group, Project}
 use Rattle.qrules.proofs.Ranks.{each_kind}
 use Rattle.qplain.specs.State.{Inode, State, inode_at}
-use Rattle.qplain.specs.Arguments.{is_declared, is_known, is_undeclared}
+use Rattle.qplain.specs.Known.{is_declared, is_known, is_undeclared}
 use Rattle.qplain.specs.Caller.{Caller}
 use Rattle.std.specs.List.{list_all}
 use Rattle.qplain.specs.Names.{owners_by, project_of}

@@ -23,7 +23,7 @@ use Rattle.qplain.specs.Principals.{are_in_range, collide, has_duplicate, has_ze
 use Rattle.qplain.specs.Setups.{IsLawfulSetup, Setting, is_in_range, principals_in, setup_fault}
 use Rattle.qplain.specs.State.{Holder, declared_in, holder_cmp, holder_of, root, root_project, start}
 use Rattle.qplain.specs.Use.{account_of, belongs_to, owner}
-use Rattle.qplain.specs.Arguments.{is_declared, is_holder}
+use Rattle.qplain.specs.Known.{is_declared, is_holder}
 use Rattle.qplain_laws.specs.Laws.{AreKnown, IsSound, StartIsLawful, has_kind, has_right_names, is_known_owner, leads}
 use Rattle.qplain_laws.proofs.Fitting.{or_right}
 use Rattle.qplain_laws.proofs.Sound.{empty-sound}

@@ -13,12 +13,12 @@ use Rattle.qplain.specs.declared.stat.Stat.{Stat}
 use Rattle.qplain.specs.Caller.{Caller, is_superuser}
 use Rattle.qplain.specs.State.{Holder, Inode, State, inode_at}
 use Rattle.qplain.specs.Walk.{components, walk}
-use Rattle.qplain.specs.Arguments.{is_holder, refusal_of_arguments}
+use Rattle.qplain.specs.Known.{is_holder}
+use Rattle.qplain.specs.Calls.{attempt, attempt_of, refusal_of_arguments, unless}
 use Rattle.qplain.specs.Attempt.{Attempt, Refuse, Answer, Becomes, at_inode, at_reached}
 use Rattle.qplain.specs.Rights.{is_own}
 use Rattle.qplain.specs.Files.{read_from, stat_at, stat_of}
 use Rattle.qplain.specs.Quotas.{quota_from, quota_of}
-use Rattle.qplain.specs.Calls.{attempt, attempt_of, unless}
 use Rattle.qplain.specs.Decision.{refusal_between}
 use Rattle.qplain.specs.Step.{settle, settled}
 use Rattle.qplain_laws.specs.Done.{LeadsTo}

@@ -19,7 +19,7 @@ use Rattle.qplain.specs.Caller.{Caller, is_superuser}
 use Rattle.qplain.specs.State.{Holder, State, inode_at, named}
 use Rattle.qplain.specs.Use.{account_of, use_of}
 use Rattle.qplain.specs.Walk.{components, last_name, parent}
-use Rattle.qplain.specs.Arguments.{is_holder}
+use Rattle.qplain.specs.Known.{is_holder}
 use Rattle.qplain.specs.Attempt.{no_change}
 use Rattle.qplain.specs.Journal.{change_of}
 use Rattle.qplain.specs.Step.{step}

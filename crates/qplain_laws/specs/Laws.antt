@@ -28,7 +28,7 @@ use Rattle.qplain.specs.State.{Holder, Inode, NameKey, State, holder_cmp, inode_
 use Rattle.qplain.specs.State.{start}
 use Rattle.qplain.specs.Use.{account_of, has_name, has_too_many_links, names_to, owner, total_of, use_of}
 use Rattle.qplain.specs.Walk.{walk}
-use Rattle.qplain.specs.Arguments.{is_declared}
+use Rattle.qplain.specs.Known.{is_declared}
 use Rattle.qplain.specs.Decision.{ends_after, with_ends_of}
 use Rattle.qplain.specs.Quotas.{relimited}
 use Rattle.qplain.specs.Step.{step}

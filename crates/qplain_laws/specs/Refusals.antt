@@ -15,13 +15,13 @@ use Rattle.qplain.specs.State.{Inode, State, inode_at, is_directory, named, new_
 use Rattle.qplain.specs.Use.{has_too_many_links, is_empty}
 use Rattle.qplain.specs.Walk.{components, last_name, led_to, parent, walk}
 use Rattle.qplain.specs.Decision.{is_too_full}
-use Rattle.qplain.specs.Arguments.{is_declared, refusal_of_arguments}
+use Rattle.qplain.specs.Known.{is_declared}
+use Rattle.qplain.specs.Calls.{attempt, refusal_of_arguments}
 use Rattle.qplain.specs.Attempt.{Becomes}
 use Rattle.qplain.specs.Rights.{is_own, may_give, may_remove, may_write}
 use Rattle.qplain.specs.Names.{created, owners_by, with_name}
 use Rattle.qplain.specs.Renames.{meets, passes, renamed}
 use Rattle.qplain.specs.Owners.{renewed}
-use Rattle.qplain.specs.Calls.{attempt}
 use Rattle.qplain.specs.Step.{step}
 use Rattle.qplain_laws.specs.Laws.{is_for_limits}
 

@@ -9,7 +9,7 @@ use Rattle.qplain.specs.declared.reply.Reply.TheVariants.{Bytes, Stat as StatRep
 use Rattle.qplain.specs.declared.stat.Stat.{Stat}
 use Rattle.qplain.specs.Caller.{Caller, is_superuser}
 use Rattle.qplain.specs.State.{Holder, Inode, State, inode_at}
-use Rattle.qplain.specs.Arguments.{is_holder}
+use Rattle.qplain.specs.Known.{is_holder}
 use Rattle.qplain.specs.Rights.{is_own}
 use Rattle.qplain.specs.Files.{stat_of}
 use Rattle.qplain.specs.Quotas.{quota_of}

@@ -12,8 +12,8 @@ use Rattle.qplain.specs.State.{Holder, Inode, State, inode_at, named}
 use Rattle.qplain.specs.Caller.{Caller, is_superuser}
 use Rattle.qplain.specs.Walk.{components, last_name, led_to, parent, walk}
 use Rattle.qplain.specs.Attempt.{Attempt, Refuse, Answer, Becomes, at_inode, at_name, at_path, at_reached, in_parent, in_reached, under}
-use Rattle.qplain.specs.Calls.{attempt, attempt_of, unless}
-use Rattle.qplain.specs.Arguments.{is_holder, refusal_of_arguments}
+use Rattle.qplain.specs.Calls.{attempt, attempt_of, refusal_of_arguments, unless}
+use Rattle.qplain.specs.Known.{is_holder}
 use Rattle.qplain.specs.Decision.{refusal_between}
 use Rattle.qplain.specs.Files.{read_from, stat_at, truncate_at, write_into}
 use Rattle.qplain.specs.Names.{create_as, link_as, link_to, mkdir_as, rmdir_as, rmdir_at, unlink_as, unlink_at}

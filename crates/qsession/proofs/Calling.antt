@@ -13,7 +13,7 @@ use Rattle.qplain.specs.declared.refusal.Refusal.TheVariants.{EINVAL, ENAMETOOLO
 use Rattle.qplain.specs.declared.refusal.Refusal.TheVariants.{EFBIG, EPERM, EMLINK, ENOTEMPTY, EBUSY, ESRCH}
 use Rattle.qplain.specs.declared.reply.Reply.{Reply}
 use Rattle.qplain.specs.declared.reply.Reply.TheVariants.{Done, Bytes, Stat, Quota, Refused}
-use Rattle.qplain.specs.Arguments.{paths_of}
+use Rattle.qplain.specs.Calls.{paths_of}
 use Rattle.qplain.specs.Paths.{ArePathBytes}
 use Rattle.qplain.specs.State.{State}
 use Rattle.qsession.specs.declared.kept.Kept.{Kept as KeptValue}

@@ -11,7 +11,8 @@ use Rattle.qplain.specs.Caller.{Caller, is_superuser}
 use Rattle.qplain.specs.State.{Holder, Inode, State, is_directory, named, new_directory}
 use Rattle.qplain.specs.Use.{is_empty}
 use Rattle.qplain.specs.Walk.{components}
-use Rattle.qplain.specs.Arguments.{is_declared, is_holder, refusal_of_arguments}
+use Rattle.qplain.specs.Known.{is_declared, is_holder}
+use Rattle.qplain.specs.Calls.{attempt, attempt_of, refusal_of_arguments}
 use Rattle.qplain.specs.Attempt.{Becomes, no_change}
 use Rattle.qplain.specs.Rights.{is_own, may_give, may_remove, may_write}
 use Rattle.qplain.specs.Names.{create_as, created, link_as, link_to, mkdir_as, owners_by, rmdir_as, rmdir_at, unlink_as, unlink_at, with_name}
@@ -19,7 +20,6 @@ use Rattle.qplain.specs.Renames.{meets, passes, rename_as, rename_from, rename_o
 use Rattle.qplain.specs.Files.{read_from, stat_at, stat_of, truncate_at, write_into}
 use Rattle.qplain.specs.Owners.{chown_at, renewed}
 use Rattle.qplain.specs.Quotas.{quota_from, quota_of}
-use Rattle.qplain.specs.Calls.{attempt, attempt_of}
 use Rattle.qsession.specs.Answers.{ChangesAreDone, QuotasTellRecords, ReadsTellBytes, StatsTellNumbers, is_change, tells_bytes, tells_done, tells_quota, tells_stat}
 use Rattle.qsession.proofs.Fitting.{Fits, answers, at_name-fits, at_path-fits, becomes, either, few_links-fits, in_parent-fits, or, refuses, settle-fits, unless-fits}
 

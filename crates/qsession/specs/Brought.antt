@@ -2,7 +2,7 @@
 use Rattle.std.specs.Prelude.{◌<◌, ℕ, List, All}
 use Rattle.qplain.specs.declared.call.Call.{Call}
 use Rattle.qplain.specs.declared.cred.TheConstants.{MAX_MORE_GROUPS}
-use Rattle.qplain.specs.Arguments.{paths_of}
+use Rattle.qplain.specs.Calls.{paths_of}
 use Rattle.qplain.specs.Paths.{ArePathBytes}
 use Rattle.qsession.specs.declared.caller.Caller.{Caller as BroughtCaller}
 use Rattle.qsession.specs.declared.fault.Fault.{Fault}

@@ -1,10 +1,10 @@
 //! Laws, as the contracts of functions that do nothing when they run.
 ghost use Rattle.std.specs.Prelude.{All};
-ghost use Rattle.qplain.specs.Arguments.{paths_of};
+ghost use Rattle.qplain.specs.Calls.{paths_of};
 ghost use Rattle.qplain.specs.Paths.{ArePathBytes};
 ghost use Rattle.qsession.specs.Answers.{ChangesAreDone, QuotasTellRecords, ReadsTellBytes, StatsTellNumbers};
 
-use qplain::Call;
+use qplain::{Call, CallPaths};
 
 /// Each call has a reply of its kind, or a refusal.
 pub fn replies_are_of_their_kind()
@@ -18,22 +18,14 @@ pub fn replies_are_of_their_kind()
 pub(crate) fn paths_are_good(call: &Call)
     ensures { All ArePathBytes (paths_of call.now) }
 {
-    match call {
-        Call::Create { path }
-        | Call::Mkdir { path }
-        | Call::Write { path, .. }
-        | Call::Truncate { path, .. }
-        | Call::Read { path, .. }
-        | Call::Stat { path }
-        | Call::Unlink { path }
-        | Call::Rmdir { path }
-        | Call::Chown { path, .. } => {
+    match call.paths() {
+        CallPaths::None => {}
+        CallPaths::One(path) => {
             let _bytes = path.bytes();
         }
-        Call::Link { from, to } | Call::Rename { from, to } => {
+        CallPaths::Two(from, to) => {
             let _first = from.bytes();
             let _second = to.bytes();
         }
-        Call::SetQuota { .. } | Call::SetGrace { .. } | Call::Quota { .. } => {}
     }
 }

@@ -6,8 +6,7 @@ use Rattle.qplain.specs.declared.call.Call.{Call}
 use Rattle.qplain.specs.declared.refusal.Refusal.{Refusal}
 use Rattle.qplain.specs.declared.reply.Reply.{Reply}
 use Rattle.qplain.specs.declared.reply.Reply.TheVariants.{Refused}
-use Rattle.qplain.specs.Arguments.{refusal_of_arguments}
-use Rattle.qplain.specs.Calls.{attempt_of, unless}
+use Rattle.qplain.specs.Calls.{attempt_of, refusal_of_arguments, unless}
 use Rattle.qplain.specs.Caller.{Caller}
 use Rattle.qplain.specs.State.{State}
 use Rattle.qplain.specs.Step.{settle, step}

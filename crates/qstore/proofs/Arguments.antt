@@ -10,7 +10,8 @@ use Rattle.qplain.specs.declared.refusal.Refusal.TheVariants.{EINVAL, ENAMETOOLO
 use Rattle.qplain.specs.Caller.{Caller}
 use Rattle.qplain.specs.State.{State}
 use Rattle.qplain.specs.Walk.{is_too_long, is_well_formed}
-use Rattle.qplain.specs.Arguments.{has_bad_number, is_declared, is_known, paths_of, refusal_of_arguments}
+use Rattle.qplain.specs.Calls.{has_bad_number, paths_of, refusal_of_arguments}
+use Rattle.qplain.specs.Known.{is_declared, is_known}
 use Rattle.qstore_walk.specs.Paths.{paths_fault}
 use Rattle.qstore_walk.specs.Owners.{caller_owners}
 use Rattle.qstore.specs.Requests.{are_declared}

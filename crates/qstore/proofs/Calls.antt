@@ -10,7 +10,7 @@ use Rattle.qplain.specs.declared.refusal.Refusal.TheVariants.{EACCES, EFBIG, EIS
 use Rattle.qplain.specs.declared.reply.Reply.TheVariants.{Done}
 use Rattle.qrules.specs.declared.kind.Kind.{Kind}
 use Rattle.qrules.specs.declared.kind.Kind.TheVariants.{User, Group, Project}
-use Rattle.qplain.specs.Arguments.{is_declared, is_holder, is_undeclared}
+use Rattle.qplain.specs.Known.{is_declared, is_holder, is_undeclared}
 use Rattle.qplain.specs.Attempt.{Answer, Becomes, Refuse, at_inode, at_reached, no_change}
 use Rattle.qplain.specs.Caller.{Caller}
 use Rattle.qplain.specs.Files.{truncate_at, with_file, with_inode, write_into}

@@ -8,7 +8,7 @@ use Rattle.qrules.specs.declared.kind.Kind.{Kind}
 use Rattle.qrules.specs.declared.limits.Limits.{Limits}
 use Rattle.qblocks.specs.File.{empty_file}
 use Rattle.qplain.specs.declared.refusal.Refusal.TheVariants.{EPERM, ESRCH}
-use Rattle.qplain.specs.Arguments.{is_declared}
+use Rattle.qplain.specs.Known.{is_declared}
 use Rattle.qplain.specs.Quotas.{set_quota, with_limits_of}
 use Rattle.qplain.specs.declared.change.Change.{Change as TotalChange}
 use Rattle.qplain.specs.declared.refusal.Refusal.{Refusal}

@@ -4,7 +4,8 @@ use Rattle.qrules.specs.declared.kind.Kind.TheVariants.{User, Group, Project}
 use Rattle.qplain.specs.declared.owners.Owners.{Owners}
 use Rattle.qplain.specs.declared.call.Call.{Call}
 use Rattle.qplain.specs.declared.refusal.Refusal.{Refusal}
-use Rattle.qplain.specs.Arguments.{has_bad_number, is_declared, paths_of, refusal_of_arguments}
+use Rattle.qplain.specs.Calls.{has_bad_number, paths_of, refusal_of_arguments}
+use Rattle.qplain.specs.Known.{is_declared}
 use Rattle.qplain.specs.Caller.{Caller}
 use Rattle.qplain.specs.State.{State, is_directory, named}
 use Rattle.qstore_accounts.specs.declared.claim.Slots.{Slots}

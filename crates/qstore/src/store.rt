@@ -5,7 +5,7 @@ ghost use Rattle.qrules.specs.Sort.{Blocks, Inodes};
 ghost use Rattle.qplain.specs.State.{start};
 ghost use Rattle.qplain.specs.Use.{total_of};
 ghost use Rattle.qplain.specs.Caller.{is_superuser};
-ghost use Rattle.qplain.specs.Arguments.{has_bad_number};
+ghost use Rattle.qplain.specs.Calls.{has_bad_number};
 ghost use Rattle.qplain.specs.Step.{step};
 ghost use Rattle.qplain_laws.specs.Laws.{IsLawful, PassesNoLimit};
 ghost use Rattle.qstore_tree.specs.TreeOf.{IsTreeOf};

@@ -11,7 +11,7 @@ use Rattle.qrules.specs.declared.kind.Kind.TheVariants.{User, Group, Project}
 use Rattle.qrules.specs.Kinds.{is_same_kind}
 use Rattle.qrules.proofs.Ranks.{each_kind}
 use Rattle.qplain.specs.State.{Holder, State}
-use Rattle.qplain.specs.Arguments.{is_holder}
+use Rattle.qplain.specs.Known.{is_holder}
 use Rattle.qstore_accounts.specs.declared.kept_holder.KeptHolder.{KeptHolder}
 use Rattle.qstore_accounts.specs.KeptHolders.{AreById, IsCountedIn, holder_in, holders_in}
 use Rattle.qstore_accounts.specs.Ledgers.{IsHolderAt}

@@ -11,7 +11,7 @@ use Rattle.qplain.specs.declared.refusal.Refusal.TheVariants.{EDQUOT, ENOSPC}
 use Rattle.qplain.specs.Caller.{Caller, is_superuser}
 use Rattle.qplain.specs.State.{Holder, Inode, State}
 use Rattle.qplain.specs.Use.{owner}
-use Rattle.qplain.specs.Arguments.{is_holder}
+use Rattle.qplain.specs.Known.{is_holder}
 use Rattle.qplain.specs.Decision.{fault_of_holder, first_refusal, refusal_between}
 use Rattle.qplain_laws.proofs.Balance.{is_held}
 use Rattle.qplain_laws.proofs.Refusing.{first_refusal-after, refusal_at}

@@ -10,7 +10,7 @@ use Rattle.qrules.specs.Grace.{end_after, with_limits}
 use Rattle.qplain.specs.State.{Holder, State}
 use Rattle.qplain.specs.Use.{account_of}
 use Rattle.qrules.specs.Kinds.{is_same_kind}
-use Rattle.qplain.specs.Arguments.{is_holder}
+use Rattle.qplain.specs.Known.{is_holder}
 use Rattle.qplain.specs.Decision.{ends_after, with_ends_of}
 use Rattle.qplain.specs.Quotas.{relimited, with_limits_of}
 use Rattle.qplain_laws.proofs.Ends.{holders-same, with_ends_of-same}

@@ -7,7 +7,7 @@ ghost use Rattle.qrules.specs.declared.kind.Kind.{Kind};
 ghost use Rattle.qrules.specs.declared.kind.Kind.TheVariants.{User, Group, Project};
 ghost use Rattle.qrules.specs.Range.{are_graces_in_range};
 ghost use Rattle.qplain.specs.State.{Inode, State, start};
-ghost use Rattle.qplain.specs.Arguments.{is_declared, is_holder};
+ghost use Rattle.qplain.specs.Known.{is_declared, is_holder};
 ghost use Rattle.qplain.specs.Quotas.{with_limits_of};
 ghost use Rattle.qplain.specs.Decision.{ends_after, refusal_between};
 ghost use Rattle.qplain_laws.specs.Laws.{IsLawful};

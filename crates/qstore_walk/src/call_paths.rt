@@ -1,10 +1,10 @@
 //! What is wrong with the paths of a call.
 ghost use Rattle.std.specs.Prelude.{◌≡◌, ◌∷◌, []};
-ghost use Rattle.qplain.specs.Arguments.{paths_of};
+ghost use Rattle.qplain.specs.Calls.{paths_of};
 ghost use Rattle.qstore_walk.specs.Paths.{paths_fault};
 
 use crate::path::fault_of;
-use qplain::{Call, Refusal};
+use qplain::{Call, CallPaths, Refusal};
 
 /// What is wrong with a path: EINVAL for its form, else ENAMETOOLONG of a component above 255 bytes, or of the whole
 /// above 4095. O(bytes).
@@ -34,19 +34,9 @@ fn fault_of_both(from: &str, to: &str) -> Option<Refusal>
 pub fn paths_fault(call: &Call) -> Option<Refusal>
     ensures { result ≡ paths_fault (paths_of call.now) }
 {
-    match call {
-        Call::Create { path }
-        | Call::Mkdir { path }
-        | Call::Write { path, .. }
-        | Call::Truncate { path, .. }
-        | Call::Read { path, .. }
-        | Call::Stat { path }
-        | Call::Unlink { path }
-        | Call::Rmdir { path }
-        | Call::Chown { path, .. } => fault_of(path.text()),
-        Call::Link { from, to } | Call::Rename { from, to } => {
-            fault_of_both(from.text(), to.text())
-        }
-        Call::SetQuota { .. } | Call::SetGrace { .. } | Call::Quota { .. } => None,
+    match call.paths() {
+        CallPaths::None => None,
+        CallPaths::One(path) => fault_of(path.text()),
+        CallPaths::Two(from, to) => fault_of_both(from.text(), to.text()),
     }
 }

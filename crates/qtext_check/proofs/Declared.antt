@@ -4,7 +4,7 @@ use Rattle.std.specs.List.{list_any}
 use Rattle.std.proofs.lemmas.List.Folds.{list_any-append}
 use Rattle.qrules.specs.declared.kind.Kind.{Kind}
 use Rattle.qrules.specs.declared.kind.Kind.TheVariants.{User, Group, Project}
-use Rattle.qplain.specs.Arguments.{is_declared, is_holder}
+use Rattle.qplain.specs.Known.{is_declared, is_holder}
 use Rattle.qplain.specs.Setups.{Setting, principals_in}
 use Rattle.qplain.specs.State.{Holder, declared_in, holder_of, start}
 use Rattle.qplain.specs.declared.principal.Principal.{Principal}

@@ -2,7 +2,8 @@
 use Rattle.std.proofs.Common.{◌≡◌, Bool, true, false, not, ◌||◌, nat_lt, cond, Some, None, Option, refl}
 use Rattle.std.specs.List.{list_all, list_any}
 use Rattle.qrules.specs.declared.graces.TheConstants.{MAX_MOMENT}
-use Rattle.qplain.specs.Arguments.{has_bad_number, is_known, paths_of}
+use Rattle.qplain.specs.Calls.{has_bad_number, paths_of}
+use Rattle.qplain.specs.Known.{is_known}
 use Rattle.qplain.specs.Setups.{Setting}
 use Rattle.qplain.specs.State.{start}
 use Rattle.qplain.specs.Walk.{is_too_long, is_well_formed}

@@ -1,6 +1,6 @@
 -- What is wrong in a line of a script.
 use Rattle.std.specs.Prelude.{Option, Some, None, Result, Ok, Err, option_map}
-use Rattle.qplain.specs.Arguments.{refusal_of_arguments}
+use Rattle.qplain.specs.Calls.{refusal_of_arguments}
 use Rattle.qplain.specs.Setups.{Setting}
 use Rattle.qplain.specs.State.{start}
 use Rattle.qplain.specs.declared.line.Line.{Line}

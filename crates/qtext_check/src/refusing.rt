@@ -2,7 +2,8 @@
 ghost use Rattle.std.specs.Prelude.{◌≡◌, ◌==◌};
 ghost use Rattle.std.specs.List.{list_all, list_any};
 ghost use Rattle.qrules.specs.declared.kind.Kind.TheVariants.{Group};
-ghost use Rattle.qplain.specs.Arguments.{has_bad_number, is_declared, is_known, is_undeclared};
+ghost use Rattle.qplain.specs.Calls.{has_bad_number};
+ghost use Rattle.qplain.specs.Known.{is_declared, is_known, is_undeclared};
 ghost use Rattle.qplain.specs.Setups.{principals_in};
 ghost use Rattle.qplain.specs.State.{start};
 ghost use Rattle.qtext_check.specs.Wrongs.{refusal_of};

@@ -17,7 +17,7 @@ use Rattle.qtext.proofs.WordsFound.{number_found}
 use Rattle.qtext_read.specs.Journaled.{journaled_call_in}
 use Rattle.qtext_read.specs.RepliesRead.{reply_in}
 use Rattle.qtext_read.specs.RepliesSpelled.{reply_words}
-use Rattle.qplain.specs.Held.{HasLawfulStat, IsReply, IsHeld}
+use Rattle.qplain.specs.Held.{HasLawfulStat, IsHeld, IsReply}
 use Rattle.qtext_read.proofs.ArgumentsFound.{any_number}
 use Rattle.qtext_read.proofs.CallersFound.{any_caller}
 use Rattle.qtext_read.proofs.CallsFound.{journaled_found}

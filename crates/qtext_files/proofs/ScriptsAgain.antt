@@ -3,7 +3,8 @@ use Rattle.std.proofs.Common.{◌≡◌, ◌⊎◌, ℕ, ◌+◌, ◌≤◌, ◌
 use Rattle.std.specs.List.{join_with_byte, AllByRecursion}
 use Rattle.std.proofs.lemmas.Bool.{le-ltb}
 use Rattle.qplain.specs.Caller.{Caller}
-use Rattle.qplain.specs.Held.{AreLines, IsCall, IsCaller, IsLine}
+use Rattle.qplain.specs.Held.{AreLines, IsCaller, IsLine}
+use Rattle.qplain.specs.Calls.{IsCall}
 use Rattle.qplain.specs.declared.call.Call.{Call}
 use Rattle.qplain.specs.declared.line.Line.{Line}
 use Rattle.qtext.specs.declared.text_fault.TextFault.{TextFault}

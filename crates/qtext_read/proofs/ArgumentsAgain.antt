@@ -21,7 +21,7 @@ use Rattle.qtext.proofs.Joining.{passes_weaker}
 use Rattle.qtext.proofs.WordsAgain.{are_digits, decoded, number_again}
 use Rattle.qtext_read.specs.Arguments.{path_of, kind_of, project_kind_of, owner_of}
 use Rattle.qtext_read.specs.Spelling.{owner_text}
-use Rattle.qplain.specs.Held.{IsOwner}
+use Rattle.qplain.specs.Ranges.{IsOwner}
 use Rattle.qtext_read.proofs.Editions.{OnlyInTwo}
 
 digit_is_word : (b : ℕ) → is_ascii_digit b ≡ true → is_path_byte b ≡ true

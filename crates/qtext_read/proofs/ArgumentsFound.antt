@@ -19,7 +19,7 @@ use Rattle.qtext.proofs.WordsFound.{number_found}
 use Rattle.qtext_read.specs.Arguments.{path_of, kind_of, project_kind_of, owner_of}
 use Rattle.qtext_read.specs.RepliesRead.{limits_of}
 use Rattle.qtext_read.specs.Spelling.{limits_words, owner_text}
-use Rattle.qplain.specs.Held.{AreLimits, IsOwner}
+use Rattle.qplain.specs.Ranges.{AreLimits, IsOwner}
 use Rattle.qtext_read.proofs.Editions.{OnlyInTwo, in_two}
 
 pub any_path : Spells (λ path. path) ArePathBytes path_of

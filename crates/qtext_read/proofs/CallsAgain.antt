@@ -16,7 +16,8 @@ use Rattle.qtext_read.specs.RepliesRead.{limits_of}
 use Rattle.qtext_read.specs.Rows.{values_in}
 use Rattle.qtext_read.specs.Calls.{call_by, call_of, call_in}
 use Rattle.qtext_read.specs.Spelling.{call_words}
-use Rattle.qplain.specs.Held.{AreLimits, IsCall}
+use Rattle.qplain.specs.Ranges.{AreLimits}
+use Rattle.qplain.specs.Calls.{IsCall}
 use Rattle.qtext_read.proofs.ArgumentsAgain.{path_again, kind_again, owner_again, any_id, decimal_word, data_word, kind_word, id_word, owner_word}
 use Rattle.qtext_read.proofs.Editions.{in_two}
 

@@ -30,7 +30,7 @@ use Rattle.qtext_read.specs.Calls.{call_by, call_of, call_in}
 use Rattle.qtext_read.specs.Journaled.{argument_count, counted_call_of, has_project, in_one_case, is_fill, journaled_call_in, journaled_call_of}
 use Rattle.qtext_read.specs.Journaled.{journaled_verb_of}
 use Rattle.qtext_read.specs.Spelling.{call_words}
-use Rattle.qplain.specs.Held.{IsCall}
+use Rattle.qplain.specs.Calls.{IsCall}
 use Rattle.qtext_read.proofs.ArgumentsFound.{any_id, any_kind, any_number, any_owner, any_path}
 use Rattle.qtext_read.proofs.Editions.{OnlyInTwo}
 

@@ -12,7 +12,7 @@ use Rattle.qtext_read.specs.Rows.{values_in}
 use Rattle.qtext_read.specs.Calls.{call_by, call_of}
 use Rattle.qtext_read.specs.Journaled.{counted_call_of, in_one_case, is_project, journaled_call_in, journaled_call_of, journaled_verb_of}
 use Rattle.qtext_read.specs.Spelling.{call_words}
-use Rattle.qplain.specs.Held.{IsCall}
+use Rattle.qplain.specs.Calls.{IsCall}
 use Rattle.qtext_read.proofs.ArgumentsAgain.{any_id, digits_lack_arrow, kind_again, owner_again, path_again}
 use Rattle.qtext_read.proofs.CallsAgain.{any_number}
 use Rattle.qtext_read.proofs.Editions.{OnlyInTwo}

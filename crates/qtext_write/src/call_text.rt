@@ -1,7 +1,8 @@
 //! Calls as text.
 ghost use Rattle.std.specs.Prelude.{◌≡◌, ◌≤◌, ◌<◌, ◌+◌, ◌^◌, ◌∷◌, ◌++◌, codes, decimal, length, IfOk};
 ghost use Rattle.std.specs.List.{join_with_byte};
-ghost use Rattle.qplain.specs.Held.{AreBytes, AreLimits, IsCall, IsOwner};
+ghost use Rattle.qplain.specs.Ranges.{AreBytes, AreLimits, IsOwner};
+ghost use Rattle.qplain.specs.Calls.{IsCall};
 ghost use Rattle.qplain.specs.Paths.{ArePathBytes};
 ghost use Rattle.qtext.specs.Pieces.{data_text};
 ghost use Rattle.qtext.specs.RuleWords.{kind_text};

@@ -2,7 +2,7 @@
 ghost use Rattle.std.specs.Prelude.{◌≡◌, ◌≤◌, ◌<◌, ◌++◌, length, replicate, IfOk};
 ghost use Rattle.hex.specs.Hex.{encode_lower};
 ghost use Rattle.qblocks.specs.Input.{input_bytes};
-ghost use Rattle.qplain.specs.Held.{AreBytes};
+ghost use Rattle.qplain.specs.Ranges.{AreBytes};
 ghost use Rattle.qtext.specs.Pieces.{data_text};
 ghost use Rattle.qtext.specs.Written.{Passes};
 

@@ -1,15 +1,7 @@
 //! Replies as text.
 ghost use Rattle.std.specs.Prelude.{◌≡◌, ◌≤◌, ◌<◌, ◌+◌, ◌∷◌, ◌++◌, length, codes};
-ghost use Rattle.qplain.specs.Held.{
-  AreBytes,
-  HasLawfulStat,
-  IsChange,
-  IsEmptyDirectory,
-  IsEnd,
-  IsQuota,
-  IsReply,
-  IsStat,
-};
+ghost use Rattle.qplain.specs.Ranges.{AreBytes};
+ghost use Rattle.qplain.specs.Held.{HasLawfulStat, IsChange, IsEmptyDirectory, IsEnd, IsQuota, IsReply, IsStat};
 ghost use Rattle.qtext.specs.Pieces.{data_text};
 ghost use Rattle.qtext.specs.Written.{Writes};
 ghost use Rattle.qtext_read.specs.Replies.{done_text, end_text, quota_text, refusal_text, reply_text, stat_text};

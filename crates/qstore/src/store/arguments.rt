@@ -1,7 +1,8 @@
 //! What is wrong with a call as it is written, and who asks.
 ghost use Rattle.std.specs.Prelude.{◌≡◌, Some, IfOk, IfErr};
 ghost use Rattle.qplain.specs.declared.call.Call.{Call as CallValue};
-ghost use Rattle.qplain.specs.Arguments.{has_bad_number, is_undeclared, refusal_of_arguments};
+ghost use Rattle.qplain.specs.Calls.{has_bad_number, refusal_of_arguments};
+ghost use Rattle.qplain.specs.Known.{is_undeclared};
 ghost use Rattle.qstore.specs.Requests.{IsConsistent, IsRequestFor, IsWritten};
 
 use crate::{Call, Cred, Refusal, Request, Store};

@@ -1,7 +1,7 @@
 //! To give an inode other owners (chown(2)).
 ghost use Rattle.std.specs.Prelude.{◌≡◌, ◌||◌, false};
 ghost use Rattle.qrules.specs.declared.kind.Kind.TheVariants.{User, Group, Project};
-ghost use Rattle.qplain.specs.Arguments.{is_undeclared};
+ghost use Rattle.qplain.specs.Known.{is_undeclared};
 ghost use Rattle.qstore.specs.Decided.{CanDecide, IsDecisionOf};
 
 use crate::{Call, Exchange, Refusal, Reply, Request, Store};

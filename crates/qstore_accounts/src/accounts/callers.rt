@@ -1,7 +1,7 @@
 //! Who may call, and where a caller's records stand.
 ghost use Rattle.std.specs.Prelude.{◌≡◌, is_some, IfSome};
 ghost use Rattle.std.specs.List.{list_all};
-ghost use Rattle.qplain.specs.Arguments.{is_known};
+ghost use Rattle.qplain.specs.Known.{is_known};
 ghost use Rattle.qplain.specs.State.{State};
 ghost use Rattle.qstore_accounts.specs.Books.{AreBooksOf, HasSlots};
 ghost use Rattle.qstore_accounts.specs.Callers.{IsKnownAt, callers_own, has_id, is_known_in};

@@ -1,5 +1,5 @@
 use Rattle.std.proofs.Common.{◌≡◌, [], ◌∷◌, rules, sym, ap, ◌∙◌}
-use Rattle.qplain.specs.Arguments.{paths_of}
+use Rattle.qplain.specs.Calls.{paths_of}
 use Rattle.qstore_walk.specs.Paths.{path_fault, paths_fault}
 use Rattle.qstore_walk.proofs.Paths.{path_fault-one}
 use Rattle.qstore_walk.proofs.call_paths.paths_fault.Goals as goal

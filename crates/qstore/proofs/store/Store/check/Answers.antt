@@ -1,6 +1,7 @@
 use Rattle.std.proofs.Common.{◌≡◌, false, Some, sym, subst}
 use Rattle.qplain.specs.declared.refusal.Refusal.TheVariants.{EINVAL}
-use Rattle.qplain.specs.Arguments.{is_known, refusal_of_arguments}
+use Rattle.qplain.specs.Known.{is_known}
+use Rattle.qplain.specs.Calls.{refusal_of_arguments}
 use Rattle.qstore.specs.Kept.{state_of}
 use Rattle.qstore.specs.Stored.{Stored}
 use Rattle.qstore.proofs.Arguments.{refusal-unknown}

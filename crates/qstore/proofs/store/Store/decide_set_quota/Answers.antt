@@ -1,6 +1,6 @@
 use Rattle.std.proofs.Common.{◌≡◌, ◌==◌, true, is_some, Ok, refl, subst, sym, ap, ◌∙◌, tests, arith}
 use Rattle.qplain.specs.declared.reply.Reply.TheVariants.{Done}
-use Rattle.qplain.specs.Arguments.{is_declared}
+use Rattle.qplain.specs.Known.{is_declared}
 use Rattle.qplain.specs.Attempt.{no_change}
 use Rattle.qplain.specs.Quotas.{set_quota}
 use Rattle.qstore.specs.declared.plan.Plan.TheVariants.{Limits}

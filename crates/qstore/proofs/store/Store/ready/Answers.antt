@@ -1,5 +1,5 @@
 use Rattle.std.proofs.Common.{ap, sym, ◌∙◌}
-use Rattle.qplain.specs.Arguments.{has_bad_number}
+use Rattle.qplain.specs.Calls.{has_bad_number}
 use Rattle.qstore.specs.Requests.{IsWritten}
 use Rattle.qstore.specs.declared.plan.Plan.TheVariants.{Nothing}
 use Rattle.qstore.specs.Stored.{Stored}

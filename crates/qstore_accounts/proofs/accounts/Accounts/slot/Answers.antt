@@ -1,6 +1,6 @@
 use Rattle.std.proofs.Common.{◌==◌, sym, ap, ◌∙◌}
 use Rattle.std.specs.List.{list_any}
-use Rattle.qplain.specs.Arguments.{is_holder}
+use Rattle.qplain.specs.Known.{is_holder}
 use Rattle.qstore_accounts.specs.Books.{ledger_in}
 use Rattle.qstore_accounts.proofs.Holders.{declared-kept}
 use Rattle.qstore_accounts.proofs.accounts.Accounts.slot.Goals as goal
