@@ -16,6 +16,43 @@ class Workload(NamedTuple):
     peak_bar: float = 2.0  # at most so many times its peak
 
 
+# Why a script takes more than without proofs, where it does.
+SINCE = {
+    "60,000 creates, then 5,536 stats":
+        "a new name is looked up and kept, both records are charged by the whole rule of grace ends, and the audit"
+        " recounts all inodes and names, some 220 a file",
+    "60,000 links and renames in one directory":
+        "two paths are read a line; a rename looks a name up, takes it away and puts another",
+    "stat /":
+        "a reply of 88 bytes goes from hand to hand, and a function clears its large values when it begins",
+    ".. a third of them reads of 64 bytes":
+        "a read makes a list for its reply",
+    "setquota":
+        "five numbers are tested for their ranges, and both grace ends are computed anew",
+    "16 kinds of refusals":
+        "one line in 16 has a name of 256 bytes, which is read, kept and tested",
+    "64 users and groups, small writes":
+        "a new block takes two allocations, and so do the bytes of a write; both records are charged by the whole rule"
+        " of grace ends",
+    "callers of 16 further groups":
+        "as stat /",
+    "one byte anywhere in 64 files":
+        "a row of 16 slots and a block are made for a lone byte, and two searches of a tree of rows find them",
+    "one byte in a file of 100,000 blocks":
+        "a tree of 6,250 rows is searched, for some 400",
+    "fills of 64 KiB, fresh":
+        "16 blocks are allocated one by one, so that each can be given back alone",
+    "fills of 64 KiB onto one place":
+        "16 blocks are filled one by one",
+    "64 KiB a line as hex digits":
+        "digits are read 32 at a time, into room that is cleared first",
+    "reads of 64 KiB":
+        "a read makes a list for its reply, which is written in pieces of 256 bytes",
+    ".. with 64 users and 64 groups":
+        "a configuration is read twice, for its fields and then for its numbers, which is the order of its faults",
+}
+
+
 LINES = 65_536
 CHUNK = 65_536
 # The caller of most lines: user 1000 and group 100.

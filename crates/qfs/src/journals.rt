@@ -7,7 +7,7 @@ ghost use Rattle.qsession_text.specs.Journals.{IsReadAgain, journal_in, tallied,
 ghost use Rattle.qsession_text.specs.Openings.{IsOpened, IsReadingTold, config_in};
 
 use qsession::{Fault, Session, TallyReply};
-use qsession_text::{keep_journaled, tell_config_fault, tell_journal, tell_tally};
+use qsession_text::{keep, tell_config_fault, tell_journal, tell_tally};
 use std::alloc::Global;
 
 /// Opens a session that keeps a journal of its calls, with a new store of a configuration. Numbers, key and length are
@@ -30,7 +30,7 @@ pub extern "C" fn qfs_open_journaled(
     if session.is_open() {
         return Fault::Open.code();
     }
-    match keep_journaled(alloc, config, seed) {
+    match keep(alloc, config, seed, true) {
         Ok(kept) => {
             *session = Session::of(kept);
             0

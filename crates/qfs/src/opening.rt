@@ -4,7 +4,7 @@ ghost use Rattle.qsession.specs.Holdings.{held_in, new_plain};
 ghost use Rattle.qsession_text.specs.Openings.{IsOpened, IsReadingTold, config_in};
 
 use qsession::{Fault, Session};
-use qsession_text::{keep_plain, tell_config_fault};
+use qsession_text::{keep, tell_config_fault};
 use std::alloc::Global;
 
 /// Opens a session with a new store of a configuration, a text in TOML. The hashes of names begin at the seed, any
@@ -30,7 +30,7 @@ pub extern "C" fn qfs_open(
     if session.is_open() {
         return Fault::Open.code();
     }
-    match keep_plain(alloc, config, seed) {
+    match keep(alloc, config, seed, false) {
         Ok(kept) => {
             *session = Session::of(kept);
             0

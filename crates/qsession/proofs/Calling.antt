@@ -16,7 +16,6 @@ use Rattle.qplain.specs.declared.reply.Reply.TheVariants.{Done, Bytes, Stat, Quo
 use Rattle.qplain.specs.Calls.{paths_of}
 use Rattle.qplain.specs.Paths.{ArePathBytes}
 use Rattle.qplain.specs.State.{State}
-use Rattle.qsession.specs.declared.kept.Kept.{Kept as KeptValue}
 use Rattle.qsession.specs.declared.caller.Caller.{Caller as BroughtCaller}
 use Rattle.qsession.specs.declared.caller.Context.{Context}
 use Rattle.qsession.specs.declared.fault.Fault.{Fault}
@@ -27,7 +26,7 @@ use Rattle.qsession.specs.Brought.{HasBadPath, IsCauseOfPath}
 use Rattle.qsession.specs.Called.{IsAnswered, IsCalled, IsCalledIn, IsCause, IsReplyTo, IsStepOf, IsToldStep, code_of}
 use Rattle.qsession.specs.Codes.{FAULTS, over_code, refusal_code, reply_code}
 use Rattle.qsession.specs.Faults.{fault_code}
-use Rattle.qsession.specs.Holdings.{Holding, held_in}
+use Rattle.qsession.specs.Holdings.{Holding}
 use Rattle.qsession.specs.Requests.{line_in}
 use Rattle.qsession.specs.Steps.{stepped}
 
@@ -134,17 +133,6 @@ told_step (Some old) None line reply is = absurd is
 told_step None new line reply is = absurd is
 
 -- ---- an answer to a call
-
--- a call for which nothing was taken is answered why
-pub untaken : (old new : Option KeptValue) (context : Context) (call : Call) (fault : Fault) → new ≡ old
-    → IsCause (held_in old) context.caller.now call fault → IsAnswered (held_in old) (held_in new) context call (Err fault)
-untaken old new context call fault same cause = record {
-  ok = tt;
-  err = ap held_in same;
-  cause = cause;
-  full = λ full. refl;
-  brought = λ brought. refl;
-}
 
 module _ (old : Option Holding) (caller : BroughtCaller) (moment : ℕ) (call : Call) (number : ℕ) where
   path_cause : (fault : Fault) (path : List ℕ) → IsCauseOfPath path fault → ((ArePathBytes path → ⊥) → HasBadPath call)

@@ -111,33 +111,17 @@ impl Session {
         *self = Session::of(held);
     }
 
-    /// Who calls, and what is kept, which is taken out for the call. A fault is Caller, before Closed.
-    #[inline(always)]
-    fn take_for(&mut self, alloc: Global, caller: &Caller) -> Result<(Cred, Box<Kept>), Fault>
-        ensures cred { IfOk result (λ taken. taken.0 ≡ caller_in caller.now) }
-        ensures kept { IfOk result (λ taken. self.old.slot.kept ≡ Some taken.1.value) }
-        ensures few { IfOk result (λ _. HasTooManyGroups caller.now → ⊥) }
-        ensures err { OnErr result (self.new.slot.kept ≡ self.old.slot.kept) }
-        ensures cause { (call : CallValue) → IfErr result (IsCause (held_in self.old.slot.kept) caller.now call) }
-    {
-        let cred = match caller.cred(alloc) {
-            Ok(cred) => cred,
-            Err(fault) => return Err(fault),
-        };
-        match self.take(alloc) {
-            Some(kept) => Ok((cred, kept)),
-            None => Err(Fault::Closed),
-        }
-    }
-
     /// One call. A fault is Caller, before Closed, before those of the store.
     fn call(&mut self, alloc: Global, context: Context<'_>, call: &Call) -> Result<Reply, Fault>
         ensures { IsAnswered (held_in self.old.slot.kept) (held_in self.new.slot.kept) context.entry call.now result }
     {
         paths_are_good(call);
-        let (cred, mut kept) = match self.take_for(alloc, context.caller) {
-            Ok(taken) => taken,
+        let cred = match context.caller.cred(alloc) {
+            Ok(cred) => cred,
             Err(fault) => return Err(fault),
+        };
+        let Some(mut kept) = self.take(alloc) else {
+            return Err(Fault::Closed);
         };
         let answer = kept.call(&cred, context.moment, call);
         *self = Session::of(kept);
@@ -155,9 +139,12 @@ impl Session {
         ensures { IsAnswered (held_in self.old.slot.kept) (held_in self.new.slot.kept) context.entry
             (call_of call.entry) result }
     {
-        let (cred, mut kept) = match self.take_for(alloc, context.caller) {
-            Ok(taken) => taken,
+        let cred = match context.caller.cred(alloc) {
+            Ok(cred) => cred,
             Err(fault) => return Err(fault),
+        };
+        let Some(mut kept) = self.take(alloc) else {
+            return Err(Fault::Closed);
         };
         let answer = kept.ask(alloc, &cred, context.moment, call);
         *self = Session::of(kept);
@@ -177,9 +164,12 @@ impl Session {
             (read_of from.entry (length buffer.old)) (answer_in buffer.new result) }
         ensures room { IfOk result (λ reply. count_in reply ≤ length buffer.old) }
     {
-        let (cred, mut kept) = match self.take_for(alloc, context.caller) {
-            Ok(taken) => taken,
+        let cred = match context.caller.cred(alloc) {
+            Ok(cred) => cred,
             Err(fault) => return Err(fault),
+        };
+        let Some(mut kept) = self.take(alloc) else {
+            return Err(Fault::Closed);
         };
         let answer = kept.read(alloc, &cred, context.moment, from, buffer);
         *self = Session::of(kept);

@@ -1,10 +1,10 @@
 -- What opening a session comes to.
-use Rattle.std.specs.Prelude.{◌≡◌, ◌≤◌, ℕ, if◌then◌else◌, List, [], Option, Some, None, Result, Ok, Err, length, take}
+use Rattle.std.specs.Prelude.{◌≡◌, ◌≤◌, ℕ, Bool, true, false, if◌then◌else◌, List, [], Option, Some, None, Result, Ok, Err, length, take}
 use Rattle.std.specs.Str.{is_utf8}
 use Rattle.qplain.specs.Setups.{IsSetupOf, Setting}
 use Rattle.qtext_config.specs.ConfigFaults.{Cause, Duplicate, Field, NoZero, Range, Text}
 use Rattle.qtext_config.specs.Configs.{setting_in}
-use Rattle.qsession.specs.Holdings.{Holding}
+use Rattle.qsession.specs.Holdings.{Holding, new_journaled, new_plain}
 
 -- the setting that bytes write, or the first cause for which they write none; those that are no UTF-8 are no text
 abbrev pub config_in : List ℕ → Result Setting Cause
@@ -14,6 +14,11 @@ config_in bytes = if is_utf8 bytes then setting_in bytes else Err Text
 abbrev pub IsRead : Setting → Result Setting Cause → Type 0
 IsRead setup (Ok given) = IsSetupOf given setup
 IsRead setup (Err cause) = ⊥
+
+-- what a new store holds, with an empty journal or without one
+abbrev pub new_kept : Bool → Setting → Holding
+new_kept true = new_journaled
+new_kept false = new_plain
 
 -- what is held is what a new store of some setup of the given setting holds
 pub record IsBegun (new : Setting → Holding) (given : Setting) (h : Holding) : Type 0 where

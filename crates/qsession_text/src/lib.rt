@@ -4,7 +4,7 @@
 pub use audit::tell_audit;
 pub use journal::{tell_journal, tell_tally};
 pub use line::answer_line;
-pub use opening::{keep_journaled, keep_plain, tell_config_fault};
+pub use opening::{keep, tell_config_fault};
 pub use report::tell_report;
 
 mod audit;

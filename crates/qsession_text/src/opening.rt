@@ -2,8 +2,8 @@
 ghost use Rattle.std.specs.Prelude.{◌≢◌, Some, IfOk, IfErr, Result};
 ghost use Rattle.qplain.specs.Setups.{Setting};
 ghost use Rattle.qtext_config.specs.ConfigFaults.{Cause, EndsFor};
-ghost use Rattle.qsession.specs.Holdings.{holding_of, new_journaled, new_plain};
-ghost use Rattle.qsession_text.specs.Openings.{IsOpened, IsRead, IsReadingTold, config_in};
+ghost use Rattle.qsession.specs.Holdings.{holding_of};
+ghost use Rattle.qsession_text.specs.Openings.{IsOpened, IsRead, IsReadingTold, config_in, new_kept};
 
 use crate::buffer::put_text;
 use qsession::{Fault, Kept};
@@ -21,26 +21,25 @@ fn config_of(alloc: Global, text: &[u8]) -> Result<Config, ConfigFault>
     }
 }
 
-/// A new store of a configuration, a text in TOML, without a journal; or why there is none. The hashes of names begin
-/// at `seed`, any number.
-pub fn keep_plain(alloc: Global, text: &[u8], seed: u64) -> Result<Box<Kept>, ConfigFault>
-    ensures ok { IfOk result (λ kept. IsOpened new_plain (Some (holding_of kept.value)) (config_in text.now)) }
+/// A new store of a configuration, a text in TOML, with an empty journal or without one; or why there is none. The
+/// hashes of names begin at `seed`, any number.
+pub fn keep(
+    alloc: Global,
+    text: &[u8],
+    seed: u64,
+    is_journaled: bool,
+) -> Result<Box<Kept>, ConfigFault>
+    ensures ok { IfOk result (λ kept.
+        IsOpened (new_kept is_journaled) (Some (holding_of kept.value)) (config_in text.now)) }
     ensures err { IfErr result (λ fault. EndsFor fault (config_in text.now)) }
 {
     let config = config_of(alloc, text)?;
-    match Kept::plain(alloc, config.setup, seed) {
-        Ok(kept) => Ok(Box::new(alloc, kept)?),
-        Err(_) => Err(ConfigFault::Memory),
-    }
-}
-
-/// A new store of a configuration, with an empty journal; or why there is none, as for `keep_plain`.
-pub fn keep_journaled(alloc: Global, text: &[u8], seed: u64) -> Result<Box<Kept>, ConfigFault>
-    ensures ok { IfOk result (λ kept. IsOpened new_journaled (Some (holding_of kept.value)) (config_in text.now)) }
-    ensures err { IfErr result (λ fault. EndsFor fault (config_in text.now)) }
-{
-    let config = config_of(alloc, text)?;
-    match Kept::journaled(alloc, config.setup, seed) {
+    let kept = if is_journaled {
+        Kept::journaled(alloc, config.setup, seed)
+    } else {
+        Kept::plain(alloc, config.setup, seed)
+    };
+    match kept {
         Ok(kept) => Ok(Box::new(alloc, kept)?),
         Err(_) => Err(ConfigFault::Memory),
     }

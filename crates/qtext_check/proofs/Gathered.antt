@@ -1,6 +1,6 @@
 -- The faults of lines one after the other, as a loop gathers them, and the first of them that reading tells.
 use Rattle.std.proofs.Common.{◌≡◌, ℕ, List, [], ◌∷◌, ◌++◌, Option, Some, None, Result, Ok, Err, refl, sym, ap, ◌∙◌, append_assoc}
-use Rattle.std.specs.Prelude.{IfOk, option_map}
+use Rattle.std.specs.Prelude.{option_map}
 use Rattle.std.specs.List.{flat_map}
 use Rattle.std.proofs.lemmas.List.{append-nil}
 use Rattle.qplain.specs.Setups.{Setting}
@@ -92,9 +92,7 @@ first_told s (l ∷ ls) =
     ∙ first_of_line s l.number (script_line_of l) (faults_in s ls) (told (each_of at_line ls)) (first_told s ls)
     ∙ sym (then_told l ls (script_line_of l) refl)
 
--- and so of an answer that has them all
-pub first_of_answer : {X E : Type 0} (faults : X → List Fault) (s : Option Setting) (text : List ℕ) (answer : Result X E)
-    → IfOk answer (λ found. faults found ≡ faults_of s text)
-    → IfOk answer (λ found. first_text_fault (faults found) ≡ told (script_of text))
-first_of_answer faults s text (Ok found) is = ap first_text_fault is ∙ first_told s (raw_lines text)
-first_of_answer faults s text (Err fault) is = tt
+-- and so of all of them
+pub first_told_of : (s : Option Setting) (text : List ℕ) (faults : List Fault) → faults ≡ faults_of s text
+    → first_text_fault faults ≡ told (script_of text)
+first_told_of s text faults is = ap first_text_fault is ∙ first_told s (raw_lines text)

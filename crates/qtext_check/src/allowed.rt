@@ -71,15 +71,7 @@ fn argument_words(argument: Argument) -> &'static str {
         Argument::Uid | Argument::Gid => "an id, 0 to 4294967295, or -",
         Argument::Project | Argument::Id => "an id, 0 to 4294967295",
         Argument::Kind => "user, group or project",
-        Argument::Offset
-        | Argument::Size
-        | Argument::Length
-        | Argument::BlockSoft
-        | Argument::BlockHard
-        | Argument::InodeSoft
-        | Argument::InodeHard
-        | Argument::BlockGrace
-        | Argument::InodeGrace => "a number, 0 to 18446744073709551615",
+        _ => "a number, 0 to 18446744073709551615",
     }
 }
 

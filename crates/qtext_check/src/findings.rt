@@ -3,7 +3,7 @@ ghost use Rattle.std.specs.Prelude.{◌≡◌, ◌++◌, ℕ, List, map, true, I
 ghost use Rattle.std.specs.List.{list_all};
 ghost use Rattle.std.specs.Option.{option_map};
 ghost use Rattle.qtext.specs.Words.{is_text_byte, words as words_of};
-ghost use Rattle.qtext_check.specs.Faults.{fault_in, faults_of, first_text_fault, line_in, lines_of, listed, told};
+ghost use Rattle.qtext_check.specs.Faults.{fault_at, faults_of, first_text_fault, lines_of, listed, told};
 ghost use Rattle.qtext_check.specs.Found.{AreAtFault};
 ghost use Rattle.qtext_check.specs.Places.{IsAtFault};
 ghost use Rattle.qtext_check.specs.Wrongs.{refused_in, wrong_in};
@@ -68,81 +68,32 @@ fn wrong_in<'a>(
     }
 }
 
-/// The fault of the line of that number, beside the line.
-fn finding_in<'a>(
-    alloc: Global,
-    setup: Option<&Setup>,
-    paths: &mut Paths<'a>,
-    number: u64,
-    line: &NextLine<'a>,
-    words: &[&'a [u8]],
-) -> Result<Option<Finding<'a>>, AllocError>
-    requires bytes { line.now.is_text ≡ list_all is_text_byte line.now.bytes.now }
-    requires words { line.now.is_text ≡ true → map (λ word. word.now) words.now ≡ words_of line.now.bytes.now }
-    ensures fault { IfOk result (λ found. option_map (λ f. f.fault) found
-        ≡ fault_in (option_map (λ s. s.now) setup.entry)
-        (record { number = number; bytes = line.now.bytes.now; whole = line.now.whole })) }
-    ensures bytes { IfOk result (λ found. option_map (λ f. f.bytes.now) found
-        ≡ line_in (option_map (λ s. s.now) setup.entry)
-        (record { number = number; bytes = line.now.bytes.now; whole = line.now.whole })) }
-    ensures word { IfOk result (λ found. IfSome found (λ f. IsAtFault f.fault.wrong f.word f.bytes.now)) }
-{
-    match wrong_in(alloc, setup, paths, number, line, words)? {
-        Some(found) => Ok(Some(Finding {
-            fault: Fault {
-                line: number,
-                wrong: found.wrong,
-            },
-            word: found.word,
-            bytes: line.bytes,
-        })),
-        None => Ok(None),
-    }
-}
-
-/// Puts a fault behind those that are there, where there is one.
-fn put_some<'a>(
+/// Puts what is wrong in the line of that number, if anything is, behind what there is.
+fn put_found<'a>(
     findings: &mut Vec<Finding<'a>>,
-    found: Option<Finding<'a>>,
+    number: u64,
+    bytes: &'a [u8],
+    found: Option<Found>,
 ) -> Result<(), AllocError>
     ensures fault { IfOk result (λ _. map (λ f. f.fault) findings.new.items
-        ≡ map (λ f. f.fault) findings.old.items ++ listed (option_map (λ f. f.fault) found.entry)) }
+        ≡ map (λ f. f.fault) findings.old.items
+        ++ listed (option_map (fault_at number) (option_map (λ f. f.wrong) found))) }
     ensures bytes { IfOk result (λ _. map (λ f. f.bytes.now) findings.new.items
-        ≡ map (λ f. f.bytes.now) findings.old.items ++ listed (option_map (λ f. f.bytes.now) found.entry)) }
+        ≡ map (λ f. f.bytes.now) findings.old.items
+        ++ listed (option_map (λ fault. bytes.now) (option_map (fault_at number) (option_map (λ f. f.wrong) found)))) }
     ensures word { IfOk result (λ _. AreAtFault findings.old.items
-        → IfSome found.entry (λ f. IsAtFault f.fault.wrong f.word f.bytes.now) → AreAtFault findings.new.items) }
+        → IfSome found (λ f. IsAtFault f.wrong f.word bytes.now) → AreAtFault findings.new.items) }
 {
     match found {
-        Some(finding) => Ok(findings.push(finding)?),
+        Some(Found { wrong, word }) => {
+            let fault = Fault {
+                line: number,
+                wrong,
+            };
+            Ok(findings.push(Finding { fault, word, bytes })?)
+        }
         None => Ok(()),
     }
-}
-
-/// The faults of all lines, in their order.
-fn all_findings<'a>(
-    alloc: Global,
-    setup: Option<&Setup>,
-    text: &'a [u8],
-) -> Result<Vec<Finding<'a>>, AllocError>
-    ensures faults { IfOk result (λ found. map (λ f. f.fault) found.items
-        ≡ faults_of (option_map (λ s. s.now) setup.entry) text.now) }
-    ensures lines { IfOk result (λ found. map (λ f. f.bytes.now) found.items
-        ≡ lines_of (option_map (λ s. s.now) setup.entry) text.now) }
-    ensures words { IfOk result (λ found. AreAtFault found.items) }
-{
-    let mut findings = Vec::new(alloc);
-    let mut room = Vec::new(alloc);
-    let mut paths = Paths::of(text);
-    let mut rest = text;
-    let mut number = 0;
-    while !rest.is_empty() {
-        number += 1;
-        let line = next_line(&mut room, rest)?;
-        let found = finding_in(alloc, setup, &mut paths, number, &line, &room)?;
-        put_some(&mut findings, found)?;
-        rest = line.after;
-    }
-    Ok(findings)
 }
 
 /// All that is wrong in a script, each line by itself: for what it is no line of a script, or, where the setup is
@@ -170,5 +121,17 @@ pub fn findings_of<'a>(
     // Where a line is none for one of its words, that is the first of its words that is none.
     ensures words { IfOk result (λ found. AreAtFault found.items) }
 {
-    all_findings(alloc, setup, text)
+    let mut findings = Vec::new(alloc);
+    let mut room = Vec::new(alloc);
+    let mut paths = Paths::of(text);
+    let mut rest = text;
+    let mut number = 0;
+    while !rest.is_empty() {
+        number += 1;
+        let line = next_line(&mut room, rest)?;
+        let found = wrong_in(alloc, setup, &mut paths, number, &line, &room)?;
+        put_found(&mut findings, number, line.bytes, found)?;
+        rest = line.after;
+    }
+    Ok(findings)
 }

@@ -4,23 +4,12 @@ ghost use Rattle.std.specs.List.{list_all, list_any};
 ghost use Rattle.qrules.specs.declared.kind.Kind.TheVariants.{Group};
 ghost use Rattle.qplain.specs.Calls.{has_bad_number};
 ghost use Rattle.qplain.specs.Known.{is_declared, is_known, is_undeclared};
-ghost use Rattle.qplain.specs.Setups.{principals_in};
 ghost use Rattle.qplain.specs.State.{start};
 ghost use Rattle.qtext_check.specs.Wrongs.{refusal_of};
 
-use qplain::{Call, Cred, Line, MAX_DATA, Path, Principal, Refusal, Setup};
+use qplain::{Call, CallPaths, Cred, Line, MAX_DATA, Path, Principal, Refusal, Setup};
 use qrules::{Graces, Kind, Limits, MAX_GRACE, MAX_LIMIT, MAX_MOMENT};
 use qstore_walk::{path_fault, paths_fault};
-
-fn principals_in(setup: &Setup, kind: Kind) -> &[Principal]
-    ensures { result.now ≡ principals_in kind setup.now }
-{
-    match kind {
-        Kind::User => setup.users(),
-        Kind::Group => setup.groups(),
-        Kind::Project => setup.projects(),
-    }
-}
 
 fn has_id(principals: &[Principal], id: u32) -> bool
     ensures { result ≡ list_any (λ p. id == p.id) principals.now }
@@ -32,7 +21,11 @@ fn has_id(principals: &[Principal], id: u32) -> bool
 fn is_declared(setup: &Setup, kind: Kind, id: u32) -> bool
     ensures { result ≡ is_declared (start setup.now) kind id }
 {
-    has_id(principals_in(setup, kind), id)
+    match kind {
+        Kind::User => has_id(setup.users(), id),
+        Kind::Group => has_id(setup.groups(), id),
+        Kind::Project => has_id(setup.projects(), id),
+    }
 }
 
 fn are_groups(setup: &Setup, ids: &[u32]) -> bool
@@ -157,8 +150,8 @@ pub(crate) fn refused_word(setup: &Setup, line: &Line, refusal: Refusal) -> usiz
     if has_bad_number(setup, &line.call) {
         return number_word(setup, &line.call);
     }
-    match &line.call {
-        Call::Link { from, .. } | Call::Rename { from, .. } => path_word(from, refusal),
+    match line.call.paths() {
+        CallPaths::Two(from, _) => path_word(from, refusal),
         _ => 3,
     }
 }

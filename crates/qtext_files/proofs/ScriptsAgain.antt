@@ -63,7 +63,12 @@ script_read_again text answer (inl e) ls fits same = inl (e ∙ ap script_of sam
 script_read_again text answer (inr e) ls fits same = inr e
 
 -- what was answered, where a line was at fault or memory was wanting
+pub script_faulted : (text : List ℕ) (fault : TextFault) → (fault ≡ want_of_memory) ⊎ (script_of text ≡ Err fault)
+    → (failed fault ≡ script_of text) ⊎ (failed fault ≡ Err want_of_memory)
+script_faulted text fault (inl e) = inr (ap failed e)
+script_faulted text fault (inr e) = inl (sym e)
+
+-- and so where lines were spelled out
 pub script_told : (text : List ℕ) (fault : TextFault) → (fault ≡ want_of_memory) ⊎ (script_of text ≡ Err fault)
     → (ls : List Line) → AreLines ls → text ≡ script_spelling ls → (failed fault ≡ Ok ls) ⊎ (failed fault ≡ Err want_of_memory)
-script_told text fault (inl e) = script_read_again text (failed fault) (inr (ap failed e))
-script_told text fault (inr e) = script_read_again text (failed fault) (inl (sym e))
+script_told text fault told = script_read_again text (failed fault) (script_faulted text fault told)

@@ -23,12 +23,30 @@ struct LineWords<'w, 'a> {
     call: &'w [&'a [u8]],
 }
 
-/// `MOMENT CALLER CALL`, of which the moment is read.
+/// Begins to read the line of that number, whose words these are, `MOMENT CALLER CALL`: up to its caller.
 #[inline(always)]
-#[tactic(auto, unfolding(crate::specs::Scripts::line_in))]
-fn moment_in<'w, 'a>(words: &'w [&'a [u8]]) -> Result<LineWords<'w, 'a>, ReadFault>
-    ensures { Begins result (line_in (map (λ word. word.now) words.now)) }
+#[tactic(auto, unfolding(crate::specs::Scripts::script_line_of, crate::specs::Scripts::line_in))]
+fn begin_line<'w, 'a>(
+    paths: &mut Paths<'a>,
+    line_number: u64,
+    line: &NextLine<'a>,
+    words: &'w [&'a [u8]],
+) -> Result<LineWords<'w, 'a>, ReadFault>
+    requires bytes { line.now.is_text ≡ list_all is_text_byte line.now.bytes.now }
+    requires words { line.now.is_text ≡ true → map (λ word. word.now) words.now ≡ words_of line.now.bytes.now }
+    ensures { Begins result
+        (script_line_of (record { number = line_number; bytes = line.now.bytes.now; whole = line.now.whole })) }
 {
+    if line_number > MAX_LINES as u64 {
+        return Err(ReadFault::Fault(TextKind::TooMany));
+    }
+    if !line.whole {
+        return Err(ReadFault::Fault(TextKind::Cut));
+    }
+    if !line.is_text {
+        return Err(ReadFault::Fault(TextKind::BadByte));
+    }
+    paths.begin_line(line.after);
     match words {
         [] => Err(ReadFault::Fault(TextKind::BadNumber)),
         [moment] => {
@@ -41,33 +59,6 @@ fn moment_in<'w, 'a>(words: &'w [&'a [u8]]) -> Result<LineWords<'w, 'a>, ReadFau
             call,
         }),
     }
-}
-
-/// Begins to read the line of that number, whose words these are, up to its caller.
-#[inline(always)]
-#[tactic(auto, unfolding(crate::specs::Scripts::script_line_of))]
-fn begin_line<'w, 'a>(
-    paths: &mut Paths<'a>,
-    number: u64,
-    line: &NextLine<'a>,
-    words: &'w [&'a [u8]],
-) -> Result<LineWords<'w, 'a>, ReadFault>
-    requires bytes { line.now.is_text ≡ list_all is_text_byte line.now.bytes.now }
-    requires words { line.now.is_text ≡ true → map (λ word. word.now) words.now ≡ words_of line.now.bytes.now }
-    ensures { Begins result
-        (script_line_of (record { number = number; bytes = line.now.bytes.now; whole = line.now.whole })) }
-{
-    if number > MAX_LINES as u64 {
-        return Err(ReadFault::Fault(TextKind::TooMany));
-    }
-    if !line.whole {
-        return Err(ReadFault::Fault(TextKind::Cut));
-    }
-    if !line.is_text {
-        return Err(ReadFault::Fault(TextKind::BadByte));
-    }
-    paths.begin_line(line.after);
-    moment_in(words)
 }
 
 /// What the line of that number says, as `next_line` cut it from a script, or the first thing wrong in it: the order is

@@ -15,19 +15,6 @@ use qtext::TextFault;
 use qtext_read::Paths;
 use std::alloc::Global;
 
-/// The lines of a script, or the first line at fault with the first thing wrong in it.
-fn lines_of(alloc: Global, text: &[u8]) -> Result<Items<Line>, TextFault>
-    ensures lines { Reads result (script_of text.now) }
-    ensures few { IfOk result (λ lines. length lines ≤ MAX_LINES) }
-{
-    let mut reader = LineReader {
-        alloc,
-        callers: Callers::new(alloc),
-        paths: Paths::of(text),
-    };
-    read_lines(alloc, &mut reader, 0, text)
-}
-
 /// A line is `MOMENT CALLER CALL`, with one space between two words and a line feed after it. There are at most 65,536,
 /// and a text of no bytes has none. They count from 1.
 impl FromText for Script {
@@ -56,7 +43,12 @@ impl FromText for Script {
         ensures again { (lines : List Line) → AreLines lines → text.now ≡ script_spelling lines
             → (result ≡ Ok lines) ⊎ (result ≡ Err want_of_memory) }
     {
-        let lines = lines_of(alloc, text)?;
+        let mut reader = LineReader {
+            alloc,
+            callers: Callers::new(alloc),
+            paths: Paths::of(text),
+        };
+        let lines = read_lines(alloc, &mut reader, 0, text)?;
         Ok(Script::new(lines))
     }
 }

@@ -1,13 +1,18 @@
 -- A call is its verb and the values in the places of its arguments; and the call that words spell.
-use Rattle.std.specs.Prelude.{ℕ, List, [], ◌∷◌, length, None, Result, Ok, Err, replicate, if◌then◌else◌}
+use Rattle.std.specs.Prelude.{ℕ, ◌<◌, ◌^◌, List, [], ◌∷◌, length, None, Result, Ok, Err, replicate, if◌then◌else◌}
 use Rattle.qplain.specs.declared.call.Call.{Call}
 use Rattle.qplain.specs.declared.call.Call.TheVariants.{Create, Mkdir, Write, Truncate, Read, Stat, Link, Unlink}
 use Rattle.qplain.specs.declared.call.Call.TheVariants.{Rmdir, Rename, Chown, SetQuota, SetGrace, Quota}
+use Rattle.qplain.specs.Paths.{ArePathBytes}
+use Rattle.qplain.specs.Ranges.{AreBytes, AreLimits, IsOwner}
 use Rattle.qplain.specs.declared.edition.Edition.{Edition}
 use Rattle.qplain.specs.declared.edition.Edition.TheVariants.{Two}
 use Rattle.qtext.specs.declared.text_fault.TextKind.{TextKind}
 use Rattle.qtext.specs.declared.text_fault.TextKind.TheVariants.{BadVerb, WordCount}
 use Rattle.qtext.specs.Reading.{◌>>=◌}
+use Rattle.qtext_read.specs.declared.call.CallParts.{CallParts}
+use Rattle.qtext_read.specs.declared.call.Values.{Values}
+use Rattle.qtext_read.specs.declared.call.Values.TheVariants as values
 use Rattle.qtext_read.specs.declared.row.Verb.{Verb}
 use Rattle.qtext_read.specs.declared.row.Verb.TheVariants as verb
 use Rattle.qtext_read.specs.Rows.{Value, PathValue, DataValue, NumberValue, KindValue, OwnerValue, ProjectValue}
@@ -76,3 +81,34 @@ parts_of (SetQuota kind id l) = Of verb.SetQuota (KindValue kind ∷ NumberValue
     ∷ NumberValue l.block_hard ∷ NumberValue l.inode_soft ∷ NumberValue l.inode_hard ∷ [])
 parts_of (SetGrace graces) = Of verb.SetGrace (NumberValue graces.block ∷ NumberValue graces.inode ∷ [])
 parts_of (Quota kind id) = Of verb.Quota (KindValue kind ∷ NumberValue id ∷ [])
+
+-- the values that stand in the places of arguments
+abbrev pub values_of : Values → List Value
+values_of (values.Path path) = PathValue path.now ∷ []
+values_of (values.Paths from to) = PathValue from.now ∷ PathValue to.now ∷ []
+values_of (values.Size path size) = PathValue path.now ∷ NumberValue size ∷ []
+values_of (values.Range path off len) = PathValue path.now ∷ NumberValue off ∷ NumberValue len ∷ []
+values_of (values.Bytes path off bytes) = PathValue path.now ∷ NumberValue off ∷ DataValue bytes.now ∷ []
+values_of (values.Owners path uid gid project) =
+    PathValue path.now ∷ OwnerValue uid ∷ OwnerValue gid ∷ ProjectValue project ∷ []
+values_of (values.Limits kind id l) = KindValue kind ∷ NumberValue id ∷ NumberValue l.now.block_soft
+    ∷ NumberValue l.now.block_hard ∷ NumberValue l.now.inode_soft ∷ NumberValue l.now.inode_hard ∷ []
+values_of (values.Graces graces) = NumberValue graces.now.block ∷ NumberValue graces.now.inode ∷ []
+values_of (values.Record kind id) = KindValue kind ∷ NumberValue id ∷ []
+
+-- the parts that are there
+abbrev pub parts_in : CallParts → Parts
+parts_in parts = Of parts.verb (values_of parts.values)
+
+-- the values are what their types can hold
+abbrev pub AreTyped : Values → Type 0
+AreTyped (values.Path path) = ArePathBytes path.now
+AreTyped (values.Paths from to) = ArePathBytes from.now × ArePathBytes to.now
+AreTyped (values.Size path size) = ArePathBytes path.now × (size < 2 ^ 64)
+AreTyped (values.Range path off len) = ArePathBytes path.now × (off < 2 ^ 64) × (len < 2 ^ 64)
+AreTyped (values.Bytes path off bytes) = ArePathBytes path.now × (off < 2 ^ 64) × AreBytes bytes.now
+AreTyped (values.Owners path uid gid project) =
+    ArePathBytes path.now × IsOwner uid × IsOwner gid × IsOwner project
+AreTyped (values.Limits kind id limits) = (id < 2 ^ 32) × AreLimits limits.now
+AreTyped (values.Graces graces) = (graces.now.block < 2 ^ 64) × (graces.now.inode < 2 ^ 64)
+AreTyped (values.Record kind id) = id < 2 ^ 32

@@ -13,23 +13,28 @@ use Rattle.qplain.specs.declared.stat.Stat.{Stat}
 use Rattle.qtext.specs.Pieces.{data_text}
 use Rattle.qtext.specs.RuleWords.{kind_text, over_text}
 
+-- the name of a refusal
+abbrev pub refusal_name : Refusal → List ℕ
+refusal_name EINVAL = codes "EINVAL"
+refusal_name ENAMETOOLONG = codes "ENAMETOOLONG"
+refusal_name ENOENT = codes "ENOENT"
+refusal_name ENOTDIR = codes "ENOTDIR"
+refusal_name EEXIST = codes "EEXIST"
+refusal_name ENOSPC = codes "ENOSPC"
+refusal_name (EDQUOT kind over) = codes "EDQUOT"
+refusal_name EISDIR = codes "EISDIR"
+refusal_name EACCES = codes "EACCES"
+refusal_name EFBIG = codes "EFBIG"
+refusal_name EPERM = codes "EPERM"
+refusal_name EMLINK = codes "EMLINK"
+refusal_name ENOTEMPTY = codes "ENOTEMPTY"
+refusal_name EBUSY = codes "EBUSY"
+refusal_name ESRCH = codes "ESRCH"
+
 -- a refusal's name, and for a quota whose it is and which of its limits
 abbrev pub refusal_text : Refusal → List ℕ
-refusal_text EINVAL = concat (codes "EINVAL" ∷ [])
-refusal_text ENAMETOOLONG = concat (codes "ENAMETOOLONG" ∷ [])
-refusal_text ENOENT = concat (codes "ENOENT" ∷ [])
-refusal_text ENOTDIR = concat (codes "ENOTDIR" ∷ [])
-refusal_text EEXIST = concat (codes "EEXIST" ∷ [])
-refusal_text ENOSPC = concat (codes "ENOSPC" ∷ [])
 refusal_text (EDQUOT kind over) = concat (codes "EDQUOT " ∷ kind_text kind ∷ codes " " ∷ over_text over ∷ [])
-refusal_text EISDIR = concat (codes "EISDIR" ∷ [])
-refusal_text EACCES = concat (codes "EACCES" ∷ [])
-refusal_text EFBIG = concat (codes "EFBIG" ∷ [])
-refusal_text EPERM = concat (codes "EPERM" ∷ [])
-refusal_text EMLINK = concat (codes "EMLINK" ∷ [])
-refusal_text ENOTEMPTY = concat (codes "ENOTEMPTY" ∷ [])
-refusal_text EBUSY = concat (codes "EBUSY" ∷ [])
-refusal_text ESRCH = concat (codes "ESRCH" ∷ [])
+refusal_text refusal = refusal_name refusal
 
 -- a grace end, or a dash where none stands
 abbrev pub end_text : Option ℕ → List ℕ

@@ -2,7 +2,7 @@
 ghost use Rattle.std.specs.Prelude.{◌≡◌};
 ghost use Rattle.qtext.specs.Gives.{Gives};
 ghost use Rattle.qtext.specs.Data.{data_of};
-ghost use Rattle.qtext_read.specs.Arguments.{kind_of, owner_of, path_of, project_kind_of};
+ghost use Rattle.qtext_read.specs.Arguments.{kind_of, owner_of, path_of};
 
 use qplain::{Data, Edition, Path, SharedItems};
 use qrules::Kind;
@@ -27,19 +27,8 @@ pub(crate) fn data_of(alloc: Global, word: &[u8]) -> Result<Data, ReadFault>
     Ok(Data::new(SharedItems::new(bytes.into_vec())?))
 }
 
-/// The kind of projects, which edition 1 does not have.
-#[tactic(auto, unfolding(crate::specs::Arguments::project_kind_of))]
-fn project_kind_of(edition: Edition) -> Result<Kind, ReadFault>
-    ensures { Gives result (project_kind_of edition) }
-{
-    match edition {
-        Edition::One => Err(ReadFault::Fault(TextKind::BadWord)),
-        Edition::Two => Ok(Kind::Project),
-    }
-}
-
 /// `user` or `group`, or in edition 2 `project`.
-#[tactic(auto, unfolding(crate::specs::Arguments::kind_of))]
+#[tactic(auto, unfolding(crate::specs::Arguments::kind_of, crate::specs::Arguments::project_kind_of))]
 pub(crate) fn kind_of(edition: Edition, word: &[u8]) -> Result<Kind, ReadFault>
     ensures { Gives result (kind_of edition word.now) }
 {
@@ -50,7 +39,10 @@ pub(crate) fn kind_of(edition: Edition, word: &[u8]) -> Result<Kind, ReadFault>
         return Ok(Kind::Group);
     }
     if word == b"project".as_slice() {
-        return project_kind_of(edition);
+        return match edition {
+            Edition::One => Err(ReadFault::Fault(TextKind::BadWord)),
+            Edition::Two => Ok(Kind::Project),
+        };
     }
     Err(ReadFault::Fault(TextKind::BadWord))
 }

@@ -1,131 +1,156 @@
-//! Calls as words.
+//! Calls as words: the call that words spell, and the parts of a call.
 #![tactic(auto, unfolding(crate::specs::Calls::call_of, crate::specs::Calls::call_by, crate::specs::Rows::values_in))]
 
-ghost use Rattle.std.specs.Prelude.{map, ◌∷◌, []};
+ghost use Rattle.std.specs.Prelude.{◌≡◌, map, ◌∷◌, []};
+ghost use Rattle.qplain.specs.Calls.{IsCall};
 ghost use Rattle.qplain.specs.declared.edition.Edition.{Edition};
 ghost use Rattle.qtext.specs.Gives.{Gives};
-ghost use Rattle.qtext_read.specs.declared.row.Verb.TheVariants.{Chown, Fill, Quota, Read, SetGrace, SetQuota};
-ghost use Rattle.qtext_read.specs.declared.row.Verb.TheVariants.{Truncate, Write};
-ghost use Rattle.qtext_read.specs.Calls.{call_in, call_of};
+ghost use Rattle.qtext_read.specs.declared.row.Verb.TheVariants.{SetQuota};
+ghost use Rattle.qtext_read.specs.Calls.{AreTyped, call_in, call_of, parts_in, parts_of};
 
 use crate::argument::{LimitsWords, data_of, kind_of, owner_of};
-use crate::path_call::{create_of, link_of, mkdir_of, rename_of, rmdir_of, stat_of, unlink_of};
 use crate::paths::Paths;
 use crate::row::{MAX_FILL, Verb, verb_of};
-use qplain::{Call, Data, Edition};
-use qrules::{Graces, Limits};
+use qplain::{Call, Data, Edition, Path};
+use qrules::{Graces, Kind, Limits};
 use qtext::{ReadFault, TextKind, byte_of, id_of, number, number_of};
 use std::alloc::Global;
 
-fn write_of<'a>(
+const WORD_COUNT: ReadFault = ReadFault::Fault(TextKind::WordCount);
+
+/// The call of a verb and one word.
+fn of_one_word<'a>(
     alloc: Global,
     paths: &mut Paths<'a>,
+    verb: Verb,
     path: &'a [u8],
-    off: &[u8],
-    digits: &[u8],
 ) -> Result<Call, ReadFault>
-    ensures { (edition : Edition) → Gives result (call_of edition Write (path.now ∷ off.now ∷ digits.now ∷ [])) }
+    ensures { (edition : Edition) → Gives result (call_of edition verb (path.now ∷ [])) }
 {
-    let path = paths.read(alloc, path, &[off, digits])?;
-    let off = number(off)?;
-    let bytes = data_of(alloc, digits)?;
-    Ok(Call::Write { path, off, bytes })
+    match verb {
+        Verb::Create => Ok(Call::Create {
+            path: paths.read(alloc, path, &[])?,
+        }),
+        Verb::Mkdir => Ok(Call::Mkdir {
+            path: paths.read(alloc, path, &[])?,
+        }),
+        Verb::Stat => Ok(Call::Stat {
+            path: paths.read(alloc, path, &[])?,
+        }),
+        Verb::Unlink => Ok(Call::Unlink {
+            path: paths.read(alloc, path, &[])?,
+        }),
+        Verb::Rmdir => Ok(Call::Rmdir {
+            path: paths.read(alloc, path, &[])?,
+        }),
+        _ => Err(WORD_COUNT),
+    }
 }
 
-fn fill_of<'a>(
+/// The call of a verb and two words.
+fn of_two_words<'a>(
     alloc: Global,
     paths: &mut Paths<'a>,
+    edition: Edition,
+    verb: Verb,
+    first: &'a [u8],
+    second: &'a [u8],
+) -> Result<Call, ReadFault>
+    ensures { Gives result (call_of edition verb (first.now ∷ second.now ∷ [])) }
+{
+    match verb {
+        Verb::Truncate => Ok(Call::Truncate {
+            path: paths.read(alloc, first, &[second])?,
+            size: number(second)?,
+        }),
+        Verb::Link => Ok(Call::Link {
+            from: paths.read(alloc, first, &[second])?,
+            to: paths.read(alloc, second, &[])?,
+        }),
+        Verb::Rename => Ok(Call::Rename {
+            from: paths.read(alloc, first, &[second])?,
+            to: paths.read(alloc, second, &[])?,
+        }),
+        Verb::SetGrace => Ok(Call::SetGrace {
+            graces: Graces {
+                block: number(first)?,
+                inode: number(second)?,
+            },
+        }),
+        Verb::Quota => Ok(Call::Quota {
+            kind: kind_of(edition, first)?,
+            id: id_of(TextKind::BadNumber, second)?,
+        }),
+        _ => Err(WORD_COUNT),
+    }
+}
+
+/// The call of a verb and three words.
+fn of_three_words<'a>(
+    alloc: Global,
+    paths: &mut Paths<'a>,
+    verb: Verb,
     path: &'a [u8],
-    off: &[u8],
-    count: &[u8],
-    byte: &[u8],
+    second: &[u8],
+    third: &[u8],
 ) -> Result<Call, ReadFault>
     ensures { (edition : Edition) → Gives result
-        (call_of edition Fill (path.now ∷ off.now ∷ count.now ∷ byte.now ∷ [])) }
+        (call_of edition verb (path.now ∷ second.now ∷ third.now ∷ [])) }
 {
-    let path = paths.read(alloc, path, &[off, count, byte])?;
-    let off = number(off)?;
-    let count = number_of(TextKind::BadNumber, MAX_FILL, count)?;
-    let byte = byte_of(byte)?;
-    Ok(Call::Write {
-        path,
-        off,
-        bytes: Data::fill(count, byte),
-    })
+    match verb {
+        Verb::Write => Ok(Call::Write {
+            path: paths.read(alloc, path, &[second, third])?,
+            off: number(second)?,
+            bytes: data_of(alloc, third)?,
+        }),
+        Verb::Read => Ok(Call::Read {
+            path: paths.read(alloc, path, &[second, third])?,
+            off: number(second)?,
+            len: number(third)?,
+        }),
+        Verb::Chown => Ok(Call::Chown {
+            path: paths.read(alloc, path, &[second, third])?,
+            uid: owner_of(second)?,
+            gid: owner_of(third)?,
+            project: None,
+        }),
+        _ => Err(WORD_COUNT),
+    }
 }
 
-fn truncate_of<'a>(
-    alloc: Global,
-    paths: &mut Paths<'a>,
-    path: &'a [u8],
-    size: &[u8],
-) -> Result<Call, ReadFault>
-    ensures { (edition : Edition) → Gives result (call_of edition Truncate (path.now ∷ size.now ∷ [])) }
-{
-    let path = paths.read(alloc, path, &[size])?;
-    let size = number(size)?;
-    Ok(Call::Truncate { path, size })
-}
-
-fn read_of<'a>(
-    alloc: Global,
-    paths: &mut Paths<'a>,
-    path: &'a [u8],
-    off: &[u8],
-    len: &[u8],
-) -> Result<Call, ReadFault>
-    ensures { (edition : Edition) → Gives result (call_of edition Read (path.now ∷ off.now ∷ len.now ∷ [])) }
-{
-    let path = paths.read(alloc, path, &[off, len])?;
-    let off = number(off)?;
-    let len = number(len)?;
-    Ok(Call::Read { path, off, len })
-}
-
-fn chown_of<'a>(
-    alloc: Global,
-    paths: &mut Paths<'a>,
-    path: &'a [u8],
-    uid: &[u8],
-    gid: &[u8],
-) -> Result<Call, ReadFault>
-    ensures { (edition : Edition) → Gives result (call_of edition Chown (path.now ∷ uid.now ∷ gid.now ∷ [])) }
-{
-    let path = paths.read(alloc, path, &[uid, gid])?;
-    let uid = owner_of(uid)?;
-    let gid = owner_of(gid)?;
-    Ok(Call::Chown {
-        path,
-        uid,
-        gid,
-        project: None,
-    })
-}
-
+/// The call of a verb and four words.
 #[inline(never)]
-fn chown_to_project_of<'a>(
+fn of_four_words<'a>(
     alloc: Global,
     paths: &mut Paths<'a>,
+    verb: Verb,
     path: &'a [u8],
-    uid: &[u8],
-    gid: &[u8],
-    project: &[u8],
+    behind: [&[u8]; 3],
 ) -> Result<Call, ReadFault>
     ensures { (edition : Edition) → Gives result
-        (call_of edition Chown (path.now ∷ uid.now ∷ gid.now ∷ project.now ∷ [])) }
+        (call_of edition verb (path.now ∷ map (λ word. word.now) behind.entry)) }
 {
-    let path = paths.read(alloc, path, &[uid, gid, project])?;
-    let uid = owner_of(uid)?;
-    let gid = owner_of(gid)?;
-    let project = Some(id_of(TextKind::BadNumber, project)?);
-    Ok(Call::Chown {
-        path,
-        uid,
-        gid,
-        project,
-    })
+    let [second, third, fourth] = behind;
+    match verb {
+        Verb::Fill => {
+            let path = paths.read(alloc, path, &behind)?;
+            let off = number(second)?;
+            let count = number_of(TextKind::BadNumber, MAX_FILL, third)?;
+            let bytes = Data::fill(count, byte_of(fourth)?);
+            Ok(Call::Write { path, off, bytes })
+        }
+        Verb::Chown => Ok(Call::Chown {
+            path: paths.read(alloc, path, &behind)?,
+            uid: owner_of(second)?,
+            gid: owner_of(third)?,
+            project: Some(id_of(TextKind::BadNumber, fourth)?),
+        }),
+        _ => Err(WORD_COUNT),
+    }
 }
 
+/// `setquota KIND ID BSOFT BHARD ISOFT IHARD`.
+#[inline(always)]
 fn setquota_of(
     edition: Edition,
     kind: &[u8],
@@ -135,37 +160,16 @@ fn setquota_of(
     ensures { Gives result (call_of edition SetQuota (kind.now ∷ id.now ∷ limits.entry.block_soft.now
         ∷ limits.entry.block_hard.now ∷ limits.entry.inode_soft.now ∷ limits.entry.inode_hard.now ∷ [])) }
 {
-    let kind = kind_of(edition, kind)?;
-    let id = id_of(TextKind::BadNumber, id)?;
-    let block_soft = number(limits.block_soft)?;
-    let block_hard = number(limits.block_hard)?;
-    let inode_soft = number(limits.inode_soft)?;
-    let inode_hard = number(limits.inode_hard)?;
-    let limits = Limits {
-        block_soft,
-        block_hard,
-        inode_soft,
-        inode_hard,
-    };
-    Ok(Call::SetQuota { kind, id, limits })
-}
-
-fn setgrace_of(block: &[u8], inode: &[u8]) -> Result<Call, ReadFault>
-    ensures { (edition : Edition) → Gives result (call_of edition SetGrace (block.now ∷ inode.now ∷ [])) }
-{
-    let block = number(block)?;
-    let inode = number(inode)?;
-    Ok(Call::SetGrace {
-        graces: Graces { block, inode },
+    Ok(Call::SetQuota {
+        kind: kind_of(edition, kind)?,
+        id: id_of(TextKind::BadNumber, id)?,
+        limits: Limits {
+            block_soft: number(limits.block_soft)?,
+            block_hard: number(limits.block_hard)?,
+            inode_soft: number(limits.inode_soft)?,
+            inode_hard: number(limits.inode_hard)?,
+        },
     })
-}
-
-fn quota_of(edition: Edition, kind: &[u8], id: &[u8]) -> Result<Call, ReadFault>
-    ensures { Gives result (call_of edition Quota (kind.now ∷ id.now ∷ [])) }
-{
-    let kind = kind_of(edition, kind)?;
-    let id = id_of(TextKind::BadNumber, id)?;
-    Ok(Call::Quota { kind, id })
 }
 
 /// The call of a verb and its arguments, of which there are as many as it takes; chown may have a project.
@@ -181,13 +185,11 @@ pub(crate) fn call_of<'a>(
     ensures { Gives result (call_of edition verb (map (λ word. word.now) arguments.now)) }
 {
     match (verb, arguments) {
-        (Verb::Write, [path, off, data]) => write_of(alloc, paths, path, off, data),
-        (Verb::Fill, [path, off, count, byte]) => fill_of(alloc, paths, path, off, count, byte),
-        (Verb::Truncate, [path, size]) => truncate_of(alloc, paths, path, size),
-        (Verb::Read, [path, off, len]) => read_of(alloc, paths, path, off, len),
-        (Verb::Chown, [path, uid, gid]) => chown_of(alloc, paths, path, uid, gid),
-        (Verb::Chown, [path, uid, gid, project]) => {
-            chown_to_project_of(alloc, paths, path, uid, gid, project)
+        (_, [path]) => of_one_word(alloc, paths, verb, path),
+        (_, [first, second]) => of_two_words(alloc, paths, edition, verb, first, second),
+        (_, [path, second, third]) => of_three_words(alloc, paths, verb, path, second, third),
+        (_, [path, second, third, fourth]) => {
+            of_four_words(alloc, paths, verb, path, [second, third, fourth])
         }
         (Verb::SetQuota, [kind, id, block_soft, block_hard, inode_soft, inode_hard]) => {
             let limits = LimitsWords {
@@ -198,16 +200,7 @@ pub(crate) fn call_of<'a>(
             };
             setquota_of(edition, kind, id, limits)
         }
-        (Verb::SetGrace, [block, inode]) => setgrace_of(block, inode),
-        (Verb::Quota, [kind, id]) => quota_of(edition, kind, id),
-        (Verb::Create, [path]) => create_of(alloc, paths, path),
-        (Verb::Mkdir, [path]) => mkdir_of(alloc, paths, path),
-        (Verb::Stat, [path]) => stat_of(alloc, paths, path),
-        (Verb::Link, [from, to]) => link_of(alloc, paths, from, to),
-        (Verb::Unlink, [path]) => unlink_of(alloc, paths, path),
-        (Verb::Rmdir, [path]) => rmdir_of(alloc, paths, path),
-        (Verb::Rename, [from, to]) => rename_of(alloc, paths, from, to),
-        _ => Err(ReadFault::Fault(TextKind::WordCount)),
+        _ => Err(WORD_COUNT),
     }
 }
 
@@ -231,4 +224,57 @@ pub fn call_in<'a>(
             call_of(alloc, paths, Edition::Two, verb, arguments)
         }
     }
+}
+
+/// The values in the places of a call's arguments.
+#[derive(Clone, Copy)]
+pub enum Values<'a> {
+    Path(&'a Path),
+    Paths(&'a Path, &'a Path),
+    Size(&'a Path, u64),
+    Range(&'a Path, u64, u64),
+    Bytes(&'a Path, u64, &'a Data),
+    Owners(&'a Path, Option<u32>, Option<u32>, Option<u32>),
+    Limits(Kind, u32, &'a Limits),
+    Graces(&'a Graces),
+    Record(Kind, u32),
+}
+
+/// A call's verb, and the values in the places of its arguments.
+#[derive(Clone, Copy)]
+pub struct CallParts<'a> {
+    pub verb: Verb,
+    pub values: Values<'a>,
+}
+
+/// The parts of a call: what a journal, a transcript and data for programs spell, each in its way.
+#[inline(always)]
+pub fn parts_of(call: &Call) -> CallParts<'_>
+    ensures parts { parts_in result ≡ parts_of call.now }
+    ensures typed { AreTyped result.values → IsCall call.now }
+{
+    let (verb, values) = match call {
+        Call::Create { path } => (Verb::Create, Values::Path(path)),
+        Call::Mkdir { path } => (Verb::Mkdir, Values::Path(path)),
+        Call::Write { path, off, bytes } => (Verb::Write, Values::Bytes(path, *off, bytes)),
+        Call::Truncate { path, size } => (Verb::Truncate, Values::Size(path, *size)),
+        Call::Read { path, off, len } => (Verb::Read, Values::Range(path, *off, *len)),
+        Call::Stat { path } => (Verb::Stat, Values::Path(path)),
+        Call::Link { from, to } => (Verb::Link, Values::Paths(from, to)),
+        Call::Unlink { path } => (Verb::Unlink, Values::Path(path)),
+        Call::Rmdir { path } => (Verb::Rmdir, Values::Path(path)),
+        Call::Rename { from, to } => (Verb::Rename, Values::Paths(from, to)),
+        Call::Chown {
+            path,
+            uid,
+            gid,
+            project,
+        } => (Verb::Chown, Values::Owners(path, *uid, *gid, *project)),
+        Call::SetQuota { kind, id, limits } => {
+            (Verb::SetQuota, Values::Limits(*kind, *id, limits))
+        }
+        Call::SetGrace { graces } => (Verb::SetGrace, Values::Graces(graces)),
+        Call::Quota { kind, id } => (Verb::Quota, Values::Record(*kind, *id)),
+    };
+    CallParts { verb, values }
 }

@@ -10,16 +10,8 @@ use qplain::{Cred, MAX_MORE_GROUPS};
 use qtext::{ReadFault, TextKind, first_part, id_of};
 use std::alloc::Global;
 
-#[tactic(auto, unfolding(crate::specs::Callers::own_ids_in))]
-fn own_ids_in(uid: &[u8], gid: &[u8]) -> Result<(u32, u32), ReadFault>
-    ensures { Gives result (own_ids_in uid.now gid.now) }
-{
-    let uid = id_of(TextKind::BadCred, uid)?;
-    let gid = id_of(TextKind::BadCred, gid)?;
-    Ok((uid, gid))
-}
-
 /// The uid and the gid of `UID:GID`.
+#[tactic(auto, unfolding(crate::specs::Callers::own_ids_in))]
 fn own_ids_of(text: &[u8]) -> Result<(u32, u32), ReadFault>
     ensures { Gives result (own_ids_of (parts 58 text.now)) }
 {
@@ -29,7 +21,10 @@ fn own_ids_of(text: &[u8]) -> Result<(u32, u32), ReadFault>
     };
     let (gid, after) = first_part(after, b':');
     match after {
-        None => own_ids_in(uid, gid),
+        None => Ok((
+            id_of(TextKind::BadCred, uid)?,
+            id_of(TextKind::BadCred, gid)?,
+        )),
         Some(_) => Err(ReadFault::Fault(TextKind::BadCred)),
     }
 }
@@ -68,32 +63,18 @@ fn caller_with(alloc: Global, uid: u32, gid: u32, groups: &[u8]) -> Result<Cred,
     }
 }
 
-/// A caller of these ids alone.
-#[tactic(auto, unfolding(crate::specs::Callers::caller_by, crate::specs::Callers::few_groups_of, qtext::specs::Reading::each_of))]
-fn caller_alone(alloc: Global, uid: u32, gid: u32) -> Result<Cred, ReadFault>
-    ensures { Gives result (caller_by (uid, gid) []) }
-{
-    match Cred::new(alloc, uid, gid, &[])? {
-        Some(cred) => Ok(cred),
-        None => Err(ReadFault::Fault(TextKind::BadCred)),
-    }
-}
-
-#[tactic(auto, unfolding(crate::specs::Callers::caller_from))]
-fn caller_from(alloc: Global, own: &[u8], groups: Option<&[u8]>) -> Result<Cred, ReadFault>
-    ensures { Gives result (caller_from own.now (parts_after 44 (option_map (λ t. t.now) groups.entry))) }
-{
-    let (uid, gid) = own_ids_of(own)?;
-    match groups {
-        Some(groups) => caller_with(alloc, uid, gid, groups),
-        None => caller_alone(alloc, uid, gid),
-    }
-}
-
 /// `UID:GID`, then at most 16 times `,GROUP`.
+#[tactic(auto, unfolding(crate::specs::Callers::caller_from))]
 pub fn caller_of(alloc: Global, word: &[u8]) -> Result<Cred, ReadFault>
     ensures { Gives result (caller_of word.now) }
 {
     let (own, groups) = first_part(word, b',');
-    caller_from(alloc, own, groups)
+    let (uid, gid) = own_ids_of(own)?;
+    match groups {
+        Some(groups) => caller_with(alloc, uid, gid, groups),
+        None => match Cred::new(alloc, uid, gid, &[])? {
+            Some(cred) => Ok(cred),
+            None => Err(ReadFault::Fault(TextKind::BadCred)),
+        },
+    }
 }

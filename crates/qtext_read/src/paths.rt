@@ -21,24 +21,6 @@ struct Page {
     left: usize,
 }
 
-impl Page {
-    /// The path that this word spells, if the word stands on the page where N bytes of the text are left.
-    fn path_at(&self, left: usize, word: &[u8]) -> Result<Option<Path>, NoMemory>
-        ensures { IfOk result (λ path. IfSome path (λ p. path_of word.now ≡ Ok p)) }
-    {
-        let bytes = self.bytes.as_slice();
-        let from = self.left.saturating_sub(left);
-        if from > bytes.len() || word.len() > bytes.len() - from {
-            return Ok(None);
-        }
-        let to = from + word.len();
-        if are_same_bytes(&bytes[from..to], word) {
-            return Path::within(&self.bytes, from, to);
-        }
-        Ok(None)
-    }
-}
-
 /// A path that was read, beside its word.
 #[derive(Drop)]
 struct KeptPath<'a> {
@@ -137,10 +119,19 @@ impl<'a> Paths<'a> {
     fn path_at(&self, left: usize, word: &[u8]) -> Result<Option<Path>, NoMemory>
         ensures { IfOk result (λ path. IfSome path (λ p. path_of word.now ≡ Ok p)) }
     {
-        match &self.page {
-            Some(page) => page.path_at(left, word),
-            None => Ok(None),
+        let Some(page) = &self.page else {
+            return Ok(None);
+        };
+        let bytes = page.bytes.as_slice();
+        let from = page.left.saturating_sub(left);
+        if from > bytes.len() || word.len() > bytes.len() - from {
+            return Ok(None);
         }
+        let to = from + word.len();
+        if are_same_bytes(&bytes[from..to], word) {
+            return Path::within(&page.bytes, from, to);
+        }
+        Ok(None)
     }
 
     /// The path that this word spells, after which N bytes of the text are left.

@@ -1,5 +1,7 @@
 //! The words that replies begin with, and the names of refusals, of limits and of what an inode is.
+ghost use Rattle.std.specs.Prelude.{◌≡◌};
 ghost use Rattle.qtext.specs.Gives.{Gives};
+ghost use Rattle.qtext_read.specs.Replies.{refusal_name};
 ghost use Rattle.qtext_read.specs.RepliesRead.{over_of, refusal_of, reply_word_of, type_of};
 
 use qplain::Refusal;
@@ -37,6 +39,29 @@ pub(crate) fn reply_word_of(word: &[u8]) -> Result<ReplyWord, ReadFault>
         return Ok(ReplyWord::Refused);
     }
     Err(ReadFault::Fault(TextKind::BadReply))
+}
+
+/// The name of a refusal.
+pub fn refusal_name(refusal: Refusal) -> &'static [u8]
+    ensures { result.now ≡ refusal_name refusal }
+{
+    match refusal {
+        Refusal::EINVAL => b"EINVAL",
+        Refusal::ENAMETOOLONG => b"ENAMETOOLONG",
+        Refusal::ENOENT => b"ENOENT",
+        Refusal::ENOTDIR => b"ENOTDIR",
+        Refusal::EEXIST => b"EEXIST",
+        Refusal::ENOSPC => b"ENOSPC",
+        Refusal::EDQUOT(..) => b"EDQUOT",
+        Refusal::EISDIR => b"EISDIR",
+        Refusal::EACCES => b"EACCES",
+        Refusal::EFBIG => b"EFBIG",
+        Refusal::EPERM => b"EPERM",
+        Refusal::EMLINK => b"EMLINK",
+        Refusal::ENOTEMPTY => b"ENOTEMPTY",
+        Refusal::EBUSY => b"EBUSY",
+        Refusal::ESRCH => b"ESRCH",
+    }
 }
 
 /// The refusal of this name, but for EDQUOT, after which more words stand.

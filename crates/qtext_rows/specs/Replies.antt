@@ -14,26 +14,9 @@ use Rattle.qplain.specs.declared.reply.Reply.{Reply}
 use Rattle.qplain.specs.declared.reply.Reply.TheVariants.{Done, Bytes, Stat as StatReply, Quota as QuotaReply, Refused}
 use Rattle.qplain.specs.declared.stat.Stat.{Stat}
 use Rattle.qtext.specs.RuleWords.{kind_text, over_text}
+use Rattle.qtext_read.specs.Replies.{refusal_name}
 use Rattle.qtext_write.specs.Answers.{call_fault_text}
 use Rattle.qtext_rows.specs.Values.{digits_text, flag_text, member, or_null}
-
--- the name of a refusal
-abbrev pub refusal_name : Refusal → List ℕ
-refusal_name EINVAL = codes "EINVAL"
-refusal_name ENAMETOOLONG = codes "ENAMETOOLONG"
-refusal_name ENOENT = codes "ENOENT"
-refusal_name ENOTDIR = codes "ENOTDIR"
-refusal_name EEXIST = codes "EEXIST"
-refusal_name ENOSPC = codes "ENOSPC"
-refusal_name (EDQUOT kind over) = codes "EDQUOT"
-refusal_name EISDIR = codes "EISDIR"
-refusal_name EACCES = codes "EACCES"
-refusal_name EFBIG = codes "EFBIG"
-refusal_name EPERM = codes "EPERM"
-refusal_name EMLINK = codes "EMLINK"
-refusal_name ENOTEMPTY = codes "ENOTEMPTY"
-refusal_name EBUSY = codes "EBUSY"
-refusal_name ESRCH = codes "ESRCH"
 
 -- a call that was done: the number of the inode, and what was charged and released of blocks and of inodes
 abbrev pub done_members : ℕ → Change → List ℕ

@@ -2,7 +2,6 @@
 ghost use Rattle.std.specs.Prelude.{◌≡◌, ◌∷◌, [], map};
 ghost use Rattle.std.specs.List.{flat_map, zip};
 ghost use Rattle.json.specs.Print.{quoted};
-ghost use Rattle.qplain.specs.declared.call.Call.TheVariants as Call;
 ghost use Rattle.qtext.specs.RuleWords.{kind_text};
 ghost use Rattle.qtext.specs.Written.{Writes};
 ghost use Rattle.qtext_read.specs.Rows.{name};
@@ -13,9 +12,9 @@ use crate::part::{Part, put_member, put_part, put_parts};
 use crate::value::{Value, id_or_null};
 use qblocks::Input;
 use qplain::{Call, Cred, Path};
-use qrules::{Kind, Limits};
+use qrules::Kind;
 use qtext::{RefusedWrite, TextLine, kind_word};
-use qtext_read::{Argument, Verb, name_of, row_of, verb_word};
+use qtext_read::{Argument, CallParts, Values, Verb, name_of, parts_of, row_of, verb_word};
 use qtext_write::put_caller;
 use std::io::Write;
 
@@ -62,24 +61,6 @@ fn kind_value<'a>(kind: Kind) -> Value<'a>
     Value::Text(kind_word(kind))
 }
 
-fn put_on_path<W: Write>(out: &mut W, verb: Verb, path: &Path) -> Result<(), RefusedWrite>
-    ensures { Writes (W.contents out.old) (W.contents out.new) result (named_call verb (quoted path.now ∷ [])) }
-{
-    put_named(out, verb, &[path_value(path)])
-}
-
-fn put_on_paths<W: Write>(
-    out: &mut W,
-    verb: Verb,
-    from: &Path,
-    to: &Path,
-) -> Result<(), RefusedWrite>
-    ensures { Writes (W.contents out.old) (W.contents out.new) result
-        (named_call verb (quoted from.now ∷ quoted to.now ∷ [])) }
-{
-    put_named(out, verb, &[path_value(from), path_value(to)])
-}
-
 /// Writes a write of N equal bytes, as a fill.
 pub(crate) fn put_fill<W: Write>(
     out: &mut W,
@@ -100,79 +81,51 @@ pub(crate) fn put_fill<W: Write>(
     put_named(out, Verb::Fill, &values)
 }
 
-fn put_setquota<W: Write>(
-    out: &mut W,
-    kind: Kind,
-    id: u32,
-    limits: &Limits,
-) -> Result<(), RefusedWrite>
-    ensures { Writes (W.contents out.old) (W.contents out.new) result
-        (call_members (Call.SetQuota kind id limits.now)) }
-{
-    let values = [
-        kind_value(kind),
-        Value::Number(id as u64),
-        Value::Number(limits.block_soft),
-        Value::Number(limits.block_hard),
-        Value::Number(limits.inode_soft),
-        Value::Number(limits.inode_hard),
-    ];
-    put_named(out, Verb::SetQuota, &values)
-}
-
 /// Writes a call as a member.
 pub(crate) fn put_call<W: Write>(out: &mut W, call: &Call) -> Result<(), RefusedWrite>
     ensures { Writes (W.contents out.old) (W.contents out.new) result (call_members call.now) }
 {
-    match call {
-        Call::Create { path } => put_on_path(out, Verb::Create, path),
-        Call::Mkdir { path } => put_on_path(out, Verb::Mkdir, path),
-        Call::Write { path, off, bytes } => {
-            let bytes = Value::Digits(bytes.input());
-            put_named(
-                out,
-                Verb::Write,
-                &[path_value(path), Value::Number(*off), bytes],
-            )
-        }
-        Call::Truncate { path, size } => put_named(
+    let CallParts { verb, values } = parts_of(call);
+    match values {
+        Values::Path(path) => put_named(out, verb, &[path_value(path)]),
+        Values::Paths(from, to) => put_named(out, verb, &[path_value(from), path_value(to)]),
+        Values::Size(path, size) => put_named(out, verb, &[path_value(path), Value::Number(size)]),
+        Values::Range(path, off, len) => put_named(
             out,
-            Verb::Truncate,
-            &[path_value(path), Value::Number(*size)],
+            verb,
+            &[path_value(path), Value::Number(off), Value::Number(len)],
         ),
-        Call::Read { path, off, len } => {
-            let values = [path_value(path), Value::Number(*off), Value::Number(*len)];
-            put_named(out, Verb::Read, &values)
+        Values::Bytes(path, off, bytes) => {
+            let bytes = Value::Digits(bytes.input());
+            put_named(out, verb, &[path_value(path), Value::Number(off), bytes])
         }
-        Call::Stat { path } => put_on_path(out, Verb::Stat, path),
-        Call::Link { from, to } => put_on_paths(out, Verb::Link, from, to),
-        Call::Unlink { path } => put_on_path(out, Verb::Unlink, path),
-        Call::Rmdir { path } => put_on_path(out, Verb::Rmdir, path),
-        Call::Rename { from, to } => put_on_paths(out, Verb::Rename, from, to),
-        Call::Chown {
-            path,
-            uid,
-            gid,
-            project,
-        } => {
+        Values::Owners(path, uid, gid, project) => {
             let owners = [
                 path_value(path),
-                id_or_null(*uid),
-                id_or_null(*gid),
-                id_or_null(*project),
+                id_or_null(uid),
+                id_or_null(gid),
+                id_or_null(project),
             ];
-            put_named(out, Verb::Chown, &owners)
+            put_named(out, verb, &owners)
         }
-        Call::SetQuota { kind, id, limits } => put_setquota(out, *kind, *id, limits),
-        Call::SetGrace { graces } => {
+        Values::Limits(kind, id, limits) => {
+            let values = [
+                kind_value(kind),
+                Value::Number(id as u64),
+                Value::Number(limits.block_soft),
+                Value::Number(limits.block_hard),
+                Value::Number(limits.inode_soft),
+                Value::Number(limits.inode_hard),
+            ];
+            put_named(out, verb, &values)
+        }
+        Values::Graces(graces) => {
             let values = [Value::Number(graces.block), Value::Number(graces.inode)];
-            put_named(out, Verb::SetGrace, &values)
+            put_named(out, verb, &values)
         }
-        Call::Quota { kind, id } => put_named(
-            out,
-            Verb::Quota,
-            &[kind_value(*kind), Value::Number(*id as u64)],
-        ),
+        Values::Record(kind, id) => {
+            put_named(out, verb, &[kind_value(kind), Value::Number(id as u64)])
+        }
     }
 }
 

@@ -3,7 +3,7 @@ ghost use Rattle.std.specs.Prelude.{◌≡◌, Ok, Err, codes, decimal};
 ghost use Rattle.qtext.specs.Written.{Writes};
 ghost use Rattle.qtext_write.specs.Answers.{call_fault_text};
 ghost use Rattle.qtext_rows.specs.Replies.{answer_members, bytes_members, done_members};
-ghost use Rattle.qtext_rows.specs.Replies.{quota_members, refusal_name, refused_members, reply_members, stat_members};
+ghost use Rattle.qtext_rows.specs.Replies.{quota_members, refused_members, reply_members, stat_members};
 ghost use Rattle.qtext_rows.specs.Values.{member};
 ghost use Rattle.qplain.specs.declared.refusal.Refusal.TheVariants.{EDQUOT};
 
@@ -14,29 +14,8 @@ use qblocks::Input;
 use qplain::{CallFault, Change, Quota, Refusal, Reply, Stat};
 use qrules::{Kind, Over};
 use qtext::{kind_word, over_word};
+use qtext_read::refusal_name;
 use std::io::Write;
-
-fn refusal_name(refusal: Refusal) -> &'static [u8]
-    ensures { result.now ≡ refusal_name refusal }
-{
-    match refusal {
-        Refusal::EINVAL => b"EINVAL",
-        Refusal::ENAMETOOLONG => b"ENAMETOOLONG",
-        Refusal::ENOENT => b"ENOENT",
-        Refusal::ENOTDIR => b"ENOTDIR",
-        Refusal::EEXIST => b"EEXIST",
-        Refusal::ENOSPC => b"ENOSPC",
-        Refusal::EDQUOT(..) => b"EDQUOT",
-        Refusal::EISDIR => b"EISDIR",
-        Refusal::EACCES => b"EACCES",
-        Refusal::EFBIG => b"EFBIG",
-        Refusal::EPERM => b"EPERM",
-        Refusal::EMLINK => b"EMLINK",
-        Refusal::ENOTEMPTY => b"ENOTEMPTY",
-        Refusal::EBUSY => b"EBUSY",
-        Refusal::ESRCH => b"ESRCH",
-    }
-}
 
 fn put_done<W: Write>(out: &mut W, number: u64, change: &Change) -> Written
     ensures { Writes (W.contents out.old) (W.contents out.new) result (done_members number change.now) }

@@ -9,6 +9,7 @@ ghost use Rattle.qtext_read.specs.Replies.{done_text, end_text, quota_text, refu
 use qplain::{Change, Quota, Refusal, Reply, Stat};
 use qrules::{Kind, Over};
 use qtext::{HEAD_ROOM, LINE_ROOM, RefusedWrite, TextLine, kind_word, over_word};
+use qtext_read::refusal_name;
 use std::io::Write;
 
 /// How many bytes may stand before a reply.
@@ -43,24 +44,10 @@ fn put_refusal(line: &mut TextLine, refusal: Refusal)
     ensures text { line.new ≡ line.old ++ refusal_text refusal }
     ensures short { length line.new < LINE_ROOM }
 {
-    let name: &[u8] = match refusal {
-        Refusal::EINVAL => b"EINVAL",
-        Refusal::ENAMETOOLONG => b"ENAMETOOLONG",
-        Refusal::ENOENT => b"ENOENT",
-        Refusal::ENOTDIR => b"ENOTDIR",
-        Refusal::EEXIST => b"EEXIST",
-        Refusal::ENOSPC => b"ENOSPC",
-        Refusal::EDQUOT(kind, over) => return put_over(line, kind, over),
-        Refusal::EISDIR => b"EISDIR",
-        Refusal::EACCES => b"EACCES",
-        Refusal::EFBIG => b"EFBIG",
-        Refusal::EPERM => b"EPERM",
-        Refusal::EMLINK => b"EMLINK",
-        Refusal::ENOTEMPTY => b"ENOTEMPTY",
-        Refusal::EBUSY => b"EBUSY",
-        Refusal::ESRCH => b"ESRCH",
-    };
-    line.text(name);
+    match refusal {
+        Refusal::EDQUOT(kind, over) => put_over(line, kind, over),
+        _ => line.text(refusal_name(refusal)),
+    }
 }
 
 fn put_done(line: &mut TextLine, number: u64, change: &Change)

@@ -123,33 +123,6 @@ where
     }
 }
 
-/// Does what the job asks for, and tells what it ends for early. The answer is the status.
-fn end_job<F, O, E, R>(
-    machine: &Machine<'_, R>,
-    job: &Job,
-    files: &mut F,
-    out: &mut O,
-    err: &mut E,
-) -> u8
-where
-    F: Files + NamedStreams + Send,
-    O: Write,
-    E: Write,
-    R: Threads + Wait + Clock + Sync,
-    requires some { HasScript job.now }
-    requires batch { HasBatch job.now }
-    ensures status { IsStatus result }
-    ensures untouched { IsUntouchedAt result (O.contents out.old) (O.contents out.new) ⊎ IsService job.now }
-    ensures printed { (result ≡ 0) ⊎ (result ≡ 1) → IsPrinted job.now result
-        (seen (F.held files.old) (O.contents out.old) (E.contents err.old))
-        (seen (F.held files.new) (O.contents out.new) (E.contents err.new)) }
-{
-    match do_job(machine, job, files, out, err) {
-        Ok(status) => status,
-        Err(ending) => ending.tell(err),
-    }
-}
-
 /// Writes and flushes help, or the version. An output that refuses it is told as that.
 fn tell_help<O: Write, E: Write>(text: &str, out: &mut O, err: &mut E) -> u8
     ensures { (result ≡ 0) ⊎ (result ≡ 4) }
@@ -211,7 +184,10 @@ where
         (seen (F.held files.new) (O.contents out.new) (E.contents err.new)) }
 {
     match Job::read(machine.alloc, words) {
-        Ok(job) => end_job(machine, &job, files, out, err),
+        Ok(job) => match do_job(machine, &job, files, out, err) {
+            Ok(status) => status,
+            Err(ending) => ending.tell(err),
+        },
         Err(fault) => tell_words(&fault, out, err),
     }
 }

@@ -1,9 +1,36 @@
-use Rattle.std.proofs.Common.{map}
+use Rattle.std.proofs.Common.{◌+◌, List, ℕ, refl, arith, rules}
 use Rattle.std.specs.Option.{option_map}
-use Rattle.qtext_check.proofs.Gathered.{first_of_answer}
+use Rattle.qtext_files.specs.RawLines.{RawLine}
+use Rattle.qtext_files.proofs.RawLines.{no_line_of}
+use Rattle.qtext_check.specs.declared.fault.Fault.{Fault}
+use Rattle.qtext_check.specs.Faults.{fault_in, line_in, listed}
+use Rattle.qtext_check.proofs.Gathered.{first_told_of, goes_on, is_done}
 use Rattle.qtext_check.proofs.findings.findings_of.Goals as goal
+
+pub loop-rest-preserved : goal.loop-rest-preserved
+loop-rest-preserved c =
+    let faults : RawLine → List Fault = λ l. listed (fault_in (option_map (λ s. s.now) c.args.setup) l) in
+    let lines : RawLine → List (List ℕ) = λ l. listed (line_in (option_map (λ s. s.now) c.args.setup) l) in
+    let first = c.in_ok-line.ensures.first (c.loop-rest.number + 1) in
+    record {
+      count = omega (arith, c.in_ok-line.ensures.shorter, c.loop-rest.invariant.count);
+      faults = rw (c.in_ok-put_found.ensures.fault, c.in_ok-found.ensures.wrong) (goes_on faults _ _ _ _ _ _ refl first c.loop-rest.invariant.faults);
+      lines = rw (c.in_ok-put_found.ensures.bytes, c.in_ok-found.ensures.wrong) (goes_on lines _ _ _ _ _ _ refl first c.loop-rest.invariant.lines);
+      words = c.in_ok-put_found.ensures.word c.loop-rest.invariant.words c.in_ok-found.ensures.word;
+    }
+
+pub returns-clause-all : goal.returns-clause-all
+returns-clause-all c =
+    let faults : RawLine → List Fault = λ l. listed (fault_in (option_map (λ s. s.now) c.args.setup) l) in
+    is_done faults _ _ _ (no_line_of (c.loop-rest.number + 1) c.loop-rest.rest.now (search rules)) c.loop-rest.invariant.faults
+
+pub returns-clause-lines : goal.returns-clause-lines
+returns-clause-lines c =
+    let lines : RawLine → List (List ℕ) = λ l. listed (line_in (option_map (λ s. s.now) c.args.setup) l) in
+    is_done lines _ _ _ (no_line_of (c.loop-rest.number + 1) c.loop-rest.rest.now (search rules)) c.loop-rest.invariant.lines
 
 pub returns-clause-first : goal.returns-clause-first
 returns-clause-first c =
-    first_of_answer (λ found. map (λ f. f.fault) found.items) (option_map (λ s. s.now) c.args.setup) c.args.text.now
-    c.all_findings.result c.all_findings.ensures.faults
+    let faults : RawLine → List Fault = λ l. listed (fault_in (option_map (λ s. s.now) c.args.setup) l) in
+    first_told_of (option_map (λ s. s.now) c.args.setup) c.args.text.now _
+    (is_done faults _ _ _ (no_line_of (c.loop-rest.number + 1) c.loop-rest.rest.now (search rules)) c.loop-rest.invariant.faults)

@@ -1,4 +1,4 @@
-use Rattle.std.proofs.Common.{◌≡◌, ℕ, ◌<◌, List, [], ◌∷◌, length, Err, refl, arith}
+use Rattle.std.proofs.Common.{rules, ◌≡◌, ℕ, ◌<◌, List, [], ◌∷◌, length, Err, refl, arith}
 use Rattle.qtext.specs.declared.text_fault.TextKind.TheVariants.{BadCred}
 use Rattle.qtext.specs.Words.{parts}
 use Rattle.qtext_read.specs.Callers.{own_ids_of, own_ids_in}
@@ -24,11 +24,26 @@ more_parts text u after g last e f = rw (e, f) (three u g (parts 58 last) (some_
 pub returns-in_default : goal.returns-in_default
 returns-in_default c = no_gid c.args.text.now _ (only_part (λ t. t.now) 58 c.args.text.now _ _ c.first_part.ensures.parts c.in_default.is)
 
-pub returns-in-None : goal.returns-in-None
-returns-in-None c =
+pub returns-in_err-id_of-in-None : goal.returns-in_err-id_of-in-None
+unfolding own_ids_in
+returns-in_err-id_of-in-None c =
     let one = next_part (λ t. t.now) 58 c.args.text.now _ _ _ c.first_part.ensures.parts c.in-Some.is in
     let two = only_part (λ t. t.now) 58 c.in-Some.after.now _ _ c.first_part-2.ensures.parts c.in-None.is in
-    rw (both_ids c.args.text.now _ c.in-Some.after.now _ one two) c.own_ids_in.ensures
+    rw (both_ids c.args.text.now _ c.in-Some.after.now _ one two) (search rules)
+
+pub returns-in_err-id_of-in-None-2 : goal.returns-in_err-id_of-in-None-2
+unfolding own_ids_in
+returns-in_err-id_of-in-None-2 c =
+    let one = next_part (λ t. t.now) 58 c.args.text.now _ _ _ c.first_part.ensures.parts c.in-Some.is in
+    let two = only_part (λ t. t.now) 58 c.in-Some.after.now _ _ c.first_part-2.ensures.parts c.in-None.is in
+    rw (both_ids c.args.text.now _ c.in-Some.after.now _ one two) (search rules)
+
+pub returns-in_ok-id_of-in-None-2 : goal.returns-in_ok-id_of-in-None-2
+unfolding own_ids_in
+returns-in_ok-id_of-in-None-2 c =
+    let one = next_part (λ t. t.now) 58 c.args.text.now _ _ _ c.first_part.ensures.parts c.in-Some.is in
+    let two = only_part (λ t. t.now) 58 c.in-Some.after.now _ _ c.first_part-2.ensures.parts c.in-None.is in
+    rw (both_ids c.args.text.now _ c.in-Some.after.now _ one two) (search rules)
 
 pub returns-in-Some-after : goal.returns-in-Some-after
 returns-in-Some-after c =

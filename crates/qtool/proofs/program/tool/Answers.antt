@@ -1,21 +1,22 @@
 use Rattle.std.proofs.Common.{inl, inr, map}
 use Rattle.std.specs.Prelude.{string_bytes}
 use Rattle.qtext_job.proofs.Asked.{asked_some}
-use Rattle.qtool.proofs.Endings.{printed_help, untouched_by_words}
+use Rattle.qtool.proofs.Endings.{printed_help, untouched_by_ending, untouched_by_words}
 use Rattle.qtool.proofs.program.tool.Goals as goal
 
-pub end_job-requires-clause-some : goal.end_job-requires-clause-some
-end_job-requires-clause-some g c κs within =
+pub do_job-requires-clause-some : goal.do_job-requires-clause-some
+do_job-requires-clause-some g c κs within =
     asked_some (map (λ w. string_bytes w) c.args.words.now) c.in-Ok.job c.in-Ok.ensures.job
+
+pub returns-in-Ok-do_job-clause-printed : goal.returns-in-Ok-do_job-clause-printed
+returns-in-Ok-do_job-clause-printed g c = λ done. inr (c.in-Ok.job, c.in-Ok.ensures.job, c.in-Ok-do_job.ensures.printed)
 
 pub returns-in-Ok-clause-untouched : goal.returns-in-Ok-clause-untouched
 returns-in-Ok-clause-untouched g c =
-    untouched_by_words (map (λ w. string_bytes w) c.args.words.now) c.in-Ok.job c.end_job.result _ _ c.in-Ok.ensures.job c.end_job.ensures.untouched
+    untouched_by_words (map (λ w. string_bytes w) c.args.words.now) c.in-Ok.job c.tell.result _ _ c.in-Ok.ensures.job
+    (untouched_by_ending c.in-Err-do_job.ending c.in-Ok.job c.tell.result _ _ c.in-Err-do_job.ensures.left c.tell.ensures.output)
 
-pub returns-in-Ok-clause-printed : goal.returns-in-Ok-clause-printed
-returns-in-Ok-clause-printed g c = λ done. inr (c.in-Ok.job, c.in-Ok.ensures.job, c.end_job.ensures.printed done)
-
-pub returns-in-Err-clause-printed : goal.returns-in-Err-clause-printed
-returns-in-Err-clause-printed g c =
+pub returns-clause-printed : goal.returns-clause-printed
+returns-clause-printed g c =
     λ done. inl (printed_help (map (λ w. string_bytes w) c.args.words.now) c.in-Err.fault c.tell_words.result c.in-Err.ensures.refused
     c.tell_words.ensures.status done)

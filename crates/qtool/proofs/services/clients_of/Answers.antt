@@ -1,4 +1,4 @@
-use Rattle.std.proofs.Common.{◌≡◌, [], ◌∷◌, ◌++◌, All, length, ap, sym, subst, length-append, arith}
+use Rattle.std.proofs.Common.{◌≡◌, [], ◌∷◌, All, length, ap, sym, subst, length-append, arith}
 use Rattle.qtext_client.specs.Conversations.{Progress}
 use Rattle.qtool.proofs.Clients.{one_more_new}
 use Rattle.qtool.proofs.services.clients_of.Goals as goal

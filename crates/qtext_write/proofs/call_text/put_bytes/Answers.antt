@@ -2,7 +2,7 @@ use Rattle.std.proofs.Common.{append_assoc, ◌∷◌, []}
 use Rattle.qtext.specs.Pieces.{data_text}
 use Rattle.qtext.proofs.Fronts.{partly_then, passes_ends, passes_then}
 use Rattle.qtext_write.proofs.Behind.{behind, refused}
-use Rattle.qtext_write.proofs.call_text.put_write.Goals as goal
+use Rattle.qtext_write.proofs.call_text.put_bytes.Goals as goal
 
 pub returns-in_err-put_at-clause-passes : goal.returns-in_err-put_at-clause-passes
 returns-in_err-put_at-clause-passes g c = refused _ _ _ c.args.line.now _ _ _ c.from_residual.ensures.0 c.in_err-put_at.ensures.passes

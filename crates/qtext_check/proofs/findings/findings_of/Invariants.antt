@@ -5,7 +5,7 @@ use Rattle.qtext.specs.Words.{parts}
 use Rattle.qtext_files.specs.RawLines.{raw_lines_from}
 use Rattle.qtext_check.specs.Faults.{faults_in, faults_of, line_in, lines_of, listed}
 use Rattle.qtext_check.specs.Found.{AreAtFault}
-use Rattle.qtext_check.proofs.findings.all_findings.Given as goal
+use Rattle.qtext_check.proofs.findings.findings_of.Given as goal
 
 -- the faults so far, and those of the lines that are left
 abbrev pub invariant-loop-rest : goal.invariant-loop-rest
