@@ -7,7 +7,7 @@ fn main() {
     match env::var("QUOTAFS_LIB") {
         Ok(folder) => link(Path::new(&folder)),
         Err(_) => println!(
-            "cargo::error=QUOTAFS_LIB is to name the folder of libquotafs.a, as `building/library FOLDER` fills it"
+            "cargo::error=QUOTAFS_LIB is to name the folder of libquotafs.a, as `tools/library FOLDER` fills it"
         ),
     }
 }
@@ -16,7 +16,7 @@ fn main() {
 fn link(folder: &Path) {
     let archive = folder.join("libquotafs.a");
     if !archive.is_file() {
-        println!("cargo::error={} is not there: `building/library FOLDER` makes it", archive.display());
+        println!("cargo::error={} is not there: `tools/library FOLDER` makes it", archive.display());
         return;
     }
     println!("cargo::rerun-if-changed={}", archive.display());

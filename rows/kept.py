@@ -7,10 +7,10 @@ import time
 from itertools import count
 from threading import Thread
 
-from rows import BUILT, CHECKING, HEAD, ROOT, call, journal_of, preloaded
+from rows import BUILT, ROWS, HEAD, ROOT, call, journal_of, preloaded
 
-CONFIG = CHECKING / "a0/config.toml"
-FIRST = CHECKING / "a0/create_write_stat"
+CONFIG = ROWS / "a0/config.toml"
+FIRST = ROWS / "a0/create_write_stat"
 OUTPUT = b"quotafs: output\n"
 KILLED = -9
 # A good journal of another run, which stands under the name before a run.
@@ -50,7 +50,7 @@ class Run:
 
 def built(work, name):
     library = work / f"{name}.so"
-    subprocess.run(["cc", "-O2", "-shared", "-fPIC", "-o", library, CHECKING / f"{name}.c"], check=True)
+    subprocess.run(["cc", "-O2", "-shared", "-fPIC", "-o", library, ROWS / f"{name}.c"], check=True)
     return library
 
 

@@ -3,26 +3,26 @@ limit or a device stops it."""
 import os
 import subprocess
 
-from rows import BUILT, CHECKING, EMPTY, EXAMPLE, ROOT, call, command_lines, journal_of, preloaded
+from rows import BUILT, ROWS, EMPTY, EXAMPLE, ROOT, call, command_lines, journal_of, preloaded
 
 FULL = (4, b"quotafs: output\n")
-FIRST = CHECKING / "a0/create_write_stat"
+FIRST = ROWS / "a0/create_write_stat"
 # KiB of stack in which the configuration that is nested deepest has to be read: the tried program is given more.
 STACK = int(os.environ.get("QUOTAFS_STACK", 2048))
 
 
 def long_lines(work):
     """Faults that tell a name of 4,000 bytes, each of them escaped by six, and a key of 32,000."""
-    yield "a long name", ["run", "--config", EXAMPLE, "\x01" * 4_000], CHECKING
-    (work / "key").write_text(f"{'k' * 32_000} = 1\n{(CHECKING / 'configs/good.toml').read_text()}")
-    yield "a long key", ["run", "--config", work / "key", EMPTY], CHECKING
-    yield "a word that is not UTF-8", ["run", b"\xff"], CHECKING
+    yield "a long name", ["run", "--config", EXAMPLE, "\x01" * 4_000], ROWS
+    (work / "key").write_text(f"{'k' * 32_000} = 1\n{(ROWS / 'configs/good.toml').read_text()}")
+    yield "a long key", ["run", "--config", work / "key", EMPTY], ROWS
+    yield "a word that is not UTF-8", ["run", b"\xff"], ROWS
 
 
 def writes(work):
     """One write for each fault and each help, and one for each 256 KiB of an outcome, none of nothing."""
     library = work / "writes.so"
-    subprocess.run(["cc", "-O2", "-shared", "-fPIC", "-o", library, CHECKING / "writes.c"], check=True)
+    subprocess.run(["cc", "-O2", "-shared", "-fPIC", "-o", library, ROWS / "writes.c"], check=True)
     for case in command_lines():
         wanted = b"%d %d" % (case.out != b"", case.status != 0)
         yield f"{case.name}: writes", preloaded(library, case.words, case.folder, "WRITES_TELL")[1], wanted
@@ -68,12 +68,12 @@ def content(file):
 
 
 def run_with_journal(file, script=f"{FIRST}.txt"):
-    return ["run", "--config", CHECKING / "a0/config.toml", "--journal", file, script]
+    return ["run", "--config", ROWS / "a0/config.toml", "--journal", file, script]
 
 
 def journals(work):
     """Journals that cannot be made or are refused, behind the whole outcome, and outputs that refuse before them."""
-    outcome, journal, file = content(CHECKING / f"{FIRST}.0.out"), content(CHECKING / f"{FIRST}.journal"), work / "kept"
+    outcome, journal, file = content(ROWS / f"{FIRST}.0.out"), content(ROWS / f"{FIRST}.journal"), work / "kept"
     for name, path in [("a full device", "/dev/full"), ("no folder", work / "none/journal"), ("a folder", work)]:
         yield f"a journal to {name}", call(run_with_journal(path)), (4, outcome, FULL[1])
     for before in [None, b"before\n" * 1_000]:

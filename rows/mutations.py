@@ -1,6 +1,6 @@
 """Mutations of good texts, from a seed: scripts, journals and configurations as `checks/texts` has them read.
 
-The good texts are those of `checking/` and `examples/`. A mutation damages one in one to four places: bytes are
+The good texts are those of `rows/` and `examples/`. A mutation damages one in one to four places: bytes are
 changed, taken away, put in or doubled; words are replaced by edges of numbers, by words that stand elsewhere and by
 words that stand nowhere; lines are doubled, exchanged, taken away or cut. A text keeps to some hundred bytes, so that
 200,000 of them are read in seconds. `mutations(seed, part)` is the same list at each run, on each machine.
@@ -75,7 +75,7 @@ def good():
     """The good texts, each kind without repeats: scripts, the journals of their runs and others, configurations."""
     played = list(rows.played())
     scripts = {script.read_bytes() for _, _, script, _ in played}
-    files = [file for folder in ("checking", "examples") for file in sorted((ROOT / folder).glob("**/*.*"))]
+    files = [file for folder in ("rows", "examples") for file in sorted((ROOT / folder).glob("**/*.*"))]
     journals = {file.read_bytes() for file in files if file.suffix == ".journal"}
     journals |= {rows.journal_of(script.read_bytes().splitlines(), out.read_bytes()) for out, _, script, _ in played}
     configs = {file.read_bytes() for file in files if file.suffix == ".toml"}

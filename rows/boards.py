@@ -6,14 +6,14 @@ import re
 import subprocess
 from contextlib import contextmanager
 
-from rows import CHECKING, EMPTY, EXAMPLE, ROOT, Case, played
+from rows import ROWS, EMPTY, EXAMPLE, ROOT, Case, played
 from workers import SIX_FILES, SIX_REPLIES, Workers, comes_again, replies_of, run
 
 LOOKS = re.compile(rb"^boards (\d+)\n((?:board .*\n)*)(?=quota at )", re.M)
 SHOWN = re.compile(rb"board (\d+) blocks (\d+) inodes (\d+)\n")
 DONE = re.compile(rb"done \d+ blocks \+(\d+) -(\d+) inodes \+(\d+) -(\d+)")
 FIRST, FAILED_LOOK = b"board 0 blocks 0 inodes 1\n", b"board - failed OutOfMemory\n"
-NO_TEXT = (CHECKING / "a/empty.0.out").read_bytes()
+NO_TEXT = (ROWS / "a/empty.0.out").read_bytes()
 
 
 def parted(outcome):
@@ -156,8 +156,8 @@ def crowd(work, *options):
 def six_rows(work):
     """Whether 1000 boards beside a worker that gives a file to another user, group and project, and back, on and on,
     leave its outcome: each such call changes six rows of a board, and the run holds each board against its journal, row
-    by row. The last call is that of a row of checking/, and so is the report."""
-    row = CHECKING / "projects/a_chown_changes_six_rows.txt"
+    by row. The last call is that of a row of rows/, and so is the report."""
+    row = ROWS / "projects/a_chown_changes_six_rows.txt"
     *begin, there = row.read_bytes().splitlines(keepends=True)
     back, reply = b"0 0:0 chown /w/a 1001 0 7\n", b"%d done 3 blocks +0 -0 inodes +0 -0\n"
     script, first, last = b"".join(begin) + there + (back + there) * 20_000, len(begin) + 1, len(begin) + 40_001

@@ -1,4 +1,4 @@
-"""The rows of checking/, read: what the program is run on, and what it has to answer.
+"""The rows of rows/, read: what the program is run on, and what it has to answer.
 
 - FOLDER/ROW.txt is a script, FOLDER/config.toml its configuration, and FOLDER/ROW.MOMENT.out the whole text that it
   prints with the report at that moment. The folder `examples` has the answers for the scripts of examples/, where a
@@ -14,7 +14,7 @@
   likewise in project_journals.
 - renames/THEME.rows: a line is a caller, the two paths of a rename after renames/before.txt, the step of its call that
   decides, its answer, and what a stat of some paths answers then.
-- options/ROW.words: the status, and the words of a run in the folder `checking`; ROW.in is what stands on its standard
+- options/ROW.words: the status, and the words of a run in the folder `rows`; ROW.in is what stands on its standard
   input, ROW.out and ROW.err what it prints, each nothing where it is not there.
 - command_lines.rows: a line is the words, the status, the output and the error output, in the folder `a`. Two dots at
   the end stand for any further text: what faults of the command line say is the library's.
@@ -26,10 +26,10 @@ from functools import cached_property
 from pathlib import Path
 
 ROOT = Path(__file__).resolve().parent.parent
-CHECKING = ROOT / "checking"
+ROWS = ROOT / "rows"
 BUILT = ROOT / "crates/quotafs/out/quotafs"
-EXAMPLE = CHECKING / "a/config.toml"
-EMPTY = CHECKING / "a/empty.txt"
+EXAMPLE = ROWS / "a/config.toml"
+EMPTY = ROWS / "a/empty.txt"
 # The folders of the worked examples of the formats, and of examples/.
 WORKED = "a", "a0", "a0_group_blocks", "a0_group_inodes", "a_projects", "examples"
 # The folders of journals, each with its configuration.
@@ -217,7 +217,7 @@ class Replay(Case):
 def played():
     """The scripts that are run to their end: the outcome, the configuration, the script, and whether the run's
     allocations are refused, as those of the worked examples are."""
-    for out in sorted(CHECKING.glob("*/*.*.out")):
+    for out in sorted(ROWS.glob("*/*.*.out")):
         folder, script = out.parent, out.name.split(".")[0] + ".txt"
         refuses = folder.name in WORKED or script == "one_call_of_each_kind.txt"
         if folder.name == "examples":
@@ -253,8 +253,8 @@ def journals(work):
 def replays(work):
     """Journals that are played, those that are refused, and those that do not fit."""
     for folder in JOURNALS:
-        head = ["replay", "--config", CHECKING / folder / "config.toml"]
-        for journal in sorted((CHECKING / folder).glob("*.journal")):
+        head = ["replay", "--config", ROWS / folder / "config.toml"]
+        for journal in sorted((ROWS / folder).glob("*.journal")):
             out = journal.with_suffix(".0.out").read_bytes()
             yield Case(f"{folder}/{journal.stem}", [*head, journal], 0, out, refuses=True)
         for name, number, (text, told), file in listed(f"{folder}/*.rows"):
@@ -265,7 +265,7 @@ def replays(work):
 
 def listed(pattern):
     """The name, the number and the content of each line of the tables, and a name of a file of its own."""
-    for table in sorted(CHECKING.glob(pattern)):
+    for table in sorted(ROWS.glob(pattern)):
         for number, line in enumerate(table.read_text().splitlines(), 1):
             name = f"{table.parent.name}/{table.stem}"
             yield f"{name} {number}", number, json.loads(line), f"{table.parent.name}.{table.stem}.{number}"
@@ -274,7 +274,7 @@ def listed(pattern):
 def configs(work):
     """Changes of the good configuration."""
     for name, number, (*pieces, told), file in listed("configs/*.rows"):
-        text = (CHECKING / "configs/good.toml").read_text()
+        text = (ROWS / "configs/good.toml").read_text()
         for old, new in zip(pieces[::2], pieces[1::2]):
             if old not in text:
                 raise ValueError(f"{name}: no {old}")
@@ -297,7 +297,7 @@ def scripts(work):
 
 def renames(work):
     """Renames that cross what is renamed, what is replaced, rights and places."""
-    folder = CHECKING / "renames"
+    folder = ROWS / "renames"
     callers = {"root": "0:0", "ann": "1000:100", "bob": "1001:0,100"}
     before = (folder / "before.txt").read_text()
     for name, _, (caller, old, new, step, answer, after), file in listed("renames/*.rows"):
@@ -309,14 +309,14 @@ def renames(work):
 
 def options():
     """Runs and replays with options of how they are told."""
-    for file in sorted((CHECKING / "options").glob("*.words")):
+    for file in sorted((ROWS / "options").glob("*.words")):
         status, *words = file.read_text().split()
         parts = [file.with_suffix(end) for end in (".out", ".err", ".in")]
         out, err, given = [part.read_bytes() if part.exists() else b"" for part in parts]
-        yield Case(f"options/{file.stem}", words, int(status), out, err, CHECKING, given=given)
+        yield Case(f"options/{file.stem}", words, int(status), out, err, ROWS, given=given)
 
 
 def command_lines():
     """Command lines, with help, faults of each kind, and which of two is told."""
     for name, _, (words, status, out, err), _ in listed("command_lines.rows"):
-        yield Case(name, words, status, out.encode(), err.encode(), CHECKING / "a", refuses=True)
+        yield Case(name, words, status, out.encode(), err.encode(), ROWS / "a", refuses=True)

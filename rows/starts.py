@@ -4,7 +4,7 @@ import subprocess
 from collections import Counter
 
 from outputs import limited
-from rows import CHECKING, EMPTY, EXAMPLE, ROOT, preloaded
+from rows import ROWS, EMPTY, EXAMPLE, ROOT, preloaded
 
 LIMIT = 200 * 1024  # KiB of address space in which 16 workers have to start
 RUNS = 20
@@ -12,7 +12,7 @@ RUNS = 20
 
 def built(work):
     library = work / "starts.so"
-    subprocess.run(["cc", "-O2", "-shared", "-fPIC", "-o", library, CHECKING / "starts.c"], check=True)
+    subprocess.run(["cc", "-O2", "-shared", "-fPIC", "-o", library, ROWS / "starts.c"], check=True)
     return library
 
 
