@@ -27,23 +27,18 @@ fn of_one_word<'a>(
 ) -> Result<Call, ReadFault>
     ensures { (edition : Edition) → Gives result (call_of edition verb (path.now ∷ [])) }
 {
+    let path = match verb {
+        Verb::Create | Verb::Mkdir | Verb::Stat | Verb::Unlink | Verb::Rmdir => {
+            paths.read(alloc, path, &[])?
+        }
+        _ => return Err(WORD_COUNT),
+    };
     match verb {
-        Verb::Create => Ok(Call::Create {
-            path: paths.read(alloc, path, &[])?,
-        }),
-        Verb::Mkdir => Ok(Call::Mkdir {
-            path: paths.read(alloc, path, &[])?,
-        }),
-        Verb::Stat => Ok(Call::Stat {
-            path: paths.read(alloc, path, &[])?,
-        }),
-        Verb::Unlink => Ok(Call::Unlink {
-            path: paths.read(alloc, path, &[])?,
-        }),
-        Verb::Rmdir => Ok(Call::Rmdir {
-            path: paths.read(alloc, path, &[])?,
-        }),
-        _ => Err(WORD_COUNT),
+        Verb::Create => Ok(Call::Create { path }),
+        Verb::Mkdir => Ok(Call::Mkdir { path }),
+        Verb::Stat => Ok(Call::Stat { path }),
+        Verb::Unlink => Ok(Call::Unlink { path }),
+        _ => Ok(Call::Rmdir { path }),
     }
 }
 
@@ -59,28 +54,30 @@ fn of_two_words<'a>(
     ensures { Gives result (call_of edition verb (first.now ∷ second.now ∷ [])) }
 {
     match verb {
-        Verb::Truncate => Ok(Call::Truncate {
-            path: paths.read(alloc, first, &[second])?,
-            size: number(second)?,
-        }),
-        Verb::Link => Ok(Call::Link {
-            from: paths.read(alloc, first, &[second])?,
-            to: paths.read(alloc, second, &[])?,
-        }),
-        Verb::Rename => Ok(Call::Rename {
-            from: paths.read(alloc, first, &[second])?,
-            to: paths.read(alloc, second, &[])?,
-        }),
-        Verb::SetGrace => Ok(Call::SetGrace {
-            graces: Graces {
-                block: number(first)?,
-                inode: number(second)?,
-            },
-        }),
-        Verb::Quota => Ok(Call::Quota {
-            kind: kind_of(edition, first)?,
-            id: id_of(TextKind::BadNumber, second)?,
-        }),
+        Verb::Truncate => {
+            let path = paths.read(alloc, first, &[second])?;
+            let size = number(second)?;
+            Ok(Call::Truncate { path, size })
+        }
+        Verb::Link | Verb::Rename => {
+            let from = paths.read(alloc, first, &[second])?;
+            let to = paths.read(alloc, second, &[])?;
+            match verb {
+                Verb::Link => Ok(Call::Link { from, to }),
+                _ => Ok(Call::Rename { from, to }),
+            }
+        }
+        Verb::SetGrace => {
+            let block = number(first)?;
+            let inode = number(second)?;
+            let graces = Graces { block, inode };
+            Ok(Call::SetGrace { graces })
+        }
+        Verb::Quota => {
+            let kind = kind_of(edition, first)?;
+            let id = id_of(TextKind::BadNumber, second)?;
+            Ok(Call::Quota { kind, id })
+        }
         _ => Err(WORD_COUNT),
     }
 }
@@ -98,22 +95,29 @@ fn of_three_words<'a>(
         (call_of edition verb (path.now ∷ second.now ∷ third.now ∷ [])) }
 {
     match verb {
-        Verb::Write => Ok(Call::Write {
-            path: paths.read(alloc, path, &[second, third])?,
-            off: number(second)?,
-            bytes: data_of(alloc, third)?,
-        }),
-        Verb::Read => Ok(Call::Read {
-            path: paths.read(alloc, path, &[second, third])?,
-            off: number(second)?,
-            len: number(third)?,
-        }),
-        Verb::Chown => Ok(Call::Chown {
-            path: paths.read(alloc, path, &[second, third])?,
-            uid: owner_of(second)?,
-            gid: owner_of(third)?,
-            project: None,
-        }),
+        Verb::Write => {
+            let path = paths.read(alloc, path, &[second, third])?;
+            let off = number(second)?;
+            let bytes = data_of(alloc, third)?;
+            Ok(Call::Write { path, off, bytes })
+        }
+        Verb::Read => {
+            let path = paths.read(alloc, path, &[second, third])?;
+            let off = number(second)?;
+            let len = number(third)?;
+            Ok(Call::Read { path, off, len })
+        }
+        Verb::Chown => {
+            let path = paths.read(alloc, path, &[second, third])?;
+            let uid = owner_of(second)?;
+            let gid = owner_of(third)?;
+            Ok(Call::Chown {
+                path,
+                uid,
+                gid,
+                project: None,
+            })
+        }
         _ => Err(WORD_COUNT),
     }
 }
@@ -139,12 +143,18 @@ fn of_four_words<'a>(
             let bytes = Data::fill(count, byte_of(fourth)?);
             Ok(Call::Write { path, off, bytes })
         }
-        Verb::Chown => Ok(Call::Chown {
-            path: paths.read(alloc, path, &behind)?,
-            uid: owner_of(second)?,
-            gid: owner_of(third)?,
-            project: Some(id_of(TextKind::BadNumber, fourth)?),
-        }),
+        Verb::Chown => {
+            let path = paths.read(alloc, path, &behind)?;
+            let uid = owner_of(second)?;
+            let gid = owner_of(third)?;
+            let project = Some(id_of(TextKind::BadNumber, fourth)?);
+            Ok(Call::Chown {
+                path,
+                uid,
+                gid,
+                project,
+            })
+        }
         _ => Err(WORD_COUNT),
     }
 }
@@ -184,24 +194,31 @@ pub(crate) fn call_of<'a>(
 ) -> Result<Call, ReadFault>
     ensures { Gives result (call_of edition verb (map (λ word. word.now) arguments.now)) }
 {
-    match (verb, arguments) {
-        (_, [path]) => of_one_word(alloc, paths, verb, path),
-        (_, [first, second]) => of_two_words(alloc, paths, edition, verb, first, second),
-        (_, [path, second, third]) => of_three_words(alloc, paths, verb, path, second, third),
-        (_, [path, second, third, fourth]) => {
-            of_four_words(alloc, paths, verb, path, [second, third, fourth])
-        }
-        (Verb::SetQuota, [kind, id, block_soft, block_hard, inode_soft, inode_hard]) => {
-            let limits = LimitsWords {
-                block_soft,
-                block_hard,
-                inode_soft,
-                inode_hard,
-            };
-            setquota_of(edition, kind, id, limits)
-        }
-        _ => Err(WORD_COUNT),
+    // A call is large, and what comes of a `match` is moved once more.
+    if let [path] = arguments {
+        return of_one_word(alloc, paths, verb, path);
     }
+    if let [path, second, third] = arguments {
+        return of_three_words(alloc, paths, verb, path, second, third);
+    }
+    if let [kind, id, block_soft, block_hard, inode_soft, inode_hard] = arguments
+        && verb == Verb::SetQuota
+    {
+        let limits = LimitsWords {
+            block_soft,
+            block_hard,
+            inode_soft,
+            inode_hard,
+        };
+        return setquota_of(edition, kind, id, limits);
+    }
+    if let [first, second] = arguments {
+        return of_two_words(alloc, paths, edition, verb, first, second);
+    }
+    if let [path, second, third, fourth] = arguments {
+        return of_four_words(alloc, paths, verb, path, [second, third, fourth]);
+    }
+    Err(WORD_COUNT)
 }
 
 /// The call that words of a script spell, the first of them its verb. Scripts are of edition 2.
@@ -217,13 +234,11 @@ pub fn call_in<'a>(
 ) -> Result<Call, ReadFault>
     ensures { Gives result (call_in (map (λ word. word.now) words.now)) }
 {
-    match words {
-        [] => Err(ReadFault::Fault(TextKind::BadVerb)),
-        [verb, arguments @ ..] => {
-            let verb = verb_of(verb)?;
-            call_of(alloc, paths, Edition::Two, verb, arguments)
-        }
-    }
+    let [verb, arguments @ ..] = words else {
+        return Err(ReadFault::Fault(TextKind::BadVerb));
+    };
+    let verb = verb_of(verb)?;
+    call_of(alloc, paths, Edition::Two, verb, arguments)
 }
 
 /// The values in the places of a call's arguments.
