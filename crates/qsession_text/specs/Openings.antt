@@ -1,5 +1,6 @@
 -- What opening a session comes to.
-use Rattle.std.specs.Prelude.{◌≡◌, ◌≤◌, ℕ, Bool, true, false, if◌then◌else◌, List, [], Option, Some, None, Result, Ok, Err, length, take}
+use Rattle.std.specs.Prelude.{◌≡◌, ◌≤◌, ℕ, Bool, true, false, if◌then◌else◌, List, [], Option, Some, None, Result}
+use Rattle.std.specs.Prelude.{Ok, Err, length, take}
 use Rattle.std.specs.Str.{is_utf8}
 use Rattle.qplain.specs.Setups.{IsSetupOf, Setting}
 use Rattle.qtext_config.specs.ConfigFaults.{Cause, Duplicate, Field, NoZero, Range, Text}

@@ -159,9 +159,9 @@ fn tell_words<O: Write, E: Write>(fault: &LineFault, out: &mut O, err: &mut E) -
 /// journal that refuses, also when it is flushed, 5 for a service that was to stop at a line that fails, and did. Help
 /// and the version go to the output, with 0. The line is flushed, so that a buffered error output gets it by one write.
 ///
-/// The memory of a run is not given back. The machine's seed is any number, best one that nobody knows beforehand: where
-/// it is known, names can be searched that collide, and then calls take long. Neither the output nor the status depends
-/// on it.
+/// The memory of a run is not given back. The machine's seed is any number, best one that nobody knows beforehand:
+/// where it is known, names can be searched that collide, and then calls take long. Neither the output nor the status
+/// depends on it.
 pub fn tool<F, O, E, R>(
     machine: &Machine<'_, R>,
     words: &[String],
