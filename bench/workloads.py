@@ -22,15 +22,13 @@ SINCE = {
         "a new name is looked up and kept, both records are charged by the whole rule of grace ends, and the audit"
         " recounts all inodes and names, some 220 a file",
     "60,000 links and renames in one directory":
-        "two paths are read a line; a rename looks a name up, takes it away and puts another"
-        "; a call of two words or more is kept once more before it is returned",
+        "two paths are read a line; a rename looks a name up, takes it away and puts another",
     "stat /":
         "a reply of 88 bytes goes from hand to hand, and a function clears its large values when it begins",
     ".. a third of them reads of 64 bytes":
         "a read makes a list for its reply",
     "setquota":
-        "five numbers are tested for their ranges, and both grace ends are computed anew"
-        "; a call of two words or more is kept once more before it is returned",
+        "five numbers are tested for their ranges, and both grace ends are computed anew",
     "16 kinds of refusals":
         "one line in 16 has a name of 256 bytes, which is read, kept and tested",
     "64 users and groups, small writes":

@@ -1,5 +1,5 @@
 -- The threads that faults name.
-use Rattle.std.proofs.Common.{◌≡◌, ◌<◌, ◌≤◌, ℕ, ◌+◌, ◌==◌, if◌then◌else◌, Bool, true, false, Result, Ok, Err, IfErr, IfSome, None, Some, refl, sym, subst, arith}
+use Rattle.std.proofs.Common.{◌≡◌, ◌<◌, ◌≤◌, ℕ, ◌+◌, ◌==◌, if◌then◌else◌, Bool, true, false, Result, Ok, Err, IfErr, IfOk, IfSome, None, Some, ap, refl, sym, subst, arith, tests}
 use Rattle.std.specs.Result.{IsErrAnd}
 use Rattle.qplain.specs.Journal.{no_tally}
 use Rattle.qshare.specs.Seats.{new_seat}
@@ -52,3 +52,14 @@ idle_last n false = refl
 
 pub watcher_idle : (n boards : ℕ) → IfSome (watcher_for n boards) (λ s. s.tally ≡ no_tally)
 watcher_idle n boards = idle_last n (boards == 0)
+
+-- there is a seat for who watches, where somebody does
+pub watched_seats : (n boards : ℕ) → 0 < boards → (seats_for n boards ≡ n + 1) × (watcher_for n boards ≡ Some (new_seat (n + 1)))
+watched_seats n boards some =
+    let none : (boards == 0) ≡ false = grind (arith, tests, some) in
+    (ap (λ b. if b then n else n + 1) none, ap (λ b. if b then None else Some (new_seat (n + 1))) none)
+
+-- what holds of what comes at Ok holds of what follows of it
+pub if_ok : {T E : Type 0} {P Q : T → Type 0} (r : Result T E) → ((x : T) → P x → Q x) → IfOk r P → IfOk r Q
+if_ok (Ok x) follows is = follows x is
+if_ok (Err e) follows is = tt

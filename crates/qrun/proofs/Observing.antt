@@ -1,5 +1,5 @@
--- What a monitor was shown: boards of a history that grows, under versions that rise.
-use Rattle.std.proofs.Common.{◌≡◌, ◌≢◌, ◌⊎◌, inl, inr, ℕ, ◌<◌, ◌≤◌, List, [], ◌∷◌, ◌++◌, length, All, Option, Some, None, option_map, refl, sym, ap, subst, append-nil, append_assoc, arith}
+-- What who looks was shown: boards of a history that grows, under versions that rise.
+use Rattle.std.proofs.Common.{◌≡◌, ◌≢◌, inl, inr, ℕ, ◌<◌, ◌≤◌, List, [], ◌∷◌, ◌++◌, length, All, Option, Some, None, option_map, refl, sym, ap, subst, append-nil, append_assoc, arith}
 use Rattle.std.proofs.lemmas.List.Elements.{All-append, All-cons, All-head, All-nil, All-tail}
 use mathlib.Core.List.{IsPrefix}
 use Rattle.qplain.specs.declared.board.Board.{Board}
@@ -8,8 +8,10 @@ use Rattle.qplain.specs.State.{State}
 use Rattle.qaudit_checks.specs.LawfulBoards.{AreLawful}
 use Rattle.qshare_history.specs.Shares.{HandedIn}
 use Rattle.qshare_history.proofs.Prefixes.{prefix_length}
-use Rattle.qrun.specs.Monitors.{HasSeen, IsObservedBy, IsShown, IsShownTo, Observed, Observing, Rise, ShowsNext, ShowsOne, Sight}
-use Rattle.qrun.specs.Watching.{IsWatchOf, Watched, shares_in}
+use Rattle.qrun.specs.declared.observer.Observer.{Observer}
+use Rattle.qrun.specs.Monitors.{HasSeen, IsShown, IsShownTo, Rise, ShowsNext, ShowsOne, Sight}
+use Rattle.qrun.specs.Observers.{IsObservedBy, Observed, left_in, looks_wanted, monitor_in, seat_in, shown_to}
+use Rattle.qrun.specs.Watching.{IsWatchOf, Watched, looks_in, shares_in}
 use Rattle.qrun.proofs.Watched.{all_behind, board_lawful, lawful_more, no_boards}
 
 -- what was seen first, and what was seen then
@@ -117,40 +119,44 @@ module _ {Left : Type 0} (S : State) where
     seen = subst (λ bs. first bs left) (append-nil so_far.boards) (so_far.saw [] left ended);
   }
 
-module _ {M Left : Type 0} (sees : M → Sight Left) (S : State) where
+-- what a monitor was shown is the journal's, which begins with all that was seen
+shown_more : {M Left : Type 0} (sees : M → Sight Left) (S : State) (seen journal : List Entry) (monitor : Option M) (left : Option Left)
+    → IsPrefix seen journal → IsShownTo sees S seen monitor left → IsShownTo sees S journal monitor left
+shown_more sees S seen journal None left more none = none
+shown_more sees S seen journal (Some m) None more shown = absurd shown
+shown_more sees S seen journal (Some m) (Some l) more shown =
+    record { boards = shown.boards; lawful = lawful_more S seen journal shown.boards more shown.lawful; rising = shown.rising; seen = shown.seen }
+
+module _ {T M Left : Type 0} (sees : M → Sight Left) (S : State) where
   -- who has seen boards has looked from a seat
-  pub watched_by : (observer : Option (Observing M)) (observed : Option (Observed Left)) → IsObservedBy sees S observer observed
-      → IsWatchOf S 0 (option_map (λ o. o.seat) observer) (option_map (λ o. o.watch) observed)
+  pub watched_by : (observer : Option (Observer T M Left)) (observed : Option (Observed Left)) → IsObservedBy sees S observer observed
+      → IsWatchOf S (looks_wanted observer) (option_map seat_in observer) (option_map (λ o. o.watch) observed)
   watched_by None observed none = ap (option_map (λ o. o.watch)) none
   watched_by (Some o) None is = absurd is
   watched_by (Some o) (Some observed) is = is.watch
 
-  -- and they are those of the journal, which begins with all that was seen
-  pub shown_to : (journal : List Entry) (observer : Option (Observing M)) (observed : Option (Observed Left)) → IsObservedBy sees S observer observed
-      → All (λ s. IsPrefix s.seen journal) (shares_in (option_map (λ o. o.watch) observed))
-      → IsShownTo sees S journal (option_map (λ o. o.monitor) observer) (option_map (λ o. o.left) observed)
-  shown_to journal None observed none seen = ap (option_map (λ o. o.left)) none
-  shown_to journal (Some o) None is seen = absurd is
-  shown_to journal (Some o) (Some observed) is seen =
-      let shown = is.shown in
-      record {
-        boards = shown.boards;
-        lawful = lawful_more S observed.watch.share.seen journal shown.boards
-            (All-head (λ (s : HandedIn). IsPrefix s.seen journal) observed.watch.share [] seen) shown.lawful;
-        rising = shown.rising;
-        seen = shown.seen;
-      }
+  -- and has kept as many looks as it was to keep
+  pub kept_by : (observer : Option (Observer T M Left)) (observed : Option (Observed Left)) → IsObservedBy sees S observer observed
+      → length (looks_in (option_map (λ o. o.watch) observed)) ≡ looks_wanted observer
+  kept_by None observed none = ap (λ (o : Option (Observed Left)). length (looks_in (option_map (λ x. x.watch) o))) none
+  kept_by (Some o) None is = absurd is
+  kept_by (Some o) (Some observed) is = is.watch.each
 
--- so it is told of the monitor where all seats have handed in
-pub monitor_shown : {M Left : Type 0} (sees : M → Sight Left) (S : State) (journal entries : List Entry) (own shares : List HandedIn)
-    (watch : Option Watched) (observer showing : Option (Observing M)) (observed : Option (Observed Left)) (monitor : Option Left)
-    → showing ≡ observer → IsObservedBy sees S showing observed → watch ≡ option_map (λ o. o.watch) observed
-    → monitor ≡ option_map (λ o. o.left) observed → shares ≡ own ++ shares_in watch → All (λ s. IsPrefix s.seen journal) shares
-    → entries ≡ journal → IsShownTo sees S entries (option_map (λ o. o.monitor) observer) monitor
-monitor_shown {M} sees S journal entries own shares watch observer showing observed monitor same is watch_is monitor_is parts seen entries_are =
-    let Seen : HandedIn → Type 0 = λ s. IsPrefix s.seen journal in
-    let last : All Seen (shares_in watch) = all_behind Seen own (shares_in watch) (subst (All Seen) parts seen) in
-    let shown = shown_to sees S journal showing observed is (subst (λ (w : Option Watched). All Seen (shares_in w)) watch_is last) in
-    subst (λ es. IsShownTo sees S es (option_map (λ o. o.monitor) observer) monitor) (sym entries_are)
-    (subst (λ m. IsShownTo sees S journal (option_map (λ o. o.monitor) observer) m) (sym monitor_is)
-    (subst (λ (o : Option (Observing M)). IsShownTo sees S journal (option_map (λ x. x.monitor) o) (option_map (λ x. x.left) observed)) same shown))
+  shown_by : (journal : List Entry) (observer : Option (Observer T M Left)) (observed : Option (Observed Left)) → IsObservedBy sees S observer observed
+      → All (λ s. IsPrefix s.seen journal) (shares_in (option_map (λ o. o.watch) observed))
+      → IsShownTo sees S journal (shown_to observer) (left_in observed)
+  shown_by journal None observed none seen = ap left_in none
+  shown_by journal (Some o) None is seen = absurd is
+  shown_by journal (Some o) (Some observed) is seen =
+      shown_more sees S observed.watch.share.seen journal (monitor_in o) observed.left
+      (All-head (λ (s : HandedIn). IsPrefix s.seen journal) observed.watch.share [] seen) is.shown
+
+  -- so it is told where all seats have handed in
+  pub monitor_shown : (journal entries : List Entry) (own shares : List HandedIn) (watch : Option Watched) (observer : Option (Observer T M Left))
+      (observed : Option (Observed Left)) (left : Option Left) → IsObservedBy sees S observer observed
+      → watch ≡ option_map (λ o. o.watch) observed → left ≡ left_in observed → shares ≡ own ++ shares_in watch
+      → All (λ s. IsPrefix s.seen journal) shares → entries ≡ journal → IsShownTo sees S entries (shown_to observer) left
+  monitor_shown journal entries own shares watch observer observed left is watch_is left_is parts seen entries_are =
+      let Seen : HandedIn → Type 0 = λ s. IsPrefix s.seen journal in
+      let last : All Seen (shares_in watch) = all_behind Seen own (shares_in watch) (subst (All Seen) parts seen) in
+      rw (entries_are, left_is) (shown_by journal observer observed is (subst (λ (w : Option Watched). All Seen (shares_in w)) watch_is last))

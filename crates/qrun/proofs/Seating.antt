@@ -1,13 +1,8 @@
--- Seats, and workers that are ready, by their places.
-use Rattle.std.proofs.Common.{◌≡◌, ℕ, zero, suc, ◌+◌, ◌-◌, ◌<◌, add-one, subst, take, List, [], ◌∷◌, ◌++◌, length, slice_index_or, Option, ◌≤◌, below_more, refl, sym, ap, ◌∙◌, length-append, arith}
+-- Seats by their places.
+use Rattle.std.proofs.Common.{◌≡◌, ℕ, zero, suc, ◌+◌, ◌-◌, ◌<◌, add-one, take, List, [], ◌∷◌, ◌++◌, length, slice_index_or, below_more, refl, sym, ap, ◌∙◌, length-append, arith}
 use Rattle.std.proofs.Math.Seq.{take-append_seam}
-use Rattle.std.proofs.lemmas.Grind.{get_or_after_one}
 use Rattle.std.proofs.lemmas.List.{get_or_append_left, get_or_at, get_or_push}
-use Rattle.qplain.specs.declared.line.Line.{Line}
 use Rattle.qshare.specs.Seats.{Seated, new_seat, seats_of}
-use Rattle.qrun.specs.Crews.{AreReady}
-use Rattle.qrun.specs.Watching.{watcher_for}
-use Rattle.qrun_worker.specs.Work.{ArePrepared, IsPrepared, Prepared}
 
 pub seats_many : (n : ℕ) → length (seats_of n) ≡ n
 seats_many zero = refl
@@ -49,54 +44,3 @@ last_seat n len all d is many =
 -- no seat is left
 pub seats_ended : (n : ℕ) (before rest : List Seated) → before ++ rest ≡ seats_of n → length rest ≡ 0 → length before ≡ n
 seats_ended n before rest parts none = omega (arith, length-append before rest, ap length parts, seats_many n, none)
-
--- these workers, from this number on, are ready to play the scripts that are left
-pub record AreReadyFrom (scripts : List (List Line)) (n : ℕ) (ws : List Prepared) : Type 0 where
-  pub many : n + length ws ≡ length scripts
-  pub each : (j k : ℕ) (p : Prepared) (lines : List Line) → k ≡ n + j → j < length ws
-      → IsPrepared (k + 1) (slice_index_or scripts k lines) (slice_index_or ws j p)
-
--- all of them are
-pub ready_first : (scripts : List (List Line)) (n : ℕ) (ws all : List Prepared) → n ≡ 0 → ws ≡ all → ArePrepared scripts all
-    → AreReadyFrom scripts n ws
-ready_first scripts n ws all none same are = record {
-  many = omega (arith, none, ap length same, are.many);
-  each = λ j k p lines at less.
-      let here : j ≡ k = omega (arith, at, none) in
-      subst (λ i. IsPrepared (k + 1) (slice_index_or scripts k lines) (slice_index_or ws i p)) (sym here)
-      (subst (λ xs. IsPrepared (k + 1) (slice_index_or scripts k lines) (slice_index_or xs k p)) (sym same)
-      (are.each k p lines (omega (arith, here, less, ap length same, are.many))));
-}
-
--- so are they, told by the first of them
-pub ready_here : (scripts : List (List Line)) (n : ℕ) (ws : List Prepared) (w : Prepared) (rest : List Prepared) → ws ≡ w ∷ rest
-    → AreReadyFrom scripts n ws → AreReadyFrom scripts n (w ∷ rest)
-ready_here scripts n ws w rest same are = subst (AreReadyFrom scripts n) same are
-
--- the next one is, and so are those after it
-pub ready_next : (scripts : List (List Line)) (n : ℕ) (w : Prepared) (rest : List Prepared) → AreReadyFrom scripts n (w ∷ rest)
-    → (n < length scripts) × ((lines : List Line) → IsPrepared (n + 1) (slice_index_or scripts n lines) w)
-ready_next scripts n w rest are =
-    let low : n < length scripts = omega (arith, are.many) in
-    let first : slice_index_or (w ∷ rest) 0 w ≡ w = get_or_at [] w rest w 0 refl in
-    (low, λ lines. subst (IsPrepared (n + 1) (slice_index_or scripts n lines)) first (are.each 0 n w lines (omega arith) (omega arith)))
-
-pub ready_after : (scripts : List (List Line)) (n m : ℕ) (w : Prepared) (rest : List Prepared) → m ≡ n + 1
-    → AreReadyFrom scripts n (w ∷ rest) → AreReadyFrom scripts m rest
-ready_after scripts n m w rest is are = record {
-  many = omega (arith, is, are.many);
-  each = λ j k p lines at less.
-      let later : slice_index_or (w ∷ rest) (1 + j) p ≡ slice_index_or rest j p = sym (get_or_after_one (w ∷ rest) j p) in
-      subst (IsPrepared (k + 1) (slice_index_or scripts k lines)) later
-      (are.each (1 + j) k p lines (omega (arith, at, is)) (omega (arith, less)));
-}
-
--- a crew whose workers are ready, of whom the watcher has room for its looks
-pub all_ready : (scripts : List (List Line)) (boards : ℕ) (workers : List Prepared) (watcher : Option Seated) (answered room : ℕ)
-    → ArePrepared scripts workers → watcher ≡ watcher_for (length scripts) boards → answered ≡ 0 → boards ≤ room
-    → AreReady scripts boards workers watcher answered room
-all_ready scripts boards workers watcher answered room are is none few = record {
-  workers_are = are;
-  watcher_is = is;
-  room_is = (none, few);
-}

@@ -4,7 +4,7 @@ use Rattle.std.proofs.Math.Bool.{or-true}
 use Rattle.std.proofs.Math.Seq.{take-length}
 use Rattle.std.proofs.lemmas.List.{get_or_append_left, take-append-le}
 use Rattle.std.proofs.lemmas.List.Elements.{All-head, All-nil, All-push, All-tail}
-use Rattle.std.proofs.lemmas.List.Sums.{sum_by-append, sum_by-cons}
+use Rattle.std.proofs.lemmas.List.Sums.{sum_by-cons}
 use Rattle.std.proofs.lemmas.List.Folds.{list_any-append}
 use Rattle.std.specs.List.{list_any}
 use mathlib.Core.List.{IsPrefix}
@@ -18,8 +18,8 @@ use Rattle.qshare_history.proofs.Prefixes.{prefix_length}
 use Rattle.qaudit_checks.specs.LawfulBoards.{AreLawful, IsBoardOf, NeverFall, boards_in}
 use Rattle.qaudit_checks.proofs.SeenBoards.{boards_in-append}
 use Rattle.qshare_boards.specs.Looks.{IsBoardAnswer}
-use Rattle.qshare.specs.Seats.{Seated, new_seat}
-use Rattle.qrun.specs.Watching.{IsWatchOf, Watched, looks_in, seats_for, shares_in, watcher_for}
+use Rattle.qshare.specs.Seats.{new_seat}
+use Rattle.qrun.specs.Watching.{IsWatchOf, Watched, looks_in, shares_in}
 
 -- what all of these are, the first of them are
 pub all_front : {A : Type 0} (P : A → Type 0) (xs ys : List A) → All P (xs ++ ys) → All P xs
@@ -47,43 +47,12 @@ there_by S n boards shares (Some w) false there looked =
     λ k positive few. there_last n k shares w.share (w.share.worker == k) refl there looked.worker_is positive few
 there_by S n boards shares None false there looked = absurd looked
 
--- the shares of all seats are there
-pub all_seats_there : (S : State) (n boards : ℕ) (shares : List HandedIn) (watch : Option Watched) → AreThere shares n
-    → IsWatchOf S boards (watcher_for n boards) watch → AreThere (shares ++ shares_in watch) (seats_for n boards)
-all_seats_there S n boards shares watch there looked = there_by S n boards shares watch (boards == 0) there looked
-
--- who watches from the seat after those of the scripts
-pub watched_from : (S : State) (n seats boards : ℕ) (seat : Option Seated) (watch : Option Watched) → seat ≡ watcher_for seats boards → seats ≡ n
-    → IsWatchOf S boards seat watch → IsWatchOf S boards (watcher_for n boards) watch
-watched_from S n seats boards seat watch is same looked =
-    subst (λ o. IsWatchOf S boards o watch) (is ∙ ap (λ k. watcher_for k boards) same) looked
-
-looks_by : (S : State) (n boards : ℕ) (watch : Option Watched) (b : Bool) → (boards == 0) ≡ b
-    → IsWatchOf S boards (if b then None else Some (new_seat (n + 1))) watch → length (looks_in watch) ≡ boards
-looks_by S n boards watch true is none =
-    let zero_is : 0 ≡ boards = grind (arith, tests, is) in
-    ap (λ (o : Option Watched). length (looks_in o)) none ∙ zero_is
-looks_by S n boards (Some w) false is looked = looked.each
-looks_by S n boards None false is looked = absurd looked
-
--- there are as many looks as are wanted
-pub as_many_looks : (S : State) (n boards : ℕ) (watch : Option Watched) → IsWatchOf S boards (watcher_for n boards) watch → length (looks_in watch) ≡ boards
-as_many_looks S n boards watch looked = looks_by S n boards watch (boards == 0) refl looked
-
 -- who watches has counted no call
 pub idle_by : (S : State) (n boards : ℕ) (watch : Option Watched) (b : Bool) → IsWatchOf S boards (if b then None else Some (new_seat (n + 1))) watch
     → sum_by (λ s. s.tally.calls) (shares_in watch) ≡ 0
 idle_by S n boards None b looked = refl
 idle_by S n boards (Some w) true looked = absurd cc
 idle_by S n boards (Some w) false looked = omega (arith, looked.idle, sum_by-cons (λ (s : HandedIn). s.tally.calls) w.share [])
-
--- so all calls are the workers'
-pub calls_counted : (S : State) (n boards : ℕ) (own shares : List HandedIn) (watch : Option Watched) (calls : ℕ)
-    → IsWatchOf S boards (watcher_for n boards) watch → shares ≡ own ++ shares_in watch → sum_by (λ s. s.tally.calls) shares ≡ calls
-    → sum_by (λ s. s.tally.calls) own ≡ calls
-calls_counted S n boards own shares watch calls looked parts all =
-    let f : HandedIn → ℕ = λ s. s.tally.calls in
-    omega (arith, all, ap (sum_by f) parts, sum_by-append f own (shares_in watch), idle_by S n boards watch (boards == 0) looked)
 
 -- ---- lawful boards
 
@@ -157,12 +126,3 @@ lawful_by S n boards None journal b looked seen = no_boards S journal
 lawful_by S n boards (Some w) journal true looked seen = absurd cc
 lawful_by S n boards (Some w) journal false looked seen =
     lawful_more S w.share.seen journal (boards_in w.looks) (All-head (λ (s : HandedIn). IsPrefix s.seen journal) w.share [] seen) looked.lawful
-
--- the boards that were looked at are the journal's, where that begins with all that was seen
-pub looks_lawful : (S : State) (n boards : ℕ) (own shares : List HandedIn) (watch : Option Watched) (looks : List (Result Board LookFault))
-    (journal : List Entry) → IsWatchOf S boards (watcher_for n boards) watch → shares ≡ own ++ shares_in watch → looks ≡ looks_in watch
-    → All (λ s. IsPrefix s.seen journal) shares → AreLawful S journal (boards_in looks)
-looks_lawful S n boards own shares watch looks journal looked parts is seen =
-    let Seen : HandedIn → Type 0 = λ s. IsPrefix s.seen journal in
-    subst (λ ls. AreLawful S journal (boards_in ls)) (sym is)
-    (lawful_by S n boards watch journal (boards == 0) looked (all_behind Seen own (shares_in watch) (subst (All Seen) parts seen)))

@@ -1,45 +1,20 @@
--- What a run owes its caller, who plays it, and what they have done together. Public clauses cite `CanRun` alone.
-use Rattle.std.specs.Prelude.{◌≡◌, ℕ, ◌<◌, ◌≤◌, List, length, Option, Result, Ok, Err}
+-- What a run owes its caller, who plays on a store, and what they leave together. Public clauses cite `CanRun` alone.
+use Rattle.std.specs.Prelude.{◌≡◌, ℕ, ◌+◌, ◌<◌, ◌≤◌, List, [], length, map, slice_index_or, All, Option, IfSome, false}
 use Rattle.qplain.specs.declared.line.Line.{Line}
+use Rattle.qplain.specs.declared.transcript.Transcript.{Transcript}
 use Rattle.qplain.specs.Setups.{Setting}
-use Rattle.qplain.specs.State.{start}
 use Rattle.qshare.specs.declared.held.TheConstants.{MAX_BATCH}
 use Rattle.qshare.specs.declared.opening.TheConstants.{MAX_SEATS}
 use Rattle.qshare.specs.Seats.{Seated, seats_of}
+use Rattle.qrun_client.specs.Clients.{Talk}
 use Rattle.qrun_replay.specs.declared.outcome.Outcome.{Outcome}
-use Rattle.qrun_replay.specs.Runs.{IsOutcomeOf}
+use Rattle.qrun_replay.specs.Runs.{IsNeverFull, IsServiceOf, lines_of}
 use Rattle.qrun.specs.declared.options.Options.{Options}
-use Rattle.qrun.specs.declared.run_fault.RunFault.{RunFault}
-use Rattle.qrun.specs.RunFaults.{IsFaultOf}
-use Rattle.qrun.specs.Watching.{IsWatchOf, Watched, seats_for, watcher_for}
-use Rattle.qrun_worker.specs.Work.{ArePrepared, AreWorks, Placed, Prepared}
-
--- a new seat for each of N scripts, and the next for who looks at the boards, where somebody does; and for how
--- many lines at a time the lock is taken
-pub record IsCrew (scripts : ℕ) (options : Options) (seats : List Seated) (watcher : Option Seated) : Type 0 where
-  pub seats_are : seats ≡ seats_of scripts
-  pub watcher_is : watcher ≡ watcher_for scripts options.boards
-  pub batch : (0 < options.batch) × (options.batch ≤ MAX_BATCH)
-
--- all who start are ready: a worker for each script, and who looks at the boards, where somebody does, of whom no look
--- was answered yet and who has room for each
-pub record AreReady (scripts : List (List Line)) (boards : ℕ) (workers : List Prepared) (watcher : Option Seated)
-    (answered room : ℕ) : Type 0 where
-  pub workers_are : ArePrepared scripts workers
-  pub watcher_is : watcher ≡ watcher_for (length scripts) boards
-  pub room_is : (answered ≡ 0) × (boards ≤ room)
-
--- what each worker has done, and who looks
-pub record Performed : Type 0 where
-  pub works : List Placed
-  pub watch : Option Watched
-
--- each script was played by its worker, and the boards were looked at N times; or one of so many threads was not
--- started, or memory was wanting
-abbrev pub ArePlayed : Setting → List (List Line) → ℕ → Result Performed RunFault → Type 0
-ArePlayed setting scripts boards (Ok p) = AreWorks scripts p.works
-    × IsWatchOf (start setting) boards (watcher_for (length scripts) boards) p.watch
-ArePlayed setting scripts boards (Err fault) = IsFaultOf (seats_for (length scripts) boards) fault
+use Rattle.qrun.specs.Serving.{CanServe, Tells}
+use Rattle.qrun.specs.Told.{AreShort}
+use Rattle.qrun.specs.Watching.{seats_for, watcher_for}
+use Rattle.qrun_worker.specs.Scripts.{Playing}
+use Rattle.qrun_worker.specs.Work.{Prepared}
 
 -- what the caller of a run owes: 1 to 16 scripts, or 15 beside boards, and 1 to 64 lines under one taking of the lock
 pub record CanRun (scripts : ℕ) (options : Options) : Type 0 where
@@ -48,7 +23,47 @@ pub record CanRun (scripts : ℕ) (options : Options) : Type 0 where
   pub watcher : 0 < options.boards → scripts < MAX_SEATS
   pub batch : (0 < options.batch) × (options.batch ≤ MAX_BATCH)
 
--- what the run of these scripts leaves, with N looks; or why it has no outcome
-abbrev pub IsRun : Setting → List (List Line) → ℕ → Result Outcome RunFault → Type 0
-IsRun setting scripts boards (Ok o) = IsOutcomeOf setting scripts o × (length o.boards ≡ boards)
-IsRun setting scripts boards (Err fault) = IsFaultOf (seats_for (length scripts) boards) fault
+-- ---- what no public clause cites
+
+-- the client of a script of which no line was handed out
+abbrev pub new_client : List Line → Playing
+new_client lines = record { lines = lines; is_owed = false; stands = [] }
+
+-- these are the clients of these scripts, which are no longer than they may be
+pub record ArePlaying (scripts : List (List Line)) (clients : List Playing) : Type 0 where
+  pub clients_are : clients ≡ map new_client scripts
+  pub short : AreShort scripts
+
+-- each worker has the number of its place, from 1
+abbrev pub AreNumbered : {C : Type 0} → List (Prepared C) → Type 0
+AreNumbered {C} all = (k : ℕ) (p : Prepared C) → k < length all → (slice_index_or all k p).worker ≡ k + 1
+
+-- each worker, from 1, is ready to play what its client hands out
+pub record AreReady {C : Type 0} (clients : List C) (workers : List (Prepared C)) : Type 0 where
+  pub numbered : AreNumbered workers
+  pub clients_are : map (λ p. p.client) workers ≡ clients
+
+-- a new seat for each of N clients, and the next for who looks at the boards, where somebody does; and no other
+pub record IsStaff (setting : Setting) (clients parts : ℕ) (seats : List Seated) (observer : Option Seated)
+    : Type 0 where
+  pub monitors : ℕ
+  pub can : CanServe setting clients monitors
+  pub parts_are : parts ≡ seats_for clients monitors
+  pub seats_are : seats ≡ seats_of clients
+  pub observer_is : observer ≡ watcher_for clients monitors
+
+-- who has a seat has one of the first N
+abbrev pub HasSeatIn : ℕ → Option Seated → Type 0
+HasSeatIn n seat = IfSome seat (λ s. (0 < s.worker) × (s.worker ≤ n))
+
+-- what a crew leaves, of which N looks were kept: each client's transcript tells what came of it, in their order, and
+-- where they are no longer than scripts may be no line failed because the journal was full
+pub record HasEnded {C Left : Type 0} (talk : C → Talk Left) (setting : Setting) (clients : List C) (looks : ℕ)
+    (left : List Left) (o : Outcome) : Type 0 where
+  pub outcome : IsServiceOf setting o
+  pub never : AreShort (lines_of o.transcripts) → All IsNeverFull o.transcripts
+  pub many : length o.transcripts ≡ length clients
+  pub left_are : length left ≡ length clients
+  pub each : (k : ℕ) (c : C) (t : Transcript) (l : Left) → k < length clients
+      → Tells (talk (slice_index_or clients k c)) (slice_index_or o.transcripts k t) (slice_index_or left k l)
+  pub looks_are : length o.boards ≡ looks

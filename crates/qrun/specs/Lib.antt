@@ -1,9 +1,11 @@
--- In reading order: the numbers of faults, what the ends of workers make of a run, what the watcher has done, what a
--- monitor is shown, who plays and what they have done together, the workers' transcripts, and what a service is.
+-- In reading order: the numbers of faults, what the ends of workers make of a run, what who looks has done, what a
+-- monitor is shown, who looks at boards, what a service is, the workers' transcripts, and who plays and what they
+-- leave.
 pub mod RunFaults
 pub mod WorkerEnds
 pub mod Watching
 pub mod Monitors
-pub mod Crews
-pub mod Told
+pub mod Observers
 pub mod Serving
+pub mod Told
+pub mod Crews

@@ -6,7 +6,6 @@ use Rattle.qplain.specs.State.{State}
 use Rattle.qaudit_checks.specs.LawfulBoards.{AreLawful}
 use Rattle.qshare.specs.Seats.{Seated}
 use Rattle.qshare_boards.specs.Boards.{shown_of}
-use Rattle.qrun.specs.Watching.{IsWatch, Watched}
 
 -- what may come of a monitor: the boards that it is shown from now on, and what is left of it
 abbrev pub Sight : Type 0 → Type 1
@@ -36,27 +35,10 @@ IsShownTo sees S journal (Some monitor) (Some left) = IsShown S journal (sees mo
 
 -- ---- what no public clause cites
 
--- who is to see the boards: a seat that looks at them, and the monitor
+-- who shows boards: a seat that looks at them, and the monitor
 pub record Observing (M : Type 0) : Type 0 where
   pub seat : Seated
   pub monitor : M
-
--- the share of who has looked, and what is left of the monitor
-pub record Observed (Left : Type 0) : Type 0 where
-  pub watch : Watched
-  pub left : Left
-
--- this seat has made no call and kept no look, and the monitor was shown boards of the history that it has seen
-pub record IsObserved {Left : Type 0} (S : State) (worker : ℕ) (sees : Sight Left) (o : Observed Left) : Type 0 where
-  pub watch : IsWatch S worker 0 o.watch
-  pub shown : IsShown S o.watch.share.seen sees o.left
-
--- so it is with who is to see the boards, where there is one
-abbrev pub IsObservedBy : {M Left : Type 0} → (M → Sight Left) → State → Option (Observing M) → Option (Observed Left)
-    → Type 0
-IsObservedBy sees S None observed = observed ≡ None
-IsObservedBy sees S (Some o) None = ⊥
-IsObservedBy sees S (Some o) (Some observed) = IsObserved S o.seat.worker (sees o.monitor) observed
 
 -- the board of this history was shown, under another version than the last
 pub record ShowsOne {Left : Type 0} (S : State) (history : List Entry) (last next : Option ℕ) (old new : Sight Left)

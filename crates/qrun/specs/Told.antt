@@ -1,11 +1,9 @@
 -- What workers have done, told as transcripts. No public clause cites this module.
-use Rattle.std.specs.Prelude.{◌≡◌, ℕ, ◌+◌, ◌<◌, ◌≤◌, List, [], ◌∷◌, length, map, sum_by, All, Result}
+use Rattle.std.specs.Prelude.{◌≡◌, ℕ, ◌+◌, ◌<◌, ◌≤◌, List, [], ◌∷◌, length, map, sum_by, All}
 use mathlib.Core.List.{IsPrefix}
 use Rattle.qplain.specs.declared.bounds.TheConstants.{MAX_ENTRIES, MAX_LINES}
-use Rattle.qplain.specs.declared.call_fault.CallFault.{CallFault}
 use Rattle.qplain.specs.declared.entry.Entry.{Entry}
 use Rattle.qplain.specs.declared.line.Line.{Line}
-use Rattle.qplain.specs.declared.receipt.Receipt.{Receipt}
 use Rattle.qplain.specs.declared.transcript.Transcript.{Transcript}
 use Rattle.qshare_history.specs.Shares.{HandedIn}
 use Rattle.qaudit_checks.specs.Gathered.{IsGathered}
@@ -13,8 +11,7 @@ use Rattle.qshare.specs.declared.opening.TheConstants.{MAX_SEATS}
 use Rattle.qrun_replay.specs.declared.answered.Answered.{Answered}
 use Rattle.qrun_replay.specs.Placed.{HoldsPlaces, transcript_from}
 use Rattle.qrun_replay.specs.Runs.{lines_of}
-use Rattle.qrun_client.specs.declared.client.TheConstants.{MAX_GIVEN}
-use Rattle.qrun_worker.specs.Work.{HasLowPlace, IsWork, Placed, standing_of}
+use Rattle.qrun_worker.specs.Work.{IsWork, Worked, standing_of}
 
 -- a worker's transcript: its lines, and the answers that its share stands beside
 pub record IsTold (worker : ℕ) (lines : List Line) (share : HandedIn) (t : Transcript) : Type 0 where
@@ -62,22 +59,8 @@ abbrev pub placed_of : Transcript → Answered
 placed_of t = record { worker = t.worker; places = standing_of t.lines t.answers }
 
 -- what the worker was answered who has done this
-abbrev pub answered_of : Placed → Answered
-answered_of p = record { worker = p.share.worker; places = p.places }
-
--- there is an answer to each of these lines, which are no more than a client may hand out, at places that a journal may
--- have
-pub record CanBePlaced (lines : List Line) (answers : List (Result Receipt CallFault)) : Type 0 where
-  pub each : length answers ≡ length lines
-  pub few : length lines ≤ MAX_GIVEN
-  pub low : All HasLowPlace answers
-
--- so these are the transcripts of all workers, of scripts that are no longer than they may be
-pub record ArePlaced (scripts : List (List Line)) (shares : List HandedIn) (all : List Answered) : Type 0 where
-  pub ts : List Transcript
-  pub placed : all ≡ map placed_of ts
-  pub told : AreTold scripts shares ts
-  pub short : AreShort scripts
+abbrev pub answered_of : {Left : Type 0} → Worked Left → Answered
+answered_of w = record { worker = w.share.worker; places = w.places }
 
 -- the journal has what stands at these places, and the transcripts tell of all its entries
 pub record AreAllPlaced (journal : List Entry) (all : List Answered) : Type 0 where

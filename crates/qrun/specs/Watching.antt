@@ -13,6 +13,11 @@ pub record Watched : Type 0 where
   pub share : HandedIn
   pub looks : List (Result Board LookFault)
 
+-- who looks N times: its seat
+pub record Watching : Type 0 where
+  pub seat : Seated
+  pub boards : ℕ
+
 -- before a look the seat may have seen more of the history, and no more has come of it
 pub record HasWaited (old new : Seated) : Type 0 where
   pub worker : new.worker ≡ old.worker

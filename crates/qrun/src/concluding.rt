@@ -8,8 +8,8 @@ ghost use Rattle.qrun_replay.specs.Runs.{IsServiceOf};
 ghost use Rattle.qrun.specs.RunFaults.{IsFaultOf};
 ghost use Rattle.qrun.specs.Told.{AreAllPlaced};
 
+use crate::observer::Look;
 use crate::run_fault::RunFault;
-use crate::watcher::Look;
 use qaudit_checks::{BoardFault, check_looks};
 use qrules::Items;
 use qrun_replay::{Answered, Outcome, outcome_of};

@@ -1,140 +1,98 @@
-//! All threads of a run: one for each worker, and one that looks at the boards.
-ghost use Rattle.std.specs.Prelude.{◌≡◌, ◌<◌, ◌≤◌, length, vec_capacity, vec_len, IfOk};
-ghost use denote.Param.Send.{IsSend, IsSync};
+//! Who plays on a store: its clients, and a worker for each.
+ghost use Rattle.std.specs.Prelude.{◌≡◌, ◌<◌, ◌≤◌, All, length, IfOk};
 ghost use Rattle.qshare.specs.declared.held.TheConstants.{MAX_BATCH};
 ghost use Rattle.qshare.specs.Seats.{seats_of};
-ghost use Rattle.qrun.specs.Crews.{ArePlayed, AreReady, IsCrew};
-ghost use Rattle.qrun_worker.specs.Work.{ArePrepared};
+ghost use Rattle.qrun.specs.Crews.{AreReady, ArePlaying};
+ghost use Rattle.qrun_worker.specs.Work.{IsNew};
 
 use crate::machine::Machine;
-use crate::options::Options;
-use crate::run_fault::RunFault;
-use crate::watcher::{Watch, watch_all};
-use crate::worker_end::{WorkerEnd, first_refused};
-use core::thread::Stack;
 use qplain::{NoMemory, Script};
-use qrun_worker::{Gate, Work, Worker, play, worker_of};
+use qrun_client::Client;
+use qrun_worker::{Gate, ScriptClient, Worker};
 use qshare::{Boards, Seat, Shared};
-use qshare_boards::Viewer;
 use qshare_history::StoreId;
+use std::alloc::Global;
 use std::marker::Model;
-use std::snapshot::Snapshot;
 use std::sync::Wait;
-use std::thread;
-use std::thread::Threads;
 
-/// The stack of each thread of a run, in bytes.
-pub(crate) const THREAD_STACK: usize = 256 * 1024;
-
-/// What the threads of a run have done.
+/// The clients of a store, which have handed out nothing, the gate that is called around their lines, and for how many
+/// of these a worker takes the lock. Contracts see the clients.
 #[derive(Drop)]
-pub(crate) struct Played<S: StoreId> {
-    pub(crate) works: Vec<Work<S>>,
-    pub(crate) watch: Option<Watch<S>>,
-}
-
-impl<S: StoreId> Model for Played<S> {
-    ghost use Rattle.qrun.specs.Crews.{Performed};
-
-    ghost Value = { Performed };
-
-    ghost view = { λ p. record { works = p.works.items; watch = p.watch } };
-}
-
-/// How many lines the scripts have together. It says when looks are due, and stands in no clause.
-fn lines_in(scripts: &[Script]) -> u64 {
-    let mut lines = 0u64;
-    for script in scripts {
-        lines = lines.saturating_add(script.lines().len() as u64);
-    }
-    lines
-}
-
-/// A worker for each script, each with room for its answers.
-fn crew_of<'a, S: StoreId, B: Boards<S>, V: Drop, G: Gate, R: Wait>(
-    machine: &Machine<'a, R>,
-    shared: &'a Shared<S, B>,
+pub(crate) struct Crew<'a, C: Client + Drop, G: Gate> {
+    clients: Vec<C>,
     gate: &'a G,
-    scripts: Vec<Script>,
     batch: u64,
+}
+
+impl<'a, C: Client + Drop, G: Gate> Model for Crew<'a, C, G> {
+    ghost use Rattle.std.specs.Prelude.{◌<◌, ◌≤◌, All, List};
+    ghost use Rattle.qshare.specs.declared.held.TheConstants.{MAX_BATCH};
+    ghost use Rattle.qrun_worker.specs.Work.{IsNew};
+
+    ghost Value = { List C };
+
+    ghost view = { λ c. c.clients.items };
+
+    ghost invariant = { λ c. (0 < c.batch) × (c.batch ≤ MAX_BATCH)
+        × All (λ x. IsNew (C.owed x) (C.stands x)) c.clients.items };
+}
+
+impl<'a, C: Client + Drop, G: Gate> Crew<'a, C, G> {
+    /// These clients, which have handed out nothing.
+    pub(crate) fn new(clients: Vec<C>, gate: &'a G, batch: u64) -> Crew<'a, C, G>
+        requires batch { (0 < batch) × (batch ≤ MAX_BATCH) }
+        requires new { All (λ c. IsNew (C.owed c) (C.stands c)) clients.items }
+        ensures { result ≡ clients.items }
+    {
+        Crew {
+            clients,
+            gate,
+            batch,
+        }
+    }
+}
+
+/// A worker for each client, each with its seat.
+pub(crate) fn workers_of<'a, 'b, 'c, S, B, V, C, G, R>(
+    machine: &Machine<'a, R>,
+    shared: &'b Shared<S, B>,
+    crew: Crew<'c, C, G>,
     seats: Vec<Seat<S, V>>,
-) -> Result<Vec<Worker<'a, 'a, 'a, S, B, V, G, R>>, NoMemory>
-    requires seats { seats.items ≡ seats_of (length scripts.items) }
-    requires batch { (0 < batch) × (batch ≤ MAX_BATCH) }
-    ensures { IfOk result (λ workers. ArePrepared scripts.items workers.items) }
+) -> Result<Vec<Worker<'a, 'b, 'c, S, B, V, C, G, R>>, NoMemory>
+where
+    S: StoreId,
+    B: Boards<S>,
+    V: Drop,
+    C: Client + Drop,
+    G: Gate,
+    R: Wait,
+    requires { seats.items ≡ seats_of (length crew) }
+    ensures { IfOk result (λ workers. AreReady crew.entry workers.items) }
 {
-    let mut workers = Vec::with_capacity(machine.alloc, scripts.len())?;
+    let Crew {
+        clients,
+        gate,
+        batch,
+    } = crew;
+    let mut workers = Vec::with_capacity(machine.alloc, clients.len())?;
     let mut free = seats.into_iter();
-    for script in scripts {
+    for client in clients {
         let Some(seat) = free.next() else {
             unreachable!();
         };
-        let worker = worker_of(machine.alloc, machine.rt, shared, gate, script, batch, seat)?;
+        let worker = Worker::new(machine.rt, shared, gate, batch, seat, client);
         workers.push_reserved(worker);
     }
     Ok(workers)
 }
 
-/// Plays each script in a thread of its own; once all are started the watcher looks, in its own, and all are joined.
-/// All room for answers and looks is made before the first start.
-///
-/// Where a start is refused, no later one is made, and those before are waited for; the worker is named.
-pub(crate) fn play_all<S, B, V, G, R>(
-    machine: &Machine<'_, R>,
-    shared: &Shared<S, B>,
-    gate: &G,
-    options: Options,
-    seats: Vec<Seat<S, V>>,
-    watcher: Option<Seat<S, Viewer<S>>>,
-    scripts: Vec<Script>,
-) -> Result<Played<S>, RunFault>
-where
-    S: StoreId + Send + Sync + 'static,
-    B: Boards<S> + Send,
-    V: Drop + Send,
-    G: Gate + Sync,
-    R: Threads + Wait + Sync,
-    requires { IsCrew (length scripts.items) options seats.items watcher }
-    ensures { ArePlayed S.id.setting scripts.items options.boards result }
+/// A client for each script, each with room for the places of its answers. An Err is out of memory.
+pub(crate) fn clients_of(alloc: Global, scripts: Vec<Script>) -> Result<Vec<ScriptClient>, NoMemory>
+    ensures { IfOk result (λ clients. ArePlaying scripts.items clients.items) }
 {
-    let Machine { rt, alloc, .. } = *machine;
-    let given = Snapshot::of(&scripts);
-    let lines = lines_in(&scripts);
-    let looks = Vec::with_capacity(alloc, options.boards as usize)?;
-    let workers = crew_of(machine, shared, gate, scripts, options.batch, seats)?;
-    thread::scope(
-        thread::scope_env(),
-        rt,
-        |scope| -> Result<Played<S>, RunFault>
-            requires marks { IsSync R.row × IsSync G.row × IsSend S.row × IsSync S.row × IsSend B.row × IsSend V.row }
-            requires ready { AreReady given.value.items options.boards workers.items watcher (vec_len looks)
-                (vec_capacity looks) }
-            ensures { ArePlayed S.id.setting given.value.items options.boards result }
-        {
-            let many = workers.len();
-            let mut running = Vec::with_capacity(alloc, many)?;
-            let mut ends = Vec::with_capacity(alloc, many)?;
-            for worker in workers {
-                let plays = worker.plays();
-                let stack = Stack::new().stack_size(THREAD_STACK);
-                match stack.spawn_scoped_with(scope, plays, move || play(worker)) {
-                    Ok(handle) => {
-                        running.push_reserved(handle);
-                        ends.push_reserved(WorkerEnd::Done);
-                    }
-                    Err(_refused) => {
-                        ends.push_reserved(WorkerEnd::NotStarted);
-                        return Err(first_refused(&ends));
-                    }
-                }
-            }
-            // The closure's contract speaks of the scripts as they were.
-            let _ = &given;
-            let watch = watch_all(rt, watcher, looks, lines, options.boards)?;
-            match thread::join_promised(rt, running) {
-                Ok(works) => Ok(Played { works, watch }),
-                Err(_) => Err(RunFault::Memory),
-            }
-        },
-    )
+    let mut clients = Vec::with_capacity(alloc, scripts.len())?;
+    for script in scripts {
+        clients.push_reserved(ScriptClient::new(alloc, script)?);
+    }
+    Ok(clients)
 }

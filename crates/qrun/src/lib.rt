@@ -12,14 +12,16 @@ pub use worker_end::{WorkerEnd, conclude};
 
 mod concluding;
 mod crew;
+mod ending;
 mod machine;
 mod monitor;
+mod observer;
 mod options;
 mod pace;
+mod parting;
+mod playing;
 mod run_fault;
 mod runs;
 mod service;
-mod serving;
-mod telling;
 mod watcher;
 mod worker_end;

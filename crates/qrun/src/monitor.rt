@@ -1,23 +1,21 @@
 //! Who is shown the boards of a service, and the thread in which they are shown.
-ghost use Rattle.std.specs.Prelude.{◌≡◌, ◌∷◌, [], List, None, option_map};
+ghost use Rattle.std.specs.Prelude.{◌≡◌, ◌∷◌, [], List};
 ghost use Rattle.qplain.specs.declared.board.Board.{Board};
 ghost use Rattle.qplain.specs.Journal.{no_tally};
 ghost use Rattle.qplain.specs.State.{start};
-ghost use Rattle.qrun.specs.Monitors.{HasSeen, IsObserved, ShowsNext};
-ghost use Rattle.qrun.specs.Watching.{HasWaited};
+ghost use Rattle.qrun.specs.Monitors.{HasSeen, IsShown, ShowsNext};
+ghost use Rattle.qrun.specs.Watching.{HasWaited, IsWatch};
 
-use crate::watcher::Watch;
+use crate::observer::Watch;
 use qplain::Board;
 use qrules::Kind;
 use qshare::{Boards, Seat, Shared};
 use qshare_boards::Viewer;
 use qshare_history::StoreId;
 use std::alloc::Global;
-use std::marker::{Model, PhantomData};
-use std::snapshot::Snapshot;
+use std::marker::Model;
 use std::sync::Wait;
 use std::sync::atomic::{AtomicBool, Ordering};
-use std::thread::Promise;
 
 /// Who is shown the boards of a service.
 pub trait Monitor {
@@ -50,156 +48,52 @@ pub trait Monitor {
         ensures { sees self [] result };
 }
 
-/// Who is to see the boards of a service: a new seat that looks at them, the flag by which it asks for one, and who is
-/// shown them. Contracts see the seat and the monitor.
+/// Who shows the boards of a service to its monitor, until an end is told: a new seat that looks at them, the flag by
+/// which it asks for one, the monitor, and the flag that tells the end. Contracts see the seat and the monitor.
 #[derive(Drop)]
-pub(crate) struct Observer<'a, S: StoreId, M: Monitor + Drop> {
+pub(crate) struct Showing<'a, S: StoreId, M: Monitor + Drop> {
     seat: Seat<S, Viewer<S>>,
     wanted: &'a AtomicBool,
     monitor: M,
+    ended: &'a AtomicBool,
 }
 
-impl<'a, S: StoreId, M: Monitor + Drop> Model for Observer<'a, S, M> {
+impl<'a, S: StoreId, M: Monitor + Drop> Model for Showing<'a, S, M> {
     ghost use Rattle.std.specs.Prelude.{◌≡◌};
     ghost use Rattle.qplain.specs.Journal.{no_tally};
     ghost use Rattle.qrun.specs.Monitors.{Observing};
 
     ghost Value = { Observing M };
 
-    ghost view = { λ o. record { seat = o.seat; monitor = o.monitor } };
+    ghost view = { λ s. record { seat = s.seat; monitor = s.monitor } };
 
-    ghost invariant = { λ o. o.seat.tally ≡ no_tally };
+    ghost invariant = { λ s. s.seat.tally ≡ no_tally };
 }
 
-impl<'a, S: StoreId, M: Monitor + Drop> Observer<'a, S, M> {
-    /// Who is shown the boards at which this seat looks, which is new.
+impl<'a, S: StoreId, M: Monitor + Drop> Showing<'a, S, M> {
+    /// Who shows the boards at which this seat looks, which is new.
     pub(crate) fn new(
         seat: Seat<S, Viewer<S>>,
         wanted: &'a AtomicBool,
         monitor: M,
-    ) -> Observer<'a, S, M>
+        ended: &'a AtomicBool,
+    ) -> Showing<'a, S, M>
         requires { seat.tally ≡ no_tally }
         ensures { result ≡ record { seat = seat; monitor = monitor } }
     {
-        Observer {
+        Showing {
             seat,
             wanted,
             monitor,
+            ended,
         }
     }
-}
 
-/// Nobody who sees the boards.
-pub(crate) fn no_observer<'a, S: StoreId, M: Monitor + Drop>(
-    _wanted: &'a AtomicBool,
-) -> Option<Observer<'a, S, M>>
-    ensures { result ≡ None }
-{
-    None
-}
-
-/// What who shows boards has done: its share, and what is left of the monitor.
-#[derive(Drop)]
-pub(crate) struct Observed<S: StoreId, L: Drop> {
-    pub(crate) watch: Watch<S>,
-    pub(crate) left: L,
-}
-
-impl<S: StoreId, L: Drop> Model for Observed<S, L> {
-    ghost use Rattle.qrun.specs.Monitors.{Observed};
-
-    ghost Value = { Observed L };
-
-    ghost view = { λ o. record { watch = o.watch; left = o.left } };
-}
-
-/// What was done beside what is left of the monitor, where there was one.
-pub(crate) fn part_observed<S: StoreId, L: Drop>(
-    observed: Option<Observed<S, L>>,
-) -> (Option<Watch<S>>, Option<L>)
-    ensures watch { result.0 ≡ option_map (λ o. o.watch) observed }
-    ensures left { result.1 ≡ option_map (λ o. o.left) observed }
-{
-    match observed {
-        Some(Observed { watch, left }) => (Some(watch), Some(left)),
-        None => (None, None),
-    }
-}
-
-/// That the boards at which this seat looks are shown to this monitor.
-#[derive(Drop)]
-pub(crate) struct Observes<S, M> {
-    pub(crate) worker: u64,
-    pub(crate) monitor: Snapshot<M>,
-    store: PhantomData<S>,
-}
-
-impl<S: StoreId, M: Monitor> Promise<Observed<S, M::Left>> for Observes<S, M> {
-    ghost use Rattle.qplain.specs.State.{start};
-    ghost use Rattle.qrun.specs.Monitors.{IsObserved};
-
-    ghost kept_by = { λ p o. IsObserved (start S.id.setting) p.worker (M.sees p.monitor.value) o };
-}
-
-/// All that the thread takes along which shows the boards of a store, until an end is told. Contracts see the seat and
-/// the monitor.
-#[derive(Drop)]
-pub(crate) struct Showing<'a, 'b, S: StoreId, B: Boards<S>, M: Monitor + Drop, R: Wait> {
-    rt: &'a R,
-    alloc: Global,
-    shared: &'a Shared<S, B>,
-    observer: Observer<'b, S, M>,
-    ended: &'b AtomicBool,
-}
-
-impl<'a, 'b, S: StoreId, B: Boards<S>, M: Monitor + Drop, R: Wait> Model
-    for Showing<'a, 'b, S, B, M, R> {
-    ghost use Rattle.qrun.specs.Monitors.{Observing};
-
-    ghost Value = { Observing M };
-
-    ghost view = { λ s. s.observer };
-}
-
-impl<'a, 'b, S: StoreId, B: Boards<S>, M: Monitor + Drop, R: Wait> Showing<'a, 'b, S, B, M, R> {
     /// The number of its seat.
     pub(crate) fn worker(&self) -> u64
         ensures { result ≡ self.now.seat.worker }
     {
-        self.observer.seat.worker()
-    }
-
-    /// What its thread promises.
-    pub(crate) fn shows(&self) -> Observes<S, M>
-        ensures { (result.worker ≡ self.now.seat.worker) × (result.monitor.value ≡ self.now.monitor) }
-    {
-        Observes {
-            worker: self.observer.seat.worker(),
-            monitor: Snapshot::of(&self.observer.monitor),
-            store: PhantomData,
-        }
-    }
-}
-
-/// Who shows the boards of a store until an end is told, where anybody is to see them.
-pub(crate) fn showing_of<'a, 'b, S: StoreId, B: Boards<S>, M: Monitor + Drop, R: Wait>(
-    rt: &'a R,
-    alloc: Global,
-    shared: &'a Shared<S, B>,
-    observer: Option<Observer<'b, S, M>>,
-    ended: &'b AtomicBool,
-) -> Option<Showing<'a, 'b, S, B, M, R>>
-    ensures { result ≡ observer.entry }
-{
-    match observer {
-        Some(observer) => Some(Showing {
-            rt,
-            alloc,
-            shared,
-            observer,
-            ended,
-        }),
-        None => None,
+        self.seat.worker()
     }
 }
 
@@ -274,24 +168,22 @@ fn end_of<M: Monitor>(mut monitor: M, complete: bool) -> M::Left
     monitor.end()
 }
 
-/// Shows the boards as they come, until all workers have ended, and then the last. It keeps none.
-pub(crate) fn observe<S: StoreId, B: Boards<S>, M: Monitor + Drop, R: Wait>(
-    showing: Showing<'_, '_, S, B, M, R>,
-) -> Observed<S, M::Left>
-    ensures { IsObserved (start S.id.setting) showing.entry.seat.worker (M.sees showing.entry.monitor) result }
+/// Shows the boards of a store as they come, until all workers have ended, and then the last. It keeps none.
+pub(crate) fn show_boards<S: StoreId, B: Boards<S>, M: Monitor + Drop, R: Wait>(
+    rt: &R,
+    alloc: Global,
+    shared: &Shared<S, B>,
+    showing: Showing<'_, S, M>,
+) -> (Watch<S>, M::Left)
+    ensures watch { IsWatch (start S.id.setting) showing.entry.seat.worker 0 result.0 }
+    ensures shown { IsShown (start S.id.setting) result.0.share.seen (M.sees showing.entry.monitor) result.1 }
 {
     let Showing {
-        rt,
-        alloc,
-        shared,
-        observer,
-        ended,
-    } = showing;
-    let Observer {
         mut seat,
         wanted,
         mut monitor,
-    } = observer;
+        ended,
+    } = showing;
     let mut shown = None;
     for _ in rt.forever() {
         let last = ended.load(Ordering::SeqCst);
@@ -303,9 +195,31 @@ pub(crate) fn observe<S: StoreId, B: Boards<S>, M: Monitor + Drop, R: Wait>(
                 share: seat.finish(),
                 looks: Vec::new(alloc),
             };
-            return Observed { watch, left };
+            return (watch, left);
         }
         monitor.wait();
     }
     unreachable!()
+}
+
+/// No monitor: of a run, where nobody is shown boards.
+#[derive(Drop)]
+pub(crate) struct NoMonitor;
+
+impl Monitor for NoMonitor {
+    ghost use Rattle.std.specs.Prelude.{⊤};
+
+    type Left = ();
+
+    ghost sees = { λ m boards left. ⊤ };
+
+    fn wait(&mut self) {}
+
+    fn give_way(&mut self) {}
+
+    fn miss(&mut self) {}
+
+    fn show(&mut self, _board: &Board) {}
+
+    fn end(self) {}
 }

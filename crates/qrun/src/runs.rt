@@ -1,124 +1,69 @@
 //! Runs: scripts played by workers on a shared store of their own.
-ghost use Rattle.std.specs.Prelude.{◌≡◌, ◌<◌, ◌≤◌, ◌^◌, length, None, Some, IfErr, IfOk};
+ghost use Rattle.std.specs.Prelude.{◌≡◌, ◌+◌, ◌<◌, ◌^◌, length, IfErr, IfOk};
 ghost use Rattle.qplain.specs.declared.edition.Edition.TheVariants.{Two};
-ghost use Rattle.qshare.specs.declared.held.TheConstants.{MAX_BATCH};
-ghost use Rattle.qshare.specs.declared.opening.TheConstants.{MAX_SEATS};
 ghost use Rattle.qrun_replay.specs.Runs.{IsOutcomeOf};
-ghost use Rattle.qrun.specs.Crews.{CanRun, IsCrew, IsRun};
+ghost use Rattle.qrun.specs.Crews.{CanRun, HasEnded};
 ghost use Rattle.qrun.specs.RunFaults.{IsFaultOf};
+ghost use Rattle.qrun.specs.Serving.{CanServe};
 ghost use Rattle.qrun.specs.Watching.{seats_for};
 
-use crate::concluding::make_outcome;
-use crate::crew::{Played, play_all};
+use crate::crew::{Crew, clients_of};
+use crate::ending::{fault_of, play_and_end, play_unwatched};
 use crate::machine::Machine;
+use crate::monitor::NoMonitor;
+use crate::observer::Observer;
 use crate::options::Options;
 use crate::run_fault::RunFault;
-use crate::telling::{hand_in, part_works};
+use crate::service::Service;
+use crate::watcher::Watcher;
 use qplain::{Script, Setup};
+use qrun_client::Client;
 use qrun_replay::Outcome;
-use qrun_worker::Gate;
-use qshare::{Boards, Opened, Seat, ShareFault, Shared};
-use qshare_boards::Viewer;
+use qrun_worker::{Gate, ScriptClient};
+use qshare::Opened;
 use qshare_history::StoreId;
 use std::marker::Brand;
 use std::sync::Wait;
+use std::sync::atomic::AtomicBool;
 use std::thread::Threads;
 
-/// Why a run or a service has no outcome whose store was not made.
-pub(crate) fn fault_of(fault: ShareFault) -> RunFault
-    ensures { IsFaultOf 0 result }
-{
-    match fault {
-        ShareFault::NoReader => RunFault::NoReader,
-        ShareFault::Seats | ShareFault::OutOfMemory => RunFault::Memory,
-    }
-}
-
-/// Plays the scripts on a shared store, ends it, and makes the outcome.
-fn play_and_end<S, B, V, G, R>(
-    machine: &Machine<'_, R>,
-    shared: Shared<S, B>,
-    seats: Vec<Seat<S, V>>,
-    watcher: Option<Seat<S, Viewer<S>>>,
-    scripts: Vec<Script>,
-    options: Options,
-    gate: &G,
-) -> Result<Outcome, RunFault>
-where
-    S: StoreId + Send + Sync + 'static,
-    B: Boards<S> + Send,
-    V: Drop + Send,
-    G: Gate + Sync,
-    R: Threads + Wait + Sync,
-    requires edition { S.id.setting.edition ≡ Two }
-    requires few { (0 < length scripts.items) × (length scripts.items ≤ MAX_SEATS) }
-    requires crew { IsCrew (length scripts.items) options seats.items watcher }
-    requires seats { S.id.counters.parts ≡ seats_for (length scripts.items) options.boards }
-    ensures { IsRun S.id.setting scripts.items options.boards result }
-{
-    let Played { works, watch } = play_all(
-        machine, &shared, gate, options, seats, watcher, scripts,
-    )?;
-    let Machine { rt, alloc, seed } = *machine;
-    let (own, answered) = part_works(alloc, works)?;
-    let (shares, looks) = hand_in(alloc, own, watch)?;
-    match shared.end(rt, shares) {
-        Ok(store) => make_outcome(alloc, store, answered, looks, seed),
-        Err(_) => unreachable!(),
-    }
-}
-
-/// Plays the scripts on a shared store of this identity, at whose boards one more thread looks.
-fn run_viewed<S, G, R>(
+/// Has a crew play on a store of this identity, at whose boards one more thread looks N times, spread over this many
+/// calls.
+fn play_watched<S, C, G, R>(
     machine: &Machine<'_, R>,
     opened: Opened,
-    scripts: Vec<Script>,
-    options: Options,
-    gate: &G,
-) -> Result<Outcome, RunFault>
+    crew: Crew<'_, C, G>,
+    calls: u64,
+    boards: u64,
+) -> Result<Service<C::Left, ()>, RunFault>
 where
     S: StoreId + Send + Sync + 'static,
+    C: Client + Drop + Send,
     G: Gate + Sync,
     R: Threads + Wait + Sync,
     requires id { opened ≡ S.id }
-    requires edition { S.id.setting.edition ≡ Two }
-    requires can { CanRun (length scripts.items) options }
-    requires boards { 0 < options.boards }
-    requires seats { S.id.counters.parts ≡ seats_for (length scripts.items) options.boards }
-    ensures { IsRun S.id.setting scripts.items options.boards result }
+    requires can { CanServe S.id.setting (length crew) boards × (S.id.counters.parts ≡ length crew + 1) }
+    requires boards { 0 < boards }
+    ensures ended { IfOk result (λ s. HasEnded C.talk S.id.setting crew.entry boards s.left.items s.outcome) }
+    ensures fault { IfErr result (IsFaultOf S.id.counters.parts) }
 {
     let (shared, seats, last) = match opened.with_observer::<S, &R>(machine.rt) {
         Ok(made) => made,
         Err(fault) => return Err(fault_of(fault)),
     };
-    let watcher = Some(last);
-    play_and_end(machine, shared, seats, watcher, scripts, options, gate)
+    let watcher = Watcher::new(machine.alloc, last, calls, boards)?;
+    let observer: Observer<'_, S, NoMonitor> = Observer::Watcher(watcher);
+    let ended = AtomicBool::new(false);
+    play_and_end(machine, shared, seats, crew, Some(observer), &ended)
 }
 
-/// Plays the scripts on a shared store of this identity, at whose boards nobody can look.
-fn run_unviewed<S, G, R>(
-    machine: &Machine<'_, R>,
-    opened: Opened,
-    scripts: Vec<Script>,
-    options: Options,
-    gate: &G,
-) -> Result<Outcome, RunFault>
-where
-    S: StoreId + Send + Sync + 'static,
-    G: Gate + Sync,
-    R: Threads + Wait + Sync,
-    requires id { opened ≡ S.id }
-    requires edition { S.id.setting.edition ≡ Two }
-    requires can { CanRun (length scripts.items) options }
-    requires boards { options.boards ≡ 0 }
-    requires seats { S.id.counters.parts ≡ seats_for (length scripts.items) options.boards }
-    ensures { IsRun S.id.setting scripts.items options.boards result }
-{
-    let (shared, seats) = match opened.without_viewers::<S>() {
-        Ok(made) => made,
-        Err(fault) => return Err(fault_of(fault)),
-    };
-    play_and_end(machine, shared, seats, None, scripts, options, gate)
+/// How many lines the scripts have together. It says when looks are due, and stands in no clause.
+fn lines_in(scripts: &[Script]) -> u64 {
+    let mut lines = 0u64;
+    for script in scripts {
+        lines = lines.saturating_add(script.lines().len() as u64);
+    }
+    lines
 }
 
 /// The number of seats: one for each script, and one more where boards are looked at.
@@ -159,14 +104,18 @@ pub fn run_scripts<G: Gate + Sync, R: Threads + Wait + Sync>(
     ensures looks { IfOk result (λ o. length o.boards ≡ options.boards) }
     ensures fault { IfErr result (IsFaultOf (seats_for (length scripts.items) options.boards)) }
 {
-    let seats = seats_for(scripts.len(), options.boards);
+    let Options { boards, batch } = options;
+    let lines = lines_in(&scripts);
+    let seats = seats_for(scripts.len(), boards);
     let opened = match Opened::new(machine.alloc, setup, seats, machine.seed) {
         Ok(opened) => opened,
         Err(fault) => return Err(fault_of(fault)),
     };
-    if options.boards == 0 {
-        run_unviewed::<Brand, G, R>(machine, opened, scripts, options, gate)
+    let crew = Crew::new(clients_of(machine.alloc, scripts)?, gate, batch);
+    let ended = if boards == 0 {
+        play_unwatched::<Brand, ScriptClient, G, R>(machine, opened, crew)?
     } else {
-        run_viewed::<Brand, G, R>(machine, opened, scripts, options, gate)
-    }
+        play_watched::<Brand, ScriptClient, G, R>(machine, opened, crew, lines, boards)?
+    };
+    Ok(ended.outcome)
 }

@@ -1,23 +1,25 @@
-//! Services: living clients served by workers on a shared store of their own.
-ghost use Rattle.std.specs.Prelude.{◌≡◌, ◌+◌, [], All, length, IfErr, IfOk, None, Some, option_map};
+//! Services: living clients, each served by a worker, on a shared store of their own.
+ghost use Rattle.std.specs.Prelude.{◌≡◌, ◌+◌, All, Some, length, IfErr, IfOk};
 ghost use Rattle.qplain.specs.State.{start};
 ghost use Rattle.qrun_replay.specs.Runs.{IsServiceOf};
+ghost use Rattle.qrun.specs.Crews.{HasEnded};
 ghost use Rattle.qrun.specs.Monitors.{IsShownTo};
 ghost use Rattle.qrun.specs.RunFaults.{IsFaultOf};
-ghost use Rattle.qrun.specs.Serving.{CanServe, IsOfClients, IsStaff, monitors_in};
+ghost use Rattle.qrun.specs.Serving.{CanServe, IsOfClients, monitors_in};
 ghost use Rattle.qrun.specs.Watching.{seats_for};
+ghost use Rattle.qrun_worker.specs.Work.{IsNew};
 
-use crate::concluding::make_outcome;
+use crate::crew::Crew;
+use crate::ending::{fault_of, play_and_end, play_unwatched};
 use crate::machine::Machine;
-use crate::monitor::{Monitor, Observer, no_observer, part_observed, showing_of};
+use crate::monitor::{Monitor, Showing};
+use crate::observer::Observer;
 use crate::run_fault::RunFault;
-use crate::runs::fault_of;
-use crate::serving::{attend_all, attendants_of};
-use crate::telling::{hand_in, part_served};
 use qplain::Setup;
 use qrun_client::Client;
 use qrun_replay::Outcome;
-use qshare::{Boards, Opened, Seat, Shared};
+use qrun_worker::{Gate, NoGate};
+use qshare::Opened;
 use qshare_history::StoreId;
 use std::marker::Brand;
 use std::sync::Wait;
@@ -32,68 +34,22 @@ pub struct Service<L: Drop, W: Drop> {
     pub monitor: Option<W>,
 }
 
-/// Serves the clients on a shared store, ends it, and makes the outcome.
-fn serve_and_end<S, B, V, C, M, R>(
-    machine: &Machine<'_, R>,
-    shared: Shared<S, B>,
-    seats: Vec<Seat<S, V>>,
-    observer: Option<Observer<'_, S, M>>,
-    ended: &AtomicBool,
-    clients: Vec<C>,
-) -> Result<Service<C::Left, M::Left>, RunFault>
-where
-    S: StoreId + Send + Sync + 'static,
-    B: Boards<S> + Send,
-    V: Drop + Send,
-    C: Client + Drop + Send,
-    M: Monitor + Drop + Send,
-    R: Threads + Wait + Sync,
-    requires staff { IsStaff S.id.setting (length clients.items) S.id.counters.parts seats.items
-        (option_map (λ o. o.seat) observer) }
-    requires new { All (λ c. (C.given c ≡ []) × (C.told c ≡ [])) clients.items }
-    ensures outcome { IfOk result (λ s. IsServiceOf S.id.setting s.outcome) }
-    ensures clients { IfOk result (λ s. IsOfClients C.talk clients.items s.left.items s.outcome) }
-    ensures shown { IfOk result (λ s. IsShownTo M.sees (start S.id.setting) s.outcome.journal.entries
-        (option_map (λ o. o.monitor) observer.entry) s.monitor) }
-    ensures fault { IfErr result (IsFaultOf S.id.counters.parts) }
-{
-    let Machine { rt, alloc, seed } = *machine;
-    let showing = showing_of(rt, alloc, &shared, observer, ended);
-    let attendants = attendants_of(alloc, rt, &shared, seats, clients)?;
-    let (served, observed) = attend_all(rt, alloc, attendants, showing, ended)?;
-    let (watch, monitor) = part_observed(observed);
-    let (own, answered, left) = part_served(alloc, served)?;
-    let (shares, looks) = hand_in(alloc, own, watch)?;
-    match shared.end(rt, shares) {
-        Ok(store) => {
-            let outcome = make_outcome(alloc, store, answered, looks, seed)?;
-            Ok(Service {
-                outcome,
-                left,
-                monitor,
-            })
-        }
-        Err(_) => unreachable!(),
-    }
-}
-
-/// Serves the clients on a shared store of this identity, whose boards are shown to a monitor.
-fn serve_shown<S, C, M, R>(
+/// Has a crew play on a store of this identity, whose boards are shown to a monitor.
+fn play_shown<S, C, G, M, R>(
     machine: &Machine<'_, R>,
     opened: Opened,
-    clients: Vec<C>,
+    crew: Crew<'_, C, G>,
     monitor: M,
 ) -> Result<Service<C::Left, M::Left>, RunFault>
 where
     S: StoreId + Send + Sync + 'static,
     C: Client + Drop + Send,
+    G: Gate + Sync,
     M: Monitor + Drop + Send,
     R: Threads + Wait + Sync,
-    requires can { CanServe S.id.setting (length clients.items) 1 × (S.id.counters.parts ≡ length clients.items + 1)
-        × (opened ≡ S.id) }
-    requires new { All (λ c. (C.given c ≡ []) × (C.told c ≡ [])) clients.items }
-    ensures outcome { IfOk result (λ s. IsServiceOf S.id.setting s.outcome) }
-    ensures clients { IfOk result (λ s. IsOfClients C.talk clients.items s.left.items s.outcome) }
+    requires id { opened ≡ S.id }
+    requires can { CanServe S.id.setting (length crew) 1 × (S.id.counters.parts ≡ length crew + 1) }
+    ensures ended { IfOk result (λ s. HasEnded C.talk S.id.setting crew.entry 0 s.left.items s.outcome) }
     ensures shown { IfOk result (λ s. IsShownTo M.sees (start S.id.setting) s.outcome.journal.entries (Some monitor)
         s.monitor) }
     ensures fault { IfErr result (IsFaultOf S.id.counters.parts) }
@@ -104,36 +60,8 @@ where
         Err(fault) => return Err(fault_of(fault)),
     };
     let ended = AtomicBool::new(false);
-    let observer = Some(Observer::new(last, &wanted, monitor));
-    serve_and_end(machine, shared, seats, observer, &ended, clients)
-}
-
-/// Serves the clients on a shared store of this identity, at whose boards nobody can look.
-fn serve_unshown<S, C, M, R>(
-    machine: &Machine<'_, R>,
-    opened: Opened,
-    clients: Vec<C>,
-) -> Result<Service<C::Left, M::Left>, RunFault>
-where
-    S: StoreId + Send + Sync + 'static,
-    C: Client + Drop + Send,
-    M: Monitor + Drop + Send,
-    R: Threads + Wait + Sync,
-    requires can { CanServe S.id.setting (length clients.items) 0 × (S.id.counters.parts ≡ length clients.items)
-        × (opened ≡ S.id) }
-    requires new { All (λ c. (C.given c ≡ []) × (C.told c ≡ [])) clients.items }
-    ensures outcome { IfOk result (λ s. IsServiceOf S.id.setting s.outcome) }
-    ensures clients { IfOk result (λ s. IsOfClients C.talk clients.items s.left.items s.outcome) }
-    ensures shown { IfOk result (λ s. s.monitor ≡ None) }
-    ensures fault { IfErr result (IsFaultOf S.id.counters.parts) }
-{
-    let (shared, seats) = match opened.without_viewers::<S>() {
-        Ok(made) => made,
-        Err(fault) => return Err(fault_of(fault)),
-    };
-    let ended = AtomicBool::new(false);
-    let nobody = no_observer::<S, M>(&ended);
-    serve_and_end(machine, shared, seats, nobody, &ended, clients)
+    let observer = Observer::Showing(Showing::new(last, &wanted, monitor, &ended));
+    play_and_end(machine, shared, seats, crew, Some(observer), &ended)
 }
 
 /// Serves 1 to 16 clients on one new store of the setup, which is of edition 2: each by a worker in a thread of its
@@ -160,21 +88,28 @@ where
     M: Monitor + Drop + Send,
     R: Threads + Wait + Sync,
     requires can { CanServe setup (length clients.items) (monitors_in monitor) }
-    requires new { All (λ c. (C.given c ≡ []) × (C.told c ≡ [])) clients.items }
+    requires new { All (λ c. IsNew (C.owed c) (C.stands c)) clients.items }
     ensures outcome { IfOk result (λ s. IsServiceOf setup s.outcome) }
     ensures clients { IfOk result (λ s. IsOfClients C.talk clients.items s.left.items s.outcome) }
     ensures shown { IfOk result (λ s. IsShownTo M.sees (start setup) s.outcome.journal.entries monitor s.monitor) }
     ensures fault { IfErr result (IsFaultOf (seats_for (length clients.items) (monitors_in monitor))) }
 {
     let Machine { alloc, seed, .. } = *machine;
-    match monitor {
-        Some(monitor) => match Opened::new(alloc, setup, clients.len() as u64 + 1, seed) {
-            Ok(opened) => { serve_shown::<Brand, C, M, R>(machine, opened, clients, monitor) }
-            Err(fault) => Err(fault_of(fault)),
-        },
-        None => match Opened::new(alloc, setup, clients.len() as u64, seed) {
-            Ok(opened) => serve_unshown::<Brand, C, M, R>(machine, opened, clients),
-            Err(fault) => Err(fault_of(fault)),
-        },
-    }
+    let many = clients.len() as u64 + monitor.is_some() as u64;
+    let opened = match Opened::new(alloc, setup, many, seed) {
+        Ok(opened) => opened,
+        Err(fault) => return Err(fault_of(fault)),
+    };
+    let crew = Crew::new(clients, &NoGate, 1);
+    let Some(monitor) = monitor else {
+        let Service { outcome, left, .. } = play_unwatched::<Brand, C, NoGate, R>(
+            machine, opened, crew,
+        )?;
+        return Ok(Service {
+            outcome,
+            left,
+            monitor: None,
+        });
+    };
+    play_shown::<Brand, C, NoGate, M, R>(machine, opened, crew, monitor)
 }

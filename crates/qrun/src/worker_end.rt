@@ -29,14 +29,3 @@ pub fn conclude(ends: &[WorkerEnd]) -> Result<(), RunFault>
     }
     Ok(())
 }
-
-/// The fault of a run of which some worker was not started: it names the first.
-pub(crate) fn first_refused(ends: &[WorkerEnd]) -> RunFault
-    requires { AreDone ends.now → ⊥ }
-    ensures { NamesFirst ends.now result }
-{
-    match conclude(ends) {
-        Err(fault) => fault,
-        Ok(_) => unreachable!(),
-    }
-}

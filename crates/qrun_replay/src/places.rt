@@ -1,6 +1,6 @@
 //! Where the answers to a worker's lines stand.
 ghost use Rattle.std.specs.Prelude.{◌≡◌, ◌+◌, ◌<◌, ◌≤◌, ◌^◌, ◌++◌, ◌∷◌, [], ℕ, length, slice_index_or};
-ghost use Rattle.std.specs.Prelude.{IfOk, OnOk, Result, Ok, Err};
+ghost use Rattle.std.specs.Prelude.{IfOk, OnErr, OnOk, Result, Ok, Err};
 ghost use Rattle.qplain.specs.declared.bounds.TheConstants.{MAX_ENTRIES};
 ghost use Rattle.qrun_replay.specs.declared.failed_line.FailedLine.{FailedLine as FailedLineValue};
 ghost use Rattle.qrun_replay.specs.KeptPlaces.{stand_seen};
@@ -44,7 +44,7 @@ impl Model for Places {
 
     ghost invariant = { λ p. All (IsThere p.failed.items) p.kept.items
         × (vec_len p.kept + p.room ≤ vec_capacity p.kept) × (vec_len p.failed + p.room ≤ vec_capacity p.failed)
-        × (vec_len p.failed + p.room < 2 ^ 32) };
+        × (vec_len p.failed + p.room < 2 ^ 32) × (vec_len p.failed ≤ vec_len p.kept) };
 }
 
 impl Places {
@@ -60,6 +60,29 @@ impl Places {
             failed: Vec::with_capacity(alloc, many)?,
             room: many,
         })
+    }
+
+    /// No places, and room for none, which takes no memory.
+    pub fn empty(alloc: Global) -> Self
+        ensures { result ≡ record { stands = []; room = 0 } }
+    {
+        Places {
+            kept: Vec::new(alloc),
+            failed: Vec::new(alloc),
+            room: 0,
+        }
+    }
+
+    /// Makes room for the place of one answer more. An Err is out of memory.
+    pub fn make_room(&mut self) -> Result<(), NoMemory>
+        requires { length self.old.stands + self.old.room + 1 < 2 ^ 32 }
+        ensures ok { OnOk result (self.new ≡ record self.old { room = self.old.room + 1 }) }
+        ensures err { OnErr result (self.new ≡ self.old) }
+    {
+        self.kept.reserve(self.room + 1)?;
+        self.failed.reserve(self.room + 1)?;
+        self.room += 1;
+        Ok(())
     }
 
     /// How many lines were answered.

@@ -1,10 +1,11 @@
 -- Where answers stand, as one more comes.
-use Rattle.std.proofs.Common.{◌≡◌, suc, ◌≤◌, List, [], ◌∷◌, ◌++◌, length, slice_get, Some, Result, refl, ap, ◌∙◌, arith}
+use Rattle.std.proofs.Common.{◌≡◌, suc, ◌≤◌, List, [], ◌∷◌, ◌++◌, length, Result, refl, ap, arith}
 use Rattle.qplain.specs.declared.call_fault.CallFault.{CallFault}
 use Rattle.qplain.specs.declared.line.Line.{Line}
 use Rattle.qplain.specs.declared.receipt.Receipt.{Receipt}
 use Rattle.qrun_replay.specs.Places.{stand_at}
-use Rattle.qrun_worker.specs.Work.{place_of, stands_of}
+use Rattle.qrun_client.specs.Clients.{place_of}
+use Rattle.qrun_worker.specs.Work.{stands_of}
 
 -- no answer stands anywhere
 pub none_stands : (lines : List Line) → stands_of lines [] ≡ []
@@ -21,14 +22,12 @@ as_many_stand [] (answer ∷ answers) few = absurd (omega (arith, few))
 as_many_stand (line ∷ lines) [] few = refl
 as_many_stand (line ∷ lines) (answer ∷ answers) few = ap suc (as_many_stand lines answers (omega (arith, few)))
 
--- and so does one more, beside its line
-pub one_more_stands : (lines : List Line) (answers : List (Result Receipt CallFault)) (line : Line) (answer : Result Receipt CallFault)
-    → slice_get lines (length answers) ≡ Some line
-    → stands_of lines (answers ++ answer ∷ []) ≡ stands_of lines answers ++ stand_at line (place_of answer) ∷ []
+-- more answers stand behind those to the lines before
+pub stands_of-append : (lines more : List Line) (answers further : List (Result Receipt CallFault)) → length answers ≡ length lines
+    → stands_of (lines ++ more) (answers ++ further) ≡ stands_of lines answers ++ stands_of more further
 unfolding stands_of
-one_more_stands [] answers line answer there = absurd cc
-one_more_stands (l ∷ lines) [] line answer there =
-    let same : l ≡ line = cc in
-    ap (λ x. stand_at x (place_of answer) ∷ stands_of lines []) same ∙ ap (λ rest. stand_at line (place_of answer) ∷ rest) (none_stands lines)
-one_more_stands (l ∷ lines) (a ∷ answers) line answer there =
-    ap (λ rest. stand_at l (place_of a) ∷ rest) (one_more_stands lines answers line answer there)
+stands_of-append [] more [] further each = refl
+stands_of-append [] more (answer ∷ answers) further each = absurd cc
+stands_of-append (line ∷ lines) more [] further each = absurd cc
+stands_of-append (line ∷ lines) more (answer ∷ answers) further each =
+    ap (λ rest. stand_at line (place_of answer) ∷ rest) (stands_of-append lines more answers further (omega (arith, each)))

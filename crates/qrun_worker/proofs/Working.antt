@@ -1,7 +1,6 @@
 -- One more line of a worker's script.
-use Rattle.std.proofs.Common.{◌≡◌, ◌↔◌, ℕ, zero, suc, ◌+◌, ◌<◌, ◌≤◌, List, [], ◌∷◌, ◌++◌, length, get_or, slice_get, Some, Result, Ok, Err, IfOk, IfErr, OnErr, refl, sym, ap, subst, append-nil, ◌∙◌, arith, le_trans}
-use Rattle.std.proofs.lemmas.List.{length-append, nil_from_length}
-use Rattle.std.proofs.lemmas.Option.{slice_get-get_or}
+use Rattle.std.proofs.Common.{◌≡◌, ◌↔◌, ℕ, zero, suc, ◌+◌, ◌<◌, ◌≤◌, List, [], ◌∷◌, ◌++◌, length, slice_get, Some, Result, Ok, Err, IfOk, IfErr, OnErr, refl, sym, ap, subst, append-nil, ◌∙◌, arith, le_trans}
+use Rattle.std.proofs.lemmas.List.{length-append}
 use Rattle.std.proofs.lemmas.List.Elements.{All-nil, All-push}
 use mathlib.Core.List.{IsPrefix}
 use Rattle.qplain.specs.declared.call_fault.CallFault.{CallFault}
@@ -9,20 +8,21 @@ use Rattle.qplain.specs.declared.call_fault.CallFault.TheVariants.{JournalFull, 
 use Rattle.qplain.specs.declared.entry.Entry.{Entry}
 use Rattle.qplain.specs.declared.line.Line.{Line}
 use Rattle.qplain.specs.declared.receipt.Receipt.{Receipt}
-use Rattle.qplain.specs.Journal.{entries_of, entry_of, no_tally}
+use Rattle.qplain.specs.Journal.{entries_of, entry_of}
 use Rattle.qplain.specs.Transcripts.{journaled_line, journaled_lines}
 use Rattle.qplain.specs.declared.bounds.TheConstants.{MAX_ENTRIES}
 use Rattle.qshare_history.proofs.Prefixes.{prefix_length}
 use Rattle.qplain.specs.Setups.{Setting}
-use Rattle.qshare.specs.Calls.{IsAt, IsCalled, IsHeldCall, IsHeldCallAt, StaysHeld}
+use Rattle.qshare.specs.Calls.{IsAt, IsCalled, IsHeldCall, StaysHeld}
 use Rattle.qshare.specs.Holds.{Holding}
 use Rattle.qshare.specs.Seats.{HasSeenOn, Seated}
-use Rattle.qrun_replay.specs.declared.failed_line.FailedLine.{FailedLine}
-use Rattle.qrun_worker.specs.Work.{AreAnswers, ArePlaces, HasAnswers, HasLowPlace, HasSeenFull, IsSubsequence}
+use Rattle.qrun_client.specs.Clients.{HasLowPlace}
+use Rattle.qrun_worker.specs.Work.{AreAnswers, HasAnswers, HasSeenFull, IsSubsequence}
 use Rattle.qrun_worker.proofs.Owning.{none_answered, one_more_answered, own_grown, own_told}
 use Rattle.qrun_worker.proofs.Subsequences.{none_among}
 
-no_answers : (worker : ℕ) (lines : List Line) (seen : List Entry) → AreAnswers worker lines seen 0 []
+-- a worker who has played nothing has none
+pub no_answers : (worker : ℕ) (lines : List Line) (seen : List Entry) → AreAnswers worker lines seen 0 []
 no_answers worker lines seen = record {
   few = omega arith;
   full = All-nil (HasSeenFull seen);
@@ -30,18 +30,6 @@ no_answers worker lines seen = record {
   own = subst (λ told. IsSubsequence told (entries_of seen worker)) (sym (none_answered worker lines)) (none_among (entries_of seen worker));
   counted = ap length (sym (none_answered worker lines));
 }
-
--- a new seat has been given none
-pub none_answered_yet : (lines : List Line) (seat : Seated) (answers : List (Result Receipt CallFault)) → seat.tally ≡ no_tally
-    → length answers ≡ 0 → AreAnswers seat.worker lines seat.seen seat.tally.calls answers
-none_answered_yet lines seat answers new none =
-    subst (AreAnswers seat.worker lines seat.seen seat.tally.calls) (sym (nil_from_length answers none))
-    (subst (λ t. AreAnswers seat.worker lines seat.seen t.calls []) (sym new) (no_answers seat.worker lines seat.seen))
-
--- the next line
-pub next_line : (lines : List Line) (k n : ℕ) (line d : Line) → line ≡ get_or lines k d → k < length lines → n ≡ k → slice_get lines n ≡ Some line
-next_line lines k n line d is less same =
-    subst (λ i. slice_get lines i ≡ Some line) (sym same) (slice_get-get_or lines k d less ∙ ap (λ l. Some l) (sym is))
 
 -- who is told of a full journal has seen one
 now_seen : (seen : List Entry) (answer : Result Receipt CallFault) → IfErr answer (λ f. f ≡ JournalFull → length seen ≡ MAX_ENTRIES)
@@ -143,19 +131,6 @@ one_more_held setting lines old new before behind answers after line (Err fault)
     (one_more before.worker lines old.journal new.journal before.tally.calls before.tally.calls answers after line (Err fault) so_far there
     ([], append-nil old.journal ∙ sym as_was) tt tt tt refl (λ told. ap length as_was ∙ full (ap Err told)) tt is)
 
--- there is room for all further lines
-pub room_left : (old new : Holding) (before behind : Seated) (line : Line) (place : Result ℕ CallFault) (lines made : ℕ)
-    → IfOk place (IsHeldCallAt line old new before behind) → OnErr place ((new ≡ old) × (behind ≡ before))
-    → lines ≤ old.room + made → lines ≤ new.room + (made + 1)
-room_left old new before behind line (Ok n) lines made called same few = omega (arith, called.2.room, few)
-room_left old new before behind line (Err fault) lines made called same few = omega (arith, ap (λ h. h.room) same.0, few)
-
--- the seat is the same worker's
-pub same_worker : (old new : Holding) (before behind : Seated) (line : Line) (place : Result ℕ CallFault)
-    → IfOk place (IsHeldCallAt line old new before behind) → OnErr place ((new ≡ old) × (behind ≡ before)) → behind.worker ≡ before.worker
-same_worker old new before behind line (Ok n) called same = ap (λ s. s.worker) called.2.seat
-same_worker old new before behind line (Err fault) called same = ap (λ s. s.worker) same.1
-
 -- who sees more has seen all that was told
 pub seen_more : (worker : ℕ) (lines : List Line) (calls : ℕ) (old new : List Entry) (answers : List (Result Receipt CallFault))
     → AreAnswers worker lines old calls answers → IsPrefix old new → AreAnswers worker lines new calls answers
@@ -165,13 +140,4 @@ seen_more worker lines calls old new answers so_far more = record {
   low = so_far.low;
   own = own_grown worker old new (journaled_lines worker lines answers) more so_far.own;
   counted = so_far.counted;
-}
-
--- so it has who sees more of where answers stand
-pub placed_more : (worker : ℕ) (lines : List Line) (calls : ℕ) (old new : List Entry) (stands : List (Result ℕ FailedLine))
-    → ArePlaces worker lines old calls stands → IsPrefix old new → ArePlaces worker lines new calls stands
-placed_more worker lines calls old new stands so_far more = record {
-  answers = so_far.answers;
-  placed = so_far.placed;
-  are = seen_more worker lines calls old new so_far.answers so_far.are more;
 }

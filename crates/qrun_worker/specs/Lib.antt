@@ -1,3 +1,3 @@
--- What workers have done, and how they keep the lines that they have not.
+-- What workers have done, and a script as a client.
 pub mod Work
-pub mod LinesLeft
+pub mod Scripts

@@ -1,21 +1,19 @@
--- What workers have done, of whom each plays a script or serves a client.
-use Rattle.std.specs.Prelude.{◌≡◌, ℕ, ◌+◌, ◌<◌, ◌≤◌, ◌⊎◌, List, [], ◌∷◌, length, All, slice_index_or}
-use Rattle.std.specs.Prelude.{Result, Ok, Err, IfOk}
+-- What workers have done, of whom each plays what a client hands out.
+use Rattle.std.specs.Prelude.{◌≡◌, ℕ, ◌+◌, ◌<◌, ◌≤◌, ◌⊎◌, List, [], ◌∷◌, ◌++◌, length, All, slice_index_or}
+use Rattle.std.specs.Prelude.{Option, None, Result, Err}
 use Rattle.qplain.specs.declared.call_fault.CallFault.{CallFault}
 use Rattle.qplain.specs.declared.call_fault.CallFault.TheVariants.{JournalFull}
 use Rattle.qplain.specs.declared.entry.Entry.{Entry}
 use Rattle.qplain.specs.declared.line.Line.{Line}
 use Rattle.qplain.specs.declared.receipt.Receipt.{Receipt}
-use Rattle.qplain.specs.declared.transcript.Transcript.{Transcript}
 use Rattle.qplain.specs.Journal.{entries_of}
 use Rattle.qplain.specs.Transcripts.{journaled_lines}
-use Rattle.qplain.specs.declared.bounds.TheConstants.{MAX_ENTRIES, MAX_LINES}
+use Rattle.qplain.specs.declared.bounds.TheConstants.{MAX_ENTRIES}
 use mathlib.Core.List.{IsPrefix}
 use Rattle.qshare_history.specs.Shares.{HandedIn}
 use Rattle.qshare.specs.Holds.{Holding}
 use Rattle.qshare.specs.Seats.{Seated}
-use Rattle.qrun_client.specs.Clients.{Talk}
-use Rattle.qrun_client.specs.declared.client.TheConstants.{MAX_GIVEN}
+use Rattle.qrun_client.specs.Clients.{HasLowPlace, Talk, place_of}
 use Rattle.qrun_replay.specs.declared.failed_line.FailedLine.{FailedLine}
 use Rattle.qrun_replay.specs.Places.{Standing, stand_at}
 
@@ -24,21 +22,14 @@ pub record Done : Type 0 where
   pub share : HandedIn
   pub answers : List (Result Receipt CallFault)
 
--- a worker that is ready to start: its number, and its script
-pub record Prepared : Type 0 where
+-- a client that has handed out nothing, and whose answers stand nowhere
+abbrev pub IsNew : Option Line → List (Result ℕ FailedLine) → Type 0
+IsNew owed stands = (owed ≡ None) × (stands ≡ [])
+
+-- a worker that is ready to start: its number, and its client
+pub record Prepared (C : Type 0) : Type 0 where
   pub worker : ℕ
-  pub lines : List Line
-
--- so is the worker of this number for these lines
-pub record IsPrepared (worker : ℕ) (lines : List Line) (p : Prepared) : Type 0 where
-  pub worker_is : p.worker ≡ worker
-  pub lines_are : p.lines ≡ lines
-
--- each worker, from 1, is ready to play its script
-pub record ArePrepared (scripts : List (List Line)) (workers : List Prepared) : Type 0 where
-  pub many : length workers ≡ length scripts
-  pub each : (k : ℕ) (p : Prepared) (lines : List Line) → k < length scripts
-      → IsPrepared (k + 1) (slice_index_or scripts k lines) (slice_index_or workers k p)
+  pub client : C
 
 -- who is told of a full journal has seen one
 abbrev pub HasSeenFull : List Entry → Result Receipt CallFault → Type 0
@@ -49,10 +40,6 @@ unfoldable pub IsSubsequence : {X : Type 0} → List X → List X → Type 0
 IsSubsequence [] ys = Unit {0}
 IsSubsequence (x ∷ xs) [] = ⊥
 IsSubsequence (x ∷ xs) (y ∷ ys) = ((x ≡ y) × IsSubsequence xs ys) ⊎ IsSubsequence (x ∷ xs) ys
-
--- the call's place is one that a journal may have
-abbrev pub HasLowPlace : Result Receipt CallFault → Type 0
-HasLowPlace answer = IfOk answer (λ r. r.place ≤ MAX_ENTRIES)
 
 -- the answers to the first lines of a worker who has seen this much: the receipts are entries of its own, in their
 -- order, and as many calls were counted
@@ -68,42 +55,30 @@ pub record AreAnswers (worker : ℕ) (lines : List Line) (seen : List Entry) (ca
 abbrev pub HasAnswers : List Line → Seated → List (Result Receipt CallFault) → Type 0
 HasAnswers lines seat answers = AreAnswers seat.worker lines seat.seen seat.tally.calls answers
 
--- the place of an answer in the journal, or why it is in none
-abbrev pub place_of : Result Receipt CallFault → Result ℕ CallFault
-place_of (Ok receipt) = Ok receipt.place
-place_of (Err fault) = Err fault
-
 -- where the answers to the first lines stand
 unfoldable pub stands_of : List Line → List (Result Receipt CallFault) → List (Result ℕ FailedLine)
 stands_of (line ∷ lines) (answer ∷ answers) = stand_at line (place_of answer) ∷ stands_of lines answers
 stands_of [] answers = []
 stands_of (line ∷ lines) [] = []
 
--- these are where the answers to the first lines of a worker stand, who has seen this much
-pub record ArePlaces (worker : ℕ) (lines : List Line) (seen : List Entry) (calls : ℕ)
-    (stands : List (Result ℕ FailedLine)) : Type 0 where
+-- what comes of a client before these lines were answered is what comes of it then, behind the lines and their answers
+abbrev pub GoesOnBehind : {Left : Type 0} → List Line → List (Result Receipt CallFault) → Talk Left → Talk Left → Type 0
+GoesOnBehind {Left} lines answers old new = (more : List Line) (further : List (Result Receipt CallFault)) (left : Left)
+    → new more further left → old (lines ++ more) (answers ++ further) left
+
+-- a worker who had seen this much, and has seen that much now, has gone some lines further with its client: it has
+-- answers to them behind those that it had, which stand behind those that stood, and so the client goes on
+pub record HasGone {Left : Type 0} (seen later : List Entry) (old new : Seated)
+    (before after : List (Result ℕ FailedLine)) (from to : Talk Left) : Type 0 where
+  pub worker : new.worker ≡ old.worker
+  pub lines : List Line
   pub answers : List (Result Receipt CallFault)
-  pub placed : stands ≡ stands_of lines answers
-  pub are : AreAnswers worker lines seen calls answers
-
--- the lines of a script, and how many of them were taken
-pub record Taking : Type 0 where
-  pub all : List Line
-  pub taken : ℕ
-
--- of a script, which is no longer than it may be, no line was taken; no answer stands anywhere, and there is room for
--- all
-pub record IsNew (lines : Taking) (places : Standing) : Type 0 where
-  pub short : length lines.all ≤ MAX_LINES
-  pub none : (lines.taken ≡ 0) × (places.stands ≡ [])
-  pub room : length lines.all ≤ places.room
-
--- the worker of this seat, who has seen this much, was answered each line that was taken, and there is room for all
-pub record IsUnderWay (lines : Taking) (seen : List Entry) (seat : Seated) (places : Standing) : Type 0 where
-  pub placed : ArePlaces seat.worker lines.all seen seat.tally.calls places.stands
-  pub each : length places.stands ≡ lines.taken
-  pub few : lines.taken ≤ length lines.all
-  pub room : length lines.all ≤ lines.taken + places.room
+  pub each : length answers ≡ length lines
+  pub stands : after ≡ before ++ stands_of lines answers
+  pub are : (first : List Line) (given : List (Result Receipt CallFault)) → length given ≡ length first
+      → AreAnswers old.worker first seen old.tally.calls given
+      → AreAnswers old.worker (first ++ lines) later new.tally.calls (given ++ answers)
+  pub goes_on : GoesOnBehind lines answers from to
 
 -- the worker who has this seat holds the lock, may make N calls under it, and has seen a prefix of the journal
 pub record MayMake (many : ℕ) (held : Holding) (seat : Seated) : Type 0 where
@@ -117,44 +92,28 @@ pub record IsWork (worker : ℕ) (lines : List Line) (d : Done) : Type 0 where
   pub each : length d.answers ≡ length lines
   pub are : AreAnswers worker lines d.share.seen d.share.tally.calls d.answers
 
--- a worker's share, and where its answers stand
-pub record Placed : Type 0 where
-  pub share : HandedIn
-  pub places : Standing
-
 -- where these answers stand, and there are no more
 abbrev pub standing_of : List Line → List (Result Receipt CallFault) → Standing
 standing_of lines answers = record { stands = stands_of lines answers; room = 0 }
 
--- the share of the worker who has played this script, which is no longer than it may be, and where an answer to each
--- line stands
-pub record IsPlaced (worker : ℕ) (lines : List Line) (p : Placed) : Type 0 where
-  pub short : length lines ≤ MAX_LINES
-  pub answers : List (Result Receipt CallFault)
-  pub placed : p.places ≡ standing_of lines answers
-  pub work : IsWork worker lines (record { share = p.share; answers = answers })
-
--- each worker, from 1, has played its script
-pub record AreWorks (scripts : List (List Line)) (works : List Placed) : Type 0 where
-  pub many : length works ≡ length scripts
-  pub each : (k : ℕ) (p : Placed) (lines : List Line) → k < length scripts
-      → IsPlaced (k + 1) (slice_index_or scripts k lines) (slice_index_or works k p)
-
--- a worker that is ready to serve: its number, and its client
-pub record Attending (C : Type 0) : Type 0 where
-  pub worker : ℕ
-  pub client : C
-
--- a worker's share, its client's transcript, and what is left of the client
-pub record Serving (Left : Type 0) : Type 0 where
+-- a worker's share, where its answers stand, and what is left of its client
+pub record Worked (Left : Type 0) : Type 0 where
   pub share : HandedIn
-  pub transcript : Transcript
+  pub places : Standing
   pub left : Left
 
--- this worker has played the lines of its client, with an answer to each, and no more than a client may hand out; and
--- these lines and answers are what came of the client
-pub record IsServed {Left : Type 0} (worker : ℕ) (talk : Talk Left) (s : Serving Left) : Type 0 where
-  pub worker_is : s.transcript.worker ≡ worker
-  pub work : IsWork worker s.transcript.lines (record { share = s.share; answers = s.transcript.answers })
-  pub talked : talk s.transcript.lines s.transcript.answers s.left
-  pub few : length s.transcript.lines ≤ MAX_GIVEN
+-- this worker has played lines, with an answer to each, which stand at these places; and these lines and answers are
+-- what came of its client
+pub record IsPlayed {Left : Type 0} (worker : ℕ) (talk : Talk Left) (w : Worked Left) : Type 0 where
+  pub lines : List Line
+  pub answers : List (Result Receipt CallFault)
+  pub placed : w.places ≡ standing_of lines answers
+  pub work : IsWork worker lines (record { share = w.share; answers = answers })
+  pub talked : talk lines answers w.left
+
+-- each worker, from 1, has played what its client handed out
+pub record ArePlayed {C Left : Type 0} (talk : C → Talk Left) (clients : List C) (works : List (Worked Left))
+    : Type 0 where
+  pub many : length works ≡ length clients
+  pub each : (k : ℕ) (c : C) (w : Worked Left) → k < length clients
+      → IsPlayed (k + 1) (talk (slice_index_or clients k c)) (slice_index_or works k w)

@@ -1,252 +1,262 @@
-//! One worker: a seat, a script, and the thread in which it is played.
-ghost use Rattle.std.specs.Prelude.{◌≡◌, ◌+◌, ◌<◌, ◌≤◌, ◌++◌, ◌∷◌, [], length, slice_index_or, IfOk};
-ghost use Rattle.qplain.specs.declared.bounds.TheConstants.{MAX_ENTRIES};
-ghost use Rattle.qplain.specs.declared.line.Line.{Line as LineValue};
+//! One worker: a seat, a client, and the thread in which that is served.
+ghost use Rattle.std.specs.Prelude.{◌≡◌, ◌+◌, ◌<◌, ◌≤◌, None, IsSome};
 ghost use Rattle.qplain.specs.Journal.{no_tally};
 ghost use Rattle.qshare.specs.declared.held.TheConstants.{MAX_BATCH};
-ghost use Rattle.qrun_replay.specs.Places.{stand_at};
-ghost use Rattle.qrun_worker.specs.Work.{IsNew, IsPlaced, IsPrepared, IsUnderWay, MayMake};
+ghost use Rattle.qrun_worker.specs.Work.{HasGone, IsNew, IsPlayed, MayMake};
 
 use crate::gate::Gate;
-use crate::lines::Lines;
-use qplain::{CallFault, Line, NoMemory, Script};
+use qrun_client::Client;
 use qrun_replay::Places;
 use qshare::{Boards, Held, Seat, Shared};
 use qshare_history::{Share, StoreId};
-use std::alloc::Global;
 use std::marker::Model;
 use std::snapshot::Snapshot;
 use std::sync::Wait;
 use std::thread::Promise;
 
-/// What a worker has done: its share, and where the answer to each of its lines stands.
+/// What a worker has done: its share, where the answers to its lines stand, and what is left of its client.
 #[derive(Drop)]
-pub struct Work<S: StoreId> {
+pub struct Work<S: StoreId, L: Drop> {
     pub share: Share<S>,
     pub places: Places,
+    pub left: L,
 }
 
-impl<S: StoreId> Model for Work<S> {
-    ghost use Rattle.qrun_worker.specs.Work.{Placed};
+impl<S: StoreId, L: Drop> Model for Work<S, L> {
+    ghost use Rattle.qrun_worker.specs.Work.{Worked};
 
-    ghost Value = { Placed };
+    ghost Value = { Worked L };
 
-    ghost view = { λ w. record { share = w.share; places = w.places } };
+    ghost view = { λ w. record { share = w.share; places = w.places; left = w.left } };
 }
 
-/// That this worker plays these lines.
+/// That this worker plays what this client hands out.
 #[derive(Drop)]
-pub struct Plays {
+pub struct Plays<C> {
     pub worker: u64,
-    pub lines: Snapshot<Vec<Line>>,
+    pub client: Snapshot<C>,
 }
 
-impl<S: StoreId> Promise<Work<S>> for Plays {
-    ghost use Rattle.qrun_worker.specs.Work.{IsPlaced};
+impl<S: StoreId, C: Client> Promise<Work<S, C::Left>> for Plays<C> {
+    ghost use Rattle.qrun_worker.specs.Work.{IsPlayed};
 
-    ghost kept_by = { λ p w. IsPlaced p.worker p.lines.value.items w };
+    ghost kept_by = { λ p w. IsPlayed p.worker (C.talk p.client.value) w };
 }
 
-/// A worker that is ready to start, with all that it takes along: its seat, which is new, the lines of its script, for
-/// how many lines at a time it takes the lock, and room for the place of each. Contracts see its number and its script.
+/// A worker that is ready to start, with all that it takes along: its seat, its client, which are new, and for how many
+/// lines at a time it takes the lock. Contracts see its number and its client.
 #[derive(Drop)]
-pub struct Worker<'a, 'b, 'c, S: StoreId, B: Boards<S>, V: Drop, G: Gate, R: Wait> {
+pub struct Worker<
+    'a,
+    'b,
+    'c,
+    S: StoreId,
+    B: Boards<S>,
+    V: Drop,
+    C: Client + Drop,
+    G: Gate,
+    R: Wait,
+> {
     rt: &'a R,
     shared: &'b Shared<S, B>,
     gate: &'c G,
-    lines: Vec<Line>,
+    client: C,
     batch: usize,
     seat: Seat<S, V>,
-    places: Places,
 }
 
-impl<'a, 'b, 'c, S: StoreId, B: Boards<S>, V: Drop, G: Gate, R: Wait> Model
-    for Worker<'a, 'b, 'c, S, B, V, G, R> {
+impl<'a, 'b, 'c, S: StoreId, B: Boards<S>, V: Drop, C: Client + Drop, G: Gate, R: Wait> Model
+    for Worker<'a, 'b, 'c, S, B, V, C, G, R> {
     ghost use Rattle.std.specs.Prelude.{◌≡◌, ◌<◌, ◌≤◌};
     ghost use Rattle.qplain.specs.Journal.{no_tally};
     ghost use Rattle.qshare.specs.declared.held.TheConstants.{MAX_BATCH};
     ghost use Rattle.qrun_worker.specs.Work.{IsNew, Prepared};
 
-    ghost Value = { Prepared };
+    ghost Value = { Prepared C };
 
-    ghost view = { λ w. record { worker = w.seat.worker; lines = w.lines.items } };
+    ghost view = { λ w. record { worker = w.seat.worker; client = w.client } };
 
     ghost invariant = { λ w. (0 < w.batch) × (w.batch ≤ MAX_BATCH) × (w.seat.tally ≡ no_tally)
-        × IsNew (record { all = w.lines.items; taken = 0 }) w.places };
+        × IsNew (C.owed w.client) (C.stands w.client) };
 }
 
-impl<'a, 'b, 'c, S: StoreId, B: Boards<S>, V: Drop, G: Gate, R: Wait> Worker<
+impl<'a, 'b, 'c, S: StoreId, B: Boards<S>, V: Drop, C: Client + Drop, G: Gate, R: Wait> Worker<
     'a,
     'b,
     'c,
     S,
     B,
     V,
+    C,
     G,
     R,
 > {
+    /// A worker with a new seat for a client that has handed out nothing, which takes the lock for 1 to 64 lines at a
+    /// time.
+    pub fn new(
+        rt: &'a R,
+        shared: &'b Shared<S, B>,
+        gate: &'c G,
+        batch: u64,
+        seat: Seat<S, V>,
+        client: C,
+    ) -> Worker<'a, 'b, 'c, S, B, V, C, G, R>
+        requires batch { (0 < batch) × (batch ≤ MAX_BATCH) }
+        requires seat { seat.tally ≡ no_tally }
+        requires new { IsNew (C.owed client) (C.stands client) }
+        ensures { result ≡ record { worker = seat.worker; client = client } }
+    {
+        Worker {
+            rt,
+            shared,
+            gate,
+            client,
+            batch: batch as usize,
+            seat,
+        }
+    }
+
     /// What its thread promises.
-    pub fn plays(&self) -> Plays
-        ensures { (result.worker ≡ self.now.worker) × (result.lines.value.items ≡ self.now.lines) }
+    pub fn plays(&self) -> Plays<C>
+        ensures { (result.worker ≡ self.now.worker) × (result.client.value ≡ self.now.client) }
     {
         Plays {
             worker: self.seat.worker(),
-            lines: Snapshot::of(&self.lines),
+            client: Snapshot::of(&self.client),
         }
     }
 }
 
-/// A worker with a new seat, and with room for the place of each of its lines.
-pub fn worker_of<'a, 'b, 'c, S: StoreId, B: Boards<S>, V: Drop, G: Gate, R: Wait>(
-    alloc: Global,
-    rt: &'a R,
-    shared: &'b Shared<S, B>,
-    gate: &'c G,
-    script: Script,
-    batch: u64,
-    seat: Seat<S, V>,
-) -> Result<Worker<'a, 'b, 'c, S, B, V, G, R>, NoMemory>
-    requires seat { seat.tally ≡ no_tally }
-    requires batch { (0 < batch) × (batch ≤ MAX_BATCH) }
-    ensures { IfOk result (IsPrepared seat.worker script) }
-{
-    let lines = script.into_lines().into_vec();
-    let places = Places::new(alloc, lines.len())?;
-    Ok(Worker {
-        rt,
-        shared,
-        gate,
-        lines,
-        batch: batch as usize,
-        seat,
-        places,
-    })
-}
-
-/// Keeps where the answer to the next line stands, and the line where it is in no journal.
-#[inline(always)]
-fn keep_place(lines: &mut Lines, places: &mut Places, place: Result<u64, CallFault>)
-    requires next { lines.old.taken < length lines.old.all }
-    requires room { 0 < places.old.room }
-    requires low { IfOk place (λ n. n ≤ MAX_ENTRIES) }
-    ensures lines { lines.new ≡ record lines.old { taken = lines.old.taken + 1 } }
-    ensures stands { (default : LineValue) → places.new.stands
-        ≡ places.old.stands ++ stand_at (slice_index_or lines.old.all lines.old.taken default) place ∷ [] }
-    ensures room { places.new.room + 1 ≡ places.old.room }
-{
-    match place {
-        Ok(place) => {
-            places.push(place);
-            lines.pass();
-        }
-        Err(fault) => places.push_failed(lines.take(), fault),
-    }
-}
-
-/// Makes the calls of a script one after the other, and goes on after any answer.
-fn play_lines<S: StoreId, B: Boards<S>, V: Drop, G: Gate, R: Wait>(
+/// Makes a client's calls one after the other, and goes on after any answer, until it has no more lines.
+fn play_lines<S: StoreId, B: Boards<S>, V: Drop, C: Client, G: Gate, R: Wait>(
     rt: &R,
     shared: &Shared<S, B>,
     gate: &G,
-    mut lines: Lines,
-    mut seat: Seat<S, V>,
-    mut places: Places,
-) -> Work<S>
-    requires seat { seat.tally ≡ no_tally }
-    requires new { IsNew lines places }
-    ensures { IsPlaced seat.worker lines.all result }
+    client: &mut C,
+    seat: &mut Seat<S, V>,
+)
+    requires answered { C.owed client.old ≡ None }
+    ensures gone { HasGone seat.old.seen seat.new.seen seat.old seat.new (C.stands client.old) (C.stands client.new)
+        (C.talk client.old) (C.talk client.new) }
+    ensures ended { (C.owed client.new ≡ None) × C.has_ended client.new }
 {
     let worker = seat.worker();
-    for before in 0..lines.len() {
-        gate.before(worker, before + 1);
-        let line = lines.peek();
-        let place = shared.place(rt, &mut seat, &line.cred, line.moment, &line.call);
-        gate.after(worker, before + 1);
-        keep_place(&mut lines, &mut places, place);
-        lines.give_back();
+    let mut number = 0usize;
+    for _ in rt.forever() {
+        if !client.next() {
+            return;
+        }
+        number = number.wrapping_add(1);
+        gate.before(worker, number);
+        let line = client.line();
+        let answer = shared.call(rt, seat, &line.cred, line.moment, &line.call);
+        gate.after(worker, number);
+        client.tell(answer);
     }
-    Work {
-        share: seat.finish(),
-        places: places.close(),
-    }
+    unreachable!()
 }
 
-/// Makes the next calls of a script, of which there are at most 64, under a lock that is held, and then gives it back.
-fn play_held<S: StoreId, B: Boards<S>, V: Drop, R: Wait>(
+/// Makes the call of the line that a client has handed out, under a lock that is held.
+#[inline(always)]
+fn play_one<S: StoreId, B: Boards<S>, V: Drop, C: Client>(
+    held: &mut Held<'_, S, B>,
+    client: &mut C,
+    seat: &mut Seat<S, V>,
+)
+    requires owed { IsSome (C.owed client.old) }
+    requires held { (0 < held.old.room) × (seat.old.worker ≡ held.old.by) }
+    ensures gone { HasGone held.old.journal held.new.journal seat.old seat.new (C.stands client.old)
+        (C.stands client.new) (C.talk client.old) (C.talk client.new) }
+    ensures answered { C.owed client.new ≡ None }
+    ensures held { (held.new.by ≡ held.old.by) × (held.old.room ≤ held.new.room + 1) }
+{
+    let line = client.line();
+    let answer = held.apply(seat, &line.cred, line.moment, &line.call);
+    client.tell(answer);
+}
+
+/// Makes the calls of the line that a client has handed out, and of those behind it that are at hand, up to so many in
+/// all, under a lock that is held, and then gives it back. It tells how many it has made.
+fn play_held<S: StoreId, B: Boards<S>, V: Drop, C: Client, R: Wait>(
     rt: &R,
     held: Held<'_, S, B>,
-    lines: &mut Lines,
+    client: &mut C,
     many: usize,
     seat: &mut Seat<S, V>,
-    places: &mut Places,
-)
-    requires held { MayMake many held seat.old }
-    requires many { lines.old.taken + many ≤ length lines.old.all }
-    requires so_far { IsUnderWay lines.old seat.old.seen seat.old places.old }
-    ensures now { IsUnderWay lines.new seat.new.seen seat.new places.new }
-    ensures lines { lines.new ≡ record lines.old { taken = lines.old.taken + many } }
-    ensures worker { seat.new.worker ≡ seat.old.worker }
+) -> usize
+    requires owed { IsSome (C.owed client.old) }
+    requires many { (0 < many) × MayMake many held seat.old }
+    ensures gone { HasGone seat.old.seen seat.new.seen seat.old seat.new (C.stands client.old) (C.stands client.new)
+        (C.talk client.old) (C.talk client.new) }
+    ensures answered { C.owed client.new ≡ None }
 {
     let mut held = held;
-    for _ in 0..many {
-        let line = lines.peek();
-        let place = held.place(seat, &line.cred, line.moment, &line.call);
-        keep_place(lines, places, place);
+    let mut made = 1;
+    play_one(&mut held, client, seat);
+    for _ in 1..many {
+        if !client.next_at_hand() {
+            break;
+        }
+        play_one(&mut held, client, seat);
+        made += 1;
     }
     held.release(rt, seat);
-    lines.give_back();
+    made
 }
 
-/// Makes the calls of a script, so many at a time under one taking of the lock, and waits at the gate before the first
-/// and after the last of them.
-fn play_batches<S: StoreId, B: Boards<S>, V: Drop, G: Gate, R: Wait>(
+/// Makes a client's calls, of those that are at hand so many at a time under one taking of the lock, and waits at the
+/// gate before the first and after the last of them, until it has no more lines.
+fn play_batches<S: StoreId, B: Boards<S>, V: Drop, C: Client, G: Gate, R: Wait>(
     rt: &R,
     shared: &Shared<S, B>,
     gate: &G,
-    mut lines: Lines,
+    client: &mut C,
     batch: usize,
-    mut seat: Seat<S, V>,
-    mut places: Places,
-) -> Work<S>
+    seat: &mut Seat<S, V>,
+)
     requires batch { (0 < batch) × (batch ≤ MAX_BATCH) }
-    requires seat { seat.tally ≡ no_tally }
-    requires new { IsNew lines places }
-    ensures { IsPlaced seat.worker lines.all result }
+    requires answered { C.owed client.old ≡ None }
+    ensures gone { HasGone seat.old.seen seat.new.seen seat.old seat.new (C.stands client.old) (C.stands client.new)
+        (C.talk client.old) (C.talk client.new) }
+    ensures ended { (C.owed client.new ≡ None) × C.has_ended client.new }
 {
     let worker = seat.worker();
-    let all = lines.len();
-    while lines.len() > 0 {
-        let many = lines.len().min(batch);
-        gate.before(worker, all - lines.len() + 1);
-        let held = shared.hold(rt, &mut seat);
-        play_held(rt, held, &mut lines, many, &mut seat, &mut places);
-        gate.after(worker, all - lines.len());
+    let mut number = 0usize;
+    for _ in rt.forever() {
+        if !client.next() {
+            return;
+        }
+        gate.before(worker, number.wrapping_add(1));
+        let held = shared.hold(rt, seat);
+        number = number.wrapping_add(play_held(rt, held, client, batch, seat));
+        gate.after(worker, number);
     }
-    Work {
-        share: seat.finish(),
-        places: places.close(),
-    }
+    unreachable!()
 }
 
-/// Plays a worker's script.
-pub fn play<S: StoreId, B: Boards<S>, V: Drop, G: Gate, R: Wait>(
-    worker: Worker<'_, '_, '_, S, B, V, G, R>,
-) -> Work<S>
-    ensures { IsPlaced worker.entry.worker worker.entry.lines result }
+/// Plays what a worker's client hands out, until it has no more lines.
+pub fn play<S: StoreId, B: Boards<S>, V: Drop, C: Client + Drop, G: Gate, R: Wait>(
+    worker: Worker<'_, '_, '_, S, B, V, C, G, R>,
+) -> Work<S, C::Left>
+    ensures { IsPlayed worker.entry.worker (C.talk worker.entry.client) result }
 {
     let Worker {
         rt,
         shared,
         gate,
-        lines,
+        mut client,
         batch,
-        seat,
-        places,
+        mut seat,
     } = worker;
-    let lines = Lines::new(lines);
     if batch == 1 {
-        play_lines(rt, shared, gate, lines, seat, places)
+        play_lines(rt, shared, gate, &mut client, &mut seat);
     } else {
-        play_batches(rt, shared, gate, lines, batch, seat, places)
+        play_batches(rt, shared, gate, &mut client, batch, &mut seat);
+    }
+    let (places, left) = client.into_parts();
+    Work {
+        share: seat.finish(),
+        places,
+        left,
     }
 }

@@ -38,17 +38,9 @@ pub record IsHeldCall (line : Line) (old new : Holding) (before after : Seated) 
   pub seat : after ≡ record before { tally = after.tally }
   pub room : new.room + 1 ≡ old.room
 
--- this is what is told of a receipt of which that holds
-abbrev pub IsToldOf : {A : Type 0} → (Receipt → A) → (Receipt → Type 0) → A → Type 0
-IsToldOf told is t = (receipt : Receipt) × (t ≡ told receipt) × is receipt
-
--- a receipt of the line would tell this place
-abbrev pub IsCalledAt : Line → Seated → Seated → ℕ → Type 0
-IsCalledAt line old new = IsToldOf (λ receipt. receipt.place) (IsCalled line old new)
-
--- under a lock that the seat holds, a receipt of its line would tell this place
-abbrev pub IsHeldCallAt : Line → Holding → Holding → Seated → Seated → ℕ → Type 0
-IsHeldCallAt line old new before after = IsToldOf (λ receipt. receipt.place) (IsHeldCall line old new before after)
+-- the answer is the form of a receipt of which that holds
+abbrev pub IsFormOf : {A : Type 0} → (Receipt → A) → (Receipt → Type 0) → A → Type 0
+IsFormOf form is a = (receipt : Receipt) × (a ≡ form receipt) × is receipt
 
 -- the same worker holds the lock, nothing more is published, and the journal is legal and no longer than it may be
 pub record StaysHeld (setting : Setting) (old new : Holding) : Type 0 where

@@ -3,7 +3,7 @@ ghost use Rattle.std.specs.Prelude.{◌≡◌, ◌<◌, ◌↔◌, length, Err, 
 ghost use Rattle.qplain.specs.declared.bounds.TheConstants.{MAX_ENTRIES};
 ghost use Rattle.qplain.specs.declared.call_fault.CallFault.TheVariants.{JournalFull};
 ghost use Rattle.qstore_journaled.specs.Lines.{line_of};
-ghost use Rattle.qshare.specs.Calls.{IsHeldCall, IsHeldCallAt, IsToldOf, StaysHeld};
+ghost use Rattle.qshare.specs.Calls.{IsFormOf, IsHeldCall, StaysHeld};
 ghost use Rattle.qshare.specs.Holds.{IsHeldBy};
 ghost use Rattle.qshare.specs.Seats.{HasSeenOn};
 
@@ -11,8 +11,7 @@ use crate::boards::Boards;
 use crate::locked_store::LockedStore;
 use crate::seat::Seat;
 use crate::shared::Shared;
-use crate::told::Told;
-use qplain::{Call, CallFault, Cred, Receipt};
+use qplain::{Call, CallFault, Cred, ReceiptForm};
 use qshare_history::StoreId;
 use std::marker::Model;
 use std::sync::{MutexGuard, Wait};
@@ -91,18 +90,23 @@ impl<'a, S: StoreId, B: Boards<S>> Held<'a, S, B> {
         self.room
     }
 
-    /// Makes a call of the worker that holds the lock, and tells what it is asked for.
+    /// Makes a call of the worker that holds the lock and journals it; what it does to the boards waits for the
+    /// release.
+    ///
+    /// Places count on within one hold. Err is JournalFull, reported first, where the journal has its 1,048,576
+    /// entries, or OutOfMemory; it changes nothing, the room included. Moments, refusals and costs are those of
+    /// `Store::ready`. It is answered as asked for, as by `Shared::call`.
     #[inline(always)]
-    fn make<T: Told, V: Drop>(
+    pub fn apply<A: ReceiptForm, V: Drop>(
         &mut self,
         seat: &mut Seat<S, V>,
         cred: &Cred,
         moment: u64,
         call: &Call,
-    ) -> Result<T, CallFault>
+    ) -> Result<A, CallFault>
         requires room { 0 < self.old.room }
         requires by { seat.old.worker ≡ self.old.by }
-        ensures ok { IfOk result (IsToldOf T.told
+        ensures ok { IfOk result (IsFormOf A.form
             (IsHeldCall (line_of cred.now moment call.now) self.old self.new seat.old seat.new)) }
         ensures stays { StaysHeld S.id.setting self.old self.new }
         ensures err { OnErr result ((self.new ≡ self.old) × (seat.new ≡ seat.old)) }
@@ -110,51 +114,9 @@ impl<'a, S: StoreId, B: Boards<S>> Held<'a, S, B> {
     {
         let worker = seat.worker;
         let store = &mut *self.store;
-        let told = store.apply(worker, &mut seat.tally, cred, moment, call)?;
+        let answer = store.apply(worker, &mut seat.tally, cred, moment, call)?;
         self.room -= 1;
-        Ok(told)
-    }
-
-    /// Makes a call of the worker that holds the lock and journals it; what it does to the boards waits for the
-    /// release.
-    ///
-    /// Places count on within one hold. Err is JournalFull, reported first, where the journal has its 1,048,576
-    /// entries, or OutOfMemory; it changes nothing, the room included. Moments, refusals and costs are those of
-    /// `Store::ready`.
-    pub fn apply<V: Drop>(
-        &mut self,
-        seat: &mut Seat<S, V>,
-        cred: &Cred,
-        moment: u64,
-        call: &Call,
-    ) -> Result<Receipt, CallFault>
-        requires room { 0 < self.old.room }
-        requires by { seat.old.worker ≡ self.old.by }
-        ensures ok { IfOk result (IsHeldCall (line_of cred.now moment call.now) self.old self.new seat.old seat.new) }
-        ensures stays { StaysHeld S.id.setting self.old self.new }
-        ensures err { OnErr result ((self.new ≡ self.old) × (seat.new ≡ seat.old)) }
-        ensures full { (result ≡ Err JournalFull) ↔ (length self.old.journal ≡ MAX_ENTRIES) }
-    {
-        self.make(seat, cred, moment, call)
-    }
-
-    /// `apply`, of which the place is told alone: the reply stands in the journal, and is not copied.
-    pub fn place<V: Drop>(
-        &mut self,
-        seat: &mut Seat<S, V>,
-        cred: &Cred,
-        moment: u64,
-        call: &Call,
-    ) -> Result<u64, CallFault>
-        requires room { 0 < self.old.room }
-        requires by { seat.old.worker ≡ self.old.by }
-        ensures ok { IfOk result
-            (IsHeldCallAt (line_of cred.now moment call.now) self.old self.new seat.old seat.new) }
-        ensures stays { StaysHeld S.id.setting self.old self.new }
-        ensures err { OnErr result ((self.new ≡ self.old) × (seat.new ≡ seat.old)) }
-        ensures full { (result ≡ Err JournalFull) ↔ (length self.old.journal ≡ MAX_ENTRIES) }
-    {
-        self.make(seat, cred, moment, call)
+        Ok(answer)
     }
 
     /// Publishes all that waits, lets the seat see it, and gives the lock back.

@@ -30,4 +30,3 @@ mod seat;
 mod seating;
 mod share_fault;
 mod shared;
-mod told;

@@ -9,14 +9,13 @@ ghost use Rattle.qplain.specs.State.{start};
 ghost use Rattle.qshare_history.specs.Histories.{recorded};
 ghost use Rattle.qstore_journaled.specs.Journaled.{IsStoreOf};
 ghost use Rattle.qstore_journaled.specs.Lines.{line_of};
-ghost use Rattle.qshare.specs.Calls.{IsJournaled, IsToldOf};
+ghost use Rattle.qshare.specs.Calls.{IsFormOf, IsJournaled};
 ghost use Rattle.qshare.specs.Ends.{IsEndOf};
 ghost use Rattle.qshare.specs.Locked.{IsNew};
 
 use crate::boards::Boards;
 use crate::no_boards::NoBoards;
-use crate::told::Told;
-use qplain::{Call, CallFault, Cred};
+use qplain::{Call, CallFault, Cred, ReceiptForm};
 use qshare_history::{History, Prefix, SeatTally, Share, StoreId, TallyPart, TallyTotal, together};
 use qstore_journaled::JournaledStore;
 use std::marker::Model;
@@ -103,22 +102,22 @@ impl<S: StoreId, B: Boards<S>> LockedStore<S, B> {
         self.seats
     }
 
-    /// Makes a call and journals it, and tells what it is asked for; entry and what the call does to the boards wait to
-    /// be published.
+    /// Makes a call and journals it, and answers in the form that is asked for; entry and what the call does to the
+    /// boards wait to be published.
     ///
     /// Err is JournalFull, reported first, where the journal has its 1,048,576 entries, or OutOfMemory; it changes
     /// nothing.
     #[inline(always)]
-    pub(crate) fn apply<T: Told>(
+    pub(crate) fn apply<A: ReceiptForm>(
         &mut self,
         worker: u64,
         mine: &mut SeatTally<S>,
         cred: &Cred,
         moment: u64,
         call: &Call,
-    ) -> Result<T, CallFault>
+    ) -> Result<A, CallFault>
         requires parts { 0 < mine.old.parts }
-        ensures ok { IfOk result (IsToldOf T.told (IsJournaled worker (line_of cred.now moment call.now)
+        ensures ok { IfOk result (IsFormOf A.form (IsJournaled worker (line_of cred.now moment call.now)
             self.old.journal self.new.journal mine.old.tally mine.new.tally)) }
         ensures stays { (mine.new.parts ≡ mine.old.parts) × (self.new.published ≡ self.old.published) }
         ensures err { OnErr result ((self.new ≡ self.old) × (mine.new ≡ mine.old)) }
@@ -128,7 +127,7 @@ impl<S: StoreId, B: Boards<S>> LockedStore<S, B> {
         self.store.ready(worker, cred, moment, call)?;
         let reply = &self.store.next().reply;
         let change = reply.change();
-        let Ok(told) = T::of(self.store.entries().len() as u64 + 1, reply) else {
+        let Ok(answer) = A::of(self.store.entries().len() as u64 + 1, reply) else {
             return Err(CallFault::OutOfMemory);
         };
         let Ok(()) = self.boards.note(&self.store) else {
@@ -136,7 +135,7 @@ impl<S: StoreId, B: Boards<S>> LockedStore<S, B> {
         };
         let _place = self.store.commit();
         self.tally.count_call(mine, change, self.store.tallies());
-        Ok(told)
+        Ok(answer)
     }
 
     /// Publishes the whole journal, with its board where somebody can look at it. It takes no memory but for the log of

@@ -5,7 +5,7 @@ ghost use Rattle.qplain.specs.declared.bounds.TheConstants.{MAX_ENTRIES};
 ghost use Rattle.qplain.specs.declared.call_fault.CallFault.TheVariants.{JournalFull};
 ghost use Rattle.qshare_history.specs.Shares.{AreThere, IsLeastMissing};
 ghost use Rattle.qstore_journaled.specs.Lines.{line_of};
-ghost use Rattle.qshare.specs.Calls.{IsCalled, IsCalledAt, IsToldOf};
+ghost use Rattle.qshare.specs.Calls.{IsCalled, IsFormOf};
 ghost use Rattle.qshare.specs.Ends.{IsEndOf};
 ghost use Rattle.qshare.specs.Seats.{HasSeenOn};
 
@@ -13,8 +13,7 @@ use crate::boards::Boards;
 use crate::end_fault::EndFault;
 use crate::locked_store::LockedStore;
 use crate::seat::Seat;
-use crate::told::Told;
-use qplain::{Call, CallFault, Cred, Receipt};
+use qplain::{Call, CallFault, Cred, ReceiptForm};
 use qshare_history::{Share, StoreId, least_missing};
 use qstore_journaled::JournaledStore;
 use std::sync::{Mutex, Wait};
@@ -30,20 +29,20 @@ pub struct Shared<S: StoreId, B: Boards<S>> {
     pub(crate) lock: Mutex<LockedStore<S, B>>,
 }
 
-/// Makes a call on a store whose lock is held, publishes all that waits, lets the seat see it, and tells what it is
-/// asked for.
+/// Makes a call on a store whose lock is held, publishes all that waits, lets the seat see it, and answers in the
+/// form that is asked for.
 #[inline(always)]
-fn call_locked<T: Told, S: StoreId, B: Boards<S>, V: Drop, W: Wait>(
+fn call_locked<A: ReceiptForm, S: StoreId, B: Boards<S>, V: Drop, W: Wait>(
     rt: &W,
     store: &mut LockedStore<S, B>,
     seat: &mut Seat<S, V>,
     cred: &Cred,
     moment: u64,
     call: &Call,
-) -> Result<T, CallFault>
+) -> Result<A, CallFault>
     ensures seen { HasSeenOn S.id.setting seat.old seat.new }
     ensures called { IfOk result
-        (IsToldOf T.told (IsCalled (line_of cred.now moment call.now) seat.old seat.new)) }
+        (IsFormOf A.form (IsCalled (line_of cred.now moment call.now) seat.old seat.new)) }
     ensures kept { OnErr result (seat.new.tally ≡ seat.old.tally) }
     ensures full { IfErr result (λ f. (f ≡ JournalFull) ↔ (length seat.new.seen ≡ MAX_ENTRIES)) }
     ensures stays_full { MAX_ENTRIES ≤ length seat.old.seen → result ≡ Err JournalFull }
@@ -71,39 +70,21 @@ impl<S: StoreId, B: Boards<S>> Shared<S, B> {
     /// place, after all that it had seen; so the call is published. Err is JournalFull, reported first, where the
     /// journal has its 1,048,576 entries, or OutOfMemory; it changes nothing, and the call is in no journal. Moments,
     /// refusals and costs are those of `Store::ready`.
-    // Clients of streams have a loop around it: in its place it moves no reply from hand to hand.
+    ///
+    /// It is answered as asked for: by the receipt, or by the place alone (`u64`), for which no reply is copied.
+    // A worker has a loop around it: in its place it moves no reply from hand to hand.
     #[inline(always)]
-    pub fn call<V: Drop, W: Wait>(
+    pub fn call<A: ReceiptForm, V: Drop, W: Wait>(
         &self,
         rt: &W,
         seat: &mut Seat<S, V>,
         cred: &Cred,
         moment: u64,
         call: &Call,
-    ) -> Result<Receipt, CallFault>
+    ) -> Result<A, CallFault>
         ensures seen { HasSeenOn S.id.setting seat.old seat.new }
-        ensures called { IfOk result (IsCalled (line_of cred.now moment call.now) seat.old seat.new) }
-        ensures kept { OnErr result (seat.new.tally ≡ seat.old.tally) }
-        ensures full { IfErr result (λ f. (f ≡ JournalFull) ↔ (length seat.new.seen ≡ MAX_ENTRIES)) }
-        ensures stays_full { MAX_ENTRIES ≤ length seat.old.seen → result ≡ Err JournalFull }
-    {
-        let mut store = self.lock.lock(rt);
-        call_locked(rt, &mut *store, seat, cred, moment, call)
-    }
-
-    /// `call`, of which the place is told alone, from 1: the reply stands in the journal, and is not copied.
-    // Scripts have a loop around it.
-    #[inline(always)]
-    pub fn place<V: Drop, W: Wait>(
-        &self,
-        rt: &W,
-        seat: &mut Seat<S, V>,
-        cred: &Cred,
-        moment: u64,
-        call: &Call,
-    ) -> Result<u64, CallFault>
-        ensures seen { HasSeenOn S.id.setting seat.old seat.new }
-        ensures called { IfOk result (IsCalledAt (line_of cred.now moment call.now) seat.old seat.new) }
+        ensures called { IfOk result
+            (IsFormOf A.form (IsCalled (line_of cred.now moment call.now) seat.old seat.new)) }
         ensures kept { OnErr result (seat.new.tally ≡ seat.old.tally) }
         ensures full { IfErr result (λ f. (f ≡ JournalFull) ↔ (length seat.new.seen ≡ MAX_ENTRIES)) }
         ensures stays_full { MAX_ENTRIES ≤ length seat.old.seen → result ≡ Err JournalFull }

@@ -1,25 +1,27 @@
--- What comes of a client whose output may have refused, and of one that is taken apart.
-use Rattle.std.proofs.Common.{◌≡◌, ◌⊎◌, inl, inr, ℕ, ◌+◌, ◌≤◌, ◌<◌, Bool, true, false, ◌&&◌, List, [], ◌∷◌, ◌++◌, length, Option, Some, None, IfSome, IsSome, Result, Ok, refl, sym, ap, subst, ◌∙◌, append-nil, length-append, arith}
+-- What comes of clients of streams.
+use Rattle.std.proofs.Common.{◌≡◌, ◌⊎◌, inl, inr, ℕ, ◌+◌, ◌≤◌, ◌&&◌, List, [], ◌∷◌, ◌++◌, length, Option, Some, None, IfSome, IsSome, Result, Ok, Err, refl, sym, ap, subst, ◌∙◌, append-nil, length-append, arith}
 use Rattle.std.proofs.lemmas.List.Elements.{All-nil}
 use Rattle.qplain.specs.declared.call_fault.CallFault.{CallFault}
 use Rattle.qplain.specs.declared.line.Line.{Line}
 use Rattle.qplain.specs.declared.receipt.Receipt.{Receipt}
-use Rattle.qrun_client.specs.Clients.{ComesOf}
+use Rattle.qrun_client.specs.Clients.{ComesOf, GoesOn, in_form}
 use Rattle.qrun_client.specs.declared.client.ClientEnd.{ClientEnd}
-use Rattle.qrun_client.specs.declared.client.ClientEnd.TheVariants.{Output, Served}
+use Rattle.qrun_client.specs.declared.client.ClientEnd.TheVariants.{Served}
+use Rattle.qrun_replay.specs.declared.failed_line.FailedLine.{FailedLine}
 use Rattle.qtext_files.specs.Scripts.{script_of}
-use Rattle.qtext_write.specs.Answers.{answer_text}
-use Rattle.qtext_client.specs.Conversations.{AreFirstLines, IsToldOf, Progress, comes_to}
+use Rattle.qtext_client.specs.Conversations.{AreFirstLines, ComesTo, IsToldOf, Progress, StaysThere, TalksOn, comes_to, lines_said}
 use Rattle.qtext_client.specs.Hearings.{IsToldAlone}
 use Rattle.qtext_client.specs.Tellings.{has_failed, telling_text}
-use Rattle.qtext_client.specs.Wires.{EndsBy, HasEnded, HasLetGo, Hears, IsGone, IsGoneIf, IsToldLast, Stays, TellsNothing, Wire}
+use Rattle.qtext_client.specs.Wires.{HasEnded, HasLetGo, Hears, IsGone, IsToldLast, Stays, TellsNothing, Wire}
 use Rattle.qtext_client.specs.declared.telling.LineFault.TheVariants.{Text, Length}
 use Rattle.qtext_client.specs.declared.telling.Telling.{Telling}
 use Rattle.qtext_client.specs.declared.telling.Telling.TheVariants.{Answer, Fault, NoMemory}
-use Rattle.qtext_client.proofs.Talking.{Comes, answered_so, at, ended_so, gone_so, has_ended_so, handed_so, known_still, none_told, stays_so, told_so}
+use Rattle.qtext_client.proofs.Talking.{ends_by, has_ended_so, heard_so, no_end, none_told, stays_so, told_so}
 
-no_end : IsSome {T = ClientEnd} None → ⊥
-no_end some = absurd cc
+-- an answer in its own form
+pub in_own_form : (answer : Result Receipt CallFault) → in_form (λ receipt. receipt) answer ≡ answer
+in_own_form (Ok receipt) = refl
+in_own_form (Err fault) = refl
 
 -- what may be told of a line of a client that hands out so many may be told where it hands out more
 told_later : (few many : ℕ) (text : List ℕ) (telling : Telling) → few ≤ many → IsToldOf few text telling → IsToldOf many text telling
@@ -29,190 +31,93 @@ told_later few many text (Fault (Text kind)) less (inr full) = inr (full.0, omeg
 told_later few many text (Fault Length) less is = is
 told_later few many text NoMemory less is = is
 
--- where a text could not be told, it is as if it had been told to an output of which nothing is known
-unheard : Wire → Wire
-unheard mid = record { hears = mid.hears; wrote = None; end = None }
-
-ends_unheard : (mid new : Wire) → EndsBy Output mid new → EndsBy Output (unheard mid) new
-unfolding unheard
-ends_unheard mid new ends = record {
-  still = refl;
-  ends = ends.ends;
-  deaf = ends.deaf;
-  all = λ is. absurd cc;
-  wrote = λ other. absurd (other refl);
-}
-
--- who has ended is as it was
-stays_gone : (last : Bool) (old new : Wire) → IsGoneIf last old new → IsSome old.end → new ≡ old
-stays_gone true old new (by, other, inl gone) some = absurd (no_end (subst IsSome gone.still some))
-stays_gone true old new (by, other, inr before) some = before.1
-stays_gone false old new same some = same
-
-has_end : (end : Option ClientEnd) (e : ClientEnd) → end ≡ Some e → IsSome end
-has_end end e is = subst IsSome (sym is) refl
-
-module _ (stops : Bool) (given : List Line) (told : List (Result Receipt CallFault)) (lines : List Line)
-    (answers : List (Result Receipt CallFault)) (wrote : Option (List ℕ)) (end : ClientEnd) where
-  apart : false ≡ true → ⊥
-  apart is = absurd cc
-
-  -- what comes of it where it may have ended by then; where that was so at a failed line nothing more was told
-  comes_by : (failed last : Bool) → last ≡ (stops && failed) → (told : List (Result Receipt CallFault)) (old new : Wire) → old.end ≡ None
-      → IsGoneIf last old new → Comes stops lines answers wrote end (at stops given told new)
-      → (comes : Comes stops lines answers wrote end (at stops given told old))
-      × (stops ≡ true → failed ≡ true → comes.talk.exchanges ≡ [])
-  comes_by failed true is told old new still gone comes =
-      let before = gone_so stops lines answers wrote end given told old new gone comes in
-      (before.0, λ careful fails. before.1 still)
-  comes_by failed false is told old new still same comes = (
-    subst (λ w. Comes stops lines answers wrote end (at stops given told w)) same comes,
-    λ careful fails. absurd (apart (is ∙ (λ i. careful i && fails i))),
-  )
-
-  -- a line was heard, and this was told of it, or could not be
-  pub told_of : (old mid new : Wire) (text : List ℕ) (telling : Telling) → length told ≡ length given → Hears old mid text
-      → IsToldLast (stops && has_failed telling) mid new (telling_text telling) → IsToldAlone (length given) text telling
-      → Comes stops lines answers wrote end (at stops given told new) → Comes stops lines answers wrote end (at stops given told old)
-  unfolding unheard
-  told_of old mid new text telling answered hears is_told alone comes =
-      let later : IsToldOf (length lines) text telling = told_later (length given) (length lines) text telling
-      (omega (arith, ap length comes.lines_are, length-append given comes.more)) alone.is in
-      let last = stops && has_failed telling in
-      elim is_told.told [
-        | inl writes ↦
-            let by = comes_by (has_failed telling) last refl told is_told.mid new writes.still.1 is_told.after comes in
-            told_so stops lines answers wrote end given told old mid is_told.mid text telling answered hears writes later alone.nothing alone.none
-            by.0 by.1
-        | inr (inl ends) ↦
-            let same = stays_gone last is_told.mid new is_told.after (has_end is_told.mid.end Output ends.ends) in
-            let ended = ended_so stops lines answers wrote end given told Output (unheard mid) is_told.mid (ends_unheard mid is_told.mid ends)
-            (subst (λ w. Comes stops lines answers wrote end (at stops given told w)) same comes) in
-            told_so stops lines answers wrote end given told old mid (unheard mid) text telling answered hears
-            (record { still = (hears.still.1, refl); hears = known_still mid.hears; wrote = tt }) later alone.nothing alone.none
-            ended.0 (λ careful fails. ended.1)
-        | inr (inr before) ↦ absurd (no_end (subst IsSome hears.still.1 before.0))
-      ]
-
-  -- an answer was told, or could not be
-  pub answer_told : (old new : Wire) (answer : Result Receipt CallFault)
-      → IsToldLast (stops && has_failed (Answer answer)) old new (answer_text answer)
-      → (IsSome old.end → length told ≡ length given) → length told < length given → length given ≤ length told + 1
-      → Comes stops lines answers wrote end (at stops given (told ++ answer ∷ []) new)
-      → Comes stops lines answers wrote end (at stops given told old)
-  unfolding unheard
-  answer_told old new answer is_told kept owed one comes =
-      let last = stops && has_failed (Answer answer) in
-      elim is_told.told [
-        | inl writes ↦
-            let by = comes_by (has_failed (Answer answer)) last refl (told ++ answer ∷ []) is_told.mid new writes.still.1 is_told.after comes in
-            answered_so stops lines answers wrote end given told old is_told.mid answer
-            (subst (λ e. IfSome e (λ x. x ≡ end)) (sym writes.still.0) tt) writes.hears (λ other. writes.wrote) one by.0 by.1
-        | inr (inl ends) ↦
-            let same = stays_gone last is_told.mid new is_told.after (has_end is_told.mid.end Output ends.ends) in
-            let ended = ended_so stops lines answers wrote end given (told ++ answer ∷ []) Output (unheard old) is_told.mid
-            (ends_unheard old is_told.mid ends)
-            (subst (λ w. Comes stops lines answers wrote end (at stops given (told ++ answer ∷ []) w)) same comes) in
-            answered_so stops lines answers wrote end given told old (unheard old) answer
-            (subst (λ e. IfSome e (λ x. x ≡ end)) (sym ends.still) tt) (known_still old.hears) (λ other. tt) one
-            ended.0 (λ careful fails. ended.1)
-        | inr (inr before) ↦ absurd (omega (arith, owed, kept before.0))
-      ]
-
--- a client that has ended is owed nothing, by its lists too
-pub owed_nothing : {X Y : Type 0} (e : Option ClientEnd) (n m : ℕ) (xs : List X) (ys : List Y)
-    → (IsSome e → n ≡ m) → length xs ≡ n → length ys ≡ m → IsSome e → length xs ≡ length ys
-owed_nothing e n m xs ys kept same also some = same ∙ kept some ∙ sym also
-
--- of a client that has ended and is owed nothing nothing more comes
-module _ (stops : Bool) (given : List Line) (told : List (Result Receipt CallFault)) (wrote : Option (List ℕ)) (end : ClientEnd) where
-  nothing_more : (w : Wire) → length told ≡ length given → w.hears ≡ Some [] → w.end ≡ Some end → w.wrote ≡ wrote
-      → Comes stops given told wrote end (at stops given told w)
-  unfolding AreFirstLines
-  nothing_more w answered deaf ends took = record {
-    owed = [];
-    more = [];
-    further = [];
-    text = [];
-    owes = omega (arith, answered);
-    talk = record {
-      exchanges = [];
-      rest = [];
-      each = All-nil (λ e. IsToldOf (length given) e.text e.telling);
-      lines_are = refl;
-      answers_are = refl;
-      text_is = refl;
-      heard = subst (λ h. IfSome h (λ bytes. AreFirstLines bytes [] [])) (sym deaf) refl;
-      all_heard = λ served. refl;
-    };
-    stops = λ is. none_told;
-    lines_are = sym (append-nil given);
-    answers_are = sym (append-nil told);
-    written = λ other. held wrote took;
-    ended = subst (λ e. IfSome e (λ x. x ≡ end)) (sym ends) refl;
-  }
-    where
-      held : (known : Option (List ℕ)) → w.wrote ≡ known
-          → IfSome known (λ bytes. (before : List ℕ) × (w.wrote ≡ Some before) × (bytes ≡ before ++ []))
-      held None is = tt
-      held (Some bytes) is = (bytes, is, sym (append-nil bytes))
-
-  -- it is taken apart
-  pub taken_apart : (old new : Wire) → length told ≡ length given → HasEnded old new → new.hears ≡ Some [] → new.end ≡ Some end
-      → new.wrote ≡ wrote → Comes stops given told wrote end (at stops given told old)
-  taken_apart old new answered (by, ended) deaf ends took =
-      has_ended_so stops given told wrote end given told by old new ended (nothing_more new answered deaf ends took)
-
--- ---- of clients of streams
-
-module _ {S : Type 0} (took : S → Option (List ℕ)) (p q : Progress) (stops : q.stops ≡ p.stops) (told : q.told ≡ p.told) where
-  -- the client with what is now known of its streams
-  abbrev with_wire : Progress
-  with_wire = at p.stops p.given p.told q.wire
-
-  -- a step that hands out no line
-  step_of : q.given ≡ p.given
+module _ {S : Type 0} (took : S → Option (List ℕ)) (p q : Progress) where
+  -- a step of a client that is owed nothing, which hands out no line
+  step_of : (new : Wire) → p.owed ≡ None → q ≡ record p { wire = new }
       → ((lines : List Line) (answers : List (Result Receipt CallFault)) (wrote : Option (List ℕ)) (end : ClientEnd)
-      → Comes p.stops lines answers wrote end with_wire → Comes p.stops lines answers wrote end p)
+      → ComesTo (record p { owed = None; wire = new }) lines answers wrote end → ComesTo (record p { owed = None }) lines answers wrote end)
       → ComesOf (comes_to took p) (comes_to took q)
-  step_of given step lines answers left comes =
-      step lines answers (took left.streams) left.end
-      (subst (λ x. comes_to took x lines answers left)
-      (λ i. record { stops = stops i; given = given i; told = told i; wire = q.wire }) comes)
+  step_of new none stays step lines answers left comes =
+      subst (λ o. comes_to took (record p { owed = o }) lines answers left) (sym none)
+      (step lines answers (took left.streams) left.end
+      (subst (λ x. comes_to took x lines answers left) (stays ∙ (λ i. record p { owed = none i; wire = new })) comes))
 
   -- the streams were opened, or were not to be had
-  pub begun : q.given ≡ p.given → Stays p.wire q.wire ⊎ HasEnded p.wire q.wire → ComesOf (comes_to took p) (comes_to took q)
-  begun given began = step_of given (λ lines answers wrote end comes. elim began [
-    | inl stays ↦ stays_so p.stops lines answers wrote end p.given p.told p.wire q.wire stays comes
-    | inr ended ↦ has_ended_so p.stops lines answers wrote end p.given p.told ended.0 p.wire q.wire ended.1 comes
+  pub begun : (new : Wire) → p.owed ≡ None → q ≡ record p { wire = new } → Stays p.wire new ⊎ HasEnded p.wire new
+      → ComesOf (comes_to took p) (comes_to took q)
+  begun new none stays began = step_of new none stays (λ lines answers wrote end comes. elim began [
+    | inl same ↦ stays_so p.stops wrote end lines answers _ p.wire new same comes
+    | inr ended ↦ has_ended_so p.stops wrote end lines answers _ p.wire new ended comes
   ])
 
-  -- the client has ended
-  pub ended_now : q.given ≡ p.given → HasEnded p.wire q.wire → ComesOf (comes_to took p) (comes_to took q)
-  ended_now given ended = begun given (inr ended)
-
-  -- a line was heard, and this was told of it
-  pub told_one : q.given ≡ p.given → length p.told ≡ length p.given → (mid : Wire) (text : List ℕ) (telling : Telling) → Hears p.wire mid text
-      → IsToldLast (p.stops && has_failed telling) mid q.wire (telling_text telling) → IsToldAlone (length p.given) text telling
-      → ComesOf (comes_to took p) (comes_to took q)
-  told_one given answered mid text telling hears is_told alone =
-      step_of given (λ lines answers wrote end comes.
-      told_of p.stops p.given p.told lines answers wrote end p.wire mid q.wire text telling answered hears is_told alone comes)
+  -- a line was heard, and then this was told of it
+  pub told_one : (mid : Progress) (new : Wire) (text : List ℕ) (telling : Telling) → p.owed ≡ None → mid ≡ record p { wire = new } → StaysThere mid q
+      → Hears p.wire new text → IsToldLast (mid.stops && has_failed telling) mid.wire q.wire (telling_text telling)
+      → IsToldAlone (length p.stands) text telling → ComesOf (comes_to took p) (comes_to took q)
+  told_one mid new text telling none before stays hears is_told alone =
+      step_of q.wire none (stays ∙ (λ i. record (before i) { wire = q.wire })) (λ lines answers wrote end comes.
+      heard_so p.stops wrote end lines answers _ p.wire new text telling lines answers hears
+      (told_later (length p.stands) (length p.stands + length lines) text telling (omega arith) alone.is)
+      (ap (λ l. l ++ lines) (sym alone.nothing)) (ap (λ l. l ++ answers) (sym alone.none))
+      (told_so p.stops wrote end lines answers _ _ new q.wire telling refl hears.still.1
+      (subst (λ m. IsToldLast (m.stops && has_failed telling) m.wire q.wire (telling_text telling)) before is_told) comes))
 
   -- a line was heard and handed out
-  pub handed_one : length p.told ≡ length p.given → (line : Line) → q.given ≡ p.given ++ line ∷ [] → (text : List ℕ) → Hears p.wire q.wire text
+  pub handed_one : (new : Wire) (text : List ℕ) (line : Line) → p.owed ≡ None → q ≡ record p { owed = Some line; wire = new } → Hears p.wire new text
       → script_of text ≡ Ok (line ∷ []) → ComesOf (comes_to took p) (comes_to took q)
-  handed_one answered line given text hears says lines answers left comes =
-      handed_so p.stops lines answers (took left.streams) left.end p.given p.told p.wire q.wire text line answered hears says
-      (subst (λ x. comes_to took x lines answers left)
-      (λ i. record { stops = stops i; given = given i; told = told i; wire = q.wire }) comes)
+  handed_one new text line none is hears says lines answers left comes =
+      let (answer, more, further, lines_are, answers_are, goes) = subst (λ x. comes_to took x lines answers left) is comes in
+      subst (λ o. comes_to took (record p { owed = o }) lines answers left) (sym none)
+      (heard_so p.stops (took left.streams) left.end lines answers _ p.wire new text (Answer answer) more further hears (line, says)
+      (lines_are ∙ ap (λ s. lines_said s ++ more) (sym says)) answers_are goes)
+
+  -- it was kept where an answer stands, and then the answer was told
+  pub answered_one : (mid : Progress) (line : Line) (answer : Result Receipt CallFault) (stand : Result ℕ FailedLine) → p.owed ≡ Some line
+      → p.wire.end ≡ None → mid ≡ record p { stands = p.stands ++ stand ∷ []; owed = None } → StaysThere mid q
+      → IsToldLast (mid.stops && has_failed (Answer answer)) mid.wire q.wire (telling_text (Answer answer))
+      → GoesOn line answer (comes_to took p) (comes_to took q)
+  answered_one mid line answer stand owed still kept stays is_told lines answers left comes =
+      subst (λ o. comes_to took (record p { owed = o }) (line ∷ lines) (answer ∷ answers) left) (sym owed) (
+        answer,
+        lines,
+        answers,
+        refl,
+        refl,
+        told_so p.stops (took left.streams) left.end lines answers _ _ p.wire q.wire (Answer answer)
+            (omega (arith, length-append p.stands (stand ∷ []))) still
+            (subst (λ m. IsToldLast (m.stops && has_failed (Answer answer)) m.wire q.wire (telling_text (Answer answer))) kept is_told)
+            (subst (λ x. comes_to took x lines answers left) (stays ∙ (λ i. record (kept i) { wire = q.wire })) comes),
+      )
+
+-- of a client that has ended and is owed nothing nothing more comes
+pub taken_apart : (p : Progress) (new : Wire) (wrote : Option (List ℕ)) (end : ClientEnd) → p.owed ≡ None → HasEnded p.wire new
+    → new.hears ≡ Some [] → new.end ≡ Some end → new.wrote ≡ wrote → ComesTo p [] [] wrote end
+unfolding AreFirstLines
+taken_apart p new wrote end none ended deaf ends took =
+    let given = length p.stands + 0 in
+    let nothing : TalksOn p.stops given new wrote end [] [] [] = record {
+      talk = record {
+        exchanges = [];
+        rest = [];
+        each = All-nil (λ e. IsToldOf given e.text e.telling);
+        lines_are = refl;
+        answers_are = refl;
+        heard = subst (λ h. IfSome h (λ bytes. AreFirstLines bytes [] [])) (sym deaf) refl;
+        all_heard = λ served. refl;
+      };
+      at_failure = λ is. none_told;
+      written = λ other. held wrote took;
+      ended = subst (λ e. IfSome e (λ x. x ≡ end)) (sym ends) refl;
+    } in
+    subst (λ o. ComesTo (record p { owed = o }) [] [] wrote end) (sym none) (has_ended_so p.stops wrote end [] [] given p.wire new ended nothing)
+  where
+    held : (known : Option (List ℕ)) → new.wrote ≡ known → IfSome known (λ bytes. (before : List ℕ) × (new.wrote ≡ Some before) × (bytes ≡ before ++ []))
+    held None is = tt
+    held (Some bytes) is = (bytes, is, sym (append-nil bytes))
 
 -- it was let go of other than where its lines have ended
 pub let_go : (end : ClientEnd) (old new : Wire) → (end ≡ Served → ⊥) → HasLetGo end old new → HasEnded old new
-let_go end old new other (inl gone) = (
-  end,
-  inl (record { still = gone.still; ends = gone.ends; deaf = gone.deaf; wrote = gone.wrote; all = λ served. absurd (other served) }),
-)
+let_go end old new other (inl gone) = (end, inl (ends_by end old new other gone))
 let_go end old new other (inr before) = (end, inr before)
 
 nothing_before : (old mid new : Option (List ℕ)) → TellsNothing old mid → TellsNothing mid new → TellsNothing old new
@@ -234,17 +139,3 @@ gone_after end old mid new other (inl (stays, none)) (inl gone) = (
 )
 gone_after end old mid new other (inl (stays, none)) (inr before) = absurd (no_end (subst IsSome (stays.ends ∙ none) before.0))
 gone_after end old mid new other (inr same) gone = (end, other, subst (λ w. HasLetGo end w new) same gone)
-
--- a line was heard, and then the client was let go of, which is told of nothing
-pub heard_gone : (old mid new : Wire) (text : List ℕ) → Hears old mid text → IsGone mid new → HasEnded old new
-heard_gone old mid new text hears (by, other, inl gone) = (
-  by,
-  inl (record {
-    still = hears.still.0;
-    ends = gone.ends;
-    deaf = gone.deaf;
-    wrote = λ is. nothing_before old.wrote mid.wrote new.wrote hears.wrote (gone.wrote is);
-    all = λ served. absurd (other served);
-  }),
-)
-heard_gone old mid new text hears (by, other, inr before) = absurd (no_end (subst IsSome hears.still.1 before.0))

@@ -1,84 +1,70 @@
 -- What comes of a client, step by step.
-use Rattle.std.proofs.Common.{◌≡◌, inl, inr, ℕ, ◌+◌, ◌≤◌, Bool, true, List, [], ◌∷◌, ◌++◌, length, map, Option, Some, None, IfSome, IsSome, Result, Ok, refl, sym, ap, subst, ◌∙◌, append-nil, append_assoc, length-append, arith}
+use Rattle.std.proofs.Common.{◌≡◌, All, inl, inr, ℕ, Bool, true, false, ◌&&◌, List, [], ◌∷◌, ◌++◌, length, map, Option, Some, None, IfSome, IsSome, Result, refl, sym, ap, subst, ◌∙◌, append_assoc, arith}
 use Rattle.std.specs.List.{flat_map}
-use Rattle.std.proofs.lemmas.List.{nil_from_length}
-use Rattle.std.proofs.lemmas.List.Elements.{All-cons, All-nil}
+use Rattle.std.proofs.lemmas.List.Elements.{All-cons}
 use Rattle.qplain.specs.declared.call_fault.CallFault.{CallFault}
 use Rattle.qplain.specs.declared.line.Line.{Line}
 use Rattle.qplain.specs.declared.receipt.Receipt.{Receipt}
 use Rattle.qrun_client.specs.declared.client.ClientEnd.{ClientEnd}
-use Rattle.qrun_client.specs.declared.client.ClientEnd.TheVariants.{Output}
-use Rattle.qtext_files.specs.Scripts.{script_of}
-use Rattle.qtext_write.specs.Answers.{answer_text}
+use Rattle.qrun_client.specs.declared.client.ClientEnd.TheVariants.{Output, Served}
 use Rattle.qtext_client.specs.BoundedLines.{Passes}
-use Rattle.qtext_client.specs.Conversations.{AreFirstLines, ComesTo, Exchange, IsToldOf, Progress, handed_out, lines_said}
+use Rattle.qtext_client.specs.Conversations.{AreFirstLines, Exchange, IsToldOf, TalksOn, handed_out}
 use Rattle.qtext_client.specs.Tellings.{EndsAtFailure, answer_in, has_failed, telling_text}
-use Rattle.qtext_client.specs.Wires.{EndsBy, HasEndedBy, Hears, IsGone, Stays, StaysKnown, GrowsBy, TellsNothing, Wire, Writes}
+use Rattle.qtext_client.specs.Wires.{EndsBy, GrowsBy, HasEnded, Hears, IsGoneIf, IsToldLast, LetsGo, Stays, StaysKnown, TellsNothing, Wire}
 use Rattle.qtext_client.specs.declared.telling.Telling.{Telling}
-use Rattle.qtext_client.specs.declared.telling.Telling.TheVariants.{Answer}
+
+pub no_end : IsSome {T = ClientEnd} None → ⊥
+no_end some = absurd cc
 
 -- nothing has no lines
-no_texts : (texts : List (List ℕ)) (rest : List ℕ) → AreFirstLines [] texts rest → texts ≡ []
+no_exchanges : (exchanges : List Exchange) (rest : List ℕ) → AreFirstLines [] (map (λ e. e.text) exchanges) rest → exchanges ≡ []
 unfolding AreFirstLines
-no_texts [] rest are = refl
-no_texts (text ∷ texts) rest (is, some, more) = absurd (omega (arith, some, ap length is))
+no_exchanges [] rest are = refl
+no_exchanges (e ∷ exchanges) rest (is, some, more) = absurd (omega (arith, some, ap length is))
 
-no_exchanges : (exchanges : List Exchange) → map (λ e. e.text) exchanges ≡ [] → exchanges ≡ []
-no_exchanges [] none = refl
-no_exchanges (e ∷ exchanges) none = absurd cc
-
-abbrev bytes_in : Option (List ℕ) → List ℕ
-bytes_in None = []
-bytes_in (Some bytes) = bytes
-
-none_heard : (hears : Option (List ℕ)) → IfSome hears (λ bytes. AreFirstLines bytes [] (bytes_in hears))
+-- where no line was heard all is the rest, which is nothing where that was all
+unheard : (hears : Option (List ℕ)) → (rest : List ℕ) × IfSome hears (λ bytes. AreFirstLines bytes [] rest) × (IfSome hears (λ bytes. bytes ≡ []) → rest ≡ [])
 unfolding AreFirstLines
-none_heard None = tt
-none_heard (Some bytes) = refl
-
-all_heard : (hears : Option (List ℕ)) → IfSome hears (λ bytes. bytes ≡ []) → bytes_in hears ≡ []
-all_heard None all = refl
-all_heard (Some bytes) all = all
+unheard None = ([], tt, λ all. refl)
+unheard (Some bytes) = (bytes, refl, λ all. all)
 
 -- one line more was heard before
-more_heard : (old mid new : Option (List ℕ)) (text : List ℕ) (texts : List (List ℕ)) (rest : List ℕ) → Passes old mid text
-    → StaysKnown mid new → IfSome new (λ bytes. AreFirstLines bytes texts rest) → IfSome old (λ bytes. AreFirstLines bytes (text ∷ texts) rest)
+more_heard : (old new : Option (List ℕ)) (text : List ℕ) (texts : List (List ℕ)) (rest : List ℕ) → Passes old new text
+    → IfSome new (λ bytes. AreFirstLines bytes texts rest) → IfSome old (λ bytes. AreFirstLines bytes (text ∷ texts) rest)
 unfolding AreFirstLines
-more_heard None mid new text texts rest passes stays heard = tt
-more_heard (Some xs) mid new text texts rest passes stays heard =
-    let known = subst (λ m. IfSome m (λ bytes. new ≡ Some bytes)) passes.rest stays in
-    (passes.first, passes.one.1, subst (λ n. IfSome n (λ bytes. AreFirstLines bytes texts rest)) known heard)
+more_heard None new text texts rest passes heard = tt
+more_heard (Some xs) new text texts rest passes heard =
+    (passes.first, passes.one.1, subst (λ n. IfSome n (λ bytes. AreFirstLines bytes texts rest)) passes.rest heard)
 
 heard_before : (old new : Option (List ℕ)) (texts : List (List ℕ)) (rest : List ℕ) → StaysKnown old new
     → IfSome new (λ bytes. AreFirstLines bytes texts rest) → IfSome old (λ bytes. AreFirstLines bytes texts rest)
 heard_before None new texts rest stays heard = tt
 heard_before (Some xs) new texts rest stays heard = subst (λ n. IfSome n (λ bytes. AreFirstLines bytes texts rest)) stays heard
 
--- what an output holds, where that is known, has grown by this from what it held
-abbrev Grew : Option (List ℕ) → Option (List ℕ) → List ℕ → Type 0
-Grew old wrote text = IfSome wrote (λ bytes. (before : List ℕ) × (old ≡ Some before) × (bytes ≡ before ++ text))
-
-grew_before : (old mid wrote : Option (List ℕ)) (text : List ℕ) → TellsNothing old mid → Grew mid wrote text → Grew old wrote text
+-- what is still known of an output has grown by what it grew by after the step
+grew_before : (old mid new : Option (List ℕ)) (text : List ℕ) → TellsNothing old mid → GrowsBy mid new text → GrowsBy old new text
 grew_before old mid None text nothing grew = tt
 grew_before old mid (Some bytes) text nothing (before, is, grown) =
     (before, subst (λ m. IfSome m (λ b. old ≡ Some b)) is nothing, grown)
 
-grew_more : (old mid wrote : Option (List ℕ)) (part text whole : List ℕ) → GrowsBy old mid part → part ++ text ≡ whole → Grew mid wrote text
-    → Grew old wrote whole
-grew_more old mid None part text whole tells parts grew = tt
-grew_more old mid (Some bytes) part text whole tells parts (middle, is, grown) =
+grew_more : (old mid new : Option (List ℕ)) (part text : List ℕ) → GrowsBy old mid part → GrowsBy mid new text → GrowsBy old new (part ++ text)
+grew_more old mid None part text tells grew = tt
+grew_more old mid (Some bytes) part text tells (middle, is, grown) =
     let told = subst (λ m. IfSome m (λ b. (before : List ℕ) × (old ≡ Some before) × (b ≡ before ++ part))) is tells in
-    (told.0, told.1, grown ∙ ap (λ b. b ++ text) told.2 ∙ append_assoc told.0 part text ∙ ap (λ t. told.0 ++ t) parts)
+    (told.0, told.1, grown ∙ ap (λ b. b ++ text) told.2 ∙ append_assoc told.0 part text)
 
-pub known_still : (known : Option (List ℕ)) → StaysKnown known known
-known_still None = tt
-known_still (Some bytes) = refl
+-- it was let go of other than where its lines have ended
+pub ends_by : (end : ClientEnd) (old new : Wire) → (end ≡ Served → ⊥) → LetsGo end old new → EndsBy end old new
+ends_by end old new other gone =
+    record { still = gone.still; ends = gone.ends; deaf = gone.deaf; wrote = gone.wrote; all = λ served. absurd (other served) }
 
--- a client of which so much is known
-abbrev pub at : Bool → List Line → List (Result Receipt CallFault) → Wire → Progress
-at stops given told wire = record { stops = stops; given = given; told = told; wire = wire }
+-- who has ended is as it was
+stays_gone : (last : Bool) (old new : Wire) → IsGoneIf last old new → IsSome old.end → new ≡ old
+stays_gone true old new (by, other, inl gone) some = absurd (no_end (subst IsSome gone.still some))
+stays_gone true old new (by, other, inr before) some = before.1
+stays_gone false old new same some = same
 
--- where nothing else is told, any telling may be the last
+-- where it is told nothing else, any telling may be the last
 one_told : (telling : Telling) (later : List Telling) → (has_failed telling ≡ true → later ≡ []) → EndsAtFailure later
     → EndsAtFailure (telling ∷ later)
 unfolding EndsAtFailure
@@ -88,202 +74,119 @@ pub none_told : EndsAtFailure []
 unfolding EndsAtFailure
 none_told = tt
 
-module _ (stops : Bool) (lines : List Line) (answers : List (Result Receipt CallFault)) (wrote : Option (List ℕ)) (end : ClientEnd) where
-  abbrev pub Comes : Progress → Type 0
-  Comes p = ComesTo p lines answers wrote end
+module _ (stops : Bool) (wrote : Option (List ℕ)) (end : ClientEnd) (lines : List Line) (answers : List (Result Receipt CallFault)) where
+  -- what comes of a client that is told this first
+  abbrev Talks : ℕ → Wire → List Telling → Type 0
+  Talks given wire first = TalksOn stops given wire wrote end first lines answers
 
-  module _ (given : List Line) (told : List (Result Receipt CallFault)) where
-    -- it has ended
-    pub ends_so : (by : ClientEnd) (old new : Wire) → EndsBy by old new → Comes (at stops given told new) → Comes (at stops given told old)
-    ends_so by old new ends comes =
-        let talk = comes.talk in
-        let exchanges = talk.exchanges in
-        let none : exchanges ≡ [] = no_exchanges exchanges
-        (no_texts (map (λ e. e.text) exchanges) talk.rest
-        (subst (λ h. IfSome h (λ bytes. AreFirstLines bytes (map (λ e. e.text) exchanges) talk.rest)) ends.deaf talk.heard)) in
-        let same : by ≡ end = subst (λ e. IfSome e (λ x. x ≡ end)) ends.ends comes.ended in
-        record {
-          owed = comes.owed;
-          more = comes.more;
-          further = comes.further;
-          text = comes.text;
-          owes = comes.owes;
-          talk = record {
-            exchanges = [];
-            rest = bytes_in old.hears;
-            each = All-nil (λ e. IsToldOf (length lines) e.text e.telling);
-            lines_are = talk.lines_are ∙ ap (flat_map (λ e. handed_out e.text e.telling)) none;
-            answers_are = talk.answers_are ∙ ap (flat_map (λ e. answer_in e.telling)) none;
-            text_is = talk.text_is ∙ ap (flat_map (λ e. telling_text e.telling)) none;
-            heard = none_heard old.hears;
-            all_heard = λ served. all_heard old.hears (ends.all (same ∙ served));
-          };
-          stops = λ is. subst (λ es. EndsAtFailure (map Answer comes.owed ++ map (λ e. e.telling) es)) none (comes.stops is);
-          lines_are = comes.lines_are;
-          answers_are = comes.answers_are;
-          written = λ other. grew_before old.wrote new.wrote wrote (flat_map answer_text comes.owed ++ comes.text)
-              (ends.wrote (λ is. other (sym same ∙ is))) (comes.written other);
-          ended = subst (λ e. IfSome e (λ x. x ≡ end)) (sym ends.still) tt;
-        }
+  not_ended : (e : Option ClientEnd) → e ≡ None → IfSome e (λ x. x ≡ end)
+  not_ended e none = subst (λ e. IfSome e (λ x. x ≡ end)) (sym none) tt
 
-    -- and nothing more was told
-    pub ended_so : (by : ClientEnd) (old new : Wire) → EndsBy by old new → Comes (at stops given told new)
-        → (comes : Comes (at stops given told old)) × (comes.talk.exchanges ≡ [])
-    unfolding ends_so
-    ended_so by old new ends comes = (ends_so by old new ends comes, refl)
+  -- what comes of it with these streams is what came of it with others
+  abbrev talks_so : (given n : ℕ) (old new : Wire) (first second : List Telling) (rest : List ℕ) → given ≡ n → (comes : Talks given new first)
+      → IfSome old.hears (λ bytes. AreFirstLines bytes (map (λ e. e.text) comes.talk.exchanges) rest) → (end ≡ Served → rest ≡ [])
+      → (stops ≡ true → EndsAtFailure (second ++ map (λ e. e.telling) comes.talk.exchanges))
+      → ((end ≡ Output → ⊥) → GrowsBy old.wrote wrote (flat_map telling_text (second ++ map (λ e. e.telling) comes.talk.exchanges)))
+      → IfSome old.end (λ e. e ≡ end) → Talks n old second
+  talks_so given n old new first second rest same comes heard all stops written ended = record {
+    talk = record {
+      exchanges = comes.talk.exchanges;
+      rest = rest;
+      each = subst (λ m. All (λ e. IsToldOf m e.text e.telling) comes.talk.exchanges) same comes.talk.each;
+      lines_are = comes.talk.lines_are;
+      answers_are = comes.talk.answers_are;
+      heard = heard;
+      all_heard = all;
+    };
+    at_failure = stops;
+    written = written;
+    ended = ended;
+  }
 
-    -- it is gone, and where that was not so before nothing more was told
-    pub gone_so : (old new : Wire) → IsGone old new → Comes (at stops given told new)
-        → (comes : Comes (at stops given told old)) × (old.end ≡ None → comes.talk.exchanges ≡ [])
-    gone_so old new (by, other, inl gone) comes =
-        let ended = ended_so by old new
-        (record { still = gone.still; ends = gone.ends; deaf = gone.deaf; wrote = gone.wrote; all = λ served. absurd (other served) })
-        comes in
-        (ended.0, λ none. ended.1)
-    gone_so old new (by, other, inr before) comes =
-        (subst (λ w. Comes (at stops given told w)) before.1 comes, λ none. absurd (not_ended (subst IsSome none before.0)))
-      where
-        not_ended : IsSome {T = ClientEnd} None → ⊥
-        not_ended some = absurd cc
+  -- it has ended, and nothing more is told
+  ends_so : (given n : ℕ) (by : ClientEnd) (old new : Wire) (first : List Telling) → given ≡ n → EndsBy by old new → EndsAtFailure (first ++ [])
+      → (comes : Talks given new []) → (by ≡ end → (end ≡ Output → ⊥)
+      → GrowsBy old.wrote wrote (flat_map telling_text (first ++ map (λ e. e.telling) comes.talk.exchanges)))
+      → (before : Talks n old first) × (before.talk.exchanges ≡ [])
+  ends_so given n by old new first same ends told comes written =
+      let exchanges = comes.talk.exchanges in
+      let none : exchanges ≡ [] = no_exchanges exchanges comes.talk.rest
+      (subst (λ h. IfSome h (λ bytes. AreFirstLines bytes (map (λ e. e.text) exchanges) comes.talk.rest)) ends.deaf comes.talk.heard) in
+      let so : by ≡ end = subst (λ e. IfSome e (λ x. x ≡ end)) ends.ends comes.ended in
+      let (rest, heard, all) = unheard old.hears in (
+        talks_so given n old new [] first rest same comes
+            (subst (λ es. IfSome old.hears (λ bytes. AreFirstLines bytes (map (λ e. e.text) es) rest)) (sym none) heard)
+            (λ served. all (ends.all (so ∙ served)))
+            (λ is. subst (λ es. EndsAtFailure (first ++ map (λ e. e.telling) es)) (sym none) told)
+            (written so) (not_ended old.end ends.still),
+        none,
+      )
 
-    pub has_ended_so : (by : ClientEnd) (old new : Wire) → HasEndedBy by old new → Comes (at stops given told new) → Comes (at stops given told old)
-    has_ended_so by old new (inl ends) comes = ends_so by old new ends comes
-    has_ended_so by old new (inr before) comes = subst (λ w. Comes (at stops given told w)) before.1 comes
+  ended_so : (given : ℕ) (by : ClientEnd) (old new : Wire) → EndsBy by old new → Talks given new []
+      → (before : Talks given old []) × (before.talk.exchanges ≡ [])
+  ended_so given by old new ends comes = ends_so given given by old new [] refl ends none_told comes
+      (λ so other. grew_before old.wrote new.wrote wrote _ (ends.wrote (λ is. other (sym so ∙ is))) (comes.written other))
 
-    -- nothing was said or told
-    pub stays_so : (old new : Wire) → Stays old new → Comes (at stops given told new) → Comes (at stops given told old)
-    stays_so old new stays comes =
-        let talk = comes.talk in
-        record {
-          owed = comes.owed;
-          more = comes.more;
-          further = comes.further;
-          text = comes.text;
-          owes = comes.owes;
-          talk = record {
-            exchanges = talk.exchanges;
-            rest = talk.rest;
-            each = talk.each;
-            lines_are = talk.lines_are;
-            answers_are = talk.answers_are;
-            text_is = talk.text_is;
-            heard = heard_before old.hears new.hears (map (λ e. e.text) talk.exchanges) talk.rest stays.hears talk.heard;
-            all_heard = talk.all_heard;
-          };
-          stops = comes.stops;
-          lines_are = comes.lines_are;
-          answers_are = comes.answers_are;
-          written = λ other. grew_before old.wrote new.wrote wrote (flat_map answer_text comes.owed ++ comes.text) stays.wrote
-              (comes.written other);
-          ended = subst (λ e. IfSome e (λ x. x ≡ end)) stays.ends comes.ended;
-        }
+  pub has_ended_so : (given : ℕ) (old new : Wire) → HasEnded old new → Talks given new [] → Talks given old []
+  has_ended_so given old new (by, inl ends) comes = (ended_so given by old new ends comes).0
+  has_ended_so given old new (by, inr before) comes = subst (λ w. Talks given w []) before.1 comes
 
-    -- a line was heard of which this was told, which is no answer
-    pub told_so : (old mid new : Wire) (text : List ℕ) (telling : Telling) → length told ≡ length given → Hears old mid text
-        → Writes mid new (telling_text telling) → IsToldOf (length lines) text telling → handed_out text telling ≡ [] → answer_in telling ≡ []
-        → (comes : Comes (at stops given told new)) → (stops ≡ true → has_failed telling ≡ true → comes.talk.exchanges ≡ [])
-        → Comes (at stops given told old)
-    told_so old mid new text telling answered hears writes is nothing none comes last =
-        let talk = comes.talk in
-        let owes_none : comes.owed ≡ [] = nil_from_length comes.owed (omega (arith, comes.owes, answered)) in
-        record {
-          owed = [];
-          more = comes.more;
-          further = comes.further;
-          text = telling_text telling ++ comes.text;
-          owes = omega (arith, answered);
-          talk = record {
-            exchanges = record { text = text; telling = telling } ∷ talk.exchanges;
-            rest = talk.rest;
-            each = All-cons (λ e. IsToldOf (length lines) e.text e.telling) (record { text = text; telling = telling }) talk.exchanges is talk.each;
-            lines_are = talk.lines_are ∙ ap (λ l. l ++ flat_map (λ e. handed_out e.text e.telling) talk.exchanges) (sym nothing);
-            answers_are = talk.answers_are ∙ ap (λ l. l ++ flat_map (λ e. answer_in e.telling) talk.exchanges) (sym none);
-            text_is = ap (λ l. telling_text telling ++ l) talk.text_is;
-            heard = more_heard old.hears mid.hears new.hears text (map (λ e. e.text) talk.exchanges) talk.rest hears.line writes.hears
-                talk.heard;
-            all_heard = talk.all_heard;
-          };
-          stops = λ is. one_told telling (map (λ e. e.telling) talk.exchanges)
-              (λ failed. ap (map (λ e. e.telling)) (last is failed))
-              (subst (λ o. EndsAtFailure (map Answer o ++ map (λ e. e.telling) talk.exchanges)) owes_none (comes.stops is));
-          lines_are = comes.lines_are;
-          answers_are = comes.answers_are ∙ ap (λ o. told ++ (o ++ comes.further)) owes_none;
-          written = λ other. grew_before old.wrote mid.wrote wrote (telling_text telling ++ comes.text) hears.wrote
-              (grew_more mid.wrote new.wrote wrote (telling_text telling) (flat_map answer_text comes.owed ++ comes.text)
-              (telling_text telling ++ comes.text) writes.wrote
-              (ap (λ o. telling_text telling ++ (flat_map answer_text o ++ comes.text)) owes_none) (comes.written other));
-          ended = subst (λ e. IfSome e (λ x. x ≡ end)) (sym hears.still.0) tt;
-        }
+  -- nothing was said or told
+  pub stays_so : (given : ℕ) (old new : Wire) → Stays old new → Talks given new [] → Talks given old []
+  stays_so given old new stays comes = talks_so given given old new [] [] comes.talk.rest refl comes
+      (heard_before old.hears new.hears (map (λ e. e.text) comes.talk.exchanges) comes.talk.rest stays.hears comes.talk.heard)
+      comes.talk.all_heard comes.at_failure (λ other. grew_before old.wrote new.wrote wrote _ stays.wrote (comes.written other))
+      (subst (λ e. IfSome e (λ x. x ≡ end)) stays.ends comes.ended)
 
-    -- a line was heard and handed out
-    pub handed_so : (old mid : Wire) (text : List ℕ) (line : Line) → length told ≡ length given → Hears old mid text
-        → script_of text ≡ Ok (line ∷ []) → Comes (at stops (given ++ line ∷ []) told mid) → Comes (at stops given told old)
-    handed_so old mid text line answered hears says comes =
-        let talk = comes.talk in
-        let one = one_answer comes.owed (omega (arith, comes.owes, answered, length-append given (line ∷ []))) in
-        let answer = one.0 in
-        record {
-          owed = [];
-          more = line ∷ comes.more;
-          further = answer ∷ comes.further;
-          text = answer_text answer ++ comes.text;
-          owes = omega (arith, answered);
-          talk = record {
-            exchanges = record { text = text; telling = Answer answer } ∷ talk.exchanges;
-            rest = talk.rest;
-            each = All-cons (λ e. IsToldOf (length lines) e.text e.telling) (record { text = text; telling = Answer answer }) talk.exchanges
-                (line, says) talk.each;
-            lines_are = ap (λ l. line ∷ l) talk.lines_are
-                ∙ ap (λ s. lines_said s ++ flat_map (λ e. handed_out e.text e.telling) talk.exchanges) (sym says);
-            answers_are = ap (λ l. answer ∷ l) talk.answers_are;
-            text_is = ap (λ l. answer_text answer ++ l) talk.text_is;
-            heard = more_heard old.hears mid.hears mid.hears text (map (λ e. e.text) talk.exchanges) talk.rest hears.line
-                (known_still mid.hears) talk.heard;
-            all_heard = talk.all_heard;
-          };
-          stops = λ is. subst (λ o. EndsAtFailure (map Answer o ++ map (λ e. e.telling) talk.exchanges)) one.1 (comes.stops is);
-          lines_are = comes.lines_are ∙ append_assoc given (line ∷ []) comes.more;
-          answers_are = comes.answers_are ∙ ap (λ o. told ++ (o ++ comes.further)) one.1;
-          written = λ other. subst (λ t. Grew old.wrote wrote t)
-              (ap (λ o. flat_map answer_text o ++ comes.text) one.1 ∙ ap (λ t. t ++ comes.text) (append-nil (answer_text answer)))
-              (grew_before old.wrote mid.wrote wrote (flat_map answer_text comes.owed ++ comes.text) hears.wrote (comes.written other));
-          ended = subst (λ e. IfSome e (λ x. x ≡ end)) (sym hears.still.0) tt;
-        }
-      where
-        one_answer : (owed : List (Result Receipt CallFault)) → length owed ≡ 1 → (a : Result Receipt CallFault) × (owed ≡ a ∷ [])
-        one_answer [] many = absurd (omega (arith, many))
-        one_answer (a ∷ owed) many = (a, ap (λ l. a ∷ l) (nil_from_length owed (omega (arith, many))))
+  -- it may have ended by then; where that was so at a failed line nothing more was told
+  gone_so : (failed last : Bool) → last ≡ (stops && failed) → (given : ℕ) (old new : Wire) → old.end ≡ None → IsGoneIf last old new
+      → Talks given new [] → (before : Talks given old []) × (stops ≡ true → failed ≡ true → before.talk.exchanges ≡ [])
+  gone_so failed true is given old new still (by, other, inl gone) comes =
+      let ended = ended_so given by old new (ends_by by old new other gone) comes in
+      (ended.0, λ careful fails. ended.1)
+  gone_so failed true is given old new still (by, other, inr before) comes = absurd (no_end (subst IsSome still before.0))
+  gone_so failed false is given old new still same comes = (
+    subst (λ w. Talks given w []) same comes,
+    λ careful fails. let apart : false ≡ true = is ∙ (λ i. careful i && fails i) in absurd cc,
+  )
 
-    -- an answer was told
-    pub answered_so : (old new : Wire) (answer : Result Receipt CallFault) → IfSome old.end (λ e. e ≡ end) → StaysKnown old.hears new.hears
-        → ((end ≡ Output → ⊥) → GrowsBy old.wrote new.wrote (answer_text answer)) → length given ≤ length told + 1
-        → (comes : Comes (at stops given (told ++ answer ∷ []) new))
-        → (stops ≡ true → has_failed (Answer answer) ≡ true → comes.talk.exchanges ≡ []) → Comes (at stops given told old)
-    answered_so old new answer ended hears tells one comes last =
-        let talk = comes.talk in
-        let owes_none : comes.owed ≡ [] = nil_from_length comes.owed (omega (arith, comes.owes, one, length-append told (answer ∷ []))) in
-        record {
-          owed = answer ∷ comes.owed;
-          more = comes.more;
-          further = comes.further;
-          text = comes.text;
-          owes = omega (arith, comes.owes, length-append told (answer ∷ []));
-          talk = record {
-            exchanges = talk.exchanges;
-            rest = talk.rest;
-            each = talk.each;
-            lines_are = talk.lines_are;
-            answers_are = talk.answers_are;
-            text_is = talk.text_is;
-            heard = heard_before old.hears new.hears (map (λ e. e.text) talk.exchanges) talk.rest hears talk.heard;
-            all_heard = talk.all_heard;
-          };
-          stops = λ is. one_told (Answer answer) (map Answer comes.owed ++ map (λ e. e.telling) talk.exchanges)
-              (λ failed. (λ i. map Answer (owes_none i) ++ map (λ e. e.telling) (last is failed i))) (comes.stops is);
-          lines_are = comes.lines_are;
-          answers_are = comes.answers_are ∙ append_assoc told (answer ∷ []) (comes.owed ++ comes.further);
-          written = λ other. grew_more old.wrote new.wrote wrote (answer_text answer) (flat_map answer_text comes.owed ++ comes.text)
-              ((answer_text answer ++ flat_map answer_text comes.owed) ++ comes.text) (tells other)
-              (sym (append_assoc (answer_text answer) (flat_map answer_text comes.owed) comes.text)) (comes.written other);
-          ended = ended;
-        }
+  -- it was told this, or could not be
+  pub told_so : (given n : ℕ) (old new : Wire) (telling : Telling) → given ≡ n → old.end ≡ None
+      → IsToldLast (stops && has_failed telling) old new (telling_text telling) → Talks given new [] → Talks n old (telling ∷ [])
+  told_so given n old new telling same still is_told comes =
+      elim is_told.told [
+        | inl writes ↦
+            let (before, last) = gone_so (has_failed telling) _ refl given is_told.mid new writes.still.1 is_told.after comes in
+            let talk = before.talk in
+            talks_so given n old is_told.mid [] (telling ∷ []) talk.rest same before
+            (heard_before old.hears is_told.mid.hears (map (λ e. e.text) talk.exchanges) talk.rest writes.hears talk.heard) talk.all_heard
+            (λ is. one_told telling (map (λ e. e.telling) talk.exchanges) (λ failed. ap (map (λ e. e.telling)) (last is failed)) (before.at_failure is))
+            (λ other. grew_more old.wrote is_told.mid.wrote wrote (telling_text telling) _ writes.wrote (before.written other))
+            (not_ended old.end still)
+        | inr (inl ends) ↦
+            let gone = stays_gone (stops && has_failed telling) is_told.mid new is_told.after (subst IsSome (sym ends.ends) refl) in
+            (ends_so given n Output old is_told.mid (telling ∷ []) same ends (one_told telling [] (λ failed. refl) none_told)
+            (subst (λ w. Talks given w []) gone comes) (λ so other. absurd (other (sym so)))).0
+        | inr (inr before) ↦ absurd (no_end (subst IsSome still before.0))
+      ]
+
+  -- a line was heard, of which it is told this
+  pub heard_so : (given : ℕ) (old new : Wire) (text : List ℕ) (telling : Telling) (more : List Line) (further : List (Result Receipt CallFault))
+      → Hears old new text → IsToldOf given text telling → lines ≡ handed_out text telling ++ more → answers ≡ answer_in telling ++ further
+      → TalksOn stops given new wrote end (telling ∷ []) more further → Talks given old []
+  heard_so given old new text telling more further hears is lines_are answers_are comes =
+      let talk = comes.talk in
+      record {
+        talk = record {
+          exchanges = record { text = text; telling = telling } ∷ talk.exchanges;
+          rest = talk.rest;
+          each = All-cons (λ e. IsToldOf given e.text e.telling) (record { text = text; telling = telling }) talk.exchanges is talk.each;
+          lines_are = lines_are ∙ ap (λ l. handed_out text telling ++ l) talk.lines_are;
+          answers_are = answers_are ∙ ap (λ l. answer_in telling ++ l) talk.answers_are;
+          heard = more_heard old.hears new.hears text (map (λ e. e.text) talk.exchanges) talk.rest hears.line talk.heard;
+          all_heard = talk.all_heard;
+        };
+        at_failure = comes.at_failure;
+        written = λ other. grew_before old.wrote new.wrote wrote _ hears.wrote (comes.written other);
+        ended = not_ended old.end hears.still.0;
+      }

@@ -1,6 +1,6 @@
 -- What a client says, line by line, and what it is told of each.
-use Rattle.std.specs.Prelude.{◌≡◌, ◌≤◌, ◌<◌, ◌+◌, ◌⊎◌, ℕ, Bool, true, List, [], ◌∷◌, ◌++◌, length, map, All, ⊤}
-use Rattle.std.specs.Prelude.{Option, Some, IfSome, Result, Ok, Err}
+use Rattle.std.specs.Prelude.{◌≡◌, ◌≢◌, ◌≤◌, ◌<◌, ◌+◌, ◌⊎◌, ℕ, Bool, true, List, [], ◌∷◌, ◌++◌, length, map, All, ⊤}
+use Rattle.std.specs.Prelude.{Option, Some, None, IfSome, Result, Ok, Err}
 use Rattle.std.specs.List.{flat_map}
 use Rattle.std.specs.Io.BufRead.{drop_through, take_through}
 use Rattle.qplain.specs.declared.call_fault.CallFault.{CallFault}
@@ -9,7 +9,7 @@ use Rattle.qplain.specs.declared.receipt.Receipt.{Receipt}
 use Rattle.qtext.specs.declared.text_fault.TextFault.{TextFault}
 use Rattle.qtext.specs.declared.text_fault.TextKind.TheVariants.{TooMany}
 use Rattle.qtext_files.specs.Scripts.{script_of}
-use Rattle.qtext_write.specs.Answers.{answer_text}
+use Rattle.qrun_replay.specs.declared.failed_line.FailedLine.{FailedLine}
 use Rattle.qrun_client.specs.declared.client.ClientEnd.{ClientEnd}
 use Rattle.qrun_client.specs.declared.client.ClientEnd.TheVariants.{Served, Output}
 use Rattle.qrun_client.specs.declared.client.TheConstants.{MAX_GIVEN}
@@ -19,7 +19,7 @@ use Rattle.qtext_client.specs.declared.telling.LineFault.TheVariants.{Text, Leng
 use Rattle.qtext_client.specs.declared.telling.Telling.{Telling}
 use Rattle.qtext_client.specs.declared.telling.Telling.TheVariants.{Answer, Fault, NoMemory}
 use Rattle.qtext_client.specs.Tellings.{EndsAtFailure, answer_in, telling_text}
-use Rattle.qtext_client.specs.Wires.{Wire}
+use Rattle.qtext_client.specs.Wires.{GrowsBy, Wire}
 use Rattle.qtext_client.specs.declared.connection.EndedClient.{EndedClient}
 
 -- the text of a client's line, with its line end, and what the client was told of it
@@ -57,48 +57,54 @@ AreFirstLines bytes (text ∷ texts) rest = (text ≡ take_through 10 bytes) × 
     × AreFirstLines (drop_through 10 bytes) texts rest
 
 -- a client that hands out N lines in all has said lines one after the other, and was told something of each, in their
--- order: these are the lines that it handed out, the answers that it was told, and all the text; where the bytes of its
--- input are known, its lines are the first of them, and all of them where it was served
-pub record IsTalk (given : ℕ) (hears : Option (List ℕ)) (lines : List Line)
-    (answers : List (Result Receipt CallFault)) (text : List ℕ) (end : ClientEnd) : Type 0 where
+-- order: these are the lines that it handed out, and the answers that it was told; where the bytes of its input are
+-- known, its lines are the first of them, and all of them where it was served
+pub record IsTalk (given : ℕ) (hears : Option (List ℕ)) (lines : List Line) (answers : List (Result Receipt CallFault))
+    (end : ClientEnd) : Type 0 where
   pub exchanges : List Exchange
   pub rest : List ℕ
   pub each : All (λ e. IsToldOf given e.text e.telling) exchanges
   pub lines_are : lines ≡ flat_map (λ e. handed_out e.text e.telling) exchanges
   pub answers_are : answers ≡ flat_map (λ e. answer_in e.telling) exchanges
-  pub text_is : text ≡ flat_map (λ e. telling_text e.telling) exchanges
   pub heard : IfSome hears (λ bytes. AreFirstLines bytes (map (λ e. e.text) exchanges) rest)
   pub all_heard : end ≡ Served → rest ≡ []
 
--- how far a client is: whether it stops at a failed line, the lines that it has handed out, the answers that it took,
--- and what is known of its streams
+-- how far a client is: whether it stops at a failed line, where the answers that it was told stand, the line that it is
+-- still owed an answer to, and what is known of its streams
 pub record Progress : Type 0 where
   pub stops : Bool
-  pub given : List Line
-  pub told : List (Result Receipt CallFault)
+  pub stands : List (Result ℕ FailedLine)
+  pub owed : Option Line
   pub wire : Wire
 
 -- it has handed out nothing and was told no answer, whatever has come of its streams
 abbrev pub StaysThere : Progress → Progress → Type 0
 StaysThere old new = new ≡ record old { wire = new.wire }
 
--- what comes of a client: it is told the answers that it is owed, which are none of a new one, and talks on; where it
--- stops at a failed line none is told of after that; and where its output tells its bytes and has refused nothing, they
--- grew by the text of all that it was told
-pub record ComesTo (p : Progress) (lines : List Line) (answers : List (Result Receipt CallFault))
-    (wrote : Option (List ℕ)) (end : ClientEnd) : Type 0 where
-  pub owed : List (Result Receipt CallFault)
-  pub more : List Line
-  pub further : List (Result Receipt CallFault)
-  pub text : List ℕ
-  pub owes : length p.told + length owed ≡ length p.given
-  pub talk : IsTalk (length lines) p.wire.hears more further text end
-  pub stops : p.stops ≡ true → EndsAtFailure (map Answer owed ++ map (λ e. e.telling) talk.exchanges)
-  pub lines_are : lines ≡ p.given ++ more
-  pub answers_are : answers ≡ p.told ++ (owed ++ further)
-  pub written : (end ≡ Output → ⊥) → IfSome wrote (λ bytes. (before : List ℕ) × (p.wire.wrote ≡ Some before)
-      × (bytes ≡ before ++ (flat_map answer_text owed ++ text)))
-  pub ended : IfSome p.wire.end (λ e. e ≡ end)
+-- a client that hands out N lines in all is told this first, and then talks on: where it stops at a failed line none is
+-- told of after that; and where its output tells its bytes and has refused nothing, they grew by the text of all
+pub record TalksOn (stops : Bool) (given : ℕ) (wire : Wire) (wrote : Option (List ℕ)) (end : ClientEnd)
+    (first : List Telling) (lines : List Line) (answers : List (Result Receipt CallFault)) : Type 0 where
+  pub talk : IsTalk given wire.hears lines answers end
+  pub at_failure : stops ≡ true → EndsAtFailure (first ++ map (λ e. e.telling) talk.exchanges)
+  pub written : end ≢ Output
+      → GrowsBy wire.wrote wrote (flat_map telling_text (first ++ map (λ e. e.telling) talk.exchanges))
+  pub ended : IfSome wire.end (λ e. e ≡ end)
+
+-- so it goes on behind the line that is owed an answer, where one is: it is the first of the lines, its answer is the
+-- first of the answers, and that is told first
+abbrev pub GoesOnBehind : Option Line → (List Telling → List Line → List (Result Receipt CallFault) → Type 0)
+    → List Line → List (Result Receipt CallFault) → Type 0
+GoesOnBehind None Goes lines answers = Goes [] lines answers
+GoesOnBehind (Some line) Goes lines answers = (answer : Result Receipt CallFault) × (more : List Line)
+    × (further : List (Result Receipt CallFault)) × (lines ≡ line ∷ more) × (answers ≡ answer ∷ further)
+    × Goes (Answer answer ∷ []) more further
+
+-- what comes of a client from now on: these are the lines whose answers are still to come, all those of a new one, and
+-- these the answers
+abbrev pub ComesTo : Progress → List Line → List (Result Receipt CallFault) → Option (List ℕ) → ClientEnd → Type 0
+ComesTo p lines answers wrote end =
+    GoesOnBehind p.owed (TalksOn p.stops (length p.stands + length lines) p.wire wrote end) lines answers
 
 -- so it is with a client of streams whose outputs, once let go of, took these bytes
 abbrev pub comes_to : {S : Type 0} → (S → Option (List ℕ)) → Progress → List Line → List (Result Receipt CallFault)

@@ -1,17 +1,14 @@
 -- What a client keeps. No public clause cites this module.
-use Rattle.std.specs.Prelude.{◌≡◌, ◌≤◌, ◌+◌, ℕ, Option, IsSome}
+use Rattle.std.specs.Prelude.{◌≡◌, ◌≤◌, ◌+◌, length, Option, None, IsSome}
+use Rattle.std.specs.Option.{option_to_list}
+use Rattle.qplain.specs.declared.line.Line.{Line}
 use Rattle.qrun_client.specs.declared.client.ClientEnd.{ClientEnd}
 use Rattle.qrun_client.specs.declared.client.TheConstants.{MAX_GIVEN}
+use Rattle.qrun_replay.specs.Places.{Standing}
 
--- the lines are as many as the answers, or one more, and no more than may be kept, and there is room for an answer to
--- each
-pub record HasRoom (lines answers room : ℕ) : Type 0 where
-  pub owed : answers ≤ lines
-  pub one : lines ≤ answers + 1
-  pub few : lines ≤ MAX_GIVEN
-  pub room_for_each : lines ≤ room
-
--- so it is with what a client keeps, and one that has ended is owed no answer
-pub record IsKept (lines answers room : ℕ) (end : Option ClientEnd) : Type 0 where
-  pub places : HasRoom lines answers room
-  pub answered : IsSome end → answers ≡ lines
+-- there is room for the place of the answer that a client is owed, and for no other; it has handed out no more lines
+-- than it may; and one that has ended is owed no answer
+pub record IsKept (owed : Option Line) (places : Standing) (end : Option ClientEnd) : Type 0 where
+  pub room : places.room ≡ length (option_to_list owed)
+  pub few : length places.stands + places.room ≤ MAX_GIVEN
+  pub answered : IsSome end → owed ≡ None

@@ -1,6 +1,6 @@
 -- What is known of the streams of a client, and what happens to them.
-use Rattle.std.specs.Prelude.{◌≡◌, ◌≢◌, ℕ, Bool, true, false, List, [], ◌++◌, Option, Some, None, IfSome, IsSome, ◌⊎◌, ◌<◌}
-use Rattle.std.specs.Prelude.{length}
+use Rattle.std.specs.Prelude.{◌≡◌, ◌≢◌, ◌<◌, ◌⊎◌, ℕ, Bool, true, false, List, [], ◌++◌, length}
+use Rattle.std.specs.Prelude.{Option, Some, None, IfSome, IsSome}
 use Rattle.std.specs.Io.Buffered.{writer_contents}
 use Rattle.std.specs.declared.io.buffered.BufWriter.{BufWriter}
 use Rattle.qrun_client.specs.declared.client.ClientEnd.{ClientEnd}
@@ -22,15 +22,15 @@ abbrev pub HeldBy : {O A : Type 0} → (O → Option (List ℕ)) → Option (Buf
 HeldBy contents None bytes = bytes ≡ []
 HeldBy contents (Some output) bytes = writer_contents contents output ≡ Some bytes
 
+-- what is still known has grown by the text
+abbrev pub GrowsBy : Option (List ℕ) → Option (List ℕ) → List ℕ → Type 0
+GrowsBy old new text = IfSome new (λ bytes. (before : List ℕ) × (old ≡ Some before) × (bytes ≡ before ++ text))
+
 -- ---- what no public clause cites
 
 -- what is still known is what it was
 abbrev pub TellsNothing : Option (List ℕ) → Option (List ℕ) → Type 0
 TellsNothing old new = IfSome new (λ bytes. old ≡ Some bytes)
-
--- what is still known has grown by the text
-abbrev pub GrowsBy : Option (List ℕ) → Option (List ℕ) → List ℕ → Type 0
-GrowsBy old new text = IfSome new (λ bytes. (before : List ℕ) × (old ≡ Some before) × (bytes ≡ before ++ text))
 
 -- what is known stays so
 abbrev pub StaysKnown : Option (List ℕ) → Option (List ℕ) → Type 0

@@ -1,13 +1,14 @@
 //! A client that writes script lines into a stream, and reads what it is told from another.
-ghost use Rattle.std.specs.Prelude.{◌≡◌, ◌<◌, ◌≤◌, ◌∷◌, ◌++◌, ◌&&◌, [], None, Some, cond, is_some, length};
-ghost use Rattle.std.specs.Prelude.{vec_capacity, vec_len};
+ghost use Rattle.std.specs.Prelude.{◌≡◌, ◌<◌, ◌∷◌, ◌++◌, ◌&&◌, [], None, Some, IsSome, OnErr, OnOk, is_some, length};
+ghost use Rattle.qplain.specs.declared.line.Line.{Line as ScriptLine};
 ghost use Rattle.qrun_client.specs.declared.client.TheConstants.{MAX_GIVEN};
 ghost use Rattle.qtext_client.specs.BoundedLines.{IsOneLine};
-ghost use Rattle.qrun_client.specs.Clients.{ComesOf, HandsOut};
+ghost use Rattle.qrun_client.specs.Clients.{ComesOf, HasLowPlace, IsAnswerIn, Takes, place_of};
+ghost use Rattle.qrun_replay.specs.Places.{stand_at};
 ghost use Rattle.qtext_client.specs.Conversations.{StaysThere, comes_to};
 ghost use Rattle.qtext_client.specs.declared.stream_client.Heard.TheVariants.{End};
+ghost use Rattle.qtext_client.specs.declared.stream_client.Step.TheVariants.{Ended};
 ghost use Rattle.qtext_client.specs.Hearings.{HearsLine, HearsText, IsLine, is_handed_out};
-ghost use Rattle.qtext_client.specs.Talks.{HasRoom};
 ghost use Rattle.qtext_client.specs.Tellings.{has_failed, telling_text};
 ghost use Rattle.qtext_client.specs.Wires.{IsGone, IsGoneIf, IsToldLast};
 ghost use Rattle.qtext_files.specs.Scripts.{script_of};
@@ -16,9 +17,9 @@ use crate::bounded_line::Got;
 use crate::connection::{Connection, EndedClient};
 use crate::streams::Streams;
 use crate::telling::{LineFault, Telling};
-use qplain::{Line, Transcript};
-use qrules::Items;
+use qplain::{Line, NoMemory, Receipt};
 use qrun_client::{Answer, Client, ClientEnd, MAX_GIVEN};
+use qrun_replay::Places;
 use qtext::{ReadFault, TextKind};
 use qtext_files::{next_line, read_line};
 use qtext_read::Paths;
@@ -51,20 +52,21 @@ enum Step {
 ///
 /// A line that is none of a script is told as a fault: it is never handed out, and takes no place. From 2,097,152 lines
 /// on no line is handed out. A client ends where its lines end, where a stream is refused, or where it has gone away;
-/// and, where it was made to, at its first line that fails. Contracts see whether it was, the lines, the answers, and
-/// what is known of its streams.
+/// and, where it was made to, at its first line that fails. It keeps where its answers stand, 8 bytes each, and of its
+/// lines only the one that is still to be answered and those that failed. Contracts see whether it was made to stop,
+/// where the answers stand, that one line, and what is known of its streams.
 #[derive(Drop)]
 pub struct StreamClient<'a, S: Streams + Drop> {
     alloc: Global,
     stop: Option<&'a AtomicBool>,
     connection: Connection<S>,
     text: Vec<u8>,
-    lines: Vec<Line>,
-    answers: Vec<Answer>,
+    line: Option<Line>,
+    places: Places,
 }
 
 impl<'a, S: Streams + Drop> Model for StreamClient<'a, S> {
-    ghost use Rattle.std.specs.Prelude.{is_some, vec_capacity, vec_len};
+    ghost use Rattle.std.specs.Prelude.{is_some};
     ghost use Rattle.qtext_client.specs.Conversations.{Progress};
     ghost use Rattle.qtext_client.specs.Talks.{IsKept};
 
@@ -72,13 +74,12 @@ impl<'a, S: Streams + Drop> Model for StreamClient<'a, S> {
 
     ghost view = { λ c. record {
       stops = is_some c.stop;
-      given = c.lines.items;
-      told = c.answers.items;
+      stands = c.places.stands;
+      owed = c.line;
       wire = c.connection;
     } };
 
-    ghost invariant = { λ c.
-        IsKept (vec_len c.lines) (vec_len c.answers) (vec_capacity c.answers) c.connection.end };
+    ghost invariant = { λ c. IsKept c.line c.places c.connection.end };
 }
 
 /// What a text of one line comes to.
@@ -95,21 +96,6 @@ fn heard_in(alloc: Global, text: &[u8]) -> Heard
         Err(ReadFault::Memory) => Heard::None(Telling::NoMemory),
         Err(ReadFault::Fault(kind)) => Heard::None(Telling::Fault(LineFault::Text(kind))),
     }
-}
-
-/// Keeps a line, with room for its answer, unless memory is wanting.
-fn keep_line(lines: &mut Vec<Line>, answers: &mut Vec<Answer>, line: Line) -> bool
-    requires room { HasRoom (vec_len lines.old) (vec_len answers.old) (vec_capacity answers.old) }
-    requires answered { vec_len answers.old ≡ vec_len lines.old }
-    requires few { vec_len lines.old < MAX_GIVEN }
-    ensures lines { lines.new.items ≡ cond result (lines.old.items ++ line ∷ []) lines.old.items }
-    ensures answers { answers.new.items ≡ answers.old.items }
-    ensures room { HasRoom (vec_len lines.new) (vec_len answers.new) (vec_capacity answers.new) }
-{
-    if answers.reserve(1).is_err() {
-        return false;
-    }
-    lines.push(line).is_ok()
 }
 
 /// Ends a client, and all that share its flag, where its line has failed and it has one.
@@ -136,8 +122,8 @@ impl<'a, S: Streams + Drop> StreamClient<'a, S> {
     pub fn new(alloc: Global, streams: S, stop: Option<&'a AtomicBool>) -> Self
         ensures { result ≡ record {
           stops = is_some stop.entry;
-          given = [];
-          told = [];
+          stands = [];
+          owed = None;
           wire = record { hears = S.says streams; wrote = Some []; end = None };
         } }
     {
@@ -146,8 +132,8 @@ impl<'a, S: Streams + Drop> StreamClient<'a, S> {
             stop,
             connection: Connection::new(streams),
             text: Vec::new(alloc),
-            lines: Vec::new(alloc),
-            answers: Vec::new(alloc),
+            line: None,
+            places: Places::empty(alloc),
         }
     }
 
@@ -161,7 +147,7 @@ impl<'a, S: Streams + Drop> StreamClient<'a, S> {
 
     /// Ends the client, since a line of another one has failed.
     fn end_stopped(&mut self) -> Heard
-        requires answered { length self.old.told ≡ length self.old.given }
+        requires answered { self.old.owed ≡ None }
         ensures stays { StaysThere self.old self.new }
         ensures end { result ≡ End }
         ensures gone { IsGone self.old.wire self.new.wire }
@@ -172,15 +158,15 @@ impl<'a, S: Streams + Drop> StreamClient<'a, S> {
 
     /// Waits for a line, and reads it.
     fn hear(&mut self) -> Heard
-        requires answered { length self.old.told ≡ length self.old.given }
+        requires answered { self.old.owed ≡ None }
         ensures stays { StaysThere self.old self.new }
-        ensures heard { HearsLine (length self.old.given) self.old.wire self.new.wire result }
-        ensures few { IsLine result → length self.new.given < MAX_GIVEN }
+        ensures heard { HearsLine (length self.old.stands) self.old.wire self.new.wire result }
+        ensures few { IsLine result → length self.new.stands < MAX_GIVEN }
     {
         match self.connection.next_line(&mut self.text) {
             Got::End | Got::Refused => Heard::End,
             _ if self.is_stopped() => self.end_stopped(),
-            _ if self.lines.len() >= MAX_GIVEN => Heard::None(Telling::Fault(LineFault::Text(
+            _ if self.places.len() >= MAX_GIVEN => Heard::None(Telling::Fault(LineFault::Text(
                 TextKind::TooMany,
             ))),
             Got::Text => heard_in(self.alloc, &self.text),
@@ -189,19 +175,38 @@ impl<'a, S: Streams + Drop> StreamClient<'a, S> {
         }
     }
 
-    /// Keeps a line, with room for its answer, unless memory is wanting.
-    fn keep(&mut self, line: Line) -> bool
-        requires answered { length self.old.told ≡ length self.old.given }
-        requires few { length self.old.given < MAX_GIVEN }
+    /// Keeps a line, with room for the place of its answer. An Err is out of memory.
+    fn keep(&mut self, line: Line) -> Result<(), NoMemory>
+        requires answered { self.old.owed ≡ None }
+        requires few { length self.old.stands < MAX_GIVEN }
         requires open { self.old.wire.end ≡ None }
-        ensures { self.new ≡ record self.old { given = cond result (self.old.given ++ line ∷ []) self.old.given } }
+        ensures ok { OnOk result (self.new ≡ record self.old { owed = Some line }) }
+        ensures err { OnErr result (self.new ≡ self.old) }
     {
-        keep_line(&mut self.lines, &mut self.answers, line)
+        self.places.make_room()?;
+        self.line = Some(line);
+        Ok(())
     }
 
-    /// Tells of a line that is not handed out.
+    /// Keeps where the answer stands to the line that is owed one, which is let go of.
+    fn keep_place(&mut self, answer: &Answer)
+        requires owed { IsSome self.old.owed }
+        requires low { HasLowPlace answer.now }
+        ensures open { self.old.wire.end ≡ None }
+        ensures answered { self.new ≡ record self.old { stands = self.new.stands; owed = None } }
+        ensures stands { (line : ScriptLine) → self.old.owed ≡ Some line
+            → self.new.stands ≡ self.old.stands ++ stand_at line (place_of answer.now) ∷ [] }
+    {
+        match (self.line.take(), answer) {
+            (Some(_), Ok(receipt)) => self.places.push(receipt.place),
+            (Some(line), Err(fault)) => self.places.push_failed(line, *fault),
+            (None, _) => unreachable!(),
+        }
+    }
+
+    /// Tells of a line, and ends the client where it stops at one that fails.
     fn tell_of(&mut self, telling: Telling)
-        requires answered { length self.old.told ≡ length self.old.given }
+        requires answered { self.old.owed ≡ None }
         ensures stays { StaysThere self.old self.new }
         ensures wire { IsToldLast (self.old.stops && has_failed telling) self.old.wire self.new.wire
             (telling_text telling) }
@@ -212,19 +217,20 @@ impl<'a, S: Streams + Drop> StreamClient<'a, S> {
 
     /// Waits for a line, and hands it out, or tells what is wrong with it.
     fn step(&mut self) -> Step
-        requires answered { length self.old.told ≡ length self.old.given }
-        ensures given { HandsOut (is_handed_out result) self.old.given self.new.given }
-        ensures told { self.new.told ≡ self.old.told }
+        requires answered { self.old.owed ≡ None }
+        ensures owed { is_some self.new.owed ≡ is_handed_out result }
+        ensures stands { self.new.stands ≡ self.old.stands }
+        ensures ended { result ≡ Ended → IsSome self.new.wire.end }
         ensures talk { ComesOf (comes_to S.took self.old) (comes_to S.took self.new) }
     {
         match self.hear() {
-            Heard::Line(line) => {
-                if self.keep(line) {
-                    return Step::HandedOut;
+            Heard::Line(line) => match self.keep(line) {
+                Ok(()) => Step::HandedOut,
+                Err(NoMemory) => {
+                    self.tell_of(Telling::NoMemory);
+                    Step::Told
                 }
-                self.tell_of(Telling::NoMemory);
-                Step::Told
-            }
+            },
             Heard::None(telling) => {
                 self.tell_of(telling);
                 Step::Told
@@ -235,13 +241,18 @@ impl<'a, S: Streams + Drop> StreamClient<'a, S> {
 }
 
 impl<'a, S: Streams + Drop + Send> Client for StreamClient<'a, S> {
+    ghost use Rattle.std.specs.Prelude.{IsSome};
     ghost use Rattle.qtext_client.specs.Conversations.{comes_to};
+
+    type Form = Receipt;
 
     type Left = EndedClient<S>;
 
-    ghost given = { λ c. c.given };
+    ghost owed = { λ c. c.owed };
 
-    ghost told = { λ c. c.told };
+    ghost stands = { λ c. c.stands };
+
+    ghost has_ended = { λ c. IsSome c.wire.end };
 
     ghost talk = { λ c. comes_to S.took c };
 
@@ -259,33 +270,36 @@ impl<'a, S: Streams + Drop + Send> Client for StreamClient<'a, S> {
         false
     }
 
-    fn line(&self) -> &Line {
-        &self.lines[self.answers.len()]
+    // Whether a whole line is at hand is not looked at.
+    fn next_at_hand(&mut self) -> bool {
+        false
     }
 
-    fn tell(&mut self, answer: Answer) {
-        let telling = Telling::Answer(answer);
-        self.connection.tell(&telling);
-        stop_after(&mut self.connection, self.stop, telling.has_failed());
-        match telling {
-            Telling::Answer(answer) => self.answers.push_reserved(answer),
-            Telling::Fault(_) | Telling::NoMemory => unreachable!(),
+    fn line(&self) -> &Line {
+        match &self.line {
+            Some(line) => line,
+            None => unreachable!(),
         }
     }
 
+    fn tell(&mut self, answer: Answer)
+        requires owed { IsSome self.old.owed }
+        requires answer { IsAnswerIn (λ receipt. receipt) answer }
+        ensures answered { self.new.owed ≡ None }
+        ensures told { Takes (λ receipt. receipt) self.old.owed answer self.old.stands self.new.stands
+            (comes_to S.took self.old) (comes_to S.took self.new) }
+    {
+        self.keep_place(&answer);
+        self.tell_of(Telling::Answer(answer));
+    }
+
     // One that still has lines is not served to its end.
-    fn into_parts(self, worker: u64) -> (Transcript, EndedClient<S>) {
+    fn into_parts(self) -> (Places, EndedClient<S>) {
         let StreamClient {
-            lines,
-            answers,
+            places,
             connection,
             ..
         } = self;
-        let transcript = Transcript {
-            worker,
-            lines: Items::new(lines),
-            answers: Items::new(answers),
-        };
-        (transcript, connection.close(ClientEnd::Input))
+        (places.close(), connection.close(ClientEnd::Input))
     }
 }

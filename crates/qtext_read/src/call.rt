@@ -1,4 +1,6 @@
 //! Calls as words: the call that words spell, and the parts of a call.
+//!
+//! A call is large, and what comes of a `match` is moved once more: it is returned where it is made.
 #![tactic(auto, unfolding(crate::specs::Calls::call_of, crate::specs::Calls::call_by, crate::specs::Rows::values_in))]
 
 ghost use Rattle.std.specs.Prelude.{◌≡◌, map, ◌∷◌, []};
@@ -27,19 +29,26 @@ fn of_one_word<'a>(
 ) -> Result<Call, ReadFault>
     ensures { (edition : Edition) → Gives result (call_of edition verb (path.now ∷ [])) }
 {
-    let path = match verb {
-        Verb::Create | Verb::Mkdir | Verb::Stat | Verb::Unlink | Verb::Rmdir => {
-            paths.read(alloc, path, &[])?
-        }
-        _ => return Err(WORD_COUNT),
-    };
-    match verb {
-        Verb::Create => Ok(Call::Create { path }),
-        Verb::Mkdir => Ok(Call::Mkdir { path }),
-        Verb::Stat => Ok(Call::Stat { path }),
-        Verb::Unlink => Ok(Call::Unlink { path }),
-        _ => Ok(Call::Rmdir { path }),
+    if !matches!(
+        verb,
+        Verb::Create | Verb::Mkdir | Verb::Stat | Verb::Unlink | Verb::Rmdir
+    ) {
+        return Err(WORD_COUNT);
     }
+    let path = paths.read(alloc, path, &[])?;
+    if verb == Verb::Stat {
+        return Ok(Call::Stat { path });
+    }
+    if verb == Verb::Create {
+        return Ok(Call::Create { path });
+    }
+    if verb == Verb::Mkdir {
+        return Ok(Call::Mkdir { path });
+    }
+    if verb == Verb::Unlink {
+        return Ok(Call::Unlink { path });
+    }
+    Ok(Call::Rmdir { path })
 }
 
 /// The call of a verb and two words.
@@ -53,33 +62,30 @@ fn of_two_words<'a>(
 ) -> Result<Call, ReadFault>
     ensures { Gives result (call_of edition verb (first.now ∷ second.now ∷ [])) }
 {
-    match verb {
-        Verb::Truncate => {
-            let path = paths.read(alloc, first, &[second])?;
-            let size = number(second)?;
-            Ok(Call::Truncate { path, size })
-        }
-        Verb::Link | Verb::Rename => {
-            let from = paths.read(alloc, first, &[second])?;
-            let to = paths.read(alloc, second, &[])?;
-            match verb {
-                Verb::Link => Ok(Call::Link { from, to }),
-                _ => Ok(Call::Rename { from, to }),
-            }
-        }
-        Verb::SetGrace => {
-            let block = number(first)?;
-            let inode = number(second)?;
-            let graces = Graces { block, inode };
-            Ok(Call::SetGrace { graces })
-        }
-        Verb::Quota => {
-            let kind = kind_of(edition, first)?;
-            let id = id_of(TextKind::BadNumber, second)?;
-            Ok(Call::Quota { kind, id })
-        }
-        _ => Err(WORD_COUNT),
+    if verb == Verb::Quota {
+        let kind = kind_of(edition, first)?;
+        let id = id_of(TextKind::BadNumber, second)?;
+        return Ok(Call::Quota { kind, id });
     }
+    if verb == Verb::SetGrace {
+        let block = number(first)?;
+        let inode = number(second)?;
+        let graces = Graces { block, inode };
+        return Ok(Call::SetGrace { graces });
+    }
+    if !matches!(verb, Verb::Truncate | Verb::Link | Verb::Rename) {
+        return Err(WORD_COUNT);
+    }
+    let path = paths.read(alloc, first, &[second])?;
+    if verb == Verb::Truncate {
+        let size = number(second)?;
+        return Ok(Call::Truncate { path, size });
+    }
+    let to = paths.read(alloc, second, &[])?;
+    if verb == Verb::Link {
+        return Ok(Call::Link { from: path, to });
+    }
+    Ok(Call::Rename { from: path, to })
 }
 
 /// The call of a verb and three words.
@@ -94,32 +100,28 @@ fn of_three_words<'a>(
     ensures { (edition : Edition) → Gives result
         (call_of edition verb (path.now ∷ second.now ∷ third.now ∷ [])) }
 {
-    match verb {
-        Verb::Write => {
-            let path = paths.read(alloc, path, &[second, third])?;
-            let off = number(second)?;
-            let bytes = data_of(alloc, third)?;
-            Ok(Call::Write { path, off, bytes })
-        }
-        Verb::Read => {
-            let path = paths.read(alloc, path, &[second, third])?;
-            let off = number(second)?;
-            let len = number(third)?;
-            Ok(Call::Read { path, off, len })
-        }
-        Verb::Chown => {
-            let path = paths.read(alloc, path, &[second, third])?;
-            let uid = owner_of(second)?;
-            let gid = owner_of(third)?;
-            Ok(Call::Chown {
-                path,
-                uid,
-                gid,
-                project: None,
-            })
-        }
-        _ => Err(WORD_COUNT),
+    if !matches!(verb, Verb::Write | Verb::Read | Verb::Chown) {
+        return Err(WORD_COUNT);
     }
+    let path = paths.read(alloc, path, &[second, third])?;
+    if verb == Verb::Chown {
+        let uid = owner_of(second)?;
+        let gid = owner_of(third)?;
+        let project = None;
+        return Ok(Call::Chown {
+            path,
+            uid,
+            gid,
+            project,
+        });
+    }
+    let off = number(second)?;
+    if verb == Verb::Write {
+        let bytes = data_of(alloc, third)?;
+        return Ok(Call::Write { path, off, bytes });
+    }
+    let len = number(third)?;
+    Ok(Call::Read { path, off, len })
 }
 
 /// The call of a verb and four words.
@@ -135,28 +137,25 @@ fn of_four_words<'a>(
         (call_of edition verb (path.now ∷ map (λ word. word.now) behind.entry)) }
 {
     let [second, third, fourth] = behind;
-    match verb {
-        Verb::Fill => {
-            let path = paths.read(alloc, path, &behind)?;
-            let off = number(second)?;
-            let count = number_of(TextKind::BadNumber, MAX_FILL, third)?;
-            let bytes = Data::fill(count, byte_of(fourth)?);
-            Ok(Call::Write { path, off, bytes })
-        }
-        Verb::Chown => {
-            let path = paths.read(alloc, path, &behind)?;
-            let uid = owner_of(second)?;
-            let gid = owner_of(third)?;
-            let project = Some(id_of(TextKind::BadNumber, fourth)?);
-            Ok(Call::Chown {
-                path,
-                uid,
-                gid,
-                project,
-            })
-        }
-        _ => Err(WORD_COUNT),
+    if !matches!(verb, Verb::Fill | Verb::Chown) {
+        return Err(WORD_COUNT);
     }
+    let path = paths.read(alloc, path, &behind)?;
+    if verb == Verb::Fill {
+        let off = number(second)?;
+        let count = number_of(TextKind::BadNumber, MAX_FILL, third)?;
+        let bytes = Data::fill(count, byte_of(fourth)?);
+        return Ok(Call::Write { path, off, bytes });
+    }
+    let uid = owner_of(second)?;
+    let gid = owner_of(third)?;
+    let project = Some(id_of(TextKind::BadNumber, fourth)?);
+    Ok(Call::Chown {
+        path,
+        uid,
+        gid,
+        project,
+    })
 }
 
 /// `setquota KIND ID BSOFT BHARD ISOFT IHARD`.
@@ -194,7 +193,6 @@ pub(crate) fn call_of<'a>(
 ) -> Result<Call, ReadFault>
     ensures { Gives result (call_of edition verb (map (λ word. word.now) arguments.now)) }
 {
-    // A call is large, and what comes of a `match` is moved once more.
     if let [path] = arguments {
         return of_one_word(alloc, paths, verb, path);
     }

@@ -1,7 +1,5 @@
--- What an ending leaves, clients that have handed out nothing, results whose error was turned into another, what was read
--- under names, and what was printed.
+-- What an ending leaves, results whose error was turned into another, what was read under names, and what was printed.
 pub mod Endings
-pub mod Clients
 pub mod Results
 pub mod Under
 pub mod Printing

@@ -1,10 +1,11 @@
 //! Services: clients by the names of their streams, from the command line to what is left of them.
-ghost use Rattle.std.specs.Prelude.{◌≡◌, ◌⊎◌, ◌<◌, ◌≤◌, [], All, IfOk, OnOk, length};
+ghost use Rattle.std.specs.Prelude.{◌≡◌, ◌⊎◌, ◌<◌, ◌≤◌, All, IfOk, OnOk, length};
 ghost use Rattle.std.specs.Io.KnownBytes.{Appends};
 ghost use Rattle.qtext_outcome.specs.Outcomes.{left_text};
 ghost use Rattle.qshare.specs.declared.opening.TheConstants.{MAX_SEATS};
 ghost use Rattle.qrun.specs.Serving.{monitors_in};
 ghost use Rattle.qrun.specs.Watching.{seats_for};
+ghost use Rattle.qrun_worker.specs.Work.{IsNew};
 ghost use Rattle.qtool.specs.Printed.{PrintsService, seen, told_at};
 ghost use Rattle.qtool.specs.Under.{IsServiceUnder};
 
@@ -63,7 +64,7 @@ fn client_of<'a, F: NamedStreams>(
     names: &ClientNames<'_>,
     stop: Option<&'a AtomicBool>,
 ) -> Result<NamedClient<'a, F>, NoMemory>
-    ensures { IfOk result (λ c. (c.given ≡ []) × (c.told ≡ [])) }
+    ensures { IfOk result (λ c. IsNew c.owed c.stands) }
 {
     let streams = ToldStreams {
         streams: files.streams(names.input, names.output)?,
@@ -83,7 +84,7 @@ fn clients_of<'a, F: NamedStreams>(
     stop: Option<&'a AtomicBool>,
 ) -> Result<Vec<NamedClient<'a, F>>, NoMemory>
     ensures many { IfOk result (λ clients. length clients.items ≡ length names.now) }
-    ensures new { IfOk result (λ clients. All (λ c. (c.given ≡ []) × (c.told ≡ [])) clients.items) }
+    ensures new { IfOk result (λ clients. All (λ c. IsNew c.owed c.stands) clients.items) }
 {
     let mut clients = Vec::new(alloc);
     for names in names {

@@ -1,5 +1,5 @@
 //! Runs of scripts, and replays of a journal and checks of boards against one, under a configuration.
-ghost use Rattle.std.specs.Prelude.{◌≡◌, ◌<◌, ◌≤◌, [], ℕ, All, List, Err, IfErr, IfOk, length};
+ghost use Rattle.std.specs.Prelude.{◌≡◌, ◌<◌, ◌≤◌, ℕ, All, List, Err, IfErr, IfOk, length};
 ghost use Rattle.qplain.specs.declared.line.Line.{Line};
 ghost use Rattle.qplain.specs.Setups.{in_edition};
 ghost use Rattle.qplain.specs.State.{start};
@@ -14,6 +14,7 @@ ghost use Rattle.qrun.specs.Monitors.{IsShownTo};
 ghost use Rattle.qrun.specs.RunFaults.{IsFaultOf};
 ghost use Rattle.qrun.specs.Serving.{CanServe, IsOfClients, monitors_in};
 ghost use Rattle.qrun.specs.Watching.{seats_for};
+ghost use Rattle.qrun_worker.specs.Work.{IsNew};
 
 use qaudit_checks::BoardFault;
 use qplain::{Board, Journal, Script};
@@ -68,9 +69,9 @@ pub fn run<R: Threads + Wait + Sync>(
 /// each answer at once. It ends when all clients have ended; the end of one ends no other.
 ///
 /// The monitor is shown boards of the journal meanwhile, whose versions rise, and takes no lock; what is left of it
-/// comes back. What is said of `run_with` holds: the store is what its
-/// journal leaves, and each client's lines were made in order, each with its reply. A journal has at most 1,048,576
-/// entries; then each line is told JournalFull, and in no journal.
+/// comes back. What is said of `run_with` holds: the store is what its journal leaves, and each client's lines were made
+/// in order, each with its reply. A journal has at most 1,048,576 entries; then each line is answered JournalFull, and
+/// in no journal.
 pub fn serve<C, M, R>(
     machine: &Machine<'_, R>,
     config: Config,
@@ -82,7 +83,7 @@ where
     M: Monitor + Drop + Send,
     R: Threads + Wait + Sync,
     requires can { CanServe config.setup (length clients.items) (monitors_in monitor) }
-    requires new { All (λ c. (C.given c ≡ []) × (C.told c ≡ [])) clients.items }
+    requires new { All (λ c. IsNew (C.owed c) (C.stands c)) clients.items }
     ensures outcome { IfOk result (λ s. IsServiceOf config.setup s.outcome) }
     ensures clients { IfOk result (λ s. IsOfClients C.talk clients.items s.left.items s.outcome) }
     ensures shown { IfOk result (λ s. IsShownTo M.sees (start config.setup) s.outcome.journal.entries monitor

@@ -2,7 +2,7 @@
 ghost use Rattle.std.specs.Prelude.{◌≡◌};
 
 use crate::given::{FIRST_FILES, lines, setup};
-use qplain::{Line, Tallies};
+use qplain::{CallFault, Line, Tallies};
 use qshare::{Boards, EndFault, Ended, Opened, Seat, Share, Shared};
 use qshare_history::StoreId;
 use std::alloc::Global;
@@ -20,7 +20,13 @@ fn make_files<S: StoreId, B: Boards<S>, V: Drop, W: Wait>(
     for at in 0..seats.len() {
         if at < lines.len() {
             let line = &lines[at];
-            let answer = shared.call(rt, &mut seats[at], &line.cred, line.moment, &line.call);
+            let answer: Result<u64, CallFault> = shared.call(
+                rt,
+                &mut seats[at],
+                &line.cred,
+                line.moment,
+                &line.call,
+            );
             if answer.is_err() {
                 return false;
             }

@@ -1,4 +1,4 @@
-use Rattle.std.proofs.Common.{arith, refl, subst, sym, ◌∙◌}
+use Rattle.std.proofs.Common.{arith, subst, sym, ap, ◌∙◌}
 use Rattle.std.proofs.lemmas.List.{nil_from_length}
 use Rattle.qplain.specs.State.{start}
 use Rattle.qaudit_checks.specs.LawfulBoards.{AreLawful, boards_in}
@@ -7,14 +7,17 @@ use Rattle.qrun.proofs.Watched.{look_more, no_boards}
 use Rattle.qrun.proofs.watcher.look_on.Goals as goal
 
 pub loop-look-init : goal.loop-look-init
-loop-look-init g c = (
-  c.requires.room.0,
-  c.requires.room.1,
-  refl,
-  c.requires.seat,
-  subst (λ looks. AreLawful (start g.S.StoreId.id.setting) c.args.seat.seen (boards_in looks))
-      (sym (nil_from_length c.args.looks.items (sym c.args.looks.ok.0 ∙ c.requires.room.0))) (no_boards (start g.S.StoreId.id.setting) c.args.seat.seen),
-)
+loop-look-init g c =
+    let S = start g.S.StoreId.id.setting in
+    let seat = c.watcher.inside.seat in
+    let room = c.watcher.inside.room in (
+      c.watcher.invariant.1,
+      c.watcher.invariant.2,
+      ap (λ w. w.seat.worker) c.watcher.view_is,
+      c.watcher.invariant.0,
+      subst (λ looks. AreLawful S seat.seen (boards_in looks)) (sym (nil_from_length room.items (sym room.ok.0 ∙ c.watcher.invariant.1)))
+          (no_boards S seat.seen),
+    )
 
 pub loop-look-preserved : goal.loop-look-preserved
 loop-look-preserved g c =
@@ -31,3 +34,16 @@ loop-look-preserved g c =
           c.push_reserved.new.self.items c.board.result so_far.4
           begins looked.board pushed.items,
     )
+
+pub returns : goal.returns
+returns g c =
+    let so_far = c.loop-look.invariant in
+    let S = start g.S.StoreId.id.setting in
+    let looks = c.loop-look.looks in
+    let boards = ap (λ w. w.boards) c.watcher.view_is in
+    record {
+      worker_is = ap (λ s. s.worker) c.finish.ensures ∙ so_far.2;
+      idle = ap (λ s. s.tally.calls) c.finish.ensures ∙ ap (λ t. t.calls) so_far.3;
+      each = omega (arith, looks.ok.0, so_far.0, so_far.1, c.loop-look-test.false, c.loop-look.auto.look-end, boards);
+      lawful = subst (λ s. AreLawful S s (boards_in looks.items)) (sym (ap (λ s. s.seen) c.finish.ensures)) so_far.4;
+    }

@@ -6,5 +6,5 @@ use Rattle.qaudit_checks.specs.LawfulBoards.{AreLawful, boards_in}
 use Rattle.qrun.proofs.watcher.look_on.Given as goal
 
 abbrev pub invariant-loop-look : goal.invariant-loop-look
-invariant-loop-look g l = (vec_len l.looks ≡ l.look) × (l.boards ≤ vec_capacity l.looks) × (l.seat.worker ≡ l.fn.seat.worker)
+invariant-loop-look g l = (vec_len l.looks ≡ l.look) × (l.boards ≤ vec_capacity l.looks) × (l.seat.worker ≡ l.fn.watcher.seat.worker)
     × (l.seat.tally ≡ no_tally) × AreLawful (start g.S.StoreId.id.setting) l.seat.seen (boards_in l.looks.items)

@@ -1,10 +1,7 @@
-use Rattle.std.proofs.Common.{◌≡◌, ◌-◌, length}
-use Rattle.qrun_worker.specs.Work.{IsUnderWay}
+use Rattle.std.proofs.Common.{◌≡◌, None}
+use Rattle.qrun_worker.specs.Work.{HasGone}
 use Rattle.qrun_worker.proofs.worker.play_batches.Given as goal
 
-abbrev pub invariant-loop-lines : goal.invariant-loop-lines
-invariant-loop-lines g l = IsUnderWay l.lines l.seat.seen l.seat l.places × (l.lines.all ≡ l.fn.lines.all)
-    × (l.seat.worker ≡ l.fn.seat.worker)
-
-abbrev pub decreases-loop-lines : goal.decreases-loop-lines
-decreases-loop-lines g l = length l.lines.all - l.lines.taken
+abbrev pub invariant-loop : goal.invariant-loop
+invariant-loop g l = HasGone l.fn.seat.seen l.seat.seen l.fn.seat l.seat (g.C.Client.stands l.fn.client) (g.C.Client.stands l.client)
+    (g.C.Client.talk l.fn.client) (g.C.Client.talk l.client) × (g.C.Client.owed l.client ≡ None)

@@ -1,39 +1,53 @@
-use Rattle.std.proofs.Common.{◌≡◌, ◌<◌, ◌+◌, length, ap, arith, refl, sym, ◌∙◌, ◌++◌, ◌∷◌, []}
-use Rattle.qrun_replay.specs.Places.{stand_at}
-use Rattle.qrun_worker.specs.Work.{Taking}
-use Rattle.qrun_worker.proofs.UnderWay.{further_held, sees_more}
-use Rattle.qrun_worker.proofs.Working.{room_left, same_worker}
+use Rattle.std.proofs.Common.{subst, sym, arith, ◌∙◌, append-nil, []}
+use Rattle.qrun_worker.specs.Work.{HasGone}
+use Rattle.qrun_worker.proofs.Going.{further, none_further}
 use Rattle.qrun_worker.proofs.worker.play_held.Goals as goal
 
 pub loop-init : goal.loop-init
-loop-init g c = (
-  sees_more c.args.lines.now c.args.seat.now.seen c.args.held.journal c.args.seat.now c.args.places.now c.requires.so_far c.requires.held.begins,
-  (let none : c.args.lines.now.taken ≡ c.args.lines.now.taken + 0 = omega arith in ap (λ n. record c.args.lines.now { taken = n }) none),
-  omega (arith, c.requires.held.room),
-  refl,
-  sym c.requires.held.by,
-)
+loop-init g c =
+    let stands = g.C.Client.stands in
+    let talk = g.C.Client.talk in
+    let client = c.args.client.now in
+    let seat = c.args.seat.now in
+    let one = c.play_one.new in
+    let may = c.requires.many.1 in
+    let seen : HasGone seat.seen c.args.held.journal seat seat (stands client) (stands client) (talk client) (talk client) =
+    none_further seat.seen c.args.held.journal seat (stands client) (talk client) (talk client) may.begins (λ lines answers left comes. comes) in (
+      further seat.seen c.args.held.journal one.held.journal seat seat one.seat (stands client) (stands client) (stands one.client) (talk client)
+          (talk client) (talk one.client) seen c.play_one.ensures.gone,
+      c.play_one.ensures.answered,
+      omega (arith, may.room, c.play_one.ensures.held.1),
+      c.play_one.ensures.gone.worker ∙ may.by ∙ sym c.play_one.ensures.held.0,
+      omega arith,
+    )
+
+pub overflow_add-made : goal.overflow_add-made
+overflow_add-made g c = omega (arith, c.loop.invariant.4, c.loop-test.true, c.ranges.many.fits)
 
 pub loop-preserved : goal.loop-preserved
 loop-preserved g c =
+    let stands = g.C.Client.stands in
+    let talk = g.C.Client.talk in
+    let begun = c.args.client.now in
+    let before = c.loop.client in
+    let asked = c.next_at_hand.new.self in
+    let one = c.play_one-in-loop.new in
+    let first = c.args.seat.now in
+    let old = c.loop.seat in
     let so_far = c.loop.invariant in
-    let applied = c.place-place.ensures in
-    let line = c.peek-line.result.now in
-    let lines = c.loop.lines in
-    let place = c.place-place.result in
-    let old = c.loop.held in
-    let new = c.place-place.new.self in
-    let seat = c.place-place.new.seat in
-    let less : lines.taken < length lines.all =
-    omega (arith, ap (λ t. t.taken) so_far.1, ap (λ t. length t.all) so_far.1, c.loop-test.true, c.requires.many) in
-    let kept = c.keep_place.ensures in
-    let stands : c.keep_place.new.places.stands ≡ c.loop.places.stands ++ stand_at line place ∷ [] =
-    kept.stands line ∙ ap (λ l. c.loop.places.stands ++ stand_at l place ∷ []) (sym (c.peek-line.ensures line)) in
-    let one : c.args.lines.now.taken + c.loop.counter + 1 ≡ c.args.lines.now.taken + (c.loop.counter + 1) = omega arith in (
-      further_held lines c.keep_place.new.lines c.loop.places c.keep_place.new.places line less (c.peek-line.ensures line) kept.lines
-          g.S.StoreId.id.setting old new c.loop.seat seat place so_far.0 applied.ok applied.stays applied.err applied.full stands kept.room,
-      kept.lines ∙ ap (λ (t : Taking). record t { taken = t.taken + 1 }) so_far.1 ∙ ap (λ n. record c.args.lines.now { taken = n }) one,
-      room_left old new c.loop.seat seat line place c.args.many c.loop.counter applied.ok applied.err so_far.2,
-      same_worker old new c.loop.seat seat line place applied.ok applied.err ∙ so_far.3,
-      applied.stays.by ∙ so_far.4,
+    let played = c.play_one-in-loop.ensures in
+    let journal = c.loop.held.journal in
+    let later = one.held.journal in
+    let next : HasGone journal journal old old (stands before) (stands before) (talk before) (talk asked) =
+    none_further journal journal old (stands before) (talk before) (talk asked) ([], append-nil journal) c.if-not-next_at_hand.ensures.talk in
+    let more : HasGone journal later old one.seat (stands before) (stands one.client) (talk before) (talk one.client) =
+    further journal journal later old old one.seat (stands before) (stands before) (stands one.client) (talk before) (talk asked)
+    (talk one.client) next (subst (λ s. HasGone journal later old one.seat s (stands one.client) (talk asked) (talk one.client))
+    c.if-not-next_at_hand.ensures.stands played.gone) in (
+      further first.seen journal later first old one.seat (stands begun) (stands before) (stands one.client) (talk begun) (talk before)
+          (talk one.client) so_far.0 more,
+      played.answered,
+      omega (arith, so_far.2, played.held.1),
+      played.gone.worker ∙ so_far.3 ∙ sym played.held.0,
+      omega (arith, so_far.4),
     )

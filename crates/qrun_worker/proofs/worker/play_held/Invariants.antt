@@ -1,8 +1,8 @@
-use Rattle.std.proofs.Common.{◌≡◌, ◌+◌, ◌≤◌}
-use Rattle.qrun_worker.specs.Work.{IsUnderWay}
+use Rattle.std.proofs.Common.{◌≡◌, ◌+◌, ◌≤◌, None}
+use Rattle.qrun_worker.specs.Work.{HasGone}
 use Rattle.qrun_worker.proofs.worker.play_held.Given as goal
 
 abbrev pub invariant-loop : goal.invariant-loop
-invariant-loop g l = IsUnderWay l.lines l.held.journal l.seat l.places
-    × (l.lines ≡ record l.fn.lines { taken = l.fn.lines.taken + l.counter })
-    × (l.many ≤ l.held.room + l.counter) × (l.seat.worker ≡ l.fn.seat.worker) × (l.held.by ≡ l.fn.seat.worker)
+invariant-loop g l = HasGone l.fn.seat.seen l.held.journal l.fn.seat l.seat (g.C.Client.stands l.fn.client) (g.C.Client.stands l.client)
+    (g.C.Client.talk l.fn.client) (g.C.Client.talk l.client) × (g.C.Client.owed l.client ≡ None)
+    × (l.many ≤ l.held.room + l.counter) × (l.seat.worker ≡ l.held.by) × (l.made ≤ l.counter)

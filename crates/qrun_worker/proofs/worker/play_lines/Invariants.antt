@@ -1,7 +1,7 @@
-use Rattle.std.proofs.Common.{◌≡◌}
-use Rattle.qrun_worker.specs.Work.{IsUnderWay}
+use Rattle.std.proofs.Common.{◌≡◌, None}
+use Rattle.qrun_worker.specs.Work.{HasGone}
 use Rattle.qrun_worker.proofs.worker.play_lines.Given as goal
 
-abbrev pub invariant-loop-before : goal.invariant-loop-before
-invariant-loop-before g l = IsUnderWay l.lines l.seat.seen l.seat l.places × (l.lines ≡ record l.fn.lines { taken = l.before })
-    × (l.seat.worker ≡ l.fn.seat.worker)
+abbrev pub invariant-loop : goal.invariant-loop
+invariant-loop g l = HasGone l.fn.seat.seen l.seat.seen l.fn.seat l.seat (g.C.Client.stands l.fn.client) (g.C.Client.stands l.client)
+    (g.C.Client.talk l.fn.client) (g.C.Client.talk l.client) × (g.C.Client.owed l.client ≡ None)

@@ -1,4 +1,4 @@
-use Rattle.std.proofs.Common.{◌≡◌}
+use Rattle.std.proofs.Common.{◌≡◌, None}
 use Rattle.qrun_client.specs.Clients.{ComesOf}
 use Rattle.qtext_client.specs.Conversations.{comes_to}
 use Rattle.qtext_client.proofs.stream_client.StreamClientClient.next.Given as goal
@@ -6,7 +6,7 @@ use Rattle.qtext_client.proofs.stream_client.StreamClientClient.next.Given as go
 -- of lines that are none nothing is kept, and what comes of the client is what came of it before
 abbrev pub invariant-loop : goal.invariant-loop
 invariant-loop g l = record {
-  given : l.self.given ≡ l.fn.self.given;
-  told : l.self.told ≡ l.fn.self.told;
+  owed : l.self.owed ≡ None;
+  stands : l.self.stands ≡ l.fn.self.stands;
   talk : ComesOf (comes_to g.S.Streams.took l.fn.self) (comes_to g.S.Streams.took l.self);
 }

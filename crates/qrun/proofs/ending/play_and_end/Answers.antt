@@ -1,0 +1,70 @@
+use Rattle.std.proofs.Common.{◌≡◌, true, false, length, option_map, ap, subst, sym, ◌∙◌, arith}
+use Rattle.std.proofs.lemmas.List.{length-map}
+use Rattle.qplain.specs.State.{start}
+use Rattle.qaudit_checks.specs.LawfulBoards.{AreLawful, boards_in}
+use Rattle.qrun_replay.specs.Runs.{IsServiceOf}
+use Rattle.qrun.specs.Observers.{seat_in}
+use Rattle.qrun.proofs.Ended.{all_shares_there, handed_in_by, has_ended, looks_lawful, staff_fits, works_placed}
+use Rattle.qrun.proofs.Naming.{fault_of_any, names_on}
+use Rattle.qrun.proofs.Observing.{monitor_shown}
+use Rattle.qrun.proofs.ending.play_and_end.Goals as goal
+
+pub returns-in_err-works-clause-fault : goal.returns-in_err-works-clause-fault
+returns-in_err-works-clause-fault g c =
+    let parts = g.S.StoreId.id.counters.parts in
+    let workers = c.in_ok-workers.workers.items in
+    let fits = staff_fits g.S.StoreId.id.setting (length c.args.crew) parts c.args.seats.items (option_map seat_in c.args.observer)
+    c.requires.staff in
+    names_on parts c.from_residual-in_err-works.result c.in_err-works.field-0.0 c.from_residual-in_err-works.ensures.1
+    (c.in_err-works.ensures parts
+    (omega (arith, fits.0, ap length c.in_ok-workers.ensures.clients_are, length-map workers (λ p. p.client))) fits.1)
+
+pub make_outcome-requires-clause-told : goal.make_outcome-requires-clause-told
+make_outcome-requires-clause-told g c =
+    let at = handed_in_by g.C.Client.talk g.M.Monitor.sees _ _ _ _ _ _ _ _ _ _ _ c.requires.staff c.in_ok-workers.ensures.clients_are
+    c.in_ok-works.ensures c.in_ok-own.ensures.shares c.part_observed-watch.ensures.watch c.in_ok-shares.ensures.shares in
+    (works_placed _ _ _ _ _ _ _ _ _ at c.in-Ok.store.journal c.in-Ok.ensures.end.seen (ap (λ t. t.calls) c.in-Ok.ensures.end.tally)
+    c.in-Ok.ensures.end.played.few c.in_ok-own.answered.items c.in_ok-own.ensures.answered).0
+
+pub make_outcome-requires-clause-lawful : goal.make_outcome-requires-clause-lawful
+make_outcome-requires-clause-lawful g c =
+    let looks = c.in_ok-shares.looks.items in
+    let journal = c.in-Ok.store.journal in
+    let at = handed_in_by g.C.Client.talk g.M.Monitor.sees _ _ _ _ _ _ _ _ _ _ _ c.requires.staff c.in_ok-workers.ensures.clients_are
+    c.in_ok-works.ensures c.in_ok-own.ensures.shares c.part_observed-watch.ensures.watch c.in_ok-shares.ensures.shares in
+    subst (λ s. AreLawful (start s) journal (boards_in looks)) (sym c.in-Ok.ensures.setting)
+    (looks_lawful _ _ _ _ _ _ _ _ _ at journal c.in-Ok.ensures.end.seen looks c.in_ok-shares.ensures.looks)
+
+pub returns-in_err-outcome-in-Ok-clause-fault : goal.returns-in_err-outcome-in-Ok-clause-fault
+returns-in_err-outcome-in-Ok-clause-fault g c =
+    let fault = c.in_err-outcome-in-Ok.field-0.0 in
+    names_on g.S.StoreId.id.counters.parts c.from_residual-in_err-outcome-in-Ok.result fault c.from_residual-in_err-outcome-in-Ok.ensures.1
+    (fault_of_any g.S.StoreId.id.counters.parts fault c.in_err-outcome-in-Ok.ensures.fault)
+
+pub unreachable-requires : goal.unreachable-requires
+unreachable-requires g c =
+    let at = handed_in_by g.C.Client.talk g.M.Monitor.sees _ _ _ _ _ _ _ _ _ _ _ c.requires.staff c.in_ok-workers.ensures.clients_are
+    c.in_ok-works.ensures c.in_ok-own.ensures.shares c.part_observed-watch.ensures.watch c.in_ok-shares.ensures.shares in
+    let wrong : false ≡ true = c.in-Err.ensures.all (all_shares_there _ _ _ _ _ _ _ _ _ at) in
+    absurd cc
+
+pub returns-clause-ended : goal.returns-clause-ended
+returns-clause-ended g c =
+    let at = handed_in_by g.C.Client.talk g.M.Monitor.sees _ _ _ _ _ _ _ _ _ _ _ c.requires.staff c.in_ok-workers.ensures.clients_are
+    c.in_ok-works.ensures c.in_ok-own.ensures.shares c.part_observed-watch.ensures.watch c.in_ok-shares.ensures.shares in
+    let journal = c.in-Ok.store.journal in
+    let seen = c.in-Ok.ensures.end.seen in
+    let counted = ap (λ t. t.calls) c.in-Ok.ensures.end.tally in
+    let few = c.in-Ok.ensures.end.played.few in
+    let outcome = c.in_ok-outcome-in-Ok.outcome in
+    let told = c.in_ok-outcome-in-Ok.ensures.told in
+    has_ended _ _ _ _ _ _ _ _ _ at journal seen counted few c.in_ok-own.left.items c.in_ok-shares.looks.items outcome
+    (subst (λ s. IsServiceOf s outcome) c.in-Ok.ensures.setting c.in_ok-outcome-in-Ok.ensures.outcome)
+    (told.0 ∙ (works_placed _ _ _ _ _ _ _ _ _ at journal seen counted few c.in_ok-own.answered.items c.in_ok-own.ensures.answered).1)
+    c.in_ok-own.ensures.left c.in_ok-shares.ensures.looks told.1
+
+pub returns-clause-shown : goal.returns-clause-shown
+returns-clause-shown g c =
+    monitor_shown g.M.Monitor.sees (start g.S.StoreId.id.setting) c.in-Ok.store.journal _ _ _ _ c.args.observer _ _ c.in_ok-works.ensures.1
+    c.part_observed-watch.ensures.watch c.part_observed-watch.ensures.left c.in_ok-shares.ensures.shares c.in-Ok.ensures.end.seen
+    c.in_ok-outcome-in-Ok.ensures.told.2
