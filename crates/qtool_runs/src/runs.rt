@@ -69,9 +69,9 @@ pub fn run<R: Threads + Wait + Sync>(
 /// each answer at once. It ends when all clients have ended; the end of one ends no other.
 ///
 /// The monitor is shown boards of the journal meanwhile, whose versions rise, and takes no lock; what is left of it
-/// comes back. What is said of `run_with` holds: the store is what its journal leaves, and each client's lines were made
-/// in order, each with its reply. A journal has at most 1,048,576 entries; then each line is answered JournalFull, and
-/// in no journal.
+/// comes back. What is said of `run_with` holds: the store is what its journal leaves, and each client's lines were
+/// made in order, each with its reply. A journal has at most 1,048,576 entries; then each line is answered JournalFull,
+/// and in no journal.
 pub fn serve<C, M, R>(
     machine: &Machine<'_, R>,
     config: Config,
