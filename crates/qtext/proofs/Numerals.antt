@@ -1,9 +1,10 @@
 -- What decimal digits are worth, read from the left.
-use Rattle.std.proofs.Common.{◌≡◌, ◌≢◌, ℕ, ◌≤◌, ◌<◌, ◌+◌, ◌-◌, ◌*◌, ◌^◌, Bool, true, false, eqb, List, [], ◌∷◌, length, get_or, drop, Option, Some, None, refl, sym, ap, ◌∙◌, arith, rules, inl, inr, add-one, drop-cons}
+use Rattle.std.proofs.Common.{◌≡◌, ◌≢◌, ℕ, suc, ◌≤◌, ◌<◌, ◌+◌, ◌-◌, ◌*◌, ◌^◌, Bool, true, false, eqb, List, [], ◌∷◌, length, get_or, drop, Option, Some, None, refl, sym, ap, ◌∙◌, arith, rules, inl, inr, add-one, drop-cons}
 use Rattle.std.specs.Prelude.{IfSome, MatchOption}
 use Rattle.std.specs.List.{list_all}
 use Rattle.std.specs.Char.{is_ascii_digit, digit_value}
 use Rattle.std.specs.Str.Parse.{digits_value, digits_value_after}
+use Rattle.std.proofs.Math.Nat.{pow-le-pow_right, pow-suc}
 use Rattle.std.proofs.lemmas.Bool.{cases_lt}
 use Rattle.std.proofs.lemmas.Bool.Decides.{nat_tests}
 use Rattle.std.proofs.lemmas.Str.Parse.{IsNumeralModel, IsDigitsTest, numerals_by_value}
@@ -109,6 +110,17 @@ pub read_digits : (word : List ℕ) (o : Option ℕ) → 0 < length word → get
 read_digits word None lt ne h = refused word _ (told_digits word lt ne) h
 read_digits word (Some n) lt ne h = a_number word (told_digits word lt ne ∙ h.0) ∙ ap some_number (sym h.1)
 
+-- what `short_value` answers
+abbrev pub ShortValues : List ℕ → Option ℕ → Type 0
+ShortValues digits o = MatchOption o (list_all is_ascii_digit digits ≡ false) (λ n. AreDigits digits × (n ≡ digits_value 10 digits))
+
+short_values : (digits : List ℕ) (o : Option ℕ) → ShortValues digits o → Values digits o
+short_values digits None none = λ all. absurd (cc (sym none ∙ all))
+short_values digits (Some n) is = is
+
+pub read_short : (word : List ℕ) (o : Option ℕ) → 0 < length word → get_or word 0 0 ≢ 48 → ShortValues word o → Read word o
+read_short word o lt ne is = read_digits word o lt ne (short_values word o is)
+
 pub some_length : (n : ℕ) → false ≡ eqb n 0 → 0 < n
 some_length n e = grind (arith, nat_tests)
 
@@ -120,3 +132,12 @@ not_less a b h = elim (cases_lt a b) [
   | inl lt ↦ absurd (h lt)
   | inr le ↦ le
 ]
+
+pub digit_is_low : (d : ℕ) → is_ascii_digit d ≡ true → d - 48 ≤ 9
+digit_is_low d e = grind (arith, nat_tests)
+
+-- few digits are worth less than 64 bits hold, whichever they are
+pub short_worth : (value digit place : ℕ) → value < 10 ^ place → place < 19 → digit ≤ 9 → value * 10 + digit < 2 ^ 64
+short_worth value digit place lt few small =
+    let most : 10 ^ suc place ≤ 10 ^ 19 = pow-le-pow_right (omega arith) few in
+    omega (arith, most, pow-suc 10 place)

@@ -1,6 +1,6 @@
 -- What a text of one line says.
 use Rattle.std.proofs.Common.{◌≡◌, inl, inr, ◌≤◌, ℕ, ◌+◌, eqb, Bool, true, false, List, [], ◌∷◌, length}
-use Rattle.std.proofs.Common.{take, Result, Err, refl, sym, ap, ◌∙◌, arith, drop_of_length-le}
+use Rattle.std.proofs.Common.{take, refl, sym, ap, ◌∙◌, arith, drop_of_length-le}
 use Rattle.std.proofs.lemmas.Bool.{cases_lt}
 use Rattle.std.specs.List.{position_or_len}
 use Rattle.std.specs.Io.BufRead.{take_through}

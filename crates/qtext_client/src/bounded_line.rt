@@ -5,6 +5,7 @@ ghost use Rattle.qtext_client.specs.BoundedLines.{Gets, TakesPart};
 ghost use Rattle.qtext_client.specs.declared.bounded_line.TheConstants.{MAX_LINE};
 ghost use Rattle.qtext_client.specs.declared.bounded_line.Got.TheVariants.{Refused};
 
+use qlanes::first_place;
 use std::io::{BufRead, ErrorKind};
 
 /// The longest line, in bytes, with its line end.
@@ -45,10 +46,8 @@ fn len_through(shown: &[u8]) -> usize
     ensures line { result ≡ length (take_through 10 shown.now) }
     ensures bound { result ≤ length shown.now }
 {
-    match shown.iter().position(|byte| *byte == b'\n') {
-        Some(at) => at + 1,
-        None => shown.len(),
-    }
+    let at = first_place(shown, b'\n');
+    if at < shown.len() { at + 1 } else { at }
 }
 
 /// Takes the part of a line that the reader shows, where the line stays within the bound.

@@ -17,7 +17,7 @@ use crate::bounded_line::Got;
 use crate::connection::{Connection, EndedClient};
 use crate::streams::Streams;
 use crate::telling::{LineFault, Telling};
-use qplain::{Line, NoMemory, Receipt};
+use qplain::{Call, CallPaths, Line, NoMemory, Path, Receipt};
 use qrun_client::{Answer, Client, ClientEnd, MAX_GIVEN};
 use qrun_replay::Places;
 use qtext::{ReadFault, TextKind};
@@ -61,6 +61,8 @@ pub struct StreamClient<'a, S: Streams + Drop> {
     stop: Option<&'a AtomicBool>,
     connection: Connection<S>,
     text: Vec<u8>,
+    /// The path of the last line that has one.
+    path: Option<Path>,
     line: Option<Line>,
     places: Places,
 }
@@ -82,8 +84,24 @@ impl<'a, S: Streams + Drop> Model for StreamClient<'a, S> {
     ghost invariant = { λ c. IsKept c.line c.places c.connection.end };
 }
 
-/// What a text of one line comes to.
-fn heard_in(alloc: Global, text: &[u8]) -> Heard
+/// The paths of a line of these words, which stands alone: it shares the bytes of this one where it is the first.
+fn paths_of<'a>(path: Option<&'a Path>, words: &[&[u8]]) -> Result<Paths<'a>, NoMemory> {
+    match (path, words) {
+        (Some(path), [_, _, _, word, ..]) if path.bytes() == *word => Paths::beside(path),
+        _ => Ok(Paths::apart()),
+    }
+}
+
+/// The path that is kept after a call: its own, or the one before it, where it has none or two.
+fn path_after(before: Option<Path>, call: &Call) -> Option<Path> {
+    match call.paths() {
+        CallPaths::One(path) => path.copy().ok(),
+        CallPaths::None | CallPaths::Two(..) => before,
+    }
+}
+
+/// What a text of one line comes to, beside the path of the line before it.
+fn heard_in<'x>(alloc: Global, path: Option<&'x Path>, text: &'x [u8]) -> Heard
     requires { IsOneLine text.now }
     ensures { HearsText result (script_of text.now) }
 {
@@ -91,26 +109,13 @@ fn heard_in(alloc: Global, text: &[u8]) -> Heard
     let Ok(line) = next_line(&mut room, text) else {
         return Heard::None(Telling::NoMemory);
     };
-    match read_line(alloc, &mut Paths::apart(), 1, &line, &room) {
+    let Ok(mut paths) = paths_of(path, &room) else {
+        return Heard::None(Telling::NoMemory);
+    };
+    match read_line(alloc, &mut paths, 1, &line, &room) {
         Ok(line) => Heard::Line(line),
         Err(ReadFault::Memory) => Heard::None(Telling::NoMemory),
         Err(ReadFault::Fault(kind)) => Heard::None(Telling::Fault(LineFault::Text(kind))),
-    }
-}
-
-/// Ends a client, and all that share its flag, where its line has failed and it has one.
-fn stop_after<S: Streams + Drop>(
-    connection: &mut Connection<S>,
-    stop: Option<&AtomicBool>,
-    failed: bool,
-)
-    ensures { IsGoneIf (is_some stop.entry && failed) connection.old connection.new }
-{
-    if let Some(stop) = stop
-        && failed
-    {
-        stop.store(true, Ordering::SeqCst);
-        connection.stop(ClientEnd::Failed);
     }
 }
 
@@ -132,6 +137,7 @@ impl<'a, S: Streams + Drop> StreamClient<'a, S> {
             stop,
             connection: Connection::new(streams),
             text: Vec::new(alloc),
+            path: None,
             line: None,
             places: Places::empty(alloc),
         }
@@ -169,13 +175,13 @@ impl<'a, S: Streams + Drop> StreamClient<'a, S> {
             _ if self.places.len() >= MAX_GIVEN => Heard::None(Telling::Fault(LineFault::Text(
                 TextKind::TooMany,
             ))),
-            Got::Text => heard_in(self.alloc, &self.text),
+            Got::Text => heard_in(self.alloc, self.path.as_ref(), &self.text),
             Got::TooLong => Heard::None(Telling::Fault(LineFault::Length)),
             Got::NoMemory => Heard::None(Telling::NoMemory),
         }
     }
 
-    /// Keeps a line, with room for the place of its answer. An Err is out of memory.
+    /// Keeps a line, with room for the place of its answer, and its path. An Err is out of memory.
     fn keep(&mut self, line: Line) -> Result<(), NoMemory>
         requires answered { self.old.owed ≡ None }
         requires few { length self.old.stands < MAX_GIVEN }
@@ -184,6 +190,7 @@ impl<'a, S: Streams + Drop> StreamClient<'a, S> {
         ensures err { OnErr result (self.new ≡ self.old) }
     {
         self.places.make_room()?;
+        self.path = path_after(self.path.take(), &line.call);
         self.line = Some(line);
         Ok(())
     }
@@ -197,22 +204,32 @@ impl<'a, S: Streams + Drop> StreamClient<'a, S> {
         ensures stands { (line : ScriptLine) → self.old.owed ≡ Some line
             → self.new.stands ≡ self.old.stands ++ stand_at line (place_of answer.now) ∷ [] }
     {
-        match (self.line.take(), answer) {
-            (Some(_), Ok(receipt)) => self.places.push(receipt.place),
-            (Some(line), Err(fault)) => self.places.push_failed(line, *fault),
-            (None, _) => unreachable!(),
+        match answer {
+            Ok(receipt) => {
+                self.line = None;
+                self.places.push(receipt.place);
+            }
+            Err(fault) => match self.line.take() {
+                Some(line) => self.places.push_failed(line, *fault),
+                None => unreachable!(),
+            },
         }
     }
 
-    /// Tells of a line, and ends the client where it stops at one that fails.
-    fn tell_of(&mut self, telling: Telling)
+    /// Tells of a line, and ends the client, and all that share its flag, where it has one and the line has failed.
+    fn tell_of(&mut self, telling: &Telling)
         requires answered { self.old.owed ≡ None }
         ensures stays { StaysThere self.old self.new }
-        ensures wire { IsToldLast (self.old.stops && has_failed telling) self.old.wire self.new.wire
-            (telling_text telling) }
+        ensures wire { IsToldLast (self.old.stops && has_failed telling.now) self.old.wire self.new.wire
+            (telling_text telling.now) }
     {
-        self.connection.tell(&telling);
-        stop_after(&mut self.connection, self.stop, telling.has_failed());
+        self.connection.tell(telling);
+        if let Some(stop) = self.stop
+            && telling.has_failed()
+        {
+            stop.store(true, Ordering::SeqCst);
+            self.connection.stop(ClientEnd::Failed);
+        }
     }
 
     /// Waits for a line, and hands it out, or tells what is wrong with it.
@@ -227,12 +244,12 @@ impl<'a, S: Streams + Drop> StreamClient<'a, S> {
             Heard::Line(line) => match self.keep(line) {
                 Ok(()) => Step::HandedOut,
                 Err(NoMemory) => {
-                    self.tell_of(Telling::NoMemory);
+                    self.tell_of(&Telling::NoMemory);
                     Step::Told
                 }
             },
             Heard::None(telling) => {
-                self.tell_of(telling);
+                self.tell_of(&telling);
                 Step::Told
             }
             Heard::End => Step::Ended,
@@ -290,7 +307,7 @@ impl<'a, S: Streams + Drop + Send> Client for StreamClient<'a, S> {
             (comes_to S.took self.old) (comes_to S.took self.new) }
     {
         self.keep_place(&answer);
-        self.tell_of(Telling::Answer(answer));
+        self.tell_of(&Telling::Answer(answer));
     }
 
     // One that still has lines is not served to its end.

@@ -225,6 +225,7 @@ pub(crate) fn call_of<'a>(
 /// read says nothing of whether a store takes it. An Err gives no call. Its paths share the bytes of their text where
 /// the words end the line that was begun.
 #[tactic(auto, unfolding(crate::specs::Calls::call_in))]
+#[inline(always)]
 pub fn call_in<'a>(
     alloc: Global,
     paths: &mut Paths<'a>,

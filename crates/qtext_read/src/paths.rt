@@ -92,6 +92,19 @@ impl<'a> Paths<'a> {
         Paths::of(&[])
     }
 
+    /// The same, but for a path that is spelled as this one, which shares its bytes. An Err says that these have 2^63
+    /// owners.
+    pub fn beside(path: &'a Path) -> Result<Self, NoMemory>
+        ensures { IfOk result (λ paths. paths ≡ 0) }
+    {
+        let word = path.bytes();
+        let path = path.copy()?;
+        let kept = KeptPath { word, path };
+        let mut paths = Paths::apart();
+        paths.kept = Some(kept);
+        Ok(paths)
+    }
+
     /// Goes to a line, after whose line end these bytes are left.
     pub fn begin_line(&mut self, after: &[u8])
         ensures { self.new ≡ length after.now + 1 }
@@ -106,16 +119,8 @@ impl<'a> Paths<'a> {
         self.left = self.left.saturating_add(bytes_of(words));
     }
 
-    /// Takes the part of the text that begins where N bytes are left for the page.
-    fn turn_page(&mut self, alloc: Global, left: usize, least: usize) -> Result<(), NoMemory> {
-        let text = &self.text[self.text.len().saturating_sub(left)..];
-        let many = text.len().min(least.max(PAGE_BYTES));
-        let bytes = SharedItems::new(Vec::from_slice(alloc, &text[..many])?)?;
-        self.page = Some(Page { bytes, left });
-        Ok(())
-    }
-
     /// The path that this word spells, if the word stands on the page where N bytes of the text are left.
+    #[inline(always)]
     fn path_at(&self, left: usize, word: &[u8]) -> Result<Option<Path>, NoMemory>
         ensures { IfOk result (λ path. IfSome path (λ p. path_of word.now ≡ Ok p)) }
     {
@@ -134,18 +139,24 @@ impl<'a> Paths<'a> {
         Ok(None)
     }
 
-    /// The path that this word spells, after which N bytes of the text are left.
-    fn look_up(&mut self, alloc: Global, word: &[u8], behind: usize) -> Result<Path, ReadFault>
+    /// The path that this word spells, which is looked up on the page that begins there, where N bytes of the text are
+    /// left.
+    #[inline(never)]
+    fn path_on_next_page(
+        &mut self,
+        alloc: Global,
+        left: usize,
+        word: &[u8],
+    ) -> Result<Path, ReadFault>
         ensures { Gives result (path_of word.now) }
     {
-        let left = behind.saturating_add(word.len());
-        if let Some(path) = self.path_at(left, word)? {
-            return Ok(path);
-        }
         if self.text.is_empty() {
             return path_of(alloc, word);
         }
-        self.turn_page(alloc, left, word.len())?;
+        let text = &self.text[self.text.len().saturating_sub(left)..];
+        let many = text.len().min(word.len().max(PAGE_BYTES));
+        let bytes = SharedItems::new(Vec::from_slice(alloc, &text[..many])?)?;
+        self.page = Some(Page { bytes, left });
         match self.path_at(left, word)? {
             Some(path) => Ok(path),
             None => path_of(alloc, word),
@@ -167,7 +178,12 @@ impl<'a> Paths<'a> {
                 return Ok(kept.path.copy()?);
             }
         }
-        let path = self.look_up(alloc, word, self.left.saturating_add(bytes_of(behind)))?;
+        let after = self.left.saturating_add(bytes_of(behind));
+        let left = after.saturating_add(word.len());
+        let path = match self.path_at(left, word)? {
+            Some(path) => path,
+            None => self.path_on_next_page(alloc, left, word)?,
+        };
         if is_same(self.last, word) {
             let kept = path.copy()?;
             self.kept = Some(KeptPath { word, path: kept });

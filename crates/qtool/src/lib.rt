@@ -8,7 +8,9 @@ pub use qplain::{
     Board, CallFault, Edition, Entry, Journal, Line, LookFault, MAX_LINES, Receipt, Script, Setup,
     Transcript,
 };
-pub use qrun::{Gate, Machine, Monitor, NoGate, Options, RunFault, Service, WorkerEnd, conclude};
+pub use qrun::{
+    Gate, Machine, Monitor, NoGate, Options, RunFault, Service, WorkerEnd, conclude, serve,
+};
 pub use qrun_client::{Answer, Client, ClientEnd};
 pub use qrun_replay::{Outcome, PlacedReply, PlacedTranscript, ReplayFault};
 pub use qstore::Store;
@@ -18,7 +20,7 @@ pub use qtext_files::{FromText, write_journal};
 pub use qtext_job::{Job, LineFault};
 pub use qtext_outcome::{WriteFault, write_outcome};
 pub use qtool_files::{FileFault, Files, NamedStreams, Refuser, write_run, write_service};
-pub use qtool_runs::{TextReplayFault, check_boards, replay, replay_text, run, run_with, serve};
+pub use qtool_runs::{TextReplayFault, check_boards, replay, replay_text, run, run_with};
 
 mod checking;
 mod clashes;

@@ -156,7 +156,7 @@ fn serve_of<F: Files + NamedStreams + Send, R: Threads + Wait + Clock + Sync>(
     };
     let clients = clients_of(alloc, files, names.clients, stop)?;
     let monitor = monitor_of(rt, alloc, files, names.board, &config.setup)?;
-    match serve(machine, config, clients, monitor) {
+    match serve(machine, config.setup, clients, monitor) {
         Ok(
             Service {
                 outcome,

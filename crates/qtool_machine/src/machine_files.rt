@@ -5,7 +5,7 @@ use crate::draft::Draft;
 use crate::progress::Progress;
 use qplain::{NoMemory, Script};
 use qtool_files::{FileFault, Files, NamedStreams};
-use std::fs;
+use std::fs::{self, Metadata};
 use std::io::{self, BufWriter, ErrorKind, Read, Stderr};
 use std::os::unix::fs::MetadataExt;
 
@@ -50,12 +50,38 @@ fn bytes_of(rt: &HostRuntime, name: &str) -> io::Result<Vec<u8>> {
     Ok(bytes)
 }
 
-/// Whether both names lead to one regular file. What is written to a device or a FIFO takes nothing away.
+/// Whether both are of one file or folder.
+fn are_of_one(one: &Metadata, other: &Metadata) -> bool {
+    one.dev() == other.dev() && one.ino() == other.ino()
+}
+
+/// The folder in which a file of this name is made, and what it is called there.
+fn parts_of(name: &str) -> (&str, &str) {
+    match name.rsplit_once('/') {
+        Some(("", last)) => ("/", last),
+        Some((folder, last)) => (folder, last),
+        None => (".", name),
+    }
+}
+
+/// Whether two names under which nothing stands yet are two spellings of one.
+fn are_one_place(rt: &HostRuntime, name: &str, other: &str) -> bool {
+    let ((folder, last), (further, own)) = (parts_of(name), parts_of(other));
+    if name == other || last != own {
+        return false;
+    }
+    match (fs::metadata(rt, folder), fs::metadata(rt, further)) {
+        (Ok(one), Ok(other)) => are_of_one(&one, &other),
+        _ => false,
+    }
+}
+
+/// Whether both names lead to one regular file, or will, where it is not there yet. What is written to a device or a
+/// FIFO takes nothing away.
 fn are_one_file(rt: &HostRuntime, name: &str, other: &str) -> bool {
     match (fs::metadata(rt, name), fs::metadata(rt, other)) {
-        (Ok(left), Ok(right)) => {
-            left.is_file() && left.dev() == right.dev() && left.ino() == right.ino()
-        }
+        (Ok(left), Ok(right)) => left.is_file() && are_of_one(&left, &right),
+        (Err(_), Err(_)) => are_one_place(rt, name, other),
         _ => false,
     }
 }

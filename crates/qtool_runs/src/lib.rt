@@ -1,8 +1,8 @@
-//! Runs, services and replays under a configuration.
+//! Runs and replays under a configuration.
 #![tactic(auto)]
 
 pub use replicas::hosts_agree;
-pub use runs::{check_boards, replay, run, run_with, serve};
+pub use runs::{check_boards, replay, run, run_with};
 pub use script_reader::{ScriptFault, ScriptReader, finish_all};
 pub use text_replay::{TextReplayFault, replay_text};
 

@@ -1,5 +1,5 @@
 //! Runs of scripts, and replays of a journal and checks of boards against one, under a configuration.
-ghost use Rattle.std.specs.Prelude.{◌≡◌, ◌<◌, ◌≤◌, ℕ, All, List, Err, IfErr, IfOk, length};
+ghost use Rattle.std.specs.Prelude.{◌≡◌, ◌<◌, ◌≤◌, ℕ, List, Err, IfErr, IfOk, length};
 ghost use Rattle.qplain.specs.declared.line.Line.{Line};
 ghost use Rattle.qplain.specs.Setups.{in_edition};
 ghost use Rattle.qplain.specs.State.{start};
@@ -8,18 +8,14 @@ ghost use Rattle.qaudit_checks.specs.LawfulBoards.{IsVerdictOn};
 ghost use Rattle.qrun_replay.specs.declared.outcome.Outcome.{Outcome};
 ghost use Rattle.qrun_replay.specs.declared.replay_fault.ReplayFault.TheVariants.{Mismatch};
 ghost use Rattle.qrun_replay.specs.Replays.{GivesBack, IsFirstMismatch, IsReplayOf};
-ghost use Rattle.qrun_replay.specs.Runs.{IsLeftByWorkers, IsOutcomeOf, IsServiceOf};
+ghost use Rattle.qrun_replay.specs.Runs.{IsLeftByWorkers, IsOutcomeOf};
 ghost use Rattle.qrun.specs.Crews.{CanRun};
-ghost use Rattle.qrun.specs.Monitors.{IsShownTo};
 ghost use Rattle.qrun.specs.RunFaults.{IsFaultOf};
-ghost use Rattle.qrun.specs.Serving.{CanServe, IsOfClients, monitors_in};
 ghost use Rattle.qrun.specs.Watching.{seats_for};
-ghost use Rattle.qrun_worker.specs.Work.{IsNew};
 
 use qaudit_checks::BoardFault;
 use qplain::{Board, Journal, Script};
-use qrun::{Gate, Machine, Monitor, NoGate, Options, RunFault, Service, run_scripts};
-use qrun_client::Client;
+use qrun::{Gate, Machine, NoGate, Options, RunFault, run_scripts};
 use qrun_replay::{Outcome, ReplayFault};
 use qtext_config::Config;
 use std::alloc::Global;
@@ -62,35 +58,6 @@ pub fn run<R: Threads + Wait + Sync>(
     ensures fault { IfErr result (IsFaultOf (length scripts.items)) }
 {
     run_with(machine, config, scripts, Options::plain(), &NoGate)
-}
-
-/// Serves 1 to 16 clients, or 1 to 15 beside a monitor, on a new store of the configuration: each by a worker in a
-/// thread of its own, which makes the calls of the lines that the client hands out, one after the other, and tells it
-/// each answer at once. It ends when all clients have ended; the end of one ends no other.
-///
-/// The monitor is shown boards of the journal meanwhile, whose versions rise, and takes no lock; what is left of it
-/// comes back. What is said of `run_with` holds: the store is what its journal leaves, and each client's lines were
-/// made in order, each with its reply. A journal has at most 1,048,576 entries; then each line is answered JournalFull,
-/// and in no journal.
-pub fn serve<C, M, R>(
-    machine: &Machine<'_, R>,
-    config: Config,
-    clients: Vec<C>,
-    monitor: Option<M>,
-) -> Result<Service<C::Left, M::Left>, RunFault>
-where
-    C: Client + Drop + Send,
-    M: Monitor + Drop + Send,
-    R: Threads + Wait + Sync,
-    requires can { CanServe config.setup (length clients.items) (monitors_in monitor) }
-    requires new { All (λ c. IsNew (C.owed c) (C.stands c)) clients.items }
-    ensures outcome { IfOk result (λ s. IsServiceOf config.setup s.outcome) }
-    ensures clients { IfOk result (λ s. IsOfClients C.talk clients.items s.left.items s.outcome) }
-    ensures shown { IfOk result (λ s. IsShownTo M.sees (start config.setup) s.outcome.journal.entries monitor
-        s.monitor) }
-    ensures fault { IfErr result (IsFaultOf (seats_for (length clients.items) (monitors_in monitor))) }
-{
-    qrun::serve(machine, config.setup, clients, monitor)
 }
 
 /// Plays a journal again on a new store of the configuration in the journal's edition, one entry after the other.

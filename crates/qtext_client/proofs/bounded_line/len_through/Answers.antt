@@ -1,29 +1,16 @@
-use Rattle.std.proofs.Common.{eqb, rules, tests, arith}
-use Rattle.std.proofs.lemmas.Iterator.{YieldsList-from_slice}
-use Rattle.std.proofs.lemmas.Iterator.Search.{position_from_yields_List}
-use Rattle.qtext.proofs.Splitting.{found_at, none_at}
+use Rattle.std.proofs.Common.{not, eqb, arith}
+use Rattle.std.proofs.lemmas.List.Sums.{prefix_len-le-length}
 use Rattle.qtext_client.proofs.FirstLines.{through_len}
 use Rattle.qtext_client.proofs.bounded_line.len_through.Goals as goal
 
-pub returns-in-Some-clause-line : goal.returns-in-Some-clause-line
-returns-in-Some-clause-line c =
-    let found = position_from_yields_List (λ b. eqb b 10) _ _ c.position.result
-    c.position.ensures.ran (YieldsList-from_slice c.args.shown.now (search rules))
-    (λ x b q k. search (rules, tests)) in
-    let at = found_at _ _ c.in-Some.at c.position.result found c.in-Some.is in
-    omega (arith, through_len c.args.shown.now, at.0, at.1)
+pub returns-then-at-shown-clause-line : goal.returns-then-at-shown-clause-line
+returns-then-at-shown-clause-line c =
+    omega (arith, through_len c.args.shown.now, c.first_place-at.ensures, c.if-at-shown.true)
 
-pub returns-in-None-clause-line : goal.returns-in-None-clause-line
-returns-in-None-clause-line c =
-    let found = position_from_yields_List (λ b. eqb b 10) _ _ c.position.result
-    c.position.ensures.ran (YieldsList-from_slice c.args.shown.now (search rules))
-    (λ x b q k. search (rules, tests)) in
-    omega (arith, through_len c.args.shown.now, none_at _ _ c.position.result found c.in-None.is)
+pub returns-else-at-shown-clause-line : goal.returns-else-at-shown-clause-line
+returns-else-at-shown-clause-line c =
+    omega (arith, through_len c.args.shown.now, prefix_len-le-length (λ b. not (eqb b 10)) c.args.shown.now, c.first_place-at.ensures, c.if-at-shown.false)
 
-pub returns-in-Some-clause-bound : goal.returns-in-Some-clause-bound
-returns-in-Some-clause-bound c =
-    let found = position_from_yields_List (λ b. eqb b 10) _ _ c.position.result
-    c.position.ensures.ran (YieldsList-from_slice c.args.shown.now (search rules))
-    (λ x b q k. search (rules, tests)) in
-    let at = found_at _ _ c.in-Some.at c.position.result found c.in-Some.is in
-    omega (arith, at.0, at.1)
+pub returns-else-at-shown-clause-bound : goal.returns-else-at-shown-clause-bound
+returns-else-at-shown-clause-bound c =
+    omega (arith, prefix_len-le-length (λ b. not (eqb b 10)) c.args.shown.now, c.first_place-at.ensures)

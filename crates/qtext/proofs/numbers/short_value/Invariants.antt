@@ -1,0 +1,6 @@
+use Rattle.std.proofs.Common.{◌^◌, ◌<◌, drop}
+use Rattle.qtext.proofs.Numerals.{IsSoFar}
+use Rattle.qtext.proofs.numbers.short_value.Given as goal
+
+abbrev pub invariant-loop-digit : goal.invariant-loop-digit
+invariant-loop-digit l = IsSoFar l.digits (drop l.digit-index l.digits) l.value × (l.value < 10 ^ l.digit-index)
