@@ -8,6 +8,7 @@ import tomllib
 
 WRONGS = "text", "field", "range", "duplicate", "no zero", "sound", "not UTF-8"
 KINDS = "user", "group", "project"
+MOST_TOLD, MOST_TABLES = 100, 64
 BOUNDS = {"size": None, "nr_inodes": (1, 2**16), "block_grace": (1, 2**32 - 1), "inode_grace": (1, 2**32 - 1)}
 LIMITS = dict.fromkeys(["block_soft", "block_hard", "inode_soft", "inode_hard"], (0, 2**40))
 OF_PRINCIPAL = {"id": (0, 2**32 - 1), "name": None, **LIMITS}
@@ -69,7 +70,15 @@ def told(name, err):
         if not head.startswith(name + ":"):
             return
         head = head.removeprefix(name)
+        if re.fullmatch(r": \d+ more", head):
+            return
         yield Told(head, lines.pop(0), lines.pop(0)) if re.match(r":\d", head) else Told(head)
+
+
+def more(name, err):
+    """How many more faults a configuration has than those that are told."""
+    found = re.search(rf"^{re.escape(name)}: (\d+) more$", err, re.M)
+    return int(found[1]) if found else 0
 
 
 def key_of(text):
@@ -145,7 +154,7 @@ def of_document(document, stage):
             yield f"field: {kind}"
         if stage == "field":
             yield from (f"field: {name} is no table" for name, element in mine if not isinstance(element, dict))
-        if stage == "range" and isinstance(found, list) and not 1 <= len(found) <= 64:
+        if stage == "range" and isinstance(found, list) and not 1 <= len(found) <= MOST_TABLES:
             yield f"range: {kind} has {len(found)} tables"
         for name, element in mine:
             if isinstance(element, dict):
@@ -169,9 +178,10 @@ def unknown(document):
 def duplicates(document):
     for kind in KINDS:
         seen = {}
-        for of, name, element in tables(document):
+        mine = [(name, element) for of, name, element in tables(document) if of == kind]
+        for name, element in mine[:MOST_TABLES]:
             for key, sort in (("id", int), ("name", str)):
-                value = element.get(key) if of == kind and isinstance(element, dict) else None
+                value = element.get(key) if isinstance(element, dict) else None
                 if type(value) is sort and seen.setdefault((key, value), name) != name:
                     yield f"duplicate: {name}: {key}, as the {seen[key, value]}"
 

@@ -3,7 +3,7 @@ ghost use Rattle.std.specs.Prelude.{◌≡◌, IfOk, OnErr};
 ghost use Rattle.qplain.specs.declared.call.Call.TheVariants.{Create};
 ghost use Rattle.qplain.specs.Step.{step};
 
-use qstore::{Call, Cred, NoMemory, Path, Reply, Store};
+use qstore::{Cred, NoMemory, Path, Reply, Store};
 
 /// Makes an empty file: what is answered, and what the store is then, is the plain machine's; without memory the store
 /// is as before.
@@ -17,6 +17,5 @@ pub(crate) fn create(
         (store.new.state, reply) ≡ step store.old.state cred.now moment (Create path.now)) }
     ensures err { OnErr result (store.new.state ≡ store.old.state) }
 {
-    let path = path.copy()?;
-    store.apply(cred, moment, &Call::Create { path })
+    store.create(cred, moment, path.text())
 }

@@ -8,7 +8,7 @@ use Rattle.qplain.specs.declared.entry.Entry.{Entry}
 use Rattle.qplain.specs.declared.transcript.Transcript.{Transcript}
 use Rattle.qplain.specs.Journal.{entries_of}
 use Rattle.qplain.specs.Transcripts.{Belongs}
-use Rattle.qaudit_checks.specs.Gathered.{EntryFailsAt, HasMore, IsGathered, IsLeftOver, IsMismatch, IsTold, receipts_of, told_of}
+use Rattle.qaudit_checks.specs.Gathered.{EntryFailsAt, HasMore, IsGathered, IsLeftOver, IsMismatch, HasReceipt, receipts_of, told_of}
 use Rattle.qaudit_checks.specs.FirstMismatch.{AreToldBefore, IsBefore, IsFirstMismatch, IsFirstOther, IsFirstStrange, IsStrange, IsUntold, earlier_of}
 use Rattle.qaudit_checks.proofs.Receipts.{below, own-told, take-more}
 
@@ -120,7 +120,7 @@ found-first journal ts place first = record {
       fails = λ told.
           let nothing : slice_get {X = ℕ × Entry} [] (length (entries_of (take strange.index journal) strange.entry.worker))
           ≡ Some (length (take strange.index journal) + 1, strange.entry) =
-          subst (λ own. IsTold own (take strange.index journal) strange.entry) (told_of-strange ts strange.entry.worker strange.strange) told in
+          subst (λ own. HasReceipt own (take strange.index journal) strange.entry) (told_of-strange ts strange.entry.worker strange.strange) told in
           absurd cc;
     }
 
@@ -152,7 +152,7 @@ found-next journal ts count t first other apart at found next = record {
       place_is = untold.place_is;
       entry = untold.entry;
       there = untold.there;
-      fails = λ told. untold.untold (subst (λ own. IsTold own (take untold.index journal) untold.entry)
+      fails = λ told. untold.untold (subst (λ own. HasReceipt own (take untold.index journal) untold.entry)
           (ap (told_of ts) untold.own ∙ told_of-apart ts count t apart at) told);
     }
 
@@ -186,10 +186,10 @@ module _ (journal : List Entry) (ts : List Transcript) (count place : ℕ) (foun
   pub not-gathered : IsGathered journal ts → ⊥
   not-gathered all = by (found.here place refl)
     where
-      of : (index : ℕ) (e : Entry) → slice_get journal index ≡ Some e → IsTold (told_of ts e.worker) (take index journal) e
+      of : (index : ℕ) (e : Entry) → slice_get journal index ≡ Some e → HasReceipt (told_of ts e.worker) (take index journal) e
       of index e at =
           let belongs : Belongs ts e = subst (Belongs ts) (get_or_from_slice_get journal index e e at) (all.belong index e (below journal index e at)) in
-          subst (λ own. IsTold own (take index journal) e) (sym (told_of-own journal ts e.worker belongs all.own)) (own-told journal index e at)
+          subst (λ own. HasReceipt own (take index journal) e) (sym (told_of-own journal ts e.worker belongs all.own)) (own-told journal index e at)
 
       by : EntryFailsAt journal ts place ⊎ IsLeftOver journal ts place → ⊥
       by (inl fails) = fails.fails (of fails.index fails.entry fails.there)
@@ -208,11 +208,11 @@ module _ (journal : List Entry) (ts : List Transcript) (count place : ℕ) (foun
       all : All (λ t. AreToldBefore journal t (Some place)) ts
       all = subst (All (λ t. AreToldBefore journal t (Some place))) (all-taken ts count end) found.told
 
-      of : (index : ℕ) (e : Entry) → slice_get journal index ≡ Some e → index + 1 < place → IsTold (told_of ts e.worker) (take index journal) e
+      of : (index : ℕ) (e : Entry) → slice_get journal index ≡ Some e → index + 1 < place → HasReceipt (told_of ts e.worker) (take index journal) e
       of index e at before =
           let own = transcript-of ts e.worker (found.known index e at before tt) in
           let t : Transcript = own.1 in
-          let told : IsTold (receipts_of t) (take index journal) e =
+          let told : HasReceipt (receipts_of t) (take index journal) e =
           subst (λ t. AreToldBefore journal t (Some place))
           (get_or_from_slice_get ts own.0 t t own.2) (all own.0 t (below ts own.0 t own.2)) index e at before (sym own.3) in
-          subst (λ own. IsTold own (take index journal) e) (sym (told_of-apart ts own.0 t apart own.2) ∙ ap (told_of ts) own.3) told
+          subst (λ own. HasReceipt own (take index journal) e) (sym (told_of-apart ts own.0 t apart own.2) ∙ ap (told_of ts) own.3) told

@@ -11,7 +11,7 @@ use Rattle.qplain.specs.declared.transcript.Transcript.{Transcript}
 use Rattle.qplain.specs.Journal.{entries_of}
 use Rattle.qplain.specs.Transcripts.{journaled_line, journaled_lines}
 use Rattle.qplain_laws.proofs.Playing.{own-one_more}
-use Rattle.qaudit_checks.specs.Gathered.{HasMore, IsTold, receipts_of}
+use Rattle.qaudit_checks.specs.Gathered.{HasMore, HasReceipt, receipts_of}
 use Rattle.qaudit_checks.specs.FirstMismatch.{AreSeenAnswers, AreToldBefore, IsFirstOther, IsNextReceipt}
 
 -- ---- lists
@@ -157,7 +157,7 @@ own-numbered n worker (x ∷ rest) (suc index) e at own =
 
 -- so what is told is reported where the receipts are the worker's own entries
 pub own-told : (journal : List Entry) (index : ℕ) (e : Entry) → slice_get journal index ≡ Some e
-    → IsTold (entries_of journal e.worker) (take index journal) e
+    → HasReceipt (entries_of journal e.worker) (take index journal) e
 own-told journal index e at =
     let itself : (e.worker == e.worker) ≡ true = grind (arith, tests) in
     let less : index < length journal = below journal index e at in
@@ -208,18 +208,18 @@ passed journal t index seen further are within same = record {
 -- where all entries before are told, and this one, all up to it are
 one-more : (journal : List Entry) (t : Transcript) (index : ℕ) (e : Entry) → slice_get journal index ≡ Some e
     → AreToldBefore journal t (Some (index + 1))
-    → (e.worker ≡ t.worker → IsTold (receipts_of t) (take index journal) e)
+    → (e.worker ≡ t.worker → HasReceipt (receipts_of t) (take index journal) e)
     → AreToldBefore journal t (Some (index + 1 + 1))
 one-more journal t index e at before here k x is less own = by (nat_lt k index) refl
   where
-    by : (b : Bool) → nat_lt k index ≡ b → IsTold (receipts_of t) (take k journal) x
+    by : (b : Bool) → nat_lt k index ≡ b → HasReceipt (receipts_of t) (take k journal) x
     by true h = before k x is (grind (arith, tests, h)) own
     by false h =
         let last : k ≡ index = grind (arith, tests, h, less) in
         let same_at : slice_get journal index ≡ Some x = subst (λ n. slice_get journal n ≡ Some x) last is in
         let same : e ≡ x = cc in
-        subst (λ n. IsTold (receipts_of t) (take n journal) x) (sym last)
-        (subst (λ y. y.worker ≡ t.worker → IsTold (receipts_of t) (take index journal) y) same here own)
+        subst (λ n. HasReceipt (receipts_of t) (take n journal) x) (sym last)
+        (subst (λ y. y.worker ≡ t.worker → HasReceipt (receipts_of t) (take index journal) y) same here own)
 
 -- one more entry, of the worker
 pub own-seen : (journal : List Entry) (t : Transcript) (index seen : ℕ) (e : Entry) → AreSeenAnswers journal t index seen → length t.answers ≡ length t.lines

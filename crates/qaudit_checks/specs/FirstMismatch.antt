@@ -8,7 +8,7 @@ use Rattle.qplain.specs.declared.receipt.Receipt.{Receipt}
 use Rattle.qplain.specs.declared.transcript.Transcript.{Transcript}
 use Rattle.qplain.specs.Journal.{entries_of}
 use Rattle.qplain.specs.Transcripts.{Belongs, journaled_lines}
-use Rattle.qaudit_checks.specs.Gathered.{EntryFailsAt, HasMore, IsLeftOver, IsTold, receipts_of}
+use Rattle.qaudit_checks.specs.Gathered.{EntryFailsAt, HasMore, IsLeftOver, HasReceipt, receipts_of}
 
 -- the earlier of two places, of which there may be none
 abbrev pub earlier_of : Option ℕ → Option ℕ → Option ℕ
@@ -29,7 +29,7 @@ AllBefore journal place P Q =
 -- the receipts of the transcript tell of all entries of its worker before the place
 abbrev pub AreToldBefore : List Entry → Transcript → Option ℕ → Type 0
 AreToldBefore journal t place =
-    AllBefore journal place (λ e. e.worker ≡ t.worker) (λ k e. IsTold (receipts_of t) (take k journal) e)
+    AllBefore journal place (λ e. e.worker ≡ t.worker) (λ k e. HasReceipt (receipts_of t) (take k journal) e)
 
 -- the entry of this place is of another worker than all transcripts
 pub record IsStrange (journal : List Entry) (transcripts : List Transcript) (place : ℕ) : Type 0 where
@@ -51,7 +51,7 @@ pub record IsUntold (journal : List Entry) (t : Transcript) (place : ℕ) : Type
   pub entry : Entry
   pub there : slice_get journal index ≡ Some entry
   pub own : entry.worker ≡ t.worker
-  pub untold : IsTold (receipts_of t) (take index journal) entry → ⊥
+  pub untold : HasReceipt (receipts_of t) (take index journal) entry → ⊥
 
 -- where the transcript and its worker's entries first differ, if they do
 pub record IsFirstOther (journal : List Entry) (t : Transcript) (place : Option ℕ) : Type 0 where

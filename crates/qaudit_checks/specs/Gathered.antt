@@ -22,8 +22,8 @@ told_of [] worker = []
 told_of (t ∷ ts) worker = if t.worker == worker then receipts_of t else told_of ts worker
 
 -- the entry after these is told of: its worker's receipt of the same number stands for it, and has its place
-abbrev pub IsTold : List (ℕ × Entry) → List Entry → Entry → Type 0
-IsTold told before e = slice_get told (length (entries_of before e.worker)) ≡ Some (length before + 1, e)
+abbrev pub HasReceipt : List (ℕ × Entry) → List Entry → Entry → Type 0
+HasReceipt told before e = slice_get told (length (entries_of before e.worker)) ≡ Some (length before + 1, e)
 
 -- the entry of this place, from 1, fails: its worker has no transcript, or that has no receipt of the same number, or
 -- one that differs in place, caller, moment, call or reply
@@ -32,7 +32,7 @@ pub record EntryFailsAt (journal : List Entry) (transcripts : List Transcript) (
   pub place_is : place ≡ index + 1
   pub entry : Entry
   pub there : slice_get journal index ≡ Some entry
-  pub fails : IsTold (told_of transcripts entry.worker) (take index journal) entry → ⊥
+  pub fails : HasReceipt (told_of transcripts entry.worker) (take index journal) entry → ⊥
 
 -- a transcript has more receipts than its worker has entries
 abbrev pub HasMore : List Entry → Transcript → Type 0

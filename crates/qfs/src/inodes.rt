@@ -1,7 +1,7 @@
 //! The inodes of a session.
 ghost use Rattle.std.specs.Prelude.{◌≡◌, map};
 ghost use Rattle.qsession.specs.Holdings.{held_in};
-ghost use Rattle.qsession.specs.Tellings.{IsToldIn, UnlessMemory};
+ghost use Rattle.qsession.specs.Tellings.{IsPutIn, UnlessMemory};
 ghost use Rattle.qsession.specs.Inodes.{inode_in, inodes_in};
 
 use qsession::{Fault, ListedInode, Session, list_inodes};
@@ -18,7 +18,7 @@ pub extern "C" fn qfs_inodes(
     count: &mut usize,
 ) -> u32
     ensures rows { UnlessMemory (held_in session.old.slot.kept) result
-        (IsToldIn (inodes_in (held_in session.old.slot.kept)) (map inode_in list.new) count.new result) }
+        (IsPutIn (inodes_in (held_in session.old.slot.kept)) (map inode_in list.new) count.new result) }
     ensures same { session.new.slot.kept ≡ session.old.slot.kept }
 {
     let Some(kept) = session.take(alloc) else {

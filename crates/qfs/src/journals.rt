@@ -2,8 +2,8 @@
 ghost use Rattle.std.specs.Prelude.{◌≡◌, ◌≢◌, ◌↔◌, IsSome};
 ghost use Rattle.qsession.specs.Holdings.{HoldsTrue, held_in, new_journaled};
 ghost use Rattle.qsession.specs.Replies.{tallies_in};
-ghost use Rattle.qsession.specs.Tellings.{IsToldAs, IsToldIn, UnlessMemory};
-ghost use Rattle.qsession_text.specs.Journals.{IsReadAgain, journal_in, tallied, text_of};
+ghost use Rattle.qsession.specs.Tellings.{IsToldAs, IsPutIn, UnlessMemory};
+ghost use Rattle.qsession_text.specs.Journals.{IsReadAgain, session_journal, tallied, text_of};
 ghost use Rattle.qsession_text.specs.Openings.{IsOpened, IsReadingTold, config_in};
 
 use qsession::{Fault, Session, TallyReply};
@@ -52,8 +52,8 @@ pub extern "C" fn qfs_journal(
     len: &mut usize,
 ) -> u32
     ensures journal { UnlessMemory (held_in session.old.slot.kept) result
-        (IsToldIn (text_of (journal_in (held_in session.old.slot.kept))) buffer.new len.new result) }
-    ensures again { result ≡ 0 → IsReadAgain (journal_in (held_in session.old.slot.kept)) }
+        (IsPutIn (text_of (session_journal (held_in session.old.slot.kept))) buffer.new len.new result) }
+    ensures again { result ≡ 0 → IsReadAgain (session_journal (held_in session.old.slot.kept)) }
     ensures played { HoldsTrue (held_in session.old.slot.kept) }
     ensures same { session.new.slot.kept ≡ session.old.slot.kept }
 {
@@ -71,7 +71,7 @@ pub extern "C" fn qfs_journal(
 /// Returns 0; 64 where the session is closed, 73 where no journal is kept.
 #[unsafe(no_mangle)]
 pub extern "C" fn qfs_tally(alloc: Global, session: &mut Session, tally: &mut TallyReply) -> u32
-    ensures tally { IsToldAs (tallied (journal_in (held_in session.old.slot.kept))) (tallies_in tally.new) result }
+    ensures tally { IsToldAs (tallied (session_journal (held_in session.old.slot.kept))) (tallies_in tally.new) result }
     ensures same { session.new.slot.kept ≡ session.old.slot.kept }
 {
     let Some(kept) = session.take(alloc) else {

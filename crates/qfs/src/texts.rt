@@ -2,8 +2,8 @@
 ghost use Rattle.std.specs.Prelude.{◌≡◌, ◌≢◌};
 ghost use Rattle.qtext_files.specs.Scripts.{script_of};
 ghost use Rattle.qsession.specs.Holdings.{HoldsLawful, held_in};
-ghost use Rattle.qsession.specs.Tellings.{IsToldAs, IsToldIn, UnlessMemory};
-ghost use Rattle.qsession_text.specs.Lines.{MakesCall, answer_in, only_line};
+ghost use Rattle.qsession.specs.Tellings.{IsToldAs, IsPutIn, UnlessMemory};
+ghost use Rattle.qsession_text.specs.Lines.{MakesCall, session_answer, only_line};
 ghost use Rattle.qsession_text.specs.Reports.{audit_in, report_in};
 
 use qsession::{Fault, Session};
@@ -22,7 +22,7 @@ pub extern "C" fn qfs_report(
     len: &mut usize,
 ) -> u32
     ensures report { UnlessMemory (held_in session.old.slot.kept) result
-        (IsToldIn (report_in (held_in session.old.slot.kept) moment) buffer.new len.new result) }
+        (IsPutIn (report_in (held_in session.old.slot.kept) moment) buffer.new len.new result) }
     ensures same { session.new.slot.kept ≡ session.old.slot.kept }
 {
     let Some(kept) = session.take(alloc) else {
@@ -68,7 +68,7 @@ pub extern "C" fn qfs_line(
     len: &mut usize,
 ) -> u32
     ensures line { UnlessMemory (held_in session.old.slot.kept) result
-        (IsToldIn (answer_in (held_in session.old.slot.kept) (script_of line.now)) buffer.new len.new result) }
+        (IsPutIn (session_answer (held_in session.old.slot.kept) (script_of line.now)) buffer.new len.new result) }
     ensures made { result ≡ 0 → MakesCall (held_in session.old.slot.kept) (held_in session.new.slot.kept)
         (only_line (script_of line.now)) }
     ensures fault { result ≢ 0 → held_in session.new.slot.kept ≡ held_in session.old.slot.kept }

@@ -21,12 +21,12 @@ use Rattle.qrun_replay.specs.Placed.{transcript_from}
 use Rattle.qrun_replay.specs.Runs.{IsLeftByWorkers, IsNeverFull, IsOutcomeOf, IsServiceOf, lines_of}
 use Rattle.qrun_client.specs.Clients.{Talk}
 use Rattle.qrun_worker.specs.Scripts.{Playing, has_still, owed_of}
-use Rattle.qrun_worker.specs.Work.{ArePlayed, IsNew, IsPlayed, Prepared, Worked}
+use Rattle.qrun_worker.specs.Work.{ArePlayed, IsNewClient, IsPlayed, Prepared, Worked}
 use Rattle.qrun.specs.Crews.{ArePlaying, HasEnded, HasSeatIn, IsStaff, new_client}
 use Rattle.qrun.specs.declared.observer.Observer.{Observer}
 use Rattle.qrun.specs.Monitors.{Sight}
 use Rattle.qrun.specs.Observers.{IsObservedBy, Observed, looks_wanted, seat_in}
-use Rattle.qrun.specs.Serving.{CanServe, IsOfClients, Tells}
+use Rattle.qrun.specs.Serving.{CanServe, IsOfClients, IsTranscriptOf}
 use Rattle.qrun.specs.Told.{AreAllPlaced, AreAllTold, AreShort, AreTold, AreToldFrom, answered_of, placed_of}
 use Rattle.qrun.specs.Watching.{IsWatchOf, Watched, looks_in, seats_for, shares_in, watcher_for}
 use Rattle.qrun.proofs.Attending.{clients_in}
@@ -49,10 +49,10 @@ staff_fits setting clients parts free observer staff = (
 -- what came of each client, in their order
 abbrev AllTell : {C Left : Type 0} → (C → Talk Left) → List C → List Transcript → List Left → Type 0
 AllTell {C} {Left} talk clients ts left = (k : ℕ) (c : C) (t : Transcript) (l : Left) → k < length clients
-    → Tells (talk (slice_index_or clients k c)) (slice_index_or ts k t) (slice_index_or left k l)
+    → IsTranscriptOf (talk (slice_index_or clients k c)) (slice_index_or ts k t) (slice_index_or left k l)
 
 one_more_tells : {C Left : Type 0} (talk : C → Talk Left) (client : C) (clients : List C) (told : Transcript) (ts : List Transcript)
-    (last : Left) (left : List Left) → Tells (talk client) told last → AllTell talk clients ts left
+    (last : Left) (left : List Left) → IsTranscriptOf (talk client) told last → AllTell talk clients ts left
     → AllTell talk (client ∷ clients) (told ∷ ts) (last ∷ left)
 one_more_tells talk client clients told ts last left one rest zero c t l less = one
 one_more_tells talk client clients told ts last left one rest (suc k) c t l less = rest k c t l (omega (arith, less))
@@ -232,12 +232,12 @@ same_lines (lines ∷ scripts) [] many each = absurd (omega (arith, many))
 
 -- the clients of scripts have handed out nothing
 pub all_new : (scripts : List (List Line)) (clients : List Playing) → ArePlaying scripts clients
-    → All (λ c. IsNew (owed_of c.is_owed c.lines) c.stands) clients
+    → All (λ c. IsNewClient (owed_of c.is_owed c.lines) c.stands) clients
 all_new scripts these are =
-    subst (λ cs. All (λ (c : Playing). IsNew (owed_of c.is_owed c.lines) c.stands) cs) (sym are.clients_are) (from scripts)
+    subst (λ cs. All (λ (c : Playing). IsNewClient (owed_of c.is_owed c.lines) c.stands) cs) (sym are.clients_are) (from scripts)
   where
     New : Playing → Type 0
-    New c = IsNew (owed_of c.is_owed c.lines) c.stands
+    New c = IsNewClient (owed_of c.is_owed c.lines) c.stands
 
     from : (ls : List (List Line)) → All New (map new_client ls)
     from [] = All-nil New

@@ -10,7 +10,7 @@ use Rattle.qshare_history.specs.Shares.{HandedIn}
 use Rattle.qshare_history.proofs.Prefixes.{prefix_length}
 use Rattle.qrun.specs.declared.observer.Observer.{Observer}
 use Rattle.qrun.specs.Monitors.{HasSeen, IsShown, IsShownTo, Rise, ShowsNext, ShowsOne, Sight}
-use Rattle.qrun.specs.Observers.{IsObservedBy, Observed, left_in, looks_wanted, monitor_in, seat_in, shown_to}
+use Rattle.qrun.specs.Observers.{IsObservedBy, Observed, observer_left, looks_wanted, monitor_in, seat_in, shown_to}
 use Rattle.qrun.specs.Watching.{IsWatchOf, Watched, looks_in, shares_in}
 use Rattle.qrun.proofs.Watched.{all_behind, board_lawful, lawful_more, no_boards}
 
@@ -144,8 +144,8 @@ module _ {T M Left : Type 0} (sees : M → Sight Left) (S : State) where
 
   shown_by : (journal : List Entry) (observer : Option (Observer T M Left)) (observed : Option (Observed Left)) → IsObservedBy sees S observer observed
       → All (λ s. IsPrefix s.seen journal) (shares_in (option_map (λ o. o.watch) observed))
-      → IsShownTo sees S journal (shown_to observer) (left_in observed)
-  shown_by journal None observed none seen = ap left_in none
+      → IsShownTo sees S journal (shown_to observer) (observer_left observed)
+  shown_by journal None observed none seen = ap observer_left none
   shown_by journal (Some o) None is seen = absurd is
   shown_by journal (Some o) (Some observed) is seen =
       shown_more sees S observed.watch.share.seen journal (monitor_in o) observed.left
@@ -154,7 +154,7 @@ module _ {T M Left : Type 0} (sees : M → Sight Left) (S : State) where
   -- so it is told where all seats have handed in
   pub monitor_shown : (journal entries : List Entry) (own shares : List HandedIn) (watch : Option Watched) (observer : Option (Observer T M Left))
       (observed : Option (Observed Left)) (left : Option Left) → IsObservedBy sees S observer observed
-      → watch ≡ option_map (λ o. o.watch) observed → left ≡ left_in observed → shares ≡ own ++ shares_in watch
+      → watch ≡ option_map (λ o. o.watch) observed → left ≡ observer_left observed → shares ≡ own ++ shares_in watch
       → All (λ s. IsPrefix s.seen journal) shares → entries ≡ journal → IsShownTo sees S entries (shown_to observer) left
   monitor_shown journal entries own shares watch observer observed left is watch_is left_is parts seen entries_are =
       let Seen : HandedIn → Type 0 = λ s. IsPrefix s.seen journal in

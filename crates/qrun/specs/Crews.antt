@@ -10,7 +10,7 @@ use Rattle.qrun_client.specs.Clients.{Talk}
 use Rattle.qrun_replay.specs.declared.outcome.Outcome.{Outcome}
 use Rattle.qrun_replay.specs.Runs.{IsNeverFull, IsServiceOf, lines_of}
 use Rattle.qrun.specs.declared.options.Options.{Options}
-use Rattle.qrun.specs.Serving.{CanServe, Tells}
+use Rattle.qrun.specs.Serving.{CanServe, IsTranscriptOf}
 use Rattle.qrun.specs.Told.{AreShort}
 use Rattle.qrun.specs.Watching.{seats_for, watcher_for}
 use Rattle.qrun_worker.specs.Scripts.{Playing}
@@ -65,5 +65,5 @@ pub record HasEnded {C Left : Type 0} (talk : C → Talk Left) (setting : Settin
   pub many : length o.transcripts ≡ length clients
   pub left_are : length left ≡ length clients
   pub each : (k : ℕ) (c : C) (t : Transcript) (l : Left) → k < length clients
-      → Tells (talk (slice_index_or clients k c)) (slice_index_or o.transcripts k t) (slice_index_or left k l)
+      → IsTranscriptOf (talk (slice_index_or clients k c)) (slice_index_or o.transcripts k t) (slice_index_or left k l)
   pub looks_are : length o.boards ≡ looks

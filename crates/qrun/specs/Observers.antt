@@ -52,6 +52,6 @@ shown_to None = None
 shown_to (Some o) = monitor_in o
 
 -- what is left of it
-abbrev pub left_in : {Left : Type 0} → Option (Observed Left) → Option Left
-left_in None = None
-left_in (Some o) = o.left
+abbrev pub observer_left : {Left : Type 0} → Option (Observed Left) → Option Left
+observer_left None = None
+observer_left (Some o) = o.left

@@ -20,8 +20,8 @@ pub record CanServe (setting : Setting) (clients monitors : ℕ) : Type 0 where
   pub few : seats_for clients monitors ≤ MAX_SEATS
 
 -- a transcript tells what came of its client: the lines that it handed out, what it was told of them, and what is left
-abbrev pub Tells : {Left : Type 0} → Talk Left → Transcript → Left → Type 0
-Tells talk t left = talk t.lines t.answers left
+abbrev pub IsTranscriptOf : {Left : Type 0} → Talk Left → Transcript → Left → Type 0
+IsTranscriptOf talk t left = talk t.lines t.answers left
 
 -- each client's transcript tells what came of it, in their order; and no look was taken at the boards
 pub record IsOfClients {C Left : Type 0} (talk : C → Talk Left) (clients : List C) (left : List Left) (o : Outcome)
@@ -29,5 +29,5 @@ pub record IsOfClients {C Left : Type 0} (talk : C → Talk Left) (clients : Lis
   pub many : length o.transcripts ≡ length clients
   pub left_are : length left ≡ length clients
   pub each : (k : ℕ) (c : C) (t : Transcript) (l : Left) → k < length clients
-      → Tells (talk (slice_index_or clients k c)) (slice_index_or o.transcripts k t) (slice_index_or left k l)
+      → IsTranscriptOf (talk (slice_index_or clients k c)) (slice_index_or o.transcripts k t) (slice_index_or left k l)
   pub boards : o.boards ≡ []

@@ -3,7 +3,7 @@ ghost use Rattle.std.specs.Prelude.{◌≡◌, ◌<◌, ◌≤◌, All, length, 
 ghost use Rattle.qshare.specs.declared.held.TheConstants.{MAX_BATCH};
 ghost use Rattle.qshare.specs.Seats.{seats_of};
 ghost use Rattle.qrun.specs.Crews.{AreReady, ArePlaying};
-ghost use Rattle.qrun_worker.specs.Work.{IsNew};
+ghost use Rattle.qrun_worker.specs.Work.{IsNewClient};
 
 use crate::machine::Machine;
 use qplain::{NoMemory, Script};
@@ -27,21 +27,21 @@ pub(crate) struct Crew<'a, C: Client + Drop, G: Gate> {
 impl<'a, C: Client + Drop, G: Gate> Model for Crew<'a, C, G> {
     ghost use Rattle.std.specs.Prelude.{◌<◌, ◌≤◌, All, List};
     ghost use Rattle.qshare.specs.declared.held.TheConstants.{MAX_BATCH};
-    ghost use Rattle.qrun_worker.specs.Work.{IsNew};
+    ghost use Rattle.qrun_worker.specs.Work.{IsNewClient};
 
     ghost Value = { List C };
 
     ghost view = { λ c. c.clients.items };
 
     ghost invariant = { λ c. (0 < c.batch) × (c.batch ≤ MAX_BATCH)
-        × All (λ x. IsNew (C.owed x) (C.stands x)) c.clients.items };
+        × All (λ x. IsNewClient (C.owed x) (C.stands x)) c.clients.items };
 }
 
 impl<'a, C: Client + Drop, G: Gate> Crew<'a, C, G> {
     /// These clients, which have handed out nothing.
     pub(crate) fn new(clients: Vec<C>, gate: &'a G, batch: u64) -> Crew<'a, C, G>
         requires batch { (0 < batch) × (batch ≤ MAX_BATCH) }
-        requires new { All (λ c. IsNew (C.owed c) (C.stands c)) clients.items }
+        requires new { All (λ c. IsNewClient (C.owed c) (C.stands c)) clients.items }
         ensures { result ≡ clients.items }
     {
         Crew {

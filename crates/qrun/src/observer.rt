@@ -1,7 +1,7 @@
 //! Who looks at the boards of a store beside its workers, and the thread in which that is done.
 ghost use Rattle.std.specs.Prelude.{◌≡◌, option_map};
 ghost use Rattle.qplain.specs.State.{start};
-ghost use Rattle.qrun.specs.Observers.{IsObserved, left_in, seat_in};
+ghost use Rattle.qrun.specs.Observers.{IsObserved, observer_left, seat_in};
 
 use crate::monitor::{Monitor, Showing, show_boards};
 use crate::watcher::{Watcher, look_on};
@@ -52,7 +52,7 @@ pub(crate) fn part_observed<S: StoreId, L: Drop>(
     observed: Option<Observed<S, L>>,
 ) -> (Option<Watch<S>>, Option<L>)
     ensures watch { result.0 ≡ option_map (λ o. o.watch) observed }
-    ensures left { result.1 ≡ left_in observed }
+    ensures left { result.1 ≡ observer_left observed }
 {
     match observed {
         Some(Observed { watch, left }) => (Some(watch), left),

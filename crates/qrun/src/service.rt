@@ -7,7 +7,7 @@ ghost use Rattle.qrun.specs.Monitors.{IsShownTo};
 ghost use Rattle.qrun.specs.RunFaults.{IsFaultOf};
 ghost use Rattle.qrun.specs.Serving.{CanServe, IsOfClients, monitors_in};
 ghost use Rattle.qrun.specs.Watching.{seats_for};
-ghost use Rattle.qrun_worker.specs.Work.{IsNew};
+ghost use Rattle.qrun_worker.specs.Work.{IsNewClient};
 
 use crate::crew::Crew;
 use crate::ending::{fault_of, play_and_end, play_unwatched};
@@ -88,7 +88,7 @@ where
     M: Monitor + Drop + Send,
     R: Threads + Wait + Sync,
     requires can { CanServe setup (length clients.items) (monitors_in monitor) }
-    requires new { All (λ c. IsNew (C.owed c) (C.stands c)) clients.items }
+    requires new { All (λ c. IsNewClient (C.owed c) (C.stands c)) clients.items }
     ensures outcome { IfOk result (λ s. IsServiceOf setup s.outcome) }
     ensures clients { IfOk result (λ s. IsOfClients C.talk clients.items s.left.items s.outcome) }
     ensures shown { IfOk result (λ s. IsShownTo M.sees (start setup) s.outcome.journal.entries monitor s.monitor) }

@@ -23,8 +23,8 @@ pub record Done : Type 0 where
   pub answers : List (Result Receipt CallFault)
 
 -- a client that has handed out nothing, and whose answers stand nowhere
-abbrev pub IsNew : Option Line → List (Result ℕ FailedLine) → Type 0
-IsNew owed stands = (owed ≡ None) × (stands ≡ [])
+abbrev pub IsNewClient : Option Line → List (Result ℕ FailedLine) → Type 0
+IsNewClient owed stands = (owed ≡ None) × (stands ≡ [])
 
 -- a worker that is ready to start: its number, and its client
 pub record Prepared (C : Type 0) : Type 0 where

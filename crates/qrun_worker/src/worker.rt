@@ -2,7 +2,7 @@
 ghost use Rattle.std.specs.Prelude.{◌≡◌, ◌+◌, ◌<◌, ◌≤◌, None, IsSome};
 ghost use Rattle.qplain.specs.Journal.{no_tally};
 ghost use Rattle.qshare.specs.declared.held.TheConstants.{MAX_BATCH};
-ghost use Rattle.qrun_worker.specs.Work.{HasGone, IsNew, IsPlayed, MayMake};
+ghost use Rattle.qrun_worker.specs.Work.{HasGone, IsNewClient, IsPlayed, MayMake};
 
 use crate::gate::Gate;
 use qrun_client::Client;
@@ -70,14 +70,14 @@ impl<'a, 'b, 'c, S: StoreId, B: Boards<S>, V: Drop, C: Client + Drop, G: Gate, R
     ghost use Rattle.std.specs.Prelude.{◌≡◌, ◌<◌, ◌≤◌};
     ghost use Rattle.qplain.specs.Journal.{no_tally};
     ghost use Rattle.qshare.specs.declared.held.TheConstants.{MAX_BATCH};
-    ghost use Rattle.qrun_worker.specs.Work.{IsNew, Prepared};
+    ghost use Rattle.qrun_worker.specs.Work.{IsNewClient, Prepared};
 
     ghost Value = { Prepared C };
 
     ghost view = { λ w. record { worker = w.seat.worker; client = w.client } };
 
     ghost invariant = { λ w. (0 < w.batch) × (w.batch ≤ MAX_BATCH) × (w.seat.tally ≡ no_tally)
-        × IsNew (C.owed w.client) (C.stands w.client) };
+        × IsNewClient (C.owed w.client) (C.stands w.client) };
 }
 
 impl<'a, 'b, 'c, S: StoreId, B: Boards<S>, V: Drop, C: Client + Drop, G: Gate, R: Wait> Worker<
@@ -103,7 +103,7 @@ impl<'a, 'b, 'c, S: StoreId, B: Boards<S>, V: Drop, C: Client + Drop, G: Gate, R
     ) -> Worker<'a, 'b, 'c, S, B, V, C, G, R>
         requires batch { (0 < batch) × (batch ≤ MAX_BATCH) }
         requires seat { seat.tally ≡ no_tally }
-        requires new { IsNew (C.owed client) (C.stands client) }
+        requires new { IsNewClient (C.owed client) (C.stands client) }
         ensures { result ≡ record { worker = seat.worker; client = client } }
     {
         Worker {

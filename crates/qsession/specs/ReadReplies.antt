@@ -17,6 +17,6 @@ count_in (Bytes count) = count
 count_in (Refused refusal) = 0
 
 -- the answer with that reply
-abbrev pub answer_in : List ℕ → Result ReadReply Fault → Result Reply Fault
-answer_in buffer (Ok reply) = Ok (read_in buffer reply)
-answer_in buffer (Err fault) = Err fault
+abbrev pub answer_with : List ℕ → Result ReadReply Fault → Result Reply Fault
+answer_with buffer (Ok reply) = Ok (read_in buffer reply)
+answer_with buffer (Err fault) = Err fault

@@ -16,9 +16,9 @@ pub record IsPut {A : Type 0} (list buffer : List A) (len number : ℕ) : Type 0
   pub front : number ≡ 0 → take len buffer ≡ list
 
 -- the list that there is to tell is told in a buffer, or the number says why there is none
-abbrev pub IsToldIn : {A : Type 0} → Result (List A) Fault → List A → ℕ → ℕ → Type 0
-IsToldIn (Ok list) buffer len number = IsPut list buffer len number
-IsToldIn (Err fault) buffer len number = number ≡ fault_code fault
+abbrev pub IsPutIn : {A : Type 0} → Result (List A) Fault → List A → ℕ → ℕ → Type 0
+IsPutIn (Ok list) buffer len number = IsPut list buffer len number
+IsPutIn (Err fault) buffer len number = number ≡ fault_code fault
 
 -- the value that there is to tell is told, or the number says why there is none
 abbrev pub IsToldAs : {A : Type 0} → Result A Fault → A → ℕ → Type 0

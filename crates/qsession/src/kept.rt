@@ -9,7 +9,7 @@ ghost use Rattle.qsession.specs.declared.kept.Kept.TheVariants.{Journaled as Kep
 ghost use Rattle.qsession.specs.BorrowedCalls.{call_of, read_of};
 ghost use Rattle.qsession.specs.Faults.{fault_told};
 ghost use Rattle.qsession.specs.Holdings.{HoldsTrue, holding_of, new_journaled, new_plain};
-ghost use Rattle.qsession.specs.ReadReplies.{answer_in, count_in};
+ghost use Rattle.qsession.specs.ReadReplies.{answer_with, count_in};
 ghost use Rattle.qsession.specs.Steps.{CanCommit, HasCause, IsFull, IsReadyFor, IsStep};
 
 use crate::borrowed_call::{BorrowedCall, ReadFrom};
@@ -150,7 +150,7 @@ impl Kept {
         from: ReadFrom<'_>,
         buffer: &mut [u8],
     ) -> Result<ReadReply, Fault>
-        ensures ok { IfOk (answer_in buffer.new result) (IsStep (holding_of self.old) (holding_of self.new)
+        ensures ok { IfOk (answer_with buffer.new result) (IsStep (holding_of self.old) (holding_of self.new)
             (line_of cred.now moment (read_of from.entry (length buffer.old)))) }
         ensures room { IfOk result (λ reply. count_in reply ≤ length buffer.old) }
         ensures err { OnErr result (holding_of self.new ≡ holding_of self.old) }
@@ -181,7 +181,7 @@ impl Kept {
         off: u64,
         buffer: &mut [u8],
     ) -> Result<ReadReply, Fault>
-        ensures ok { IfOk (answer_in buffer.new result) (IsStep (holding_of self.old) (holding_of self.new)
+        ensures ok { IfOk (answer_with buffer.new result) (IsStep (holding_of self.old) (holding_of self.new)
             (line_of cred.now moment (Read path off (length buffer.old)))) }
         ensures room { IfOk result (λ reply. count_in reply ≤ length buffer.old) }
         ensures err { OnErr result (holding_of self.new ≡ holding_of self.old) }

@@ -1,7 +1,7 @@
 //! What a read into a buffer comes to.
 ghost use Rattle.std.specs.Prelude.{◌≡◌, ◌≤◌, IfOk, length, take, true};
 ghost use Rattle.qsession.specs.Answers.{tells_bytes};
-ghost use Rattle.qsession.specs.ReadReplies.{answer_in, count_in};
+ghost use Rattle.qsession.specs.ReadReplies.{answer_with, count_in};
 
 use crate::fault::Fault;
 use qplain::{Refusal, Reply};
@@ -30,7 +30,7 @@ pub(crate) fn put_answer(
     buffer: &mut [u8],
 ) -> Result<ReadReply, Fault>
     requires { IfOk answer (λ reply. tells_bytes (length buffer.old) reply ≡ true) }
-    ensures answer { answer ≡ answer_in buffer.new result }
+    ensures answer { answer ≡ answer_with buffer.new result }
     ensures room { IfOk result (λ reply. count_in reply ≤ length buffer.old) }
 {
     match answer {

@@ -5,7 +5,7 @@ ghost use Rattle.qsession.specs.BorrowedCalls.{call_of, read_of};
 ghost use Rattle.qsession.specs.Brought.{HasTooManyGroups};
 ghost use Rattle.qsession.specs.Called.{IsAnswered, IsCause};
 ghost use Rattle.qsession.specs.Holdings.{HoldsLawful, HoldsTrue, held_in};
-ghost use Rattle.qsession.specs.ReadReplies.{answer_in, count_in};
+ghost use Rattle.qsession.specs.ReadReplies.{answer_with, count_in};
 ghost use Rattle.qsession.specs.Requests.{caller_in};
 
 use crate::borrowed_call::{BorrowedCall, ReadFrom};
@@ -161,7 +161,7 @@ impl Session {
         buffer: &mut [u8],
     ) -> Result<ReadReply, Fault>
         ensures answered { IsAnswered (held_in self.old.slot.kept) (held_in self.new.slot.kept) context.entry
-            (read_of from.entry (length buffer.old)) (answer_in buffer.new result) }
+            (read_of from.entry (length buffer.old)) (answer_with buffer.new result) }
         ensures room { IfOk result (λ reply. count_in reply ≤ length buffer.old) }
     {
         let cred = match context.caller.cred(alloc) {

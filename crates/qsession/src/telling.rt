@@ -4,7 +4,7 @@ ghost use Rattle.qplain.specs.declared.reply.Reply.TheVariants.{Bytes};
 ghost use Rattle.qsession.specs.Answers.{tells_done, tells_quota, tells_stat};
 ghost use Rattle.qsession.specs.Called.{code_of};
 ghost use Rattle.qsession.specs.Codes.{over_code, refusal_code};
-ghost use Rattle.qsession.specs.ReadReplies.{answer_in, count_in};
+ghost use Rattle.qsession.specs.ReadReplies.{answer_with, count_in};
 ghost use Rattle.qsession.specs.Replies.{done_in, quota_in, stat_in};
 
 use crate::fault::Fault;
@@ -95,8 +95,8 @@ pub(crate) fn tell_quota(answer: Result<Reply, Fault>, quota: &mut QuotaReply) -
 
 /// Tells the answer to a read, whose bytes stand at the front of a buffer.
 pub(crate) fn tell_read(answer: Result<ReadReply, Fault>, len: &mut usize) -> u32
-    ensures code { (buffer : List ℕ) → result ≡ code_of (answer_in buffer answer) }
-    ensures bytes { result ≡ 0 → (buffer : List ℕ) → answer_in buffer answer ≡ Ok (Bytes (take len.new buffer)) }
+    ensures code { (buffer : List ℕ) → result ≡ code_of (answer_with buffer answer) }
+    ensures bytes { result ≡ 0 → (buffer : List ℕ) → answer_with buffer answer ≡ Ok (Bytes (take len.new buffer)) }
     ensures room { (room : ℕ) → IfOk answer (λ reply. count_in reply ≤ room) → result ≡ 0 → len.new ≤ room }
 {
     match answer {

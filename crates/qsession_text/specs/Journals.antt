@@ -16,9 +16,9 @@ abbrev pub journal_written : List Entry → Written
 journal_written entries = record { edition = Two; workers = 1; entries = entries }
 
 -- the journal that a session keeps, or why there is none: it is closed, or keeps none
-abbrev pub journal_in : Option Holding → Result KeptJournal Fault
-journal_in None = Err Closed
-journal_in (Some h) = ok_or h.journal NoJournal
+abbrev pub session_journal : Option Holding → Result KeptJournal Fault
+session_journal None = Err Closed
+session_journal (Some h) = ok_or h.journal NoJournal
 
 -- the text that spells a journal out
 abbrev pub text_of : Result KeptJournal Fault → Result (List ℕ) Fault

@@ -21,15 +21,15 @@ is_full None = false
 is_full (Some journal) = length journal.entries == MAX_ENTRIES
 
 -- the reply to a line's call as a line, or why the call is not made: there is no such line, or the journal is full
-abbrev pub answer_to : Holding → Option Line → Result (List ℕ) Fault
-answer_to h None = Err fault.Line
-answer_to h (Some line) =
+abbrev pub line_answer : Holding → Option Line → Result (List ℕ) Fault
+line_answer h None = Err fault.Line
+line_answer h (Some line) =
     if is_full h.journal then Err fault.JournalFull else Ok (reply_text (reply_to h line) ++ codes "\n")
 
 -- so it is of a session; of a closed one none is made
-abbrev pub answer_in : Option Holding → Result (List Line) TextFault → Result (List ℕ) Fault
-answer_in None script = Err fault.Closed
-answer_in (Some h) script = answer_to h (only_line script)
+abbrev pub session_answer : Option Holding → Result (List Line) TextFault → Result (List ℕ) Fault
+session_answer None script = Err fault.Closed
+session_answer (Some h) script = line_answer h (only_line script)
 
 -- the session is open, the script is one line, and it holds what that line's call leaves
 abbrev pub MakesCall : Option Holding → Option Holding → Option Line → Type 0

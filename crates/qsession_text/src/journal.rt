@@ -3,8 +3,8 @@ ghost use Rattle.std.specs.Prelude.{◌≡◌, Some, IfOk, OnOk};
 ghost use Rattle.qtext_files.specs.Spelling.{CanBeRead, journal_spelling};
 ghost use Rattle.qsession.specs.Holdings.{holding_of};
 ghost use Rattle.qsession.specs.Replies.{tallies_in};
-ghost use Rattle.qsession.specs.Tellings.{IsToldAs, IsToldIn, UnlessMemory};
-ghost use Rattle.qsession_text.specs.Journals.{IsReadAgain, journal_in, journal_written, tallied, text_of};
+ghost use Rattle.qsession.specs.Tellings.{IsToldAs, IsPutIn, UnlessMemory};
+ghost use Rattle.qsession_text.specs.Journals.{IsReadAgain, session_journal, journal_written, tallied, text_of};
 
 use crate::buffer::put_text;
 use qplain::{Edition, Entry, Journal, NoMemory};
@@ -53,8 +53,8 @@ fn journal_text(alloc: Global, recorder: &Recorder) -> Result<Vec<u8>, NoMemory>
 /// Returns 0; 65 for want of memory, 69 where the buffer has too few bytes, 73 where no journal is kept.
 pub fn tell_journal(alloc: Global, kept: &Kept, buffer: &mut [u8], len: &mut usize) -> u32
     ensures journal { UnlessMemory (Some (holding_of kept.now)) result
-        (IsToldIn (text_of (journal_in (Some (holding_of kept.now)))) buffer.new len.new result) }
-    ensures again { result ≡ 0 → IsReadAgain (journal_in (Some (holding_of kept.now))) }
+        (IsPutIn (text_of (session_journal (Some (holding_of kept.now)))) buffer.new len.new result) }
+    ensures again { result ≡ 0 → IsReadAgain (session_journal (Some (holding_of kept.now))) }
 {
     let Some(recorder) = kept.recorder() else {
         return Fault::NoJournal.code();
@@ -69,7 +69,7 @@ pub fn tell_journal(alloc: Global, kept: &Kept, buffer: &mut [u8], len: &mut usi
 ///
 /// Returns 0, or 73 where no journal is kept.
 pub fn tell_tally(kept: &Kept, tally: &mut TallyReply) -> u32
-    ensures { IsToldAs (tallied (journal_in (Some (holding_of kept.now)))) (tallies_in tally.new) result }
+    ensures { IsToldAs (tallied (session_journal (Some (holding_of kept.now)))) (tallies_in tally.new) result }
 {
     let Some(recorder) = kept.recorder() else {
         return Fault::NoJournal.code();

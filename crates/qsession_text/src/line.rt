@@ -3,8 +3,8 @@ ghost use Rattle.std.specs.Prelude.{◌≡◌, ◌≢◌, ◌∷◌, ◌++◌, �
 ghost use Rattle.qtext_files.specs.Scripts.{script_of};
 ghost use Rattle.qtext_read.specs.Replies.{reply_text};
 ghost use Rattle.qsession.specs.Holdings.{holding_of};
-ghost use Rattle.qsession.specs.Tellings.{IsToldIn, UnlessMemory};
-ghost use Rattle.qsession_text.specs.Lines.{MakesCall, answer_in, only_line};
+ghost use Rattle.qsession.specs.Tellings.{IsPutIn, UnlessMemory};
+ghost use Rattle.qsession_text.specs.Lines.{MakesCall, session_answer, only_line};
 
 use crate::buffer::put_text;
 use qplain::{Line, NoMemory, Reply};
@@ -63,7 +63,7 @@ pub fn answer_line(
     len: &mut usize,
 ) -> u32
     ensures line { UnlessMemory (Some (holding_of kept.old)) result
-        (IsToldIn (answer_in (Some (holding_of kept.old)) (script_of text.now)) buffer.new len.new result) }
+        (IsPutIn (session_answer (Some (holding_of kept.old)) (script_of text.now)) buffer.new len.new result) }
     ensures made { result ≡ 0 → MakesCall (Some (holding_of kept.old)) (Some (holding_of kept.new))
         (only_line (script_of text.now)) }
     ensures fault { result ≢ 0 → holding_of kept.new ≡ holding_of kept.old }

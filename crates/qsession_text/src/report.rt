@@ -3,7 +3,7 @@ ghost use Rattle.std.specs.Prelude.{◌≡◌, Some, IfOk};
 ghost use Rattle.qaudit.specs.Reports.{report_text};
 ghost use Rattle.qaudit_checks.specs.OwnRows.{record_rows};
 ghost use Rattle.qsession.specs.Holdings.{holding_of};
-ghost use Rattle.qsession.specs.Tellings.{IsToldIn, UnlessMemory};
+ghost use Rattle.qsession.specs.Tellings.{IsPutIn, UnlessMemory};
 ghost use Rattle.qsession_text.specs.Reports.{report_in};
 
 use crate::buffer::put_text;
@@ -36,7 +36,7 @@ pub fn tell_report(
     len: &mut usize,
 ) -> u32
     ensures { UnlessMemory (Some (holding_of kept.now)) result
-        (IsToldIn (report_in (Some (holding_of kept.now)) moment) buffer.new len.new result) }
+        (IsPutIn (report_in (Some (holding_of kept.now)) moment) buffer.new len.new result) }
 {
     match report_text(alloc, kept.store(), moment) {
         Ok(text) => put_text(&text, buffer, len),

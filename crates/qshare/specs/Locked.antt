@@ -15,8 +15,8 @@ pub record Locked : Type 0 where
   pub published : List Entry
 
 -- a new store has no entry
-abbrev pub IsNew : Locked → Type 0
-IsNew l = (l.journal ≡ []) × (l.published ≡ [])
+abbrev pub IsNewStore : Locked → Type 0
+IsNewStore l = (l.journal ≡ []) × (l.published ≡ [])
 
 -- the journal begins with what is published, which is the history of the store; the tally is the journal's, and nothing
 -- is counted but by its seats

@@ -2,7 +2,7 @@
 ghost use Rattle.std.specs.Prelude.{◌≡◌, ◌<◌, ◌≤◌, ◌-◌, [], Err, IfOk};
 ghost use Rattle.qplain.specs.Journal.{board_of, no_tally};
 ghost use Rattle.qplain.specs.Setups.{IsLawfulSetup};
-ghost use Rattle.qshare.specs.Locked.{IsNew};
+ghost use Rattle.qshare.specs.Locked.{IsNewStore};
 ghost use Rattle.qshare.specs.Seats.{new_seat, seats_of};
 ghost use Rattle.qshare.specs.declared.opening.TheConstants.{MAX_SEATS};
 ghost use Rattle.qshare.specs.declared.share_fault.ShareFault.TheVariants.{Seats};
@@ -40,7 +40,7 @@ pub(crate) fn first_publisher<S: StoreId, R: Wait + Drop>(
     locked: &LockedStore<S, NoBoards>,
     seats: u64,
 ) -> Result<Publisher<S, R>, NoMemory>
-    requires new { IsNew locked.now }
+    requires new { IsNewStore locked.now }
     requires seats { (0 < seats) × (seats ≤ MAX_SEATS) }
     ensures published { IfOk result (λ p. p ≡ []) }
     ensures setup { IsLawfulSetup S.id.setting }
@@ -57,7 +57,7 @@ pub(crate) fn observed<S: StoreId, R: Wait + Drop>(
     locked: &LockedStore<S, NoBoards>,
     mut all: TallyPart<S>,
 ) -> Result<(Publisher<S, R>, Vec<Seat<S, Blind>>, Seat<S, Viewer<S>>), ShareFault>
-    requires new { IsNew locked.now }
+    requires new { IsNewStore locked.now }
     requires all { (0 < all.parts) × (all ≡ record { tally = no_tally; parts = S.id.counters.parts }) }
     ensures publisher { IfOk result (λ r. r.0 ≡ []) }
     ensures workers { IfOk result (λ r. r.1.items ≡ seats_of (S.id.counters.parts - 1)) }

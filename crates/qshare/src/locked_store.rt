@@ -11,7 +11,7 @@ ghost use Rattle.qstore_journaled.specs.Journaled.{IsStoreOf};
 ghost use Rattle.qstore_journaled.specs.Lines.{line_of};
 ghost use Rattle.qshare.specs.Calls.{IsFormOf, IsJournaled};
 ghost use Rattle.qshare.specs.Ends.{IsEndOf};
-ghost use Rattle.qshare.specs.Locked.{IsNew};
+ghost use Rattle.qshare.specs.Locked.{IsNewStore};
 
 use crate::boards::Boards;
 use crate::no_boards::NoBoards;
@@ -59,7 +59,7 @@ impl<S: StoreId> LockedStore<S, NoBoards> {
         requires history { history ≡ recorded S.id.history [] }
         requires seats { seats ≡ S.id.counters.parts }
         requires tally { (tally ≡ no_tally) × (rest ≡ record { tally = no_tally; parts = 0 }) }
-        ensures { IsNew result }
+        ensures { IsNewStore result }
     {
         LockedStore {
             store,

@@ -1,7 +1,7 @@
 //! How a shared store is made: first a store, then its identity, then its seats.
 ghost use Rattle.std.specs.Prelude.{◌≡◌, ◌<◌, ◌≤◌, ◌⊎◌, ◌-◌, Err, IfOk, IfErr};
 ghost use Rattle.qplain.specs.Journal.{no_tally};
-ghost use Rattle.qshare.specs.Locked.{IsNew};
+ghost use Rattle.qshare.specs.Locked.{IsNewStore};
 ghost use Rattle.qshare.specs.Seats.{new_seat, seats_of};
 ghost use Rattle.qshare.specs.declared.share_fault.ShareFault.TheVariants.{Seats};
 
@@ -94,7 +94,7 @@ impl Opened {
     /// The store under its identity, before anybody can look at its boards, and the part of its tally for its seats.
     fn locked<S: StoreId>(self) -> (LockedStore<S, NoBoards>, TallyPart<S>)
         requires { self ≡ S.id }
-        ensures store { IsNew result.0 }
+        ensures store { IsNewStore result.0 }
         ensures seats { result.1 ≡ record { tally = no_tally; parts = S.id.counters.parts } }
         ensures few { (0 < S.id.counters.parts) × (S.id.counters.parts ≤ MAX_SEATS) }
     {

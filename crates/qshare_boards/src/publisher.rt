@@ -7,7 +7,7 @@ ghost use Rattle.qshare_boards.specs.Boards.{BringsOn, changed_by, shown_of};
 ghost use Rattle.qshare_boards.specs.Sheets.{IsPublished, LeadsTo};
 
 use crate::board_change::BoardChange;
-use crate::rule::{Notes, Publishing, Sees, View};
+use crate::rule::{Notes, Publishing, SeenHistory, Sees};
 use crate::sheet::{Batch, Sheet};
 use crate::viewer::BoardReader;
 use core::mem::replace_with;
@@ -18,7 +18,7 @@ use std::alloc::Global;
 use std::marker::Model;
 use std::sync::Wait;
 
-pub(crate) type BoardWriter<S> = Writer<Sheet, Batch, View, Publishing<S>>;
+pub(crate) type BoardWriter<S> = Writer<Sheet, Batch, SeenHistory, Publishing<S>>;
 
 /// A writer with the handle by which its drop waits for the readers.
 struct Pen<S: StoreId, R: Wait + Drop> {

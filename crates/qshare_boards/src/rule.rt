@@ -8,7 +8,7 @@ use std::collections::LinkedList;
 use std::marker::PhantomData;
 
 /// The history that a reader has seen. No value of it is made.
-pub struct View {
+pub struct SeenHistory {
     pub seen: LinkedList<Entry>,
 }
 
@@ -17,7 +17,7 @@ pub struct Publishing<S> {
     store: PhantomData<S>,
 }
 
-impl<S: StoreId> Protocol<Sheet, View> for Publishing<S> {
+impl<S: StoreId> Protocol<Sheet, SeenHistory> for Publishing<S> {
     ghost use Rattle.qplain.specs.State.{start};
     ghost use Rattle.qshare_boards.specs.Sheets.{board_in};
     ghost use Rattle.qshare_boards.specs.Views.{Kept, newcomer};
@@ -32,24 +32,24 @@ pub struct Sees<S> {
     store: PhantomData<S>,
 }
 
-impl<S: StoreId> Outcome<Sheet, View> for Sees<S> {
+impl<S: StoreId> Outcome<Sheet, SeenHistory> for Sees<S> {
     ghost use Rattle.qplain.specs.State.{start};
     ghost use Rattle.qshare_boards.specs.Sheets.{board_in};
-    ghost use Rattle.qshare_boards.specs.Views.{Sight};
+    ghost use Rattle.qshare_boards.specs.Views.{IsThenSeen};
 
-    ghost then = { λ v x y w. Sight S.id.history (start S.id.setting) v y.prefix (board_in y) w };
+    ghost then = { λ v x y w. IsThenSeen S.id.history (start S.id.setting) v y.prefix (board_in y) w };
 }
 
 /// What the writing side tells a reader that has just sat down.
 pub struct Notes;
 
-impl Split<View> for Notes {
+impl Split<SeenHistory> for Notes {
     ghost left = { λ v. v };
 
     ghost right = { λ v. v };
 }
 
-impl Join<View> for Notes {
+impl Join<SeenHistory> for Notes {
     ghost use Rattle.qshare_boards.specs.Views.{newcomer};
 
     ghost both = { λ v w. w };

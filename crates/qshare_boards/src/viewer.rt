@@ -9,7 +9,7 @@ ghost use Rattle.qshare_boards.specs.Looks.{IsBoardAnswer, IsLook, IsRecordAnswe
 ghost use Rattle.qshare_boards.specs.Whole.{IsWhole};
 
 use crate::publisher::Publisher;
-use crate::rule::{Publishing, Sees, View};
+use crate::rule::{Publishing, SeenHistory, Sees};
 use crate::sheet::Sheet;
 use core::mem::replace_with;
 use left_right::reader::Reader;
@@ -20,7 +20,7 @@ use std::alloc::Global;
 use std::marker::Model;
 use std::sync::Wait;
 
-pub(crate) type BoardReader<S> = Reader<Sheet, View, Publishing<S>>;
+pub(crate) type BoardReader<S> = Reader<Sheet, SeenHistory, Publishing<S>>;
 
 /// The reading side of the boards, for one reader. Contracts see the history whose board it was shown last, or what was
 /// published when it was made.

@@ -8,9 +8,9 @@ pub(crate) struct Law;
 impl Rule<Entry, u64> for Law {
     ghost use Rattle.std.specs.Prelude.{[]};
     ghost use base.Fml.{ftrue};
-    ghost use Rattle.qshare_history.specs.Laws.{IsKept};
+    ghost use Rattle.qshare_history.specs.Laws.{IsLengthKept};
 
-    ghost holds = { λ cells log. IsKept cells log };
+    ghost holds = { λ cells log. IsLengthKept cells log };
 
     ghost first = { [] };
 
@@ -36,9 +36,9 @@ impl Gain<Entry, u64> for Nothing {
 pub(crate) struct Add;
 
 impl Play<Entry, u64> for Add {
-    ghost use Rattle.qshare_history.specs.Laws.{Adds};
+    ghost use Rattle.qshare_history.specs.Laws.{AddsEntry};
 
-    ghost then = { Adds };
+    ghost then = { AddsEntry };
 }
 
 /// What a step asks for: the entry.

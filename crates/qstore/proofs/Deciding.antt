@@ -40,7 +40,7 @@ use Rattle.qstore.specs.Decided.{IsAsked, IsBilled, IsDecision, IsPlanned, IsUnb
 use Rattle.qstore.specs.Ready.{CanCarryOut, IsRefused, billed, effect}
 use Rattle.qstore.specs.Requests.{IsConsistent}
 use Rattle.qstore.specs.Stored.{IsSameStore, Stored}
-use Rattle.qstore.specs.Told.{told}
+use Rattle.qstore.specs.Told.{total_change}
 use Rattle.qstore.proofs.Listed.{ok_weaker}
 
 -- ---- claims
@@ -67,7 +67,7 @@ asked-for s whole from to given S1 f t replaces next lost gained few = record {
 
 -- the change that is told is the one between the states
 pub told-change : (b : Books) (exchange : Exchange) (S S1 : State) (f t : Option Inode)
-    → IsReplacement b exchange.from exchange.to S S1 f t → told exchange ≡ change_between S S1
+    → IsReplacement b exchange.from exchange.to S S1 f t → total_change exchange ≡ change_between S S1
 told-change b exchange S S1 f t r =
     let lost_blocks = claim-weight b.users exchange.from f Blocks (r.lost User) in
     let lost_inodes = claim-weight b.users exchange.from f Inodes (r.lost User) in
@@ -144,7 +144,7 @@ module _ (old new : Stored) (same : IsSameStore old new) (request : Request) (at
 
     -- and a bill that is granted decides it
     pub decision-billed : (change : TreeChange) (reply : Reply) → IsBilled old new.bill request exchange given
-        → changed old.state change ≡ S1 → CanChange new.state new.room change → reply ≡ Done number (told exchange)
+        → changed old.state change ≡ S1 → CanChange new.state new.room change → reply ≡ Done number (total_change exchange)
         → IsPlanned old new request attempt (Change change) (Ok reply)
     decision-billed change reply billed_so made can is =
         decision-ready (Change change) reply

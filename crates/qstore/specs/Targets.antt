@@ -15,7 +15,7 @@ use Rattle.qstore.specs.declared.plan.Plan.TheVariants.{Nothing, Change}
 use Rattle.qstore.specs.declared.store.write.Target.{Target}
 use Rattle.qstore.specs.Decided.{IsStretched, no_exchange}
 use Rattle.qstore.specs.Stored.{Stored}
-use Rattle.qstore.specs.Told.{told}
+use Rattle.qstore.specs.Told.{total_change}
 
 -- the write goes into an inode that is there and a file, the new blocks are the target's, and so is what they take
 pub record IsTarget (s : Stored) (cred : Caller) (path : List ℕ) (off : ℕ) (bytes : List ℕ)
@@ -43,6 +43,6 @@ put_planned target off bytes (Err lack) = Nothing
 
 -- and what is replied
 abbrev pub put_reply : Target → Result (Result ℕ Refusal) AllocError → Result Reply AllocError
-put_reply target (Ok (Ok spare)) = Ok (Done target.number (told target.exchange))
+put_reply target (Ok (Ok spare)) = Ok (Done target.number (total_change target.exchange))
 put_reply target (Ok (Err refusal)) = Ok (Refused refusal)
 put_reply target (Err lack) = Err lack

@@ -26,7 +26,7 @@ use Rattle.qstore_accounts.specs.Claims.{IsShareOf, share_in}
 use Rattle.qstore_accounts.specs.KeptHolders.{AreById, IsSlotFor, IsSlotOf, holder_in}
 use Rattle.qstore_accounts.specs.Bills.{postings_in}
 use Rattle.qstore_accounts.specs.Replacements.{IsReplacement}
-use Rattle.qstore_accounts.specs.Ledgers.{IsFinal, fault_of_change, refusal_of}
+use Rattle.qstore_accounts.specs.Ledgers.{IsFinal, fault_of_change, posting_refusal}
 use Rattle.qstore_accounts.specs.Decisions.{bill_refusal, IsBillOf}
 use Rattle.qstore_accounts.proofs.Booked.{by_id-in}
 use Rattle.qstore_accounts.proofs.Counted.{account_of-counted}
@@ -46,7 +46,7 @@ module _ (S S1 : State) (b : Books) (books : AreBooksOf S b) (moment : ℕ) (kin
   -- the refusal of a final posting is that of its owner's holder
   posting-refused : (share : OwnerClaim) (w : Option ℕ) (q : Posting) → IsSlotFor (ledger_in kind b) (Some share.slot) w
       → q.slot ≡ share.slot → IsFinal (ledger_in kind b) kind S1 q
-      → refusal_of (ledger_in kind b) kind moment (Some q) ≡ refusal_at (fault_of_holder S S1 moment) (find (is_held kind w) S.holders)
+      → posting_refusal (ledger_in kind b) kind moment (Some q) ≡ refusal_at (fault_of_holder S S1 moment) (find (is_held kind w) S.holders)
   posting-refused share None q is slot final = cc
   posting-refused share (Some id) q is slot final = by (slice_get (ledger_in kind b) q.slot) refl
     where
@@ -70,7 +70,7 @@ module _ (S S1 : State) (b : Books) (books : AreBooksOf S b) (moment : ℕ) (kin
   -- the same where there may be none
   pub kind-refused : (share : Option OwnerClaim) (inode : Inode) (q : Option Posting) → IsShareOf (ledger_in kind b) kind share (Some inode)
       → option_map (λ p. p.slot) q ≡ option_map (λ s. s.slot) share → IfSome q (IsFinal (ledger_in kind b) kind S1)
-      → refusal_of (ledger_in kind b) kind moment q
+      → posting_refusal (ledger_in kind b) kind moment q
       ≡ refusal_at (fault_of_holder S S1 moment) (find (is_held kind (owner kind inode.owners)) S.holders)
   kind-refused None inode None is slots final = by (owner kind inode.owners) is
     where
@@ -84,7 +84,7 @@ module _ (S S1 : State) (b : Books) (books : AreBooksOf S b) (moment : ℕ) (kin
 
   -- where no inode comes to stand, no posting is refused
   pub none-refused : (share : Option OwnerClaim) (q : Option Posting) → IsShareOf (ledger_in kind b) kind share None
-      → option_map (λ p. p.slot) q ≡ option_map (λ s. s.slot) share → refusal_of (ledger_in kind b) kind moment q ≡ None
+      → option_map (λ p. p.slot) q ≡ option_map (λ s. s.slot) share → posting_refusal (ledger_in kind b) kind moment q ≡ None
   none-refused None None is slots = refl
   none-refused None (Some q) is slots = cc
   none-refused (Some share) q is slots = cc
@@ -97,14 +97,14 @@ module _ (b : Books) (from to : Option Claim) (S S1 : State) (f : Option Inode) 
     (is : IsBillOf b from to S S1 moment bill) where
   -- the first limit in the way of the bill is that of the holders
   pub first-refused : (t : Option Inode) → IsReplacement b from to S S1 f t
-      → option_or (refusal_of b.users User moment bill.users.to)
-      (option_or (refusal_of b.groups Group moment bill.groups.to) (refusal_of b.projects Project moment bill.projects.to))
+      → option_or (posting_refusal b.users User moment bill.users.to)
+      (option_or (posting_refusal b.groups Group moment bill.groups.to) (posting_refusal b.projects Project moment bill.projects.to))
       ≡ first_refusal (fault_of_holder S S1 moment) S.holders
   first-refused None r =
       (λ i. option_or (none User i) (option_or (none Group i) (none Project i)))
       ∙ sym (first_refusal-none S S1 f moment r.replaces S.holders)
     where
-      none : (kind : Kind) → refusal_of (ledger_in kind b) kind moment (postings_in kind bill).to ≡ None
+      none : (kind : Kind) → posting_refusal (ledger_in kind b) kind moment (postings_in kind bill).to ≡ None
       none kind =
           none-refused S S1 b r.books moment kind (by_id-in b in_range kind) (option_and_then (share_in kind) to) (postings_in kind bill).to
           (r.gained kind) (is.posted kind).to_there
@@ -115,7 +115,7 @@ module _ (b : Books) (from to : Option Claim) (S S1 : State) (f : Option Inode) 
       at : Kind → Option Refusal
       at kind = refusal_at (fault_of_holder S S1 moment) (find (is_held kind (owner kind inode.owners)) S.holders)
 
-      own : (kind : Kind) → refusal_of (ledger_in kind b) kind moment (postings_in kind bill).to ≡ at kind
+      own : (kind : Kind) → posting_refusal (ledger_in kind b) kind moment (postings_in kind bill).to ≡ at kind
       own kind =
           kind-refused S S1 b r.books moment kind (by_id-in b in_range kind) (option_and_then (share_in kind) to) inode (postings_in kind bill).to
           (r.gained kind) (is.posted kind).to_there (is.posted kind).to_final

@@ -13,7 +13,7 @@ use Rattle.qplain.specs.Decision.{ends_after, with_ends_of}
 use Rattle.qplain_laws.specs.Laws.{IsLawful}
 use Rattle.qstore_accounts.specs.declared.bill.Bill.{Bill}
 use Rattle.qstore_accounts.specs.declared.bill.Posting.{Posting}
-use Rattle.qstore_accounts.specs.declared.change.Change.TheVariants.{Limits as SetLimits}
+use Rattle.qstore_accounts.specs.declared.record_change.RecordChange.TheVariants.{Limits as SetLimits}
 use Rattle.qstore_accounts.specs.declared.kept_holder.KeptHolder.{KeptHolder}
 use Rattle.qstore_accounts.specs.Bills.{ArePlaced, IsBillFor, IsPlaced, IsPostingFor, only_in, posted, postings_in, settled}
 use Rattle.qstore_accounts.specs.Books.{AreBooksOf, Books, ledger_in}

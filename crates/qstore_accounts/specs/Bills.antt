@@ -10,8 +10,8 @@ use Rattle.qrules.specs.Kinds.{by_kind, is_same_kind}
 use Rattle.qstore_accounts.specs.declared.bill.Bill.{Bill}
 use Rattle.qstore_accounts.specs.declared.bill.Posting.{Posting}
 use Rattle.qstore_accounts.specs.declared.bill.Postings.{Postings}
-use Rattle.qstore_accounts.specs.declared.change.Change.{Change}
-use Rattle.qstore_accounts.specs.declared.change.Change.TheVariants.{Uses, Limits}
+use Rattle.qstore_accounts.specs.declared.record_change.RecordChange.{RecordChange}
+use Rattle.qstore_accounts.specs.declared.record_change.RecordChange.TheVariants.{Uses, Limits}
 use Rattle.qstore_accounts.specs.declared.kept_holder.KeptHolder.{KeptHolder}
 use Rattle.qstore_accounts.specs.Books.{Books}
 use Rattle.qstore_accounts.specs.KeptHolders.{IsSlotOf}
@@ -28,7 +28,7 @@ no_bill = record {
 }
 
 -- the record after a change at this moment: it has other uses, or other limits, and the grace ends that then stand
-abbrev pub account_after : Change → Account → Graces → ℕ → Account
+abbrev pub account_after : RecordChange → Account → Graces → ℕ → Account
 account_after (Uses blocks inodes) account graces moment =
     with_ends (record account { blocks = blocks; inodes = inodes }) graces moment
 account_after (Limits limits) account graces moment = with_limits account limits graces moment
@@ -62,7 +62,7 @@ settled bill b = record b {
 }
 
 -- the uses that a change sets, if it sets any, are no more than a record may count
-abbrev pub IsCountable : Change → Type 0
+abbrev pub IsCountable : RecordChange → Type 0
 IsCountable (Uses blocks inodes) = (blocks ≤ MAX_USE) × (inodes ≤ MAX_USE)
 IsCountable (Limits limits) = Unit {0}
 

@@ -15,7 +15,7 @@ use Rattle.qstore_accounts.specs.declared.claim.Claim.{Claim}
 use Rattle.qstore_accounts.specs.Books.{Books, ledger_in}
 use Rattle.qstore_accounts.specs.Bills.{postings_in}
 use Rattle.qstore_accounts.specs.Claims.{share_in}
-use Rattle.qstore_accounts.specs.Ledgers.{ArePosted, refusal_of}
+use Rattle.qstore_accounts.specs.Ledgers.{ArePosted, posting_refusal}
 
 -- the bill sets the uses of the owners to those that the new state counts, has its totals, and is of this moment
 pub record IsBillOf (b : Books) (from to : Option Claim) (S S1 : State) (moment : ℕ) (bill : Bill) : Type 0 where
@@ -30,6 +30,6 @@ abbrev pub bill_refusal : Books → Caller → ℕ → ℕ → Bill → Option R
 bill_refusal b cred moment next bill =
     if nat_lt b.size bill.blocks || nat_lt b.most_inodes bill.inodes || nat_lt (MAX_NUMBER + 1) next then Some ENOSPC
     else if is_superuser cred then None
-    else option_or (refusal_of b.users User moment bill.users.to)
-    (option_or (refusal_of b.groups Group moment bill.groups.to)
-    (refusal_of b.projects Project moment bill.projects.to))
+    else option_or (posting_refusal b.users User moment bill.users.to)
+    (option_or (posting_refusal b.groups Group moment bill.groups.to)
+    (posting_refusal b.projects Project moment bill.projects.to))

@@ -20,8 +20,8 @@ use Rattle.qplain.specs.Use.{account_of, total_of, use_of}
 use Rattle.qplain_laws.specs.Replaces.{Replaces, weight_of}
 use Rattle.qstore_accounts.specs.declared.bill.Posting.{Posting}
 use Rattle.qstore_accounts.specs.declared.bill.Postings.{Postings}
-use Rattle.qstore_accounts.specs.declared.change.Change.{Change}
-use Rattle.qstore_accounts.specs.declared.change.Change.TheVariants.{Uses, Limits}
+use Rattle.qstore_accounts.specs.declared.record_change.RecordChange.{RecordChange}
+use Rattle.qstore_accounts.specs.declared.record_change.RecordChange.TheVariants.{Uses, Limits}
 use Rattle.qstore_accounts.specs.declared.claim.OwnerClaim.{OwnerClaim}
 use Rattle.qstore_accounts.specs.declared.kept_holder.KeptHolder.{KeptHolder}
 use Rattle.qstore_accounts.specs.Bills.{IsPostingFor}
@@ -64,7 +64,7 @@ abbrev pub record_after : State → ℕ → Kind → KeptHolder → Account
 record_after S1 moment kind o = with_ends (account_of S1 (holder_in kind o)) S1.graces moment
 
 -- the uses that the new state counts of a kept holder's principal
-abbrev pub uses_after : State → Kind → KeptHolder → Change
+abbrev pub uses_after : State → Kind → KeptHolder → RecordChange
 uses_after S1 kind o = Uses (use_of S1 kind o.id Blocks) (use_of S1 kind o.id Inodes)
 
 -- the posting sets the uses of its principal to those that the new state counts
@@ -87,14 +87,14 @@ pub record ArePosted (holders : List KeptHolder) (kind : Kind) (S1 : State) (fro
   pub to_final : IfSome p.to (IsFinal holders kind S1)
 
 -- the first limit in the way of a change: of other uses, and none of new limits
-abbrev pub fault_of_change : Account → ℕ → Change → Option Over
+abbrev pub fault_of_change : Account → ℕ → RecordChange → Option Over
 fault_of_change account moment (Uses blocks inodes) = first_fault account moment blocks inodes
 fault_of_change account moment (Limits limits) = None
 
 -- why the record at a posting's slot may not change so
-abbrev pub refusal_of : List KeptHolder → Kind → ℕ → Option Posting → Option Refusal
-refusal_of holders kind moment None = None
-refusal_of holders kind moment (Some p) =
+abbrev pub posting_refusal : List KeptHolder → Kind → ℕ → Option Posting → Option Refusal
+posting_refusal holders kind moment None = None
+posting_refusal holders kind moment (Some p) =
     option_and_then
     (λ o. option_map (λ over. EDQUOT kind over) (fault_of_change o.account moment p.change)) (slice_get holders p.slot)
 

@@ -15,7 +15,7 @@ ghost use Rattle.qstore_accounts.specs.KeptHolders.{IsCountedIn, IsSlotOf, holde
 ghost use Rattle.qstore_accounts.specs.Books.{AreBooksOf, AreInRange, ledger_in};
 ghost use Rattle.qstore_accounts.specs.Bills.{IsBillFor, only_in, postings_in, settled};
 ghost use Rattle.qstore_accounts.specs.Replacements.{IsReplacement};
-ghost use Rattle.qstore_accounts.specs.Ledgers.{refusal_of};
+ghost use Rattle.qstore_accounts.specs.Ledgers.{posting_refusal};
 ghost use Rattle.qstore_accounts.specs.Decisions.{bill_refusal, IsBillOf};
 ghost use Rattle.qstore_accounts.specs.Rows.{StandsBefore, record_row_of};
 
@@ -207,9 +207,9 @@ impl Accounts {
     #[inline(always)]
     fn fault(&self, moment: u64, bill: &Bill) -> Option<Refusal>
         requires placed { IsBillFor self.now bill.now }
-        ensures { result ≡ option_or (refusal_of self.now.users User moment bill.now.users.to)
-            (option_or (refusal_of self.now.groups Group moment bill.now.groups.to)
-            (refusal_of self.now.projects Project moment bill.now.projects.to)) }
+        ensures { result ≡ option_or (posting_refusal self.now.users User moment bill.now.users.to)
+            (option_or (posting_refusal self.now.groups Group moment bill.now.groups.to)
+            (posting_refusal self.now.projects Project moment bill.now.projects.to)) }
     {
         match self.users.refusal(Kind::User, moment, &bill.users.to) {
             Some(refusal) => Some(refusal),
@@ -221,8 +221,8 @@ impl Accounts {
     #[inline(always)]
     fn later_fault(&self, moment: u64, bill: &Bill) -> Option<Refusal>
         requires placed { IsBillFor self.now bill.now }
-        ensures { result ≡ option_or (refusal_of self.now.groups Group moment bill.now.groups.to)
-            (refusal_of self.now.projects Project moment bill.now.projects.to) }
+        ensures { result ≡ option_or (posting_refusal self.now.groups Group moment bill.now.groups.to)
+            (posting_refusal self.now.projects Project moment bill.now.projects.to) }
     {
         let (group, project) = (&bill.groups.to, &bill.projects.to);
         match self.groups.refusal(Kind::Group, moment, group) {

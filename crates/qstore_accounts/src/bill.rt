@@ -2,14 +2,14 @@
 ghost use Rattle.std.specs.Prelude.{◌≡◌, None};
 ghost use Rattle.qstore_accounts.specs.Bills.{no_bill};
 
-use crate::change::Change;
+use crate::record_change::RecordChange;
 
 /// How a record changes, and where it stands.
 #[derive(Clone, Copy)]
 pub struct Posting {
     pub(crate) slot: usize,
     pub(crate) id: u32,
-    pub(crate) change: Change,
+    pub(crate) change: RecordChange,
 }
 
 /// Leaves no posting. It writes nothing where there is none.

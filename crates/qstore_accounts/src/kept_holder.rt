@@ -6,7 +6,7 @@ ghost use Rattle.qstore_accounts.specs.Bills.{IsCountable};
 ghost use Rattle.qstore_accounts.specs.Boards.{board_row};
 ghost use Rattle.qstore_accounts.specs.Ledgers.{fault_of_change, holder_row, new_holder};
 
-use crate::change::Change;
+use crate::record_change::RecordChange;
 use qplain::{NoMemory, Principal, Quota, Refusal};
 use qrules::{BoardRow, Graces, Kind, Limits, MAX_GRACE, PrincipalName, Record, RecordRow};
 use std::alloc::Global;
@@ -106,12 +106,12 @@ impl KeptHolder {
 
     /// Why the record may not change so, if it may not: the first limit in the way of its uses. None is in the way of
     /// new limits.
-    pub(crate) fn refusal(&self, kind: Kind, moment: u64, change: &Change) -> Option<Refusal>
+    pub(crate) fn refusal(&self, kind: Kind, moment: u64, change: &RecordChange) -> Option<Refusal>
         requires { IsCountable change.now }
         ensures { result ≡ option_map (λ over. Refusal.EDQUOT kind over)
             (fault_of_change self.now.account moment change.now) }
     {
-        let Change::Uses { blocks, inodes } = *change else {
+        let RecordChange::Uses { blocks, inodes } = *change else {
             return None;
         };
         match self.account.test_uses(moment, blocks, inodes) {

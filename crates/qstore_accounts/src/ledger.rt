@@ -10,12 +10,12 @@ ghost use Rattle.qstore_accounts.specs.KeptHolders.{AreById, IsSlotOf};
 ghost use Rattle.qstore_accounts.specs.Bills.{ArePlaced, IsPlaced, post, posted};
 ghost use Rattle.qstore_accounts.specs.Boards.{board_row_of};
 ghost use Rattle.qstore_accounts.specs.Ledgers.{ArePosted, AreTimesInRange, holder_row, IsFinal, IsHolderAt};
-ghost use Rattle.qstore_accounts.specs.Ledgers.{IsLedgerReplacement, new_holder, refusal_of};
+ghost use Rattle.qstore_accounts.specs.Ledgers.{IsLedgerReplacement, new_holder, posting_refusal};
 
 use crate::bill::{Posting, Postings, clear};
-use crate::change::Change;
 use crate::claim::{OwnerClaim, apart, weight_at};
 use crate::kept_holder::{KeptHolder, board_row, new_holder};
+use crate::record_change::RecordChange;
 use crate::times::Times;
 use qplain::{NoMemory, Principal, Refusal};
 use qrules::{BoardRow, Graces, Kind, Limits, MAX_GRACE, RecordRow};
@@ -108,7 +108,7 @@ impl Ledger {
         Posting {
             slot,
             id: holder.id,
-            change: Change::Uses { blocks, inodes },
+            change: RecordChange::Uses { blocks, inodes },
         }
     }
 
@@ -161,12 +161,12 @@ impl Ledger {
     pub(crate) fn relimited(&self, slot: usize, limits: Limits) -> Posting
         requires { slot < length self.now }
         ensures { IfSome (slice_get self.now slot) (λ o. result
-            ≡ record { slot = slot; id = o.id; change = Change.Limits limits }) }
+            ≡ record { slot = slot; id = o.id; change = RecordChange.Limits limits }) }
     {
         Posting {
             slot,
             id: self.at(slot).id,
-            change: Change::Limits(limits),
+            change: RecordChange::Limits(limits),
         }
     }
 
@@ -179,7 +179,7 @@ impl Ledger {
         posting: &Option<Posting>,
     ) -> Option<Refusal>
         requires { IsPlaced self.now posting.now }
-        ensures { result ≡ refusal_of self.now kind moment posting.now }
+        ensures { result ≡ posting_refusal self.now kind moment posting.now }
     {
         match posting {
             Some(posting) => self.at(posting.slot).refusal(kind, moment, &posting.change),

@@ -4,15 +4,15 @@
 
 pub use accounts::Accounts;
 pub use bill::{Bill, Posting, Postings};
-pub use change::Change;
 pub use claim::{Claim, Slots, Weight, change_of};
 pub use kept_holder::KeptHolder;
+pub use record_change::RecordChange;
 
 mod accounts;
 mod bill;
-mod change;
 mod claim;
 mod kept_holder;
 mod known_callers;
 mod ledger;
+mod record_change;
 mod times;

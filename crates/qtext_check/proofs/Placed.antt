@@ -11,7 +11,7 @@ use Rattle.qtext.specs.declared.text_fault.TextKind.{TextKind}
 use Rattle.qtext.specs.declared.text_fault.TextKind.TheVariants.{BadByte, Cut, TooMany}
 use Rattle.qtext_files.specs.RawLines.{RawLine}
 use Rattle.qtext_files.specs.Scripts.{line_in, script_line_of}
-use Rattle.qtext_check.specs.Places.{is_of_line, start}
+use Rattle.qtext_check.specs.Places.{is_of_line, start_of}
 
 -- two faults that are told as the same are the same
 same_fault : {A : Type 0} {one other : TextKind} → ◌≡◌ {A = Result A TextKind} (Err one) (Err other) → one ≡ other
@@ -45,8 +45,8 @@ first_length text word after cut =
     ∙ ap (λ l. length word + 1 + length l) (joined 32 after (parts 32 after) refl)
 
 -- behind the last word
-pub start_behind : (n : ℕ) (w : List ℕ) → (n ≡ 0 → ⊥) → start n (w ∷ []) ≡ length w + 1
-unfolding start
+pub start_behind : (n : ℕ) (w : List ℕ) → (n ≡ 0 → ⊥) → start_of n (w ∷ []) ≡ length w + 1
+unfolding start_of
 start_behind zero w some = absurd (some refl)
 start_behind (suc zero) w some = omega arith
 start_behind (suc (suc n)) w some = omega arith

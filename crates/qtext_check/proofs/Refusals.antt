@@ -11,7 +11,7 @@ use Rattle.qplain.specs.declared.line.Line.{Line}
 use Rattle.qplain.specs.declared.refusal.Refusal.{Refusal}
 use Rattle.qplain.specs.declared.refusal.Refusal.TheVariants.{EINVAL, ENAMETOOLONG}
 use Rattle.qstore_walk.specs.Paths.{paths_fault}
-use Rattle.qtext_check.specs.Wrongs.{refusal_of}
+use Rattle.qtext_check.specs.Wrongs.{written_refusal}
 
 -- the refusal by its tests
 abbrev by_tests : Bool → Bool → Bool → Bool → Bool → Option Refusal
@@ -40,17 +40,17 @@ module _ (s : Setting) (line : Line) where
   abbrev pub is_no_head : Bool
   is_no_head = nat_lt MAX_MOMENT line.moment || not (is_known (start s) line.cred)
 
-  pub refused_head : is_no_head ≡ true → refusal_of s line ≡ Some EINVAL
+  pub refused_head : is_no_head ≡ true → written_refusal s line ≡ Some EINVAL
   refused_head e =
       invalid (nat_lt MAX_MOMENT line.moment) (is_known (start s) line.cred) (list_all is_well_formed (paths_of line.call))
       (has_bad_number (start s) line.call) (list_any is_too_long (paths_of line.call)) e
 
-  pub refused_number : has_bad_number (start s) line.call ≡ true → refusal_of s line ≡ Some EINVAL
+  pub refused_number : has_bad_number (start s) line.call ≡ true → written_refusal s line ≡ Some EINVAL
   refused_number e =
       faulty (nat_lt MAX_MOMENT line.moment) (is_known (start s) line.cred) (list_all is_well_formed (paths_of line.call))
       (has_bad_number (start s) line.call) (list_any is_too_long (paths_of line.call)) e
 
-  pub refused_path : is_no_head ≡ false → has_bad_number (start s) line.call ≡ false → refusal_of s line ≡ paths_fault (paths_of line.call)
+  pub refused_path : is_no_head ≡ false → has_bad_number (start s) line.call ≡ false → written_refusal s line ≡ paths_fault (paths_of line.call)
   refused_path e f =
       fine (nat_lt MAX_MOMENT line.moment) (is_known (start s) line.cred) (list_all is_well_formed (paths_of line.call))
       (has_bad_number (start s) line.call) (list_any is_too_long (paths_of line.call)) e f

@@ -52,7 +52,7 @@ IsAtFault (Text kind) word line = is_of_line kind ≡ false → word ≡ words_b
 IsAtFault (Refused refusal) word line = Unit
 
 -- how many bytes stand before the word of that number, from 0: those of the words before it, with a space behind each
-unfoldable pub start : ℕ → List (List ℕ) → ℕ
-start zero ws = 0
-start (suc n) [] = 0
-start (suc n) (w ∷ ws) = length w + 1 + start n ws
+unfoldable pub start_of : ℕ → List (List ℕ) → ℕ
+start_of zero ws = 0
+start_of (suc n) [] = 0
+start_of (suc n) (w ∷ ws) = length w + 1 + start_of n ws

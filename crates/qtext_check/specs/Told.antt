@@ -2,16 +2,16 @@
 use Rattle.std.specs.Prelude.{◌≡◌, ℕ, List, ◌++◌, codes, decimal}
 
 -- :LINE:COLUMN:
-abbrev pub place_text : ℕ → ℕ → List ℕ
-place_text line column = codes ":" ++ decimal line ++ codes ":" ++ decimal column ++ codes ": "
+abbrev pub fault_place_text : ℕ → ℕ → List ℕ
+fault_place_text line column = codes ":" ++ decimal line ++ codes ":" ++ decimal column ++ codes ": "
 
 -- the text begins with the line and some column of it
 pub record IsToldAt (line : ℕ) (text : List ℕ) : Type 0 where
   pub column : ℕ
   pub rest : List ℕ
-  pub parts : text ≡ place_text line column ++ rest
+  pub parts : text ≡ fault_place_text line column ++ rest
 
 -- the text begins with the line and this column of it
 pub record IsPlacedAt (line column : ℕ) (text : List ℕ) : Type 0 where
   pub rest : List ℕ
-  pub parts : text ≡ place_text line column ++ rest
+  pub parts : text ≡ fault_place_text line column ++ rest

@@ -16,5 +16,5 @@ first_cause (finding ∷ others) = cause_of finding.fault
 abbrev pub IsVerdictOn : Verdict → Result Setting Cause → Type 0
 IsVerdictOn (Sound config) (Ok given) = IsSetupOf given config.setup
 IsVerdictOn (Sound config) (Err cause) = ⊥
-IsVerdictOn (Faulty findings) (Ok given) = ⊥
-IsVerdictOn (Faulty findings) (Err cause) = first_cause findings.items ≡ Some cause
+IsVerdictOn (Faulty findings more) (Ok given) = ⊥
+IsVerdictOn (Faulty findings more) (Err cause) = first_cause findings.items ≡ Some cause

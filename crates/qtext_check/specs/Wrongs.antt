@@ -13,13 +13,13 @@ use Rattle.qtext_check.specs.declared.fault.Wrong.TheVariants.{Text, Refused}
 
 -- the refusal of a line for what is written in it, in a new store: it looks at the declared principals alone, which no
 -- call changes
-abbrev pub refusal_of : Setting → Line → Option Refusal
-refusal_of s line = refusal_of_arguments (start s) line.cred line.moment line.call
+abbrev pub written_refusal : Setting → Line → Option Refusal
+written_refusal s line = refusal_of_arguments (start s) line.cred line.moment line.call
 
 -- what a store of the setup refuses in a line whatever its state; without a setup nothing is known of that
 abbrev pub refused_in : Option Setting → Line → Option Wrong
 refused_in None line = None
-refused_in (Some s) line = option_map (λ refusal. Refused refusal) (refusal_of s line)
+refused_in (Some s) line = option_map (λ refusal. Refused refusal) (written_refusal s line)
 
 -- what is wrong in a line that was read, or the first thing for which it is none
 abbrev pub wrong_by : Option Setting → Result Line TextKind → Option Wrong

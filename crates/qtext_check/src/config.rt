@@ -5,7 +5,7 @@ ghost use Rattle.qtext_config.specs.Configs.{setting_in};
 ghost use Rattle.qtext_check.specs.Verdicts.{IsVerdictOn, first_cause};
 
 use places::Place;
-use qtext_config::{Config, ConfigFault};
+use qtext_config::{Config, ConfigFault, DOCUMENT_KEYS};
 use std::alloc::{AllocError, Global};
 
 mod gathering;
@@ -23,11 +23,11 @@ pub struct ConfigFinding {
     pub text: Vec<u8>,
 }
 
-/// A configuration that is sound, or the faults of one that is not, at least one.
+/// A configuration that is sound, or the first faults of one that is not, at least one, and how many more it has.
 #[derive(Debug, Drop)]
 pub enum Verdict {
     Sound(Config),
-    Faulty(Vec<ConfigFinding>),
+    Faulty(Vec<ConfigFinding>, u64),
 }
 
 /// A table of a configuration: the document, one of the list of that key, counted from 0, or another.
@@ -40,22 +40,27 @@ enum Site {
 
 type Done = Result<(), AllocError>;
 
-/// A text that is looked at: where its tables and keys stand, and its faults so far.
+/// A text that is looked at: where its tables and keys stand, how many tables the list at each key of the document has
+/// had, its faults so far, and how many there are beside those.
 #[derive(Drop)]
 struct Check<'a> {
     alloc: Global,
     text: &'a str,
     places: Vec<Place<'a>>,
+    tables: [usize; DOCUMENT_KEYS.len()],
     findings: Vec<ConfigFinding>,
+    more: u64,
 }
 
-/// All that is wrong in a text: what TOML says against it, or else what is wrong in its document.
-fn gathered(alloc: Global, text: &str) -> Result<Vec<ConfigFinding>, AllocError> {
+/// What is wrong in a text, and how much more: what TOML says against it, or else what is wrong in its document.
+fn gathered(alloc: Global, text: &str) -> Result<(Vec<ConfigFinding>, u64), AllocError> {
     let mut check = Check {
         alloc,
         text,
         places: Vec::new(alloc),
+        tables: [0; DOCUMENT_KEYS.len()],
         findings: Vec::new(alloc),
+        more: 0,
     };
     match toml::table_from_str(alloc, text) {
         Ok(document) => check.document(&document)?,
@@ -64,23 +69,29 @@ fn gathered(alloc: Global, text: &str) -> Result<Vec<ConfigFinding>, AllocError>
             check.put(ConfigFault::Text, rest, error.message())?;
         }
     }
-    Ok(check.findings)
+    Ok((check.findings, check.more))
 }
 
-/// All that is wrong in a text, behind the fault that reading tells, with no place, where it does not begin with that.
-fn begun(alloc: Global, text: &str, fault: ConfigFault) -> Result<Vec<ConfigFinding>, AllocError>
-    ensures { IfOk result (λ all. first_cause all.items ≡ cause_of fault) }
+/// What is wrong in a text, and how much more, behind the fault that reading tells, with no place, where it does not
+/// begin with that.
+fn begun(
+    alloc: Global,
+    text: &str,
+    fault: ConfigFault,
+) -> Result<(Vec<ConfigFinding>, u64), AllocError>
+    ensures { IfOk result (λ all. first_cause all.0.items ≡ cause_of fault) }
 {
-    let mut findings = gathered(alloc, text)?;
+    let (mut findings, more) = gathered(alloc, text)?;
     if !matches!(findings.as_slice(), [first, ..] if first.fault == fault) {
         let text = format!(in alloc; ": {fault}\n")?.into_bytes();
         findings.insert(0, ConfigFinding { fault, text })?;
     }
-    Ok(findings)
+    Ok((findings, more))
 }
 
 /// Reads a configuration, and tells all that is wrong in one that reading refuses, in the order in which it tests: its
-/// TOML, the kind and form of all values, unknown keys, ranges, duplicates and no zero.
+/// TOML, the kind and form of all values, unknown keys, ranges, duplicates and no zero. The first faults are told, and
+/// the others counted.
 ///
 /// An Err is out of memory, and tells nothing.
 pub fn check_config(alloc: Global, text: &str) -> Result<Verdict, AllocError>
@@ -91,6 +102,9 @@ pub fn check_config(alloc: Global, text: &str) -> Result<Verdict, AllocError>
     match Config::read(alloc, text) {
         Ok(config) => Ok(Verdict::Sound(config)),
         Err(ConfigFault::Memory) => Err(AllocError),
-        Err(fault) => Ok(Verdict::Faulty(begun(alloc, text, fault)?)),
+        Err(fault) => {
+            let (findings, more) = begun(alloc, text, fault)?;
+            Ok(Verdict::Faulty(findings, more))
+        }
     }
 }

@@ -1,8 +1,8 @@
 //! How a fault is told.
 ghost use Rattle.std.specs.Prelude.{◌≡◌, ◌<◌, ◌+◌, ◌^◌, length, true, IfOk};
 ghost use Rattle.qtext.specs.Words.{words};
-ghost use Rattle.qtext_check.specs.Places.{is_of_word, start};
-ghost use Rattle.qtext_check.specs.Told.{IsPlacedAt, IsToldAt, place_text};
+ghost use Rattle.qtext_check.specs.Places.{is_of_word, start_of};
+ghost use Rattle.qtext_check.specs.Told.{IsPlacedAt, IsToldAt, fault_place_text};
 
 use crate::allowed::{near_words, put_allowed};
 use crate::fault::{Finding, Wrong};
@@ -105,8 +105,8 @@ fn told_text(
 }
 
 /// `:LINE:COLUMN: `
-fn place_text(alloc: Global, line: u64, column: u64) -> Result<Vec<u8>, AllocError>
-    ensures { IfOk result (λ text. text.items ≡ place_text line column) }
+fn fault_place_text(alloc: Global, line: u64, column: u64) -> Result<Vec<u8>, AllocError>
+    ensures { IfOk result (λ text. text.items ≡ fault_place_text line column) }
 {
     let mut text = Vec::new(alloc);
     let pieces = [
@@ -134,7 +134,7 @@ pub fn fault_text(
     ensures line { IfOk result (λ text. IsToldAt line text.items) }
     ensures column { before + 1 < 2 ^ 64 → IfOk result (λ text. IsPlacedAt line (before + 1) text.items) }
 {
-    let mut text = place_text(alloc, line, (before as u64).saturating_add(1))?;
+    let mut text = fault_place_text(alloc, line, (before as u64).saturating_add(1))?;
     text.extend_from_slice(&told_text(alloc, bytes, before, reason)?)?;
     Ok(text)
 }
@@ -147,7 +147,7 @@ pub fn finding_text(alloc: Global, finding: &Finding<'_>) -> Result<Vec<u8>, All
     // The column of a word is that of its first byte.
     ensures column { is_of_word finding.now.fault.wrong ≡ true → length finding.now.bytes.now + 2 < 2 ^ 64
         → IfOk result (λ text. IsPlacedAt finding.now.fault.line
-        (start finding.now.word (words finding.now.bytes.now) + 1) text.items) }
+        (start_of finding.now.word (words finding.now.bytes.now) + 1) text.items) }
 {
     let before = bytes_before(finding);
     let reason = reason_text(alloc, finding)?;

@@ -1,18 +1,20 @@
 //! All that is wrong in a script.
-ghost use Rattle.std.specs.Prelude.{◌≡◌, ◌++◌, ℕ, List, map, true, IfOk, IfSome};
+ghost use Rattle.std.specs.Prelude.{◌≡◌, ◌≤◌, ◌++◌, ℕ, nat_lt, List, [], length, map, true, IfOk, IfSome};
+ghost use Rattle.std.specs.Prelude.{if◌then◌else◌};
 ghost use Rattle.std.specs.List.{list_all};
 ghost use Rattle.std.specs.Option.{option_map};
+ghost use Rattle.qplain.specs.declared.bounds.TheConstants.{MAX_LINES};
 ghost use Rattle.qtext.specs.Words.{is_text_byte, words as words_of};
-ghost use Rattle.qtext_check.specs.Faults.{fault_at, faults_of, first_text_fault, lines_of, listed, told};
+ghost use Rattle.qtext_check.specs.Faults.{checked_lines, fault_at, fault_read, faults_of, first_text_fault, listed};
 ghost use Rattle.qtext_check.specs.Found.{AreAtFault};
 ghost use Rattle.qtext_check.specs.Places.{IsAtFault};
 ghost use Rattle.qtext_check.specs.Wrongs.{refused_in, wrong_in};
 ghost use Rattle.qtext_files.specs.Scripts.{script_of};
 
-use crate::fault::{Fault, Finding, Wrong};
+use crate::fault::{FaultyLine, Finding, Wrong};
 use crate::place::word_at_fault;
-use crate::refusing::{refusal_of, refused_word};
-use qplain::{Line, Setup};
+use crate::refusing::{refused_word, written_refusal};
+use qplain::{Line, MAX_LINES, Setup};
 use qtext::ReadFault;
 use qtext_files::{NextLine, next_line, read_line};
 use qtext_read::Paths;
@@ -33,7 +35,7 @@ fn refused_in(setup: Option<&Setup>, line: &Line) -> Option<Found>
     let Some(setup) = setup else {
         return None;
     };
-    match refusal_of(setup, line) {
+    match written_refusal(setup, line) {
         Some(refusal) => Some(Found {
             wrong: Wrong::Refused(refusal),
             word: refused_word(setup, line, refusal),
@@ -86,7 +88,7 @@ fn put_found<'a>(
 {
     match found {
         Some(Found { wrong, word }) => {
-            let fault = Fault {
+            let fault = FaultyLine {
                 line: number,
                 wrong,
             };
@@ -96,9 +98,22 @@ fn put_found<'a>(
     }
 }
 
+/// What is looked at behind the line of that number: nothing behind the first line too many.
+fn left_behind(number: u64, after: &[u8]) -> &[u8]
+    ensures left { result.now ≡ (if nat_lt MAX_LINES number then [] else after.now) }
+    ensures short { length result.now ≤ length after.now }
+{
+    if number > MAX_LINES as u64 {
+        &[]
+    } else {
+        after
+    }
+}
+
 /// All that is wrong in a script, each line by itself: for what it is no line of a script, or, where the setup is
 /// known, with what a store of it refuses its call whatever it holds: a moment past 2^40, a caller or an owner that is
-/// not declared, a path, data, a limit or a grace that no call may have (profile).
+/// not declared, a path, data, a limit or a grace that no call may have (profile). Behind the first line that is too many
+/// none is looked at.
 ///
 /// An Err is out of memory, and tells nothing.
 pub fn findings_of<'a>(
@@ -112,11 +127,11 @@ pub fn findings_of<'a>(
 
     // The first for which a line is none is what reading the script tells, and where it tells none there is none.
     ensures first { IfOk result (λ found. first_text_fault (map (λ f. f.fault) found.items)
-        ≡ told (script_of text.now)) }
+        ≡ fault_read (script_of text.now)) }
 
     // Beside each stands its line.
     ensures lines { IfOk result (λ found. map (λ f. f.bytes.now) found.items
-        ≡ lines_of (option_map (λ s. s.now) setup.entry) text.now) }
+        ≡ checked_lines (option_map (λ s. s.now) setup.entry) text.now) }
 
     // Where a line is none for one of its words, that is the first of its words that is none.
     ensures words { IfOk result (λ found. AreAtFault found.items) }
@@ -131,7 +146,7 @@ pub fn findings_of<'a>(
         let line = next_line(&mut room, rest)?;
         let found = wrong_in(alloc, setup, &mut paths, number, &line, &room)?;
         put_found(&mut findings, number, line.bytes, found)?;
-        rest = line.after;
+        rest = left_behind(number, line.after);
     }
     Ok(findings)
 }

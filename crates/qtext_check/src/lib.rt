@@ -2,7 +2,7 @@
 #![tactic(auto)]
 
 pub use config::{ConfigFinding, Verdict, check_config};
-pub use fault::{Fault, Finding, Wrong};
+pub use fault::{FaultyLine, Finding, MOST_TOLD, Wrong};
 pub use finding_texts::{fault_text, finding_text};
 pub use findings::findings_of;
 pub use near::near_of;

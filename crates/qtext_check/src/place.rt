@@ -1,11 +1,11 @@
 //! Which word of a line is at fault, and where it stands.
 ghost use Rattle.std.specs.Prelude.{◌≡◌, ◌≤◌, ◌<◌, ◌+◌, ◌^◌, false, true, length, map, IfOk};
 ghost use Rattle.qtext.specs.Words.{is_text_byte, words};
-ghost use Rattle.qtext_check.specs.Places.{call_before, caller_before, is_of_line, is_of_word, start, words_before};
+ghost use Rattle.qtext_check.specs.Places.{call_before, caller_before, is_of_line, is_of_word, start_of, words_before};
 
 use crate::fault::{Finding, Wrong};
 use qtext::{ReadFault, TextKind, first_part, number};
-use qtext_read::{caller_of, takes, values_before, verb_of, was_read};
+use qtext_read::{caller_of, row_of, takes, values_before, verb_of, was_read};
 use std::alloc::{AllocError, Global};
 
 /// How many words of a call stand before the first that is none.
@@ -18,7 +18,7 @@ fn call_before(alloc: Global, call: &[&[u8]]) -> Result<usize, AllocError>
     };
     match verb_of(verb) {
         Ok(verb) if takes(verb, arguments.len()) => {
-            Ok(1 + values_before(alloc, verb, arguments)?)
+            Ok(1 + values_before(alloc, row_of(verb), arguments)?)
         }
         Ok(_) | Err(ReadFault::Fault(_)) => Ok(0),
         Err(ReadFault::Memory) => Err(AllocError),
@@ -81,9 +81,9 @@ pub(crate) fn word_of(bytes: &[u8], number: usize) -> &[u8] {
 }
 
 /// How many bytes stand before the word of that number, from 0; where there is none, all of them and a space.
-#[tactic(auto, using(crate::proofs::Placed::first_length), unfolding(crate::specs::Places::start))]
+#[tactic(auto, using(crate::proofs::Placed::first_length), unfolding(crate::specs::Places::start_of))]
 fn start_of(bytes: &[u8], number: usize) -> usize
-    ensures start { length bytes.now + 1 < 2 ^ 64 → result ≡ start number (words bytes.now) }
+    ensures start { length bytes.now + 1 < 2 ^ 64 → result ≡ start_of number (words bytes.now) }
     ensures within { result ≤ length bytes.now + 1 }
 {
     if number == 0 {
@@ -108,7 +108,7 @@ pub(crate) fn is_text(byte: u8) -> bool
 /// How many bytes of the line stand before what is at fault.
 pub(crate) fn bytes_before(finding: &Finding<'_>) -> usize
     ensures word { is_of_word finding.now.fault.wrong ≡ true → length finding.now.bytes.now + 1 < 2 ^ 64
-        → result ≡ start finding.now.word (words finding.now.bytes.now) }
+        → result ≡ start_of finding.now.word (words finding.now.bytes.now) }
     ensures within { result ≤ length finding.now.bytes.now + 1 }
 {
     let bytes = finding.bytes;

@@ -5,7 +5,7 @@ ghost use Rattle.qrules.specs.declared.kind.Kind.TheVariants.{Group};
 ghost use Rattle.qplain.specs.Calls.{has_bad_number};
 ghost use Rattle.qplain.specs.Known.{is_declared, is_known, is_undeclared};
 ghost use Rattle.qplain.specs.State.{start};
-ghost use Rattle.qtext_check.specs.Wrongs.{refusal_of};
+ghost use Rattle.qtext_check.specs.Wrongs.{written_refusal};
 
 use qplain::{Call, CallPaths, Cred, Line, MAX_DATA, Path, Principal, Refusal, Setup};
 use qrules::{Graces, Kind, Limits, MAX_GRACE, MAX_LIMIT, MAX_MOMENT};
@@ -78,8 +78,8 @@ fn has_bad_number(setup: &Setup, call: &Call) -> bool
 
 /// The refusal of a line for what is written in it: the moment, the caller, the paths and the numbers, and of
 /// principals whether they are declared (profile).
-pub(crate) fn refusal_of(setup: &Setup, line: &Line) -> Option<Refusal>
-    ensures { result ≡ refusal_of setup.now line.now }
+pub(crate) fn written_refusal(setup: &Setup, line: &Line) -> Option<Refusal>
+    ensures { result ≡ written_refusal setup.now line.now }
 {
     if line.moment > MAX_MOMENT || !is_known(setup, &line.cred) {
         return Some(Refusal::EINVAL);

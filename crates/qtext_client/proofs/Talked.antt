@@ -11,11 +11,11 @@ use Rattle.qrun_replay.specs.declared.failed_line.FailedLine.{FailedLine}
 use Rattle.qtext_files.specs.Scripts.{script_of}
 use Rattle.qtext_client.specs.Conversations.{AreFirstLines, ComesTo, IsToldOf, Progress, StaysThere, TalksOn, comes_to, lines_said}
 use Rattle.qtext_client.specs.Hearings.{IsToldAlone}
-use Rattle.qtext_client.specs.Tellings.{has_failed, telling_text}
+use Rattle.qtext_client.specs.Responses.{has_failed, response_text}
 use Rattle.qtext_client.specs.Wires.{HasEnded, HasLetGo, Hears, IsGone, IsToldLast, Stays, TellsNothing, Wire}
-use Rattle.qtext_client.specs.declared.telling.LineFault.TheVariants.{Text, Length}
-use Rattle.qtext_client.specs.declared.telling.Telling.{Telling}
-use Rattle.qtext_client.specs.declared.telling.Telling.TheVariants.{Answer, Fault, NoMemory}
+use Rattle.qtext_client.specs.declared.response.BadLine.TheVariants.{Text, Length}
+use Rattle.qtext_client.specs.declared.response.Response.{Response}
+use Rattle.qtext_client.specs.declared.response.Response.TheVariants.{Answer, Fault, NoMemory}
 use Rattle.qtext_client.proofs.Talking.{ends_by, has_ended_so, heard_so, no_end, none_told, stays_so, told_so}
 
 -- an answer in its own form
@@ -24,7 +24,7 @@ in_own_form (Ok receipt) = refl
 in_own_form (Err fault) = refl
 
 -- what may be told of a line of a client that hands out so many may be told where it hands out more
-told_later : (few many : ℕ) (text : List ℕ) (telling : Telling) → few ≤ many → IsToldOf few text telling → IsToldOf many text telling
+told_later : (few many : ℕ) (text : List ℕ) (response : Response) → few ≤ many → IsToldOf few text response → IsToldOf many text response
 told_later few many text (Answer answer) less is = is
 told_later few many text (Fault (Text kind)) less (inl says) = inl says
 told_later few many text (Fault (Text kind)) less (inr full) = inr (full.0, omega (arith, less, full.1))
@@ -51,16 +51,16 @@ module _ {S : Type 0} (took : S → Option (List ℕ)) (p q : Progress) where
   ])
 
   -- a line was heard, and then this was told of it
-  pub told_one : (mid : Progress) (new : Wire) (text : List ℕ) (telling : Telling) → p.owed ≡ None → mid ≡ record p { wire = new } → StaysThere mid q
-      → Hears p.wire new text → IsToldLast (mid.stops && has_failed telling) mid.wire q.wire (telling_text telling)
-      → IsToldAlone (length p.stands) text telling → ComesOf (comes_to took p) (comes_to took q)
-  told_one mid new text telling none before stays hears is_told alone =
+  pub told_one : (mid : Progress) (new : Wire) (text : List ℕ) (response : Response) → p.owed ≡ None → mid ≡ record p { wire = new } → StaysThere mid q
+      → Hears p.wire new text → IsToldLast (mid.stops && has_failed response) mid.wire q.wire (response_text response)
+      → IsToldAlone (length p.stands) text response → ComesOf (comes_to took p) (comes_to took q)
+  told_one mid new text response none before stays hears is_told alone =
       step_of q.wire none (stays ∙ (λ i. record (before i) { wire = q.wire })) (λ lines answers wrote end comes.
-      heard_so p.stops wrote end lines answers _ p.wire new text telling lines answers hears
-      (told_later (length p.stands) (length p.stands + length lines) text telling (omega arith) alone.is)
+      heard_so p.stops wrote end lines answers _ p.wire new text response lines answers hears
+      (told_later (length p.stands) (length p.stands + length lines) text response (omega arith) alone.is)
       (ap (λ l. l ++ lines) (sym alone.nothing)) (ap (λ l. l ++ answers) (sym alone.none))
-      (told_so p.stops wrote end lines answers _ _ new q.wire telling refl hears.still.1
-      (subst (λ m. IsToldLast (m.stops && has_failed telling) m.wire q.wire (telling_text telling)) before is_told) comes))
+      (told_so p.stops wrote end lines answers _ _ new q.wire response refl hears.still.1
+      (subst (λ m. IsToldLast (m.stops && has_failed response) m.wire q.wire (response_text response)) before is_told) comes))
 
   -- a line was heard and handed out
   pub handed_one : (new : Wire) (text : List ℕ) (line : Line) → p.owed ≡ None → q ≡ record p { owed = Some line; wire = new } → Hears p.wire new text
@@ -74,7 +74,7 @@ module _ {S : Type 0} (took : S → Option (List ℕ)) (p q : Progress) where
   -- it was kept where an answer stands, and then the answer was told
   pub answered_one : (mid : Progress) (line : Line) (answer : Result Receipt CallFault) (stand : Result ℕ FailedLine) → p.owed ≡ Some line
       → p.wire.end ≡ None → mid ≡ record p { stands = p.stands ++ stand ∷ []; owed = None } → StaysThere mid q
-      → IsToldLast (mid.stops && has_failed (Answer answer)) mid.wire q.wire (telling_text (Answer answer))
+      → IsToldLast (mid.stops && has_failed (Answer answer)) mid.wire q.wire (response_text (Answer answer))
       → GoesOn line answer (comes_to took p) (comes_to took q)
   answered_one mid line answer stand owed still kept stays is_told lines answers left comes =
       subst (λ o. comes_to took (record p { owed = o }) (line ∷ lines) (answer ∷ answers) left) (sym owed) (
@@ -85,7 +85,7 @@ module _ {S : Type 0} (took : S → Option (List ℕ)) (p q : Progress) where
         refl,
         told_so p.stops (took left.streams) left.end lines answers _ _ p.wire q.wire (Answer answer)
             (omega (arith, length-append p.stands (stand ∷ []))) still
-            (subst (λ m. IsToldLast (m.stops && has_failed (Answer answer)) m.wire q.wire (telling_text (Answer answer))) kept is_told)
+            (subst (λ m. IsToldLast (m.stops && has_failed (Answer answer)) m.wire q.wire (response_text (Answer answer))) kept is_told)
             (subst (λ x. comes_to took x lines answers left) (stays ∙ (λ i. record (kept i) { wire = q.wire })) comes),
       )
 
@@ -99,7 +99,7 @@ taken_apart p new wrote end none ended deaf ends took =
       talk = record {
         exchanges = [];
         rest = [];
-        each = All-nil (λ e. IsToldOf given e.text e.telling);
+        each = All-nil (λ e. IsToldOf given e.text e.response);
         lines_are = refl;
         answers_are = refl;
         heard = subst (λ h. IfSome h (λ bytes. AreFirstLines bytes [] [])) (sym deaf) refl;

@@ -9,9 +9,9 @@ use Rattle.qrun_client.specs.declared.client.ClientEnd.{ClientEnd}
 use Rattle.qrun_client.specs.declared.client.ClientEnd.TheVariants.{Output, Served}
 use Rattle.qtext_client.specs.BoundedLines.{Passes}
 use Rattle.qtext_client.specs.Conversations.{AreFirstLines, Exchange, IsToldOf, TalksOn, handed_out}
-use Rattle.qtext_client.specs.Tellings.{EndsAtFailure, answer_in, has_failed, telling_text}
+use Rattle.qtext_client.specs.Responses.{EndsAtFailure, answers_in, has_failed, response_text}
 use Rattle.qtext_client.specs.Wires.{EndsBy, GrowsBy, HasEnded, Hears, IsGoneIf, IsToldLast, LetsGo, Stays, StaysKnown, TellsNothing, Wire}
-use Rattle.qtext_client.specs.declared.telling.Telling.{Telling}
+use Rattle.qtext_client.specs.declared.response.Response.{Response}
 
 pub no_end : IsSome {T = ClientEnd} None → ⊥
 no_end some = absurd cc
@@ -64,11 +64,11 @@ stays_gone true old new (by, other, inl gone) some = absurd (no_end (subst IsSom
 stays_gone true old new (by, other, inr before) some = before.1
 stays_gone false old new same some = same
 
--- where it is told nothing else, any telling may be the last
-one_told : (telling : Telling) (later : List Telling) → (has_failed telling ≡ true → later ≡ []) → EndsAtFailure later
-    → EndsAtFailure (telling ∷ later)
+-- where it is told nothing else, any response may be the last
+one_told : (response : Response) (later : List Response) → (has_failed response ≡ true → later ≡ []) → EndsAtFailure later
+    → EndsAtFailure (response ∷ later)
 unfolding EndsAtFailure
-one_told telling later last ends = (last, ends)
+one_told response later last ends = (last, ends)
 
 pub none_told : EndsAtFailure []
 unfolding EndsAtFailure
@@ -76,23 +76,23 @@ none_told = tt
 
 module _ (stops : Bool) (wrote : Option (List ℕ)) (end : ClientEnd) (lines : List Line) (answers : List (Result Receipt CallFault)) where
   -- what comes of a client that is told this first
-  abbrev Talks : ℕ → Wire → List Telling → Type 0
+  abbrev Talks : ℕ → Wire → List Response → Type 0
   Talks given wire first = TalksOn stops given wire wrote end first lines answers
 
   not_ended : (e : Option ClientEnd) → e ≡ None → IfSome e (λ x. x ≡ end)
   not_ended e none = subst (λ e. IfSome e (λ x. x ≡ end)) (sym none) tt
 
   -- what comes of it with these streams is what came of it with others
-  abbrev talks_so : (given n : ℕ) (old new : Wire) (first second : List Telling) (rest : List ℕ) → given ≡ n → (comes : Talks given new first)
+  abbrev talks_so : (given n : ℕ) (old new : Wire) (first second : List Response) (rest : List ℕ) → given ≡ n → (comes : Talks given new first)
       → IfSome old.hears (λ bytes. AreFirstLines bytes (map (λ e. e.text) comes.talk.exchanges) rest) → (end ≡ Served → rest ≡ [])
-      → (stops ≡ true → EndsAtFailure (second ++ map (λ e. e.telling) comes.talk.exchanges))
-      → ((end ≡ Output → ⊥) → GrowsBy old.wrote wrote (flat_map telling_text (second ++ map (λ e. e.telling) comes.talk.exchanges)))
+      → (stops ≡ true → EndsAtFailure (second ++ map (λ e. e.response) comes.talk.exchanges))
+      → ((end ≡ Output → ⊥) → GrowsBy old.wrote wrote (flat_map response_text (second ++ map (λ e. e.response) comes.talk.exchanges)))
       → IfSome old.end (λ e. e ≡ end) → Talks n old second
   talks_so given n old new first second rest same comes heard all stops written ended = record {
     talk = record {
       exchanges = comes.talk.exchanges;
       rest = rest;
-      each = subst (λ m. All (λ e. IsToldOf m e.text e.telling) comes.talk.exchanges) same comes.talk.each;
+      each = subst (λ m. All (λ e. IsToldOf m e.text e.response) comes.talk.exchanges) same comes.talk.each;
       lines_are = comes.talk.lines_are;
       answers_are = comes.talk.answers_are;
       heard = heard;
@@ -104,9 +104,9 @@ module _ (stops : Bool) (wrote : Option (List ℕ)) (end : ClientEnd) (lines : L
   }
 
   -- it has ended, and nothing more is told
-  ends_so : (given n : ℕ) (by : ClientEnd) (old new : Wire) (first : List Telling) → given ≡ n → EndsBy by old new → EndsAtFailure (first ++ [])
+  ends_so : (given n : ℕ) (by : ClientEnd) (old new : Wire) (first : List Response) → given ≡ n → EndsBy by old new → EndsAtFailure (first ++ [])
       → (comes : Talks given new []) → (by ≡ end → (end ≡ Output → ⊥)
-      → GrowsBy old.wrote wrote (flat_map telling_text (first ++ map (λ e. e.telling) comes.talk.exchanges)))
+      → GrowsBy old.wrote wrote (flat_map response_text (first ++ map (λ e. e.response) comes.talk.exchanges)))
       → (before : Talks n old first) × (before.talk.exchanges ≡ [])
   ends_so given n by old new first same ends told comes written =
       let exchanges = comes.talk.exchanges in
@@ -117,7 +117,7 @@ module _ (stops : Bool) (wrote : Option (List ℕ)) (end : ClientEnd) (lines : L
         talks_so given n old new [] first rest same comes
             (subst (λ es. IfSome old.hears (λ bytes. AreFirstLines bytes (map (λ e. e.text) es) rest)) (sym none) heard)
             (λ served. all (ends.all (so ∙ served)))
-            (λ is. subst (λ es. EndsAtFailure (first ++ map (λ e. e.telling) es)) (sym none) told)
+            (λ is. subst (λ es. EndsAtFailure (first ++ map (λ e. e.response) es)) (sym none) told)
             (written so) (not_ended old.end ends.still),
         none,
       )
@@ -151,38 +151,38 @@ module _ (stops : Bool) (wrote : Option (List ℕ)) (end : ClientEnd) (lines : L
   )
 
   -- it was told this, or could not be
-  pub told_so : (given n : ℕ) (old new : Wire) (telling : Telling) → given ≡ n → old.end ≡ None
-      → IsToldLast (stops && has_failed telling) old new (telling_text telling) → Talks given new [] → Talks n old (telling ∷ [])
-  told_so given n old new telling same still is_told comes =
+  pub told_so : (given n : ℕ) (old new : Wire) (response : Response) → given ≡ n → old.end ≡ None
+      → IsToldLast (stops && has_failed response) old new (response_text response) → Talks given new [] → Talks n old (response ∷ [])
+  told_so given n old new response same still is_told comes =
       elim is_told.told [
         | inl writes ↦
-            let (before, last) = gone_so (has_failed telling) _ refl given is_told.mid new writes.still.1 is_told.after comes in
+            let (before, last) = gone_so (has_failed response) _ refl given is_told.mid new writes.still.1 is_told.after comes in
             let talk = before.talk in
-            talks_so given n old is_told.mid [] (telling ∷ []) talk.rest same before
+            talks_so given n old is_told.mid [] (response ∷ []) talk.rest same before
             (heard_before old.hears is_told.mid.hears (map (λ e. e.text) talk.exchanges) talk.rest writes.hears talk.heard) talk.all_heard
-            (λ is. one_told telling (map (λ e. e.telling) talk.exchanges) (λ failed. ap (map (λ e. e.telling)) (last is failed)) (before.at_failure is))
-            (λ other. grew_more old.wrote is_told.mid.wrote wrote (telling_text telling) _ writes.wrote (before.written other))
+            (λ is. one_told response (map (λ e. e.response) talk.exchanges) (λ failed. ap (map (λ e. e.response)) (last is failed)) (before.at_failure is))
+            (λ other. grew_more old.wrote is_told.mid.wrote wrote (response_text response) _ writes.wrote (before.written other))
             (not_ended old.end still)
         | inr (inl ends) ↦
-            let gone = stays_gone (stops && has_failed telling) is_told.mid new is_told.after (subst IsSome (sym ends.ends) refl) in
-            (ends_so given n Output old is_told.mid (telling ∷ []) same ends (one_told telling [] (λ failed. refl) none_told)
+            let gone = stays_gone (stops && has_failed response) is_told.mid new is_told.after (subst IsSome (sym ends.ends) refl) in
+            (ends_so given n Output old is_told.mid (response ∷ []) same ends (one_told response [] (λ failed. refl) none_told)
             (subst (λ w. Talks given w []) gone comes) (λ so other. absurd (other (sym so)))).0
         | inr (inr before) ↦ absurd (no_end (subst IsSome still before.0))
       ]
 
   -- a line was heard, of which it is told this
-  pub heard_so : (given : ℕ) (old new : Wire) (text : List ℕ) (telling : Telling) (more : List Line) (further : List (Result Receipt CallFault))
-      → Hears old new text → IsToldOf given text telling → lines ≡ handed_out text telling ++ more → answers ≡ answer_in telling ++ further
-      → TalksOn stops given new wrote end (telling ∷ []) more further → Talks given old []
-  heard_so given old new text telling more further hears is lines_are answers_are comes =
+  pub heard_so : (given : ℕ) (old new : Wire) (text : List ℕ) (response : Response) (more : List Line) (further : List (Result Receipt CallFault))
+      → Hears old new text → IsToldOf given text response → lines ≡ handed_out text response ++ more → answers ≡ answers_in response ++ further
+      → TalksOn stops given new wrote end (response ∷ []) more further → Talks given old []
+  heard_so given old new text response more further hears is lines_are answers_are comes =
       let talk = comes.talk in
       record {
         talk = record {
-          exchanges = record { text = text; telling = telling } ∷ talk.exchanges;
+          exchanges = record { text = text; response = response } ∷ talk.exchanges;
           rest = talk.rest;
-          each = All-cons (λ e. IsToldOf given e.text e.telling) (record { text = text; telling = telling }) talk.exchanges is talk.each;
-          lines_are = lines_are ∙ ap (λ l. handed_out text telling ++ l) talk.lines_are;
-          answers_are = answers_are ∙ ap (λ l. answer_in telling ++ l) talk.answers_are;
+          each = All-cons (λ e. IsToldOf given e.text e.response) (record { text = text; response = response }) talk.exchanges is talk.each;
+          lines_are = lines_are ∙ ap (λ l. handed_out text response ++ l) talk.lines_are;
+          answers_are = answers_are ∙ ap (λ l. answers_in response ++ l) talk.answers_are;
           heard = more_heard old.hears new.hears text (map (λ e. e.text) talk.exchanges) talk.rest hears.line talk.heard;
           all_heard = talk.all_heard;
         };

@@ -6,8 +6,8 @@ use Rattle.std.specs.Io.KnownBytes.{Consumes}
 use Rattle.qtext_client.specs.declared.bounded_line.Got.{Got}
 use Rattle.qtext_client.specs.declared.bounded_line.Got.TheVariants.{Text, TooLong as LongLine, NoMemory as Unread}
 use Rattle.qtext_client.specs.declared.bounded_line.Got.TheVariants.{End, Refused as Gone}
-use Rattle.qtext_client.specs.declared.bounded_line.Part.{Part}
-use Rattle.qtext_client.specs.declared.bounded_line.Part.TheVariants.{Last, More, TooLong, NoMemory, Refused}
+use Rattle.qtext_client.specs.declared.bounded_line.LinePart.{LinePart}
+use Rattle.qtext_client.specs.declared.bounded_line.LinePart.TheVariants.{Last, More, TooLong, NoMemory, Refused}
 use Rattle.qtext_client.specs.declared.bounded_line.TheConstants.{MAX_LINE}
 
 -- a text of one line: one byte or more, and no line end but at its end
@@ -47,7 +47,7 @@ abbrev pub IsLonger : ℕ → Option (List ℕ) → List ℕ → Type 0
 IsLonger n old before = IfSome old (λ xs. n < length before + length (take_through 10 xs))
 
 -- what came of the part of a line that a reader shows
-abbrev pub TakesPart : Option (List ℕ) → Option (List ℕ) → List ℕ → List ℕ → Part → Type 0
+abbrev pub TakesPart : Option (List ℕ) → Option (List ℕ) → List ℕ → List ℕ → LinePart → Type 0
 TakesPart old new before after Last = TakesLast old new before after
 TakesPart old new before after More = TakesMore old new before after
 TakesPart old new before after TooLong = TakesMore old new before after × IsLonger MAX_LINE old before

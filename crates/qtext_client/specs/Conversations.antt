@@ -14,29 +14,29 @@ use Rattle.qrun_client.specs.declared.client.ClientEnd.{ClientEnd}
 use Rattle.qrun_client.specs.declared.client.ClientEnd.TheVariants.{Served, Output}
 use Rattle.qrun_client.specs.declared.client.TheConstants.{MAX_GIVEN}
 use Rattle.qtext_client.specs.declared.bounded_line.TheConstants.{MAX_LINE}
-use Rattle.qtext_client.specs.declared.telling.LineFault.{LineFault}
-use Rattle.qtext_client.specs.declared.telling.LineFault.TheVariants.{Text, Length}
-use Rattle.qtext_client.specs.declared.telling.Telling.{Telling}
-use Rattle.qtext_client.specs.declared.telling.Telling.TheVariants.{Answer, Fault, NoMemory}
-use Rattle.qtext_client.specs.Tellings.{EndsAtFailure, answer_in, telling_text}
+use Rattle.qtext_client.specs.declared.response.BadLine.{BadLine}
+use Rattle.qtext_client.specs.declared.response.BadLine.TheVariants.{Text, Length}
+use Rattle.qtext_client.specs.declared.response.Response.{Response}
+use Rattle.qtext_client.specs.declared.response.Response.TheVariants.{Answer, Fault, NoMemory}
+use Rattle.qtext_client.specs.Responses.{EndsAtFailure, answers_in, response_text}
 use Rattle.qtext_client.specs.Wires.{GrowsBy, Wire}
 use Rattle.qtext_client.specs.declared.connection.EndedClient.{EndedClient}
 
 -- the text of a client's line, with its line end, and what the client was told of it
 pub record Exchange : Type 0 where
   pub text : List ℕ
-  pub telling : Telling
+  pub response : Response
 
 -- a client that hands out N lines in all may be told this fault of a line of this text
-abbrev pub IsFaultOf : ℕ → List ℕ → LineFault → Type 0
-IsFaultOf given text (Text kind) = (script_of text ≡ Err (record { line = 1; kind = kind }))
+abbrev pub IsLineFaultOf : ℕ → List ℕ → BadLine → Type 0
+IsLineFaultOf given text (Text kind) = (script_of text ≡ Err (record { line = 1; kind = kind }))
     ⊎ ((kind ≡ TooMany) × (MAX_GIVEN ≤ given))
-IsFaultOf given text Length = MAX_LINE < length text
+IsLineFaultOf given text Length = MAX_LINE < length text
 
 -- it may be told this of it: an answer to the one line that it says, its fault, or that memory was wanting
-abbrev pub IsToldOf : ℕ → List ℕ → Telling → Type 0
+abbrev pub IsToldOf : ℕ → List ℕ → Response → Type 0
 IsToldOf given text (Answer answer) = (line : Line) × (script_of text ≡ Ok (line ∷ []))
-IsToldOf given text (Fault fault) = IsFaultOf given text fault
+IsToldOf given text (Fault fault) = IsLineFaultOf given text fault
 IsToldOf given text NoMemory = ⊤
 
 -- the lines that a script says, none where it has a fault
@@ -45,7 +45,7 @@ lines_said (Ok lines) = lines
 lines_said (Err fault) = []
 
 -- the line that was handed out, which is so where an answer was told
-abbrev pub handed_out : List ℕ → Telling → List Line
+abbrev pub handed_out : List ℕ → Response → List Line
 handed_out text (Answer answer) = lines_said (script_of text)
 handed_out text (Fault fault) = []
 handed_out text NoMemory = []
@@ -63,9 +63,9 @@ pub record IsTalk (given : ℕ) (hears : Option (List ℕ)) (lines : List Line) 
     (end : ClientEnd) : Type 0 where
   pub exchanges : List Exchange
   pub rest : List ℕ
-  pub each : All (λ e. IsToldOf given e.text e.telling) exchanges
-  pub lines_are : lines ≡ flat_map (λ e. handed_out e.text e.telling) exchanges
-  pub answers_are : answers ≡ flat_map (λ e. answer_in e.telling) exchanges
+  pub each : All (λ e. IsToldOf given e.text e.response) exchanges
+  pub lines_are : lines ≡ flat_map (λ e. handed_out e.text e.response) exchanges
+  pub answers_are : answers ≡ flat_map (λ e. answers_in e.response) exchanges
   pub heard : IfSome hears (λ bytes. AreFirstLines bytes (map (λ e. e.text) exchanges) rest)
   pub all_heard : end ≡ Served → rest ≡ []
 
@@ -84,19 +84,19 @@ StaysThere old new = new ≡ record old { wire = new.wire }
 -- a client that hands out N lines in all is told this first, and then talks on: where it stops at a failed line none is
 -- told of after that; and where its output tells its bytes and has refused nothing, they grew by the text of all
 pub record TalksOn (stops : Bool) (given : ℕ) (wire : Wire) (wrote : Option (List ℕ)) (end : ClientEnd)
-    (first : List Telling) (lines : List Line) (answers : List (Result Receipt CallFault)) : Type 0 where
+    (first : List Response) (lines : List Line) (answers : List (Result Receipt CallFault)) : Type 0 where
   pub talk : IsTalk given wire.hears lines answers end
-  pub at_failure : stops ≡ true → EndsAtFailure (first ++ map (λ e. e.telling) talk.exchanges)
+  pub at_failure : stops ≡ true → EndsAtFailure (first ++ map (λ e. e.response) talk.exchanges)
   pub written : end ≢ Output
-      → GrowsBy wire.wrote wrote (flat_map telling_text (first ++ map (λ e. e.telling) talk.exchanges))
+      → GrowsBy wire.wrote wrote (flat_map response_text (first ++ map (λ e. e.response) talk.exchanges))
   pub ended : IfSome wire.end (λ e. e ≡ end)
 
 -- so it goes on behind the line that is owed an answer, where one is: it is the first of the lines, its answer is the
 -- first of the answers, and that is told first
-abbrev pub GoesOnBehind : Option Line → (List Telling → List Line → List (Result Receipt CallFault) → Type 0)
+abbrev pub GoesOnBehindOwed : Option Line → (List Response → List Line → List (Result Receipt CallFault) → Type 0)
     → List Line → List (Result Receipt CallFault) → Type 0
-GoesOnBehind None Goes lines answers = Goes [] lines answers
-GoesOnBehind (Some line) Goes lines answers = (answer : Result Receipt CallFault) × (more : List Line)
+GoesOnBehindOwed None Goes lines answers = Goes [] lines answers
+GoesOnBehindOwed (Some line) Goes lines answers = (answer : Result Receipt CallFault) × (more : List Line)
     × (further : List (Result Receipt CallFault)) × (lines ≡ line ∷ more) × (answers ≡ answer ∷ further)
     × Goes (Answer answer ∷ []) more further
 
@@ -104,7 +104,7 @@ GoesOnBehind (Some line) Goes lines answers = (answer : Result Receipt CallFault
 -- these the answers
 abbrev pub ComesTo : Progress → List Line → List (Result Receipt CallFault) → Option (List ℕ) → ClientEnd → Type 0
 ComesTo p lines answers wrote end =
-    GoesOnBehind p.owed (TalksOn p.stops (length p.stands + length lines) p.wire wrote end) lines answers
+    GoesOnBehindOwed p.owed (TalksOn p.stops (length p.stands + length lines) p.wire wrote end) lines answers
 
 -- so it is with a client of streams whose outputs, once let go of, took these bytes
 abbrev pub comes_to : {S : Type 0} → (S → Option (List ℕ)) → Progress → List Line → List (Result Receipt CallFault)

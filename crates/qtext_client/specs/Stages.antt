@@ -10,9 +10,9 @@ use Rattle.qtext_client.specs.Wires.{Wire}
 abbrev pub wire_at : {S I O : Type 0} → (says took : S → Option (List ℕ)) → (remaining : I → Option (List ℕ))
     → (contents : O → Option (List ℕ)) → S → Stage I O → Wire
 wire_at says took remaining contents streams New = record { hears = says streams; wrote = Some []; end = None }
-wire_at says took remaining contents streams (Open pair) = record {
-  hears = reader_remaining remaining pair.input;
-  wrote = writer_contents contents pair.output;
+wire_at says took remaining contents streams (Open both) = record {
+  hears = reader_remaining remaining both.input;
+  wrote = writer_contents contents both.output;
   end = None;
 }
 wire_at says took remaining contents streams (Ended end) = record {

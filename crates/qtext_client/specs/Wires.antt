@@ -107,11 +107,11 @@ pub record Writes (old new : Wire) (text : List ℕ) : Type 0 where
   pub wrote : GrowsBy old.wrote new.wrote text
 
 -- a text was told, or the client has ended since it could not be
-abbrev pub IsTold : Wire → Wire → List ℕ → Type 0
-IsTold old new text = Writes old new text ⊎ HasEndedBy Output old new
+abbrev pub IsSent : Wire → Wire → List ℕ → Type 0
+IsSent old new text = Writes old new text ⊎ HasEndedBy Output old new
 
 -- a text was told, and where it was the last one the client has ended then
 pub record IsToldLast (last : Bool) (old new : Wire) (text : List ℕ) : Type 0 where
   pub mid : Wire
-  pub told : IsTold old mid text
+  pub told : IsSent old mid text
   pub after : IsGoneIf last mid new

@@ -28,7 +28,7 @@ pub enum Got {
 
 /// What came of the part of a line that a reader shows.
 #[derive(Clone, Copy, Debug, PartialEq, Eq)]
-pub(crate) enum Part {
+pub(crate) enum LinePart {
     /// It was taken, and is the last of the line.
     Last,
     /// It was taken, and more may come.
@@ -51,29 +51,29 @@ fn len_through(shown: &[u8]) -> usize
 }
 
 /// Takes the part of a line that the reader shows, where the line stays within the bound.
-fn take_part<R: BufRead>(reader: &mut R, line: &mut Vec<u8>) -> Part
+fn take_part<R: BufRead>(reader: &mut R, line: &mut Vec<u8>) -> LinePart
     requires { vec_len line.old ≤ MAX_LINE }
     ensures takes { TakesPart (R.remaining reader.old) (R.remaining reader.new) line.old.items line.new.items result }
     ensures short { vec_len line.new ≤ MAX_LINE }
 {
     let shown = match reader.fill_buf() {
         Ok(shown) => shown,
-        Err(error) if error.kind() == ErrorKind::Interrupted => return Part::More,
-        Err(_) => return Part::Refused,
+        Err(error) if error.kind() == ErrorKind::Interrupted => return LinePart::More,
+        Err(_) => return LinePart::Refused,
     };
     let end = len_through(shown);
     if end == 0 {
-        return Part::Last;
+        return LinePart::Last;
     }
     if end > MAX_LINE - line.len() {
-        return Part::TooLong;
+        return LinePart::TooLong;
     }
     if line.extend_from_slice(&shown[..end]).is_err() {
-        return Part::NoMemory;
+        return LinePart::NoMemory;
     }
     let last = shown[end - 1] == b'\n';
     reader.consume(end);
-    if last { Part::Last } else { Part::More }
+    if last { LinePart::Last } else { LinePart::More }
 }
 
 /// Passes over the rest of a line, of which this came, unless the reader refuses.
@@ -95,12 +95,12 @@ pub fn next_line<R: BufRead>(reader: &mut R, line: &mut Vec<u8>) -> Got
     line.clear();
     for _ in 0..u64::MAX {
         match take_part(reader, line) {
-            Part::Last if line.is_empty() => return Got::End,
-            Part::Last => return Got::Text,
-            Part::More => {}
-            Part::TooLong => return pass(reader, Got::TooLong),
-            Part::NoMemory => return pass(reader, Got::NoMemory),
-            Part::Refused => return Got::Refused,
+            LinePart::Last if line.is_empty() => return Got::End,
+            LinePart::Last => return Got::Text,
+            LinePart::More => {}
+            LinePart::TooLong => return pass(reader, Got::TooLong),
+            LinePart::NoMemory => return pass(reader, Got::NoMemory),
+            LinePart::Refused => return Got::Refused,
         }
     }
     Got::Refused

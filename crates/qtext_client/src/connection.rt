@@ -5,12 +5,12 @@ ghost use Rattle.std.specs.Io.KnownBytes.{Keeps};
 ghost use Rattle.qrun_client.specs.declared.client.ClientEnd.TheVariants.{Served};
 ghost use Rattle.qtext_client.specs.BoundedLines.{Gets};
 ghost use Rattle.qtext_client.specs.declared.bounded_line.Got.TheVariants.{End};
-ghost use Rattle.qtext_client.specs.Tellings.{telling_text};
-ghost use Rattle.qtext_client.specs.Wires.{HasEnded, HasLetGo, HearsSome, IsClosed, IsGone, IsTold, Stays};
+ghost use Rattle.qtext_client.specs.Responses.{response_text};
+ghost use Rattle.qtext_client.specs.Wires.{HasEnded, HasLetGo, HearsSome, IsClosed, IsGone, IsSent, Stays};
 
 use crate::bounded_line::{Got, next_line};
-use crate::streams::{Pair, Streams};
-use crate::telling::{Telling, put_telling};
+use crate::response::{Response, put_response};
+use crate::streams::{OpenStreams, Streams};
 use qrun_client::ClientEnd;
 use qtext::{RefusedWrite, TextLine};
 use std::io::{Read, Write};
@@ -21,7 +21,7 @@ use std::mem;
 #[derive(Drop)]
 enum Stage<I: Read + Drop, O: Write + Drop> {
     New,
-    Open(Pair<I, O>),
+    Open(OpenStreams<I, O>),
     Ended(ClientEnd),
 }
 
@@ -50,26 +50,26 @@ pub struct EndedClient<S: Drop> {
 }
 
 /// Lets out what was told, where no whole line is at hand. Whether the output took it.
-fn let_out<I: Read + Drop, O: Write + Drop>(pair: &mut Pair<I, O>) -> bool
-    ensures output { Keeps (writer_contents O.contents pair.old.output) (writer_contents O.contents pair.new.output) }
-    ensures input { pair.new.input ≡ pair.old.input }
+fn let_out<I: Read + Drop, O: Write + Drop>(both: &mut OpenStreams<I, O>) -> bool
+    ensures output { Keeps (writer_contents O.contents both.old.output) (writer_contents O.contents both.new.output) }
+    ensures input { both.new.input ≡ both.old.input }
 {
-    pair.input.buffer().contains(&b'\n') || pair.output.flush().is_ok()
+    both.input.buffer().contains(&b'\n') || both.output.flush().is_ok()
 }
 
 /// Reads the next line into the text. What was told goes out before it is waited for.
 fn line_from<I: Read + Drop, O: Write + Drop>(
-    pair: &mut Pair<I, O>,
+    both: &mut OpenStreams<I, O>,
     text: &mut Vec<u8>,
 ) -> Result<Got, RefusedWrite>
-    ensures output { Keeps (writer_contents O.contents pair.old.output) (writer_contents O.contents pair.new.output) }
-    ensures gets { IfOk result (Gets (reader_remaining I.remaining pair.old.input)
-        (reader_remaining I.remaining pair.new.input) text.new.items) }
+    ensures output { Keeps (writer_contents O.contents both.old.output) (writer_contents O.contents both.new.output) }
+    ensures gets { IfOk result (Gets (reader_remaining I.remaining both.old.input)
+        (reader_remaining I.remaining both.new.input) text.new.items) }
 {
-    if !let_out(pair) {
+    if !let_out(both) {
         return Err(RefusedWrite);
     }
-    Ok(next_line(&mut pair.input, text))
+    Ok(next_line(&mut both.input, text))
 }
 
 impl<S: Streams + Drop> Connection<S> {
@@ -105,7 +105,7 @@ impl<S: Streams + Drop> Connection<S> {
     {
         if let Stage::New = self.stage {
             match self.streams.open() {
-                Ok(pair) => self.stage = Stage::Open(pair),
+                Ok(both) => self.stage = Stage::Open(both),
                 Err(end) => self.end(end),
             }
         }
@@ -117,7 +117,7 @@ impl<S: Streams + Drop> Connection<S> {
     {
         match mem::replace(&mut self.stage, Stage::Ended(end)) {
             Stage::New => self.streams.ended(None, end),
-            Stage::Open(Pair { input, output }) => {
+            Stage::Open(OpenStreams { input, output }) => {
                 drop(input);
                 self.streams.ended(Some(output), end);
             }
@@ -130,7 +130,7 @@ impl<S: Streams + Drop> Connection<S> {
         ensures { (Stays self.old self.new × (self.old.end ≡ None)) ⊎ (self.new ≡ self.old) }
     {
         match &mut self.stage {
-            Stage::Open(pair) => pair.output.flush().is_ok(),
+            Stage::Open(both) => both.output.flush().is_ok(),
             Stage::New | Stage::Ended(_) => true,
         }
     }
@@ -161,10 +161,10 @@ impl<S: Streams + Drop> Connection<S> {
     pub(crate) fn next_line(&mut self, text: &mut Vec<u8>) -> Got
         ensures { HearsSome self.old self.new text.new.items result }
     {
-        let Stage::Open(pair) = &mut self.stage else {
+        let Stage::Open(both) = &mut self.stage else {
             return self.end_of_lines(ClientEnd::Input);
         };
-        match line_from(pair, text) {
+        match line_from(both, text) {
             Ok(Got::End) => self.end_of_lines(ClientEnd::Served),
             Ok(Got::Refused) => self.end_of_lines(ClientEnd::Input),
             Ok(got) => got,
@@ -173,11 +173,11 @@ impl<S: Streams + Drop> Connection<S> {
     }
 
     /// Tells the client of a line. One that cannot be told has ended.
-    pub(crate) fn tell(&mut self, telling: &Telling)
-        ensures { IsTold self.old self.new (telling_text telling.now) }
+    pub(crate) fn tell(&mut self, response: &Response)
+        ensures { IsSent self.old self.new (response_text response.now) }
     {
         match &mut self.stage {
-            Stage::Open(pair) => match put_telling(&mut pair.output, &mut self.line, telling) {
+            Stage::Open(both) => match put_response(&mut both.output, &mut self.line, response) {
                 Ok(()) => {}
                 Err(RefusedWrite) => self.end(ClientEnd::Output),
             },

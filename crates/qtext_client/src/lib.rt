@@ -3,12 +3,12 @@
 
 pub use bounded_line::{Got, MAX_LINE, next_line};
 pub use connection::EndedClient;
+pub use response::{BadLine, Response, put_response};
 pub use stream_client::StreamClient;
-pub use streams::{Pair, Streams};
-pub use telling::{LineFault, Telling, put_telling};
+pub use streams::{OpenStreams, Streams};
 
 mod bounded_line;
 mod connection;
+mod response;
 mod stream_client;
 mod streams;
-mod telling;

@@ -9,14 +9,14 @@ ghost use Rattle.qtext_client.specs.Conversations.{StaysThere, comes_to};
 ghost use Rattle.qtext_client.specs.declared.stream_client.Heard.TheVariants.{End};
 ghost use Rattle.qtext_client.specs.declared.stream_client.Step.TheVariants.{Ended};
 ghost use Rattle.qtext_client.specs.Hearings.{HearsLine, HearsText, IsLine, is_handed_out};
-ghost use Rattle.qtext_client.specs.Tellings.{has_failed, telling_text};
+ghost use Rattle.qtext_client.specs.Responses.{has_failed, response_text};
 ghost use Rattle.qtext_client.specs.Wires.{IsGone, IsGoneIf, IsToldLast};
 ghost use Rattle.qtext_files.specs.Scripts.{script_of};
 
 use crate::bounded_line::Got;
 use crate::connection::{Connection, EndedClient};
+use crate::response::{BadLine, Response};
 use crate::streams::Streams;
-use crate::telling::{LineFault, Telling};
 use qplain::{Call, CallPaths, Line, NoMemory, Path, Receipt};
 use qrun_client::{Answer, Client, ClientEnd, MAX_GIVEN};
 use qrun_replay::Places;
@@ -33,7 +33,7 @@ enum Heard {
     /// A line of a script.
     Line(Line),
     /// None, of which this is told.
-    None(Telling),
+    None(Response),
     /// There is no more.
     End,
 }
@@ -107,15 +107,15 @@ fn heard_in<'x>(alloc: Global, path: Option<&'x Path>, text: &'x [u8]) -> Heard
 {
     let mut room = Vec::new(alloc);
     let Ok(line) = next_line(&mut room, text) else {
-        return Heard::None(Telling::NoMemory);
+        return Heard::None(Response::NoMemory);
     };
     let Ok(mut paths) = paths_of(path, &room) else {
-        return Heard::None(Telling::NoMemory);
+        return Heard::None(Response::NoMemory);
     };
     match read_line(alloc, &mut paths, 1, &line, &room) {
         Ok(line) => Heard::Line(line),
-        Err(ReadFault::Memory) => Heard::None(Telling::NoMemory),
-        Err(ReadFault::Fault(kind)) => Heard::None(Telling::Fault(LineFault::Text(kind))),
+        Err(ReadFault::Memory) => Heard::None(Response::NoMemory),
+        Err(ReadFault::Fault(kind)) => Heard::None(Response::Fault(BadLine::Text(kind))),
     }
 }
 
@@ -172,12 +172,12 @@ impl<'a, S: Streams + Drop> StreamClient<'a, S> {
         match self.connection.next_line(&mut self.text) {
             Got::End | Got::Refused => Heard::End,
             _ if self.is_stopped() => self.end_stopped(),
-            _ if self.places.len() >= MAX_GIVEN => Heard::None(Telling::Fault(LineFault::Text(
+            _ if self.places.len() >= MAX_GIVEN => Heard::None(Response::Fault(BadLine::Text(
                 TextKind::TooMany,
             ))),
             Got::Text => heard_in(self.alloc, self.path.as_ref(), &self.text),
-            Got::TooLong => Heard::None(Telling::Fault(LineFault::Length)),
-            Got::NoMemory => Heard::None(Telling::NoMemory),
+            Got::TooLong => Heard::None(Response::Fault(BadLine::Length)),
+            Got::NoMemory => Heard::None(Response::NoMemory),
         }
     }
 
@@ -217,15 +217,15 @@ impl<'a, S: Streams + Drop> StreamClient<'a, S> {
     }
 
     /// Tells of a line, and ends the client, and all that share its flag, where it has one and the line has failed.
-    fn tell_of(&mut self, telling: &Telling)
+    fn tell_of(&mut self, response: &Response)
         requires answered { self.old.owed ≡ None }
         ensures stays { StaysThere self.old self.new }
-        ensures wire { IsToldLast (self.old.stops && has_failed telling.now) self.old.wire self.new.wire
-            (telling_text telling.now) }
+        ensures wire { IsToldLast (self.old.stops && has_failed response.now) self.old.wire self.new.wire
+            (response_text response.now) }
     {
-        self.connection.tell(telling);
+        self.connection.tell(response);
         if let Some(stop) = self.stop
-            && telling.has_failed()
+            && response.has_failed()
         {
             stop.store(true, Ordering::SeqCst);
             self.connection.stop(ClientEnd::Failed);
@@ -244,12 +244,12 @@ impl<'a, S: Streams + Drop> StreamClient<'a, S> {
             Heard::Line(line) => match self.keep(line) {
                 Ok(()) => Step::HandedOut,
                 Err(NoMemory) => {
-                    self.tell_of(&Telling::NoMemory);
+                    self.tell_of(&Response::NoMemory);
                     Step::Told
                 }
             },
-            Heard::None(telling) => {
-                self.tell_of(&telling);
+            Heard::None(response) => {
+                self.tell_of(&response);
                 Step::Told
             }
             Heard::End => Step::Ended,
@@ -307,7 +307,7 @@ impl<'a, S: Streams + Drop + Send> Client for StreamClient<'a, S> {
             (comes_to S.took self.old) (comes_to S.took self.new) }
     {
         self.keep_place(&answer);
-        self.tell_of(&Telling::Answer(answer));
+        self.tell_of(&Response::Answer(answer));
     }
 
     // One that still has lines is not served to its end.

@@ -9,7 +9,7 @@ use std::io::{BufReader, BufWriter, Read, Write};
 
 /// The streams of a client that are open.
 #[derive(Drop)]
-pub struct Pair<I: Read + Drop, O: Write + Drop> {
+pub struct OpenStreams<I: Read + Drop, O: Write + Drop> {
     pub input: BufReader<I>,
     pub output: BufWriter<O>,
 }
@@ -27,10 +27,10 @@ pub trait Streams {
     ghost took: { Self → Option (List ℕ) };
 
     /// Both, the input first; an Err says which of them is not to be had. The output is empty where it tells its bytes.
-    fn open(&mut self) -> Result<Pair<Self::In, Self::Out>, ClientEnd>
-        ensures input { IfOk result (λ pair. IfSome (says self.old)
-            (λ bytes. reader_remaining Self.In.remaining pair.input ≡ Some bytes)) }
-        ensures output { IfOk result (λ pair. IfSome (writer_contents Self.Out.contents pair.output)
+    fn open(&mut self) -> Result<OpenStreams<Self::In, Self::Out>, ClientEnd>
+        ensures input { IfOk result (λ streams. IfSome (says self.old)
+            (λ bytes. reader_remaining Self.In.remaining streams.input ≡ Some bytes)) }
+        ensures output { IfOk result (λ streams. IfSome (writer_contents Self.Out.contents streams.output)
             (λ bytes. bytes ≡ [])) }
         ensures end { result ≢ Err Served };
 

@@ -6,11 +6,11 @@ use Rattle.toml.specs.View.{items_view, view}
 use Rattle.qtext_config.specs.declared.config_fault.ConfigFault.{ConfigFault}
 use Rattle.qtext.specs.Reading.{each_of}
 use Rattle.qtext_config.specs.ConfigFaults.{Cause, EndsFor}
-use Rattle.qtext_config.specs.ConfigFields.{values_of}
+use Rattle.qtext_config.specs.ConfigFields.{values_at}
 use Rattle.qtext.proofs.Loops.{ends, with_front}
 
 -- the values of an array's items are its elements' views
-pub values_of-items_view : (vs : List Value) → values_of (items_view vs) ≡ map view vs
+pub values_of-items_view : (vs : List Value) → values_at (items_view vs) ≡ map view vs
 values_of-items_view [] = refl
 values_of-items_view (v ∷ vs) = let also : List Data → List Data = λ ds. view v ∷ ds in ap also (values_of-items_view vs)
 

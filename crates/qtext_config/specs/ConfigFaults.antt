@@ -38,8 +38,8 @@ config_fault_number fault.NoZero = 55
 config_fault_number fault.Memory = 56
 
 -- the fault tells this cause, if it tells one
-abbrev pub Tells : ConfigFault → Cause → Type 0
-Tells fault this = (cause : Cause) → cause_of fault ≡ Some cause → cause ≡ this
+abbrev pub NamesCause : ConfigFault → Cause → Type 0
+NamesCause fault this = (cause : Cause) → cause_of fault ≡ Some cause → cause ≡ this
 
 -- the cause that the fault tells, if it tells one, is the one for which the reading ends
 abbrev pub EndsFor : {A : Type 0} → ConfigFault → Result A Cause → Type 0

@@ -28,13 +28,13 @@ unfoldable pub limit_at : List ℕ → Members → Result ℤ Cause
 limit_at key table = limit_of key (get_member key table)
 
 -- the values of a list in their order
-abbrev pub values_of : Items → List Data
-values_of no_items = []
-values_of (item value others) = value ∷ values_of others
+abbrev pub values_at : Items → List Data
+values_at no_items = []
+values_at (item value others) = value ∷ values_at others
 
 -- the values of what is a list
 abbrev pub list_of : List ℕ → Option Data → Result (List Data) Cause
-list_of key value = found key (option_map values_of (option_and_then as_array value))
+list_of key value = found key (option_map values_at (option_and_then as_array value))
 
 -- the list that stands at the key
 unfoldable pub list_at : List ℕ → Members → Result (List Data) Cause

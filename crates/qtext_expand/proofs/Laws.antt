@@ -27,7 +27,7 @@ use Rattle.qtext_expand.specs.FriendlyLines.{Written, as_caller, at_moment, at_t
 use Rattle.qtext_expand.specs.FriendlyWords.{begins, ended, friendly_words}
 use Rattle.qtext_expand.specs.GivesAs.{AreBytes, ReadsBytes}
 use Rattle.qtext_expand.specs.Moments.{moment_in, timed}
-use Rattle.qtext_expand.specs.Names.{caller_text}
+use Rattle.qtext_expand.specs.Names.{caller_ids}
 use Rattle.qtext_expand.specs.Plain.{each_judged, judged, plain_line, plain_moment}
 use Rattle.qtext_expand.proofs.PlainLines.{IsPlain, had, line_then, plain_at, plain_found, plain_lacks, whole_line}
 
@@ -59,7 +59,7 @@ call_plain s when who ws w e =
 as_plain : (s : Setting) (when : ℕ) (ws : List (List ℕ)) (w : Written) → as_caller s when ws ≡ Ok w → ArePlain w
 unfolding as_caller
 as_plain s when [] w e = absurd (cc e)
-as_plain s when (c ∷ []) w e = step_found (caller_of (caller_text s c)) _ e λ caller is e. rw (← same_ok e) tt
+as_plain s when (c ∷ []) w e = step_found (caller_of (caller_ids s c)) _ e λ caller is e. rw (← same_ok e) tt
 as_plain s when (c ∷ d ∷ ws) w e = absurd (cc e)
 
 at_told_plain : (who : List ℕ) (moment : Option ℕ) (w : Written) → at_told who moment ≡ Ok w → ArePlain w

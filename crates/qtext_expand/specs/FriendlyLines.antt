@@ -12,7 +12,7 @@ use Rattle.qtext_read.specs.Callers.{caller_of}
 use Rattle.qtext_expand.specs.FriendlyCalls.{calls_of}
 use Rattle.qtext_expand.specs.FriendlyWords.{begins, friendly_words, is_caller}
 use Rattle.qtext_expand.specs.Moments.{moment_in, timed}
-use Rattle.qtext_expand.specs.Names.{caller_text}
+use Rattle.qtext_expand.specs.Names.{caller_ids}
 use Rattle.qtext_expand.specs.Plain.{each_judged, plain_moment}
 
 -- where the clock stands and who calls after a line, and the plain lines that are written for it
@@ -30,11 +30,11 @@ pub record Called : Type 0 where
 unfoldable pub called : Setting → List ℕ → List (List ℕ) → Called
 called s who [] = record { caller = who; rest = [] }
 called s who (w ∷ ws) =
-    if is_caller w then record { caller = caller_text s w; rest = ws } else record { caller = who; rest = w ∷ ws }
+    if is_caller w then record { caller = caller_ids s w; rest = ws } else record { caller = who; rest = w ∷ ws }
 
 -- MOMENT CALLER
-abbrev pub head_text : List ℕ → List ℕ → List ℕ
-head_text moment caller = moment ++ 32 ∷ caller
+abbrev pub call_head : List ℕ → List ℕ → List ℕ
+call_head moment caller = moment ++ 32 ∷ caller
 
 -- a call behind a head, which has a space before each of its words
 abbrev pub line_text : List ℕ → List ℕ → List ℕ
@@ -42,7 +42,7 @@ line_text head call = head ++ call
 
 -- the moment and the caller of a line
 abbrev pub head_of_words : Setting → ℕ → List ℕ → List (List ℕ) → List ℕ
-head_of_words s when who ws = head_text (timed when ws).moment (called s who (timed when ws).rest).caller
+head_of_words s when who ws = call_head (timed when ws).moment (called s who (timed when ws).rest).caller
 
 -- [MOMENT] [CALLER] CALL, for each of its calls a line
 unfoldable pub call_lines : Setting → ℕ → List ℕ → List (List ℕ) → Result Written TextKind
@@ -54,8 +54,8 @@ call_lines s when who ws = do
 -- as CALLER: who calls from here on
 unfoldable pub as_caller : Setting → ℕ → List (List ℕ) → Result Written TextKind
 as_caller s when (c ∷ []) = do
-  _ ← caller_of (caller_text s c)
-  Ok (record { when = when; who = caller_text s c; lines = [] })
+  _ ← caller_of (caller_ids s c)
+  Ok (record { when = when; who = caller_ids s c; lines = [] })
 as_caller s when _ = Err WordCount
 
 -- the clock, set to a moment that was told

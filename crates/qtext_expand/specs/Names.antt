@@ -39,5 +39,5 @@ joined_text s [] = []
 joined_text s (own ∷ groups) = own_text s (parts 58 own) ++ groups_text 44 s.groups groups
 
 -- USER:GROUP, then a comma before each further group, with ids in place of names
-abbrev pub caller_text : Setting → List ℕ → List ℕ
-caller_text s word = joined_text s (parts 44 word)
+abbrev pub caller_ids : Setting → List ℕ → List ℕ
+caller_ids s word = joined_text s (parts 44 word)

@@ -33,9 +33,9 @@ factor Kibibytes letter = option_map (λ n. n / 1024) (size_factor letter)
 factor Seconds letter = span_factor letter
 
 -- what was read, if anything was
-abbrev pub told : Result ℕ TextKind → Option ℕ
-told (Ok n) = Some n
-told (Err kind) = None
+abbrev pub value_read : Result ℕ TextKind → Option ℕ
+value_read (Ok n) = Some n
+value_read (Err kind) = None
 
 -- a number of 64 bits
 abbrev pub fits : ℕ → Option ℕ
@@ -51,11 +51,12 @@ scaled (Some n) (Some unit) = fits (n * unit)
 abbrev pub with_unit : Measure → List ℕ → Option ℕ
 with_unit measure word =
     if length word == 0 then None
-    else scaled (told (number (take (length word - 1) word))) (factor measure (slice_index word (length word - 1)))
+    else scaled (value_read (number (take (length word - 1) word)))
+    (factor measure (slice_index word (length word - 1)))
 
 -- what a number comes to, with a letter behind it or none
 unfoldable pub value : Measure → List ℕ → Option ℕ
-value measure word = option_or (told (number word)) (with_unit measure word)
+value measure word = option_or (value_read (number word)) (with_unit measure word)
 
 -- a number in decimal digits, or else the word as it stands
 abbrev pub decimal_or : List ℕ → Option ℕ → List ℕ

@@ -3,7 +3,7 @@ ghost use Rattle.std.specs.Prelude.{◌≡◌, ◌++◌, IfOk};
 ghost use Rattle.std.specs.Option.{option_map};
 ghost use Rattle.qtext.specs.Words.{parts, parts_after};
 ghost use Rattle.qtext_expand.specs.FriendlyWords.{is_caller};
-ghost use Rattle.qtext_expand.specs.Names.{caller_text, groups_text, named_text, own_text};
+ghost use Rattle.qtext_expand.specs.Names.{caller_ids, groups_text, named_text, own_text};
 
 use crate::names::id_named;
 use crate::words::put_number;
@@ -58,8 +58,8 @@ fn put_own(text: &mut Vec<u8>, setup: &Setup, own: &[u8]) -> Result<(), AllocErr
 }
 
 /// `USER:GROUP`, then a comma before each further group, with ids in place of names.
-pub(crate) fn caller_text(alloc: Global, setup: &Setup, word: &[u8]) -> Result<Vec<u8>, AllocError>
-    ensures { IfOk result (λ text. text.items ≡ caller_text setup.now word.now) }
+pub(crate) fn caller_ids(alloc: Global, setup: &Setup, word: &[u8]) -> Result<Vec<u8>, AllocError>
+    ensures { IfOk result (λ text. text.items ≡ caller_ids setup.now word.now) }
 {
     let mut text = Vec::new(alloc);
     let (own, groups) = first_part(word, b',');

@@ -4,13 +4,13 @@ ghost use Rattle.std.specs.List.{list_all};
 ghost use Rattle.qtext.specs.Pieces.{piece_text};
 ghost use Rattle.qtext.specs.Words.{is_text_byte, words as words_of};
 ghost use Rattle.qtext_expand.specs.FriendlyLines.{as_caller, at_moment, call_lines, called, friendly_written};
-ghost use Rattle.qtext_expand.specs.FriendlyLines.{head_text, line_text, line_written, words_written};
+ghost use Rattle.qtext_expand.specs.FriendlyLines.{call_head, line_text, line_written, words_written};
 ghost use Rattle.qtext_expand.specs.GivesAs.{GivesBy, GivesTexts};
 ghost use Rattle.qtext_expand.specs.Plain.{each_judged, judged};
 ghost use Rattle.qtext_expand.specs.WrittenAs.{as_it_stands, unchanged, written_as};
 
 use crate::call::calls_of;
-use crate::caller::{caller_text, is_caller};
+use crate::caller::{caller_ids, is_caller};
 use crate::moment::{moment_in, split_moment};
 use crate::plain::{line_moment, plain_moment};
 use crate::words::{begins, friendly_words};
@@ -67,7 +67,7 @@ fn split_caller<'a, 'w>(
 {
     match words {
         [first, rest @ ..] if is_caller(first) => Ok(Called {
-            caller: caller_text(alloc, setup, first)?,
+            caller: caller_ids(alloc, setup, first)?,
             rest,
         }),
         _ => Ok(Called {
@@ -77,8 +77,8 @@ fn split_caller<'a, 'w>(
     }
 }
 
-fn head_text<'a>(alloc: Global, moment: Piece<'a>, caller: &'a [u8]) -> Result<Vec<u8>, AllocError>
-    ensures { IfOk result (λ text. text.items ≡ head_text (piece_text moment.entry) caller.now) }
+fn call_head<'a>(alloc: Global, moment: Piece<'a>, caller: &'a [u8]) -> Result<Vec<u8>, AllocError>
+    ensures { IfOk result (λ text. text.items ≡ call_head (piece_text moment.entry) caller.now) }
 {
     let mut text = Vec::new(alloc);
     match put_pieces(&mut text, &[moment, Piece::Text(b" "), Piece::Text(caller)]) {
@@ -122,7 +122,7 @@ fn call_lines(
 {
     let timed = split_moment(standing.when, words)?;
     let called = split_caller(alloc, setup, standing.who, timed.rest)?;
-    let head = head_text(alloc, timed.moment, &called.caller)?;
+    let head = call_head(alloc, timed.moment, &called.caller)?;
     let calls = calls_of(alloc, setup, called.rest)?;
     let lines = judged_lines(alloc, &head, &calls)?;
     Ok(Expanded {
@@ -143,7 +143,7 @@ fn as_caller(
 {
     match words {
         [caller] => {
-            let who = caller_text(alloc, setup, caller)?;
+            let who = caller_ids(alloc, setup, caller)?;
             caller_of(alloc, &who)?;
             Ok(nothing(alloc, when, &who)?)
         }

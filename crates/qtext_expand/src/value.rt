@@ -2,7 +2,7 @@
 ghost use Rattle.std.specs.Prelude.{◌≡◌, IfOk};
 ghost use Rattle.qtext.specs.Words.{number};
 ghost use Rattle.qtext.specs.Pieces.{piece_text};
-ghost use Rattle.qtext_expand.specs.Values.{factor, measured_text, scaled, size_factor, span_factor, told, value};
+ghost use Rattle.qtext_expand.specs.Values.{factor, measured_text, scaled, size_factor, span_factor, value_read, value};
 ghost use Rattle.qtext_expand.specs.Values.{with_unit};
 
 use qtext::{Piece, ReadFault, number};
@@ -72,8 +72,8 @@ fn factor(measure: Measure, letter: u8) -> Option<u64>
 }
 
 /// The number that a word spells, if it does.
-fn told(word: &[u8]) -> Result<Option<u64>, AllocError>
-    ensures { IfOk result (λ n. n ≡ told (number word.now)) }
+fn value_read(word: &[u8]) -> Result<Option<u64>, AllocError>
+    ensures { IfOk result (λ n. n ≡ value_read (number word.now)) }
 {
     match number(word) {
         Ok(n) => Ok(Some(n)),
@@ -98,7 +98,7 @@ fn with_unit(measure: Measure, word: &[u8]) -> Result<Option<u64>, AllocError>
         return Ok(None);
     }
     let last = word.len() - 1;
-    let n = told(word.split_at(last).0)?;
+    let n = value_read(word.split_at(last).0)?;
     Ok(scaled(n, factor(measure, word[last])))
 }
 
@@ -108,7 +108,7 @@ fn with_unit(measure: Measure, word: &[u8]) -> Result<Option<u64>, AllocError>
 pub(crate) fn value(measure: Measure, word: &[u8]) -> Result<Option<u64>, AllocError>
     ensures { IfOk result (λ n. n ≡ value measure word.now) }
 {
-    match told(word)? {
+    match value_read(word)? {
         Some(n) => Ok(Some(n)),
         None => with_unit(measure, word),
     }

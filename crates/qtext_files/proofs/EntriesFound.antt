@@ -29,7 +29,7 @@ use Rattle.qplain.specs.declared.edition.Edition.TheVariants.{One, Two}
 use Rattle.qplain.specs.Editions.{max_entries_of}
 use Rattle.qtext_files.specs.declared.head.Head.{Head}
 use Rattle.qtext_files.specs.RawLines.{RawLine}
-use Rattle.qtext_files.specs.Journals.{answer_in, at_entry, edition_of, entry_in, journal_entry_of, head_in, head_of, head_keyword, head_told, worker_of, workers_of}
+use Rattle.qtext_files.specs.Journals.{reply_behind, at_entry, edition_of, entry_in, journal_entry_of, head_in, head_of, head_keyword, head_told, worker_of, workers_of}
 use Rattle.qplain.specs.Journals.{IsEntryOf, IsWorkers}
 use Rattle.qtext_files.proofs.RawLines.{in_line_found}
 use Rattle.qtext_files.specs.Spelling.{edition_text, entry_words, head_words}
@@ -67,9 +67,9 @@ edition_found : (word : List ℕ) (e : Edition) → edition_of word ≡ Ok e →
 unfolding edition_of
 edition_found word e same = edition_by word e (bytes_eq word (codes "1")) (bytes_eq word (codes "2")) refl refl same
 
-answer_found : (edition : Edition) (words : List (List ℕ)) (r : Reply) → answer_in edition words ≡ Ok r
+answer_found : (edition : Edition) (words : List (List ℕ)) (r : Reply) → reply_behind edition words ≡ Ok r
     → (codes "=>" ∷ reply_words r ≡ words) × IsReply r × OnlyInTwo edition (reply_names_project r)
-unfolding answer_in
+unfolding reply_behind
 answer_found edition [] r e = absurd (cc e)
 answer_found edition (arrow ∷ words) r e =
     let is = kept (bytes_eq arrow (codes "=>")) (reply_in edition words) BadReply r e in
@@ -103,7 +103,7 @@ in_found head (w ∷ m ∷ c ∷ behind) entry few e =
     word_found any_number m _ e λ moment is_moment moment_fits e.
     word_found any_caller c _ e λ cred is_cred cred_fits e.
     step_found (journaled_call_in head.edition behind) _ e λ called is_called e.
-    step_found (answer_in head.edition (drop called.1 behind)) _ e λ reply is_reply e.
+    step_found (reply_behind head.edition (drop called.1 behind)) _ e λ reply is_reply e.
     let call = journaled_found head.edition behind called is_called in
     let answer = answer_found head.edition (drop called.1 behind) reply is_reply in
     rw (← same_ok e) (

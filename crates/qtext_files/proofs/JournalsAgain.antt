@@ -26,7 +26,7 @@ use Rattle.qtext_files.specs.RawLines.{raw_lines_from}
 use Rattle.qtext_files.proofs.EntriesFound.{IsEntry}
 use Rattle.qtext_files.proofs.LinesAgain.{joined_is_text, joined_parts, raw_again}
 use Rattle.qtext_files.proofs.RawLines.{no_line}
-use Rattle.qtext_files.specs.Journals.{answer_in, at_entry, edition_of, entry_in, journal_entry_of, head_in, head_of, head_told, journal_in, journal_of, head_keyword, worker_of, workers_of}
+use Rattle.qtext_files.specs.Journals.{reply_behind, at_entry, edition_of, entry_in, journal_entry_of, head_in, head_of, head_told, journal_in, journal_of, head_keyword, worker_of, workers_of}
 use Rattle.qplain.specs.Journals.{IsEntryOf, IsJournal, IsWorkers, Written}
 use Rattle.qtext_files.specs.Spelling.{edition_text, entry_text, entry_words, head_words, journal_spelling}
 use Rattle.qplain.specs.Held.{IsHeld}
@@ -90,7 +90,7 @@ head_word edition workers is =
     let few = is.1 in (refl, (refl, (edition_word edition, (refl, (decimal_word workers (omega (arith, few)), tt)))))
 
 in_again : (head : Head) (e : Entry) → head.workers ≤ 16 → IsEntry head e → entry_in head (entry_words e) ≡ Ok e
-unfolding entry_in answer_in
+unfolding entry_in reply_behind
 in_again head e few fits =
     let of = parts_of_edition head.edition e fits.0.3 in
     rw (

@@ -28,9 +28,9 @@ worker_of workers word = do
   if worker == 0 then Err BadNumber else Ok worker
 
 -- => and a reply
-unfoldable pub answer_in : Edition → List (List ℕ) → Result Reply TextKind
-answer_in edition [] = Err BadReply
-answer_in edition (arrow ∷ reply) = if bytes_eq arrow (codes "=>") then reply_in edition reply else Err BadReply
+unfoldable pub reply_behind : Edition → List (List ℕ) → Result Reply TextKind
+reply_behind edition [] = Err BadReply
+reply_behind edition (arrow ∷ reply) = if bytes_eq arrow (codes "=>") then reply_in edition reply else Err BadReply
 
 -- WORKER MOMENT CALLER CALL => REPLY in a journal with this head
 unfoldable pub entry_in : Head → List (List ℕ) → Result Entry TextKind
@@ -47,7 +47,7 @@ entry_in head (w ∷ m ∷ c ∷ behind) = do
   moment ← number m
   cred ← caller_of c
   called ← journaled_call_in head.edition behind
-  reply ← answer_in head.edition (drop called.1 behind)
+  reply ← reply_behind head.edition (drop called.1 behind)
   Ok (record { worker = worker; cred = cred; moment = moment; call = called.0; reply = reply })
 
 -- the entry in a line of a journal with this head, or the first thing wrong in it

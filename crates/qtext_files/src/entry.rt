@@ -3,7 +3,7 @@ ghost use Rattle.std.specs.Prelude.{◌+◌, map};
 ghost use Rattle.qtext.specs.Gives.{Gives};
 ghost use Rattle.qplain.specs.Editions.{max_entries_of};
 ghost use Rattle.qtext_files.specs.Added.{Adds};
-ghost use Rattle.qtext_files.specs.Journals.{answer_in, entry_in, journal_entry_of, worker_of};
+ghost use Rattle.qtext_files.specs.Journals.{reply_behind, entry_in, journal_entry_of, worker_of};
 
 use crate::callers::Callers;
 use crate::head::Head;
@@ -27,9 +27,9 @@ fn worker_of(workers: u64, word: &[u8]) -> Result<u64, ReadFault>
 }
 
 /// `=>` and a reply.
-#[tactic(auto, unfolding(crate::specs::Journals::answer_in))]
-fn answer_in(alloc: Global, edition: Edition, words: &[&[u8]]) -> Result<Reply, ReadFault>
-    ensures { Gives result (answer_in edition (map (λ word. word.now) words.now)) }
+#[tactic(auto, unfolding(crate::specs::Journals::reply_behind))]
+fn reply_behind(alloc: Global, edition: Edition, words: &[&[u8]]) -> Result<Reply, ReadFault>
+    ensures { Gives result (reply_behind edition (map (λ word. word.now) words.now)) }
 {
     match words {
         [] => Err(ReadFault::Fault(TextKind::BadReply)),
@@ -70,7 +70,7 @@ fn entry_in<'a>(
             let moment = number(moment)?;
             let cred = callers.read(alloc, cred)?;
             let (call, taken) = journaled_call_in(alloc, paths, head.edition, behind)?;
-            let reply = answer_in(alloc, head.edition, behind.split_at(taken).1)?;
+            let reply = reply_behind(alloc, head.edition, behind.split_at(taken).1)?;
             let Ok(()) = entries.reserve(1) else {
                 return Err(ReadFault::Memory);
             };

@@ -80,12 +80,15 @@ pub fn read_line<'a>(
 {
     let begun = begin_line(paths, number, line, words)?;
     let cred = caller_of(alloc, begun.caller)?;
-    let call = call_in(alloc, paths, begun.call)?;
-    Ok(Line {
-        cred,
-        moment: begun.moment,
-        call,
-    })
+    // A call is large, and a `?` would move it once more.
+    match call_in(alloc, paths, begun.call) {
+        Ok(call) => Ok(Line {
+            cred,
+            moment: begun.moment,
+            call,
+        }),
+        Err(fault) => Err(fault),
+    }
 }
 
 /// Reads the lines of a script, and keeps callers and a page of paths.
@@ -113,7 +116,6 @@ impl<'a> ReadLine<'a> for LineReader<'a> {
     ) -> Result<(), ReadFault> {
         let begun = begin_line(&mut self.paths, number, line, words)?;
         let cred = self.callers.read(self.alloc, begun.caller)?;
-        // A call is large, and a `?` would move it once more.
         match call_in(self.alloc, &mut self.paths, begun.call) {
             Ok(call) => {
                 let Ok(()) = lines.reserve(1) else {

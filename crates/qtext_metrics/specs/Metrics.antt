@@ -14,8 +14,8 @@ abbrev pub holder_text : Setting → BoardRow → List ℕ
 holder_text s r = option_map_or (λ p. p.name) (find (λ p. p.id == r.id) (principals_in r.kind s)) (decimal r.id)
 
 -- the two lines over a family's samples: what they are, and that each is a gauge
-abbrev pub head_text : Family → List ℕ
-head_text f = concat (codes "# HELP " ∷ name_of f ∷ codes " " ∷ help_of f
+abbrev pub family_head : Family → List ℕ
+family_head f = concat (codes "# HELP " ∷ name_of f ∷ codes " " ∷ help_of f
     ∷ codes "\n# TYPE " ∷ name_of f ∷ codes " gauge\n" ∷ [])
 
 -- the sample of the whole store, where the family has a number of it
@@ -30,12 +30,12 @@ sample_text f kind name (Some n) = concat (name_of f ∷ codes "{kind=\"" ∷ ki
     ∷ codes "\"} " ∷ decimal n ∷ codes "\n" ∷ [])
 
 -- the sample of a row of the board
-abbrev pub row_text : Setting → Family → BoardRow → List ℕ
-row_text s f r = sample_text f (kind_text r.kind) (holder_text s r) (row_value f r)
+abbrev pub family_row : Setting → Family → BoardRow → List ℕ
+family_row s f r = sample_text f (kind_text r.kind) (holder_text s r) (row_value f r)
 
 -- a family: its head, its sample of the whole store, and its samples of the rows in their order
 abbrev pub family_text : Setting → Board → Family → List ℕ
-family_text s b f = head_text f ++ total_text f (total_value s b f) ++ flat_map (row_text s f) b.rows
+family_text s b f = family_head f ++ total_text f (total_value s b f) ++ flat_map (family_row s f) b.rows
 
 -- all families, one after the other
 abbrev pub metrics_text : Setting → Board → List ℕ

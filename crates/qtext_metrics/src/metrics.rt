@@ -4,7 +4,7 @@ ghost use Rattle.std.specs.List.{flat_map};
 ghost use Rattle.qplain.specs.Setups.{principals_in};
 ghost use Rattle.qtext.specs.Written.{Writes};
 ghost use Rattle.qtext.specs.Pieces.{piece_text};
-ghost use Rattle.qtext_metrics.specs.Metrics.{family_text, head_text, holder_text, metrics_text, row_text, total_text};
+ghost use Rattle.qtext_metrics.specs.Metrics.{family_text, family_head, holder_text, metrics_text, family_row, total_text};
 
 use crate::Written;
 use crate::family::Family;
@@ -40,7 +40,7 @@ fn holder<'a>(setup: &'a Setup, row: &BoardRow) -> Piece<'a>
 }
 
 fn put_head<W: Write>(out: &mut W, family: Family) -> Written
-    ensures { Writes (W.contents out.old) (W.contents out.new) result (head_text family) }
+    ensures { Writes (W.contents out.old) (W.contents out.new) result (family_head family) }
 {
     let name = Piece::Text(family.name());
     put_pieces(
@@ -76,7 +76,7 @@ fn put_total<W: Write>(out: &mut W, family: Family, value: Option<u64>) -> Writt
 
 /// Writes the sample of a row. No label needs an escape: a name is of `a` to `z`, `0` to `9`, `_` and `-`.
 fn put_row<W: Write>(out: &mut W, setup: &Setup, family: Family, row: &BoardRow) -> Written
-    ensures { Writes (W.contents out.old) (W.contents out.new) result (row_text setup.now family row.now) }
+    ensures { Writes (W.contents out.old) (W.contents out.new) result (family_row setup.now family row.now) }
 {
     let Some(value) = family.value(row) else {
         return Ok(());
@@ -98,7 +98,7 @@ fn put_row<W: Write>(out: &mut W, setup: &Setup, family: Family, row: &BoardRow)
 
 fn put_rows<W: Write>(out: &mut W, setup: &Setup, family: Family, rows: &[BoardRow]) -> Written
     ensures { Writes (W.contents out.old) (W.contents out.new) result
-        (flat_map (row_text setup.now family) rows.now) }
+        (flat_map (family_row setup.now family) rows.now) }
 {
     for row in rows {
         put_row(out, setup, family, row)?;

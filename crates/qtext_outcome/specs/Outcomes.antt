@@ -45,9 +45,9 @@ abbrev pub rest_text : Outcome → List ℕ
 rest_text o = totals_text o ++ tally_text o.tallies ++ audit_text o.differences
 
 -- what is left at the end: the quota report as of a moment, and that
-abbrev pub left_text : Outcome → ℕ → List ℕ
-left_text o moment = moment_text moment ++ report_text o.records moment ++ rest_text o
+abbrev pub outcome_end : Outcome → ℕ → List ℕ
+outcome_end o moment = moment_text moment ++ report_text o.records moment ++ rest_text o
 
 -- the outcome of a run: what was told while it ran, and what is left
 abbrev pub outcome_text : Outcome → ℕ → List ℕ
-outcome_text o moment = told_text o ++ left_text o moment
+outcome_text o moment = told_text o ++ outcome_end o moment

@@ -2,7 +2,7 @@
 ghost use Rattle.std.specs.Prelude.{◌≡◌, codes, decimal, ◌∷◌, []};
 ghost use Rattle.std.specs.List.{concat};
 ghost use Rattle.qtext.specs.Written.{Writes};
-ghost use Rattle.qtext_outcome.specs.Outcomes.{left_text, moment_text, outcome_text, rest_text, tally_text};
+ghost use Rattle.qtext_outcome.specs.Outcomes.{outcome_end, moment_text, outcome_text, rest_text, tally_text};
 ghost use Rattle.qtext_outcome.specs.Outcomes.{totals_text};
 
 use crate::counts::put_counts;
@@ -68,7 +68,7 @@ pub(crate) fn put_rest<W: Write>(out: &mut W, outcome: &Outcome) -> Written
 /// of the journal, and what an audit of the store found. It takes no memory. After an Err some beginning of the text
 /// went out.
 pub fn put_left<W: Write>(out: &mut W, outcome: &Outcome, moment: u64) -> Result<(), RefusedWrite>
-    ensures { Writes (W.contents out.old) (W.contents out.new) result (left_text outcome.now moment) }
+    ensures { Writes (W.contents out.old) (W.contents out.new) result (outcome_end outcome.now moment) }
 {
     let view = PLAIN;
     put_shown_left(out, Shown { view, moment }, outcome)

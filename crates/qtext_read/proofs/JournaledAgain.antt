@@ -10,7 +10,7 @@ use Rattle.qtext.proofs.WordsAgain.{are_digits, data_again}
 use Rattle.qtext_read.specs.Rows.{verb_of}
 use Rattle.qtext_read.specs.Rows.{values_in}
 use Rattle.qtext_read.specs.Calls.{call_by, call_of}
-use Rattle.qtext_read.specs.Journaled.{counted_call_of, in_one_case, is_project, journaled_call_in, journaled_call_of, journaled_verb_of}
+use Rattle.qtext_read.specs.Journaled.{counted_call_of, in_one_case, is_project_word, journaled_call_in, journaled_call_of, journaled_verb_of}
 use Rattle.qtext_read.specs.Spelling.{call_words}
 use Rattle.qplain.specs.Calls.{IsCall}
 use Rattle.qtext_read.proofs.ArgumentsAgain.{any_id, digits_lack_arrow, kind_again, owner_again, path_again}
@@ -35,12 +35,12 @@ enough_6 : (more : ℕ) → nat_lt (suc (suc (suc (suc (suc (suc more)))))) 6 �
 enough_6 more = le-ltb _ _ (omega arith)
 
 -- the arrow is no project
-no_project : (edition : Edition) → is_project edition (codes "=>") ≡ false
+no_project : (edition : Edition) → is_project_word edition (codes "=>") ≡ false
 no_project One = refl
 no_project Two = refl
 
 -- an id is one in edition 2
-id_is_project : (id : ℕ) → id < 2 ^ 32 → is_project Two (decimal id) ≡ true
+id_is_project : (id : ℕ) → id < 2 ^ 32 → is_project_word Two (decimal id) ≡ true
 id_is_project id lt = rw (digits_lack_arrow (decimal id) (are_digits id (omega (arith, lt)))) refl
 
 -- the call whose words these are, and how many they are, where an arrow stands after them

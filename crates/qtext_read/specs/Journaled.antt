@@ -17,13 +17,13 @@ use Rattle.qtext_read.specs.declared.row.Verb.{Verb}
 use Rattle.qtext_read.specs.declared.row.Verb.TheVariants as verb
 
 -- the fourth word behind chown is a project in edition 2, unless it is the arrow before the reply
-abbrev pub is_project : Edition → List ℕ → Bool
-is_project One word = false
-is_project Two word = not (bytes_eq word (codes "=>"))
+abbrev pub is_project_word : Edition → List ℕ → Bool
+is_project_word One word = false
+is_project_word Two word = not (bytes_eq word (codes "=>"))
 
 -- a chown that names a project has these words behind it
 abbrev pub has_project : Edition → Verb → List (List ℕ) → Bool
-has_project edition verb.Chown (path ∷ uid ∷ gid ∷ fourth ∷ others) = is_project edition fourth
+has_project edition verb.Chown (path ∷ uid ∷ gid ∷ fourth ∷ others) = is_project_word edition fourth
 has_project edition _ _ = false
 
 -- how many of the words behind a verb are its arguments

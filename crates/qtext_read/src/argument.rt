@@ -1,12 +1,11 @@
 //! The arguments that more than one call takes.
 ghost use Rattle.std.specs.Prelude.{◌≡◌};
 ghost use Rattle.qtext.specs.Gives.{Gives};
-ghost use Rattle.qtext.specs.Data.{data_of};
 ghost use Rattle.qtext_read.specs.Arguments.{kind_of, owner_of, path_of};
 
-use qplain::{Data, Edition, Path, SharedItems};
+use qplain::{Edition, Path};
 use qrules::Kind;
-use qtext::{ReadFault, TextKind, data_of as bytes_of, id_of};
+use qtext::{ReadFault, TextKind, id_of};
 use std::alloc::Global;
 
 /// A path: whether it leads anywhere is for the store to say.
@@ -17,14 +16,6 @@ pub(crate) fn path_of(alloc: Global, word: &[u8]) -> Result<Path, ReadFault>
         Some(path) => Ok(path),
         None => Err(ReadFault::Fault(TextKind::BadWord)),
     }
-}
-
-/// The bytes of a write, which calls share from here on.
-pub(crate) fn data_of(alloc: Global, word: &[u8]) -> Result<Data, ReadFault>
-    ensures { Gives result (data_of word.now) }
-{
-    let bytes = bytes_of(alloc, word)?;
-    Ok(Data::new(SharedItems::new(bytes.into_vec())?))
 }
 
 /// `user` or `group`, or in edition 2 `project`.

@@ -3,22 +3,42 @@
 //! A call is large, and what comes of a `match` is moved once more: it is returned where it is made.
 #![tactic(auto, unfolding(crate::specs::Calls::call_of, crate::specs::Calls::call_by, crate::specs::Rows::values_in))]
 
-ghost use Rattle.std.specs.Prelude.{◌≡◌, map, ◌∷◌, []};
+ghost use Rattle.std.specs.Prelude.{◌≡◌, ◌≢◌, length, map, ◌∷◌, []};
 ghost use Rattle.qplain.specs.Calls.{IsCall};
 ghost use Rattle.qplain.specs.declared.edition.Edition.{Edition};
 ghost use Rattle.qtext.specs.Gives.{Gives};
-ghost use Rattle.qtext_read.specs.declared.row.Verb.TheVariants.{SetQuota};
+ghost use Rattle.qtext_read.specs.declared.row.Verb.TheVariants.{Chown, Fill, SetQuota, Write};
 ghost use Rattle.qtext_read.specs.Calls.{AreTyped, call_in, call_of, parts_in, parts_of};
 
-use crate::argument::{LimitsWords, data_of, kind_of, owner_of};
+use crate::argument::{LimitsWords, kind_of, owner_of};
 use crate::paths::Paths;
 use crate::row::{MAX_FILL, Verb, verb_of};
-use qplain::{Call, Data, Edition, Path};
+use qplain::{Call, Data, Edition, Path, SharedItems};
 use qrules::{Graces, Kind, Limits};
-use qtext::{ReadFault, TextKind, byte_of, id_of, number, number_of};
+use qtext::{ReadFault, TextKind, byte_of, data_of, id_of, number, number_of};
 use std::alloc::Global;
 
 const WORD_COUNT: ReadFault = ReadFault::Fault(TextKind::WordCount);
+
+/// `fill PATH OFF COUNT BYTE`: a write of that many equal bytes. It stands apart, so that other calls take less.
+#[inline(never)]
+fn fill_of<'a>(
+    alloc: Global,
+    paths: &mut Paths<'a>,
+    path: &'a [u8],
+    off: &[u8],
+    count: &[u8],
+    byte: &[u8],
+) -> Result<Call, ReadFault>
+    ensures { (edition : Edition) → Gives result
+        (call_of edition Fill (path.now ∷ off.now ∷ count.now ∷ byte.now ∷ [])) }
+{
+    let path = paths.read(alloc, path, &[off, count, byte])?;
+    let off = number(off)?;
+    let count = number_of(TextKind::BadNumber, MAX_FILL, count)?;
+    let bytes = Data::fill(count, byte_of(byte)?);
+    Ok(Call::Write { path, off, bytes })
+}
 
 /// The call of a verb and one word.
 fn of_one_word<'a>(
@@ -88,7 +108,27 @@ fn of_two_words<'a>(
     Ok(Call::Rename { from: path, to })
 }
 
-/// The call of a verb and three words.
+/// `write PATH OFF DATA`.
+fn write_of<'a>(
+    alloc: Global,
+    paths: &mut Paths<'a>,
+    path: &'a [u8],
+    off: &[u8],
+    data: &[u8],
+) -> Result<Call, ReadFault>
+    ensures { (edition : Edition) → Gives result (call_of edition Write (path.now ∷ off.now ∷ data.now ∷ [])) }
+{
+    let path = paths.read(alloc, path, &[off, data])?;
+    let off = number(off)?;
+    let bytes = SharedItems::new(data_of(alloc, data)?.into_vec())?;
+    Ok(Call::Write {
+        path,
+        off,
+        bytes: Data::new(bytes),
+    })
+}
+
+/// The call of a verb but `write`, and three words.
 fn of_three_words<'a>(
     alloc: Global,
     paths: &mut Paths<'a>,
@@ -97,10 +137,11 @@ fn of_three_words<'a>(
     second: &[u8],
     third: &[u8],
 ) -> Result<Call, ReadFault>
+    requires { verb ≢ Write }
     ensures { (edition : Edition) → Gives result
         (call_of edition verb (path.now ∷ second.now ∷ third.now ∷ [])) }
 {
-    if !matches!(verb, Verb::Write | Verb::Read | Verb::Chown) {
+    if !matches!(verb, Verb::Read | Verb::Chown) {
         return Err(WORD_COUNT);
     }
     let path = paths.read(alloc, path, &[second, third])?;
@@ -116,45 +157,28 @@ fn of_three_words<'a>(
         });
     }
     let off = number(second)?;
-    if verb == Verb::Write {
-        let bytes = data_of(alloc, third)?;
-        return Ok(Call::Write { path, off, bytes });
-    }
     let len = number(third)?;
     Ok(Call::Read { path, off, len })
 }
 
-/// The call of a verb and four words.
+/// `chown PATH UID GID PROJECT`.
 #[inline(never)]
-fn of_four_words<'a>(
+fn chown_of<'a>(
     alloc: Global,
     paths: &mut Paths<'a>,
-    verb: Verb,
-    path: &'a [u8],
-    behind: [&[u8]; 3],
+    arguments: &[&'a [u8]],
 ) -> Result<Call, ReadFault>
-    ensures { (edition : Edition) → Gives result
-        (call_of edition verb (path.now ∷ map (λ word. word.now) behind.entry)) }
+    requires { length arguments.now ≡ 4 }
+    ensures { (edition : Edition) → Gives result (call_of edition Chown (map (λ word. word.now) arguments.now)) }
 {
-    let [second, third, fourth] = behind;
-    if !matches!(verb, Verb::Fill | Verb::Chown) {
-        return Err(WORD_COUNT);
-    }
-    let path = paths.read(alloc, path, &behind)?;
-    if verb == Verb::Fill {
-        let off = number(second)?;
-        let count = number_of(TextKind::BadNumber, MAX_FILL, third)?;
-        let bytes = Data::fill(count, byte_of(fourth)?);
-        return Ok(Call::Write { path, off, bytes });
-    }
-    let uid = owner_of(second)?;
-    let gid = owner_of(third)?;
-    let project = Some(id_of(TextKind::BadNumber, fourth)?);
+    let [path, uid, gid, project] = arguments else {
+        unreachable!();
+    };
     Ok(Call::Chown {
-        path,
-        uid,
-        gid,
-        project,
+        path: paths.read(alloc, path, &[uid, gid, project])?,
+        uid: owner_of(uid)?,
+        gid: owner_of(gid)?,
+        project: Some(id_of(TextKind::BadNumber, project)?),
     })
 }
 
@@ -197,6 +221,9 @@ pub(crate) fn call_of<'a>(
         return of_one_word(alloc, paths, verb, path);
     }
     if let [path, second, third] = arguments {
+        if verb == Verb::Write {
+            return write_of(alloc, paths, path, second, third);
+        }
         return of_three_words(alloc, paths, verb, path, second, third);
     }
     if let [kind, id, block_soft, block_hard, inode_soft, inode_hard] = arguments
@@ -214,7 +241,12 @@ pub(crate) fn call_of<'a>(
         return of_two_words(alloc, paths, edition, verb, first, second);
     }
     if let [path, second, third, fourth] = arguments {
-        return of_four_words(alloc, paths, verb, path, [second, third, fourth]);
+        if verb == Verb::Fill {
+            return fill_of(alloc, paths, path, second, third, fourth);
+        }
+        if verb == Verb::Chown {
+            return chown_of(alloc, paths, arguments);
+        }
     }
     Err(WORD_COUNT)
 }

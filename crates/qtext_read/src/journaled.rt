@@ -2,7 +2,7 @@
 ghost use Rattle.std.specs.Prelude.{◌≡◌, ◌≤◌, ◌+◌, length, map, IfOk};
 ghost use Rattle.qtext.specs.Gives.{Gives};
 ghost use Rattle.qtext_read.specs.Journaled.{argument_count, counted_call_of, has_project, in_one_case};
-ghost use Rattle.qtext_read.specs.Journaled.{is_project, journaled_call_in, journaled_call_of, journaled_verb_of};
+ghost use Rattle.qtext_read.specs.Journaled.{is_project_word, journaled_call_in, journaled_verb_of};
 
 use crate::call::call_of;
 use crate::paths::Paths;
@@ -13,8 +13,8 @@ use qtext::{ReadFault, TextKind};
 use std::alloc::Global;
 
 /// Whether the fourth word behind chown is a project: in edition 2, unless it is the arrow before the reply.
-fn is_project(edition: Edition, word: &[u8]) -> bool
-    ensures { result ≡ is_project edition word.now }
+fn is_project_word(edition: Edition, word: &[u8]) -> bool
+    ensures { result ≡ is_project_word edition word.now }
 {
     match edition {
         Edition::One => false,
@@ -27,7 +27,7 @@ fn has_project(edition: Edition, verb: Verb, behind: &[&[u8]]) -> bool
     ensures { result ≡ has_project edition verb (map (λ word. word.now) behind.now) }
 {
     match (verb, behind) {
-        (Verb::Chown, [_, _, _, fourth, ..]) => is_project(edition, fourth),
+        (Verb::Chown, [_, _, _, fourth, ..]) => is_project_word(edition, fourth),
         _ => false,
     }
 }
@@ -66,26 +66,8 @@ fn in_one_case(verb: Verb, arguments: &[&[u8]]) -> bool
     }
 }
 
-/// The call of a verb and its arguments, of which there are as many as it takes, with data in lower case.
-#[tactic(auto, unfolding(crate::specs::Journaled::journaled_call_of))]
-fn journaled_call_of<'a>(
-    alloc: Global,
-    paths: &mut Paths<'a>,
-    edition: Edition,
-    verb: Verb,
-    arguments: &[&'a [u8]],
-) -> Result<Call, ReadFault>
-    ensures { Gives result (journaled_call_of edition verb (map (λ word. word.now) arguments.now)) }
-{
-    let call = call_of(alloc, paths, edition, verb, arguments)?;
-    if !in_one_case(verb, arguments) {
-        return Err(ReadFault::Fault(TextKind::BadHex));
-    }
-    Ok(call)
-}
-
-/// The call of a verb that so many of the words behind it belong to, and how many words it has.
-#[tactic(auto, unfolding(crate::specs::Journaled::counted_call_of))]
+/// The call of a verb that so many of the words behind it belong to, with data in lower case, and how many words it has.
+#[tactic(auto, unfolding(crate::specs::Journaled::counted_call_of, crate::specs::Journaled::journaled_call_of))]
 fn counted_call_of<'a>(
     alloc: Global,
     paths: &mut Paths<'a>,
@@ -101,7 +83,10 @@ fn counted_call_of<'a>(
         return Err(ReadFault::Fault(TextKind::WordCount));
     };
     paths.go_before(after);
-    let call = journaled_call_of(alloc, paths, edition, verb, arguments)?;
+    let call = call_of(alloc, paths, edition, verb, arguments)?;
+    if !in_one_case(verb, arguments) {
+        return Err(ReadFault::Fault(TextKind::BadHex));
+    }
     Ok((call, 1 + count))
 }
 

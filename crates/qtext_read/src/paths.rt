@@ -37,15 +37,6 @@ fn is_same(word: &[u8], other: &[u8]) -> bool
     word.len() == other.len() && word.last() == other.last() && are_same_bytes(word, other)
 }
 
-/// How many bytes these words take, with a space before each.
-fn bytes_of(words: &[&[u8]]) -> usize {
-    let mut bytes = 0usize;
-    for word in words {
-        bytes = bytes.saturating_add(word.len()).saturating_add(1);
-    }
-    bytes
-}
-
 /// Reads the paths of a text one after the other. Each shares the bytes of a page of the text with the others that
 /// stand there, so that most take no memory; the last one that was spelled as the one before it is kept and not read
 /// again. Contracts see how many bytes of the text are left after the words of the next call.
@@ -116,7 +107,11 @@ impl<'a> Paths<'a> {
     pub(crate) fn go_before(&mut self, words: &[&[u8]])
         ensures { self.old ≤ self.new }
     {
-        self.left = self.left.saturating_add(bytes_of(words));
+        let mut bytes = 0usize;
+        for word in words {
+            bytes = bytes.saturating_add(word.len()).saturating_add(1);
+        }
+        self.left = self.left.saturating_add(bytes);
     }
 
     /// The path that this word spells, if the word stands on the page where N bytes of the text are left.
@@ -178,8 +173,10 @@ impl<'a> Paths<'a> {
                 return Ok(kept.path.copy()?);
             }
         }
-        let after = self.left.saturating_add(bytes_of(behind));
-        let left = after.saturating_add(word.len());
+        let mut left = self.left.saturating_add(word.len());
+        for word in behind {
+            left = left.saturating_add(word.len()).saturating_add(1);
+        }
         let path = match self.path_at(left, word)? {
             Some(path) => path,
             None => self.path_on_next_page(alloc, left, word)?,

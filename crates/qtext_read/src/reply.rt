@@ -76,14 +76,6 @@ fn done_of(ino: &[u8], blocks: RiseWords<'_>, inodes: RiseWords<'_>) -> Result<R
     Ok(Reply::Done(ino, change))
 }
 
-/// `SIZE BLOCKS LINKS`.
-#[derive(Clone, Copy)]
-struct SizeWords<'a> {
-    size: &'a [u8],
-    blocks: &'a [u8],
-    links: &'a [u8],
-}
-
 /// `INO dir UID GID 0 0 LINKS` or `INO file UID GID SIZE BLOCKS LINKS`.
 #[tactic(auto, unfolding(crate::specs::RepliesRead::stat_of))]
 fn stat_of(
@@ -91,19 +83,20 @@ fn stat_of(
     dir: &[u8],
     uid: &[u8],
     gid: &[u8],
-    words: SizeWords<'_>,
+    size: &[u8],
+    blocks: &[u8],
+    links: &[u8],
 ) -> Result<Reply, ReadFault>
-    ensures { Gives result (stat_of ino.now dir.now uid.now gid.now
-        words.entry.size.now words.entry.blocks.now words.entry.links.now) }
+    ensures { Gives result (stat_of ino.now dir.now uid.now gid.now size.now blocks.now links.now) }
 {
     let stat = Stat {
         ino: number(ino)?,
         dir: type_of(dir)?,
         uid: id_of(TextKind::BadReply, uid)?,
         gid: id_of(TextKind::BadReply, gid)?,
-        size: number(words.size)?,
-        blocks: number(words.blocks)?,
-        links: number(words.links)?,
+        size: number(size)?,
+        blocks: number(blocks)?,
+        links: number(links)?,
     };
     if stat.dir && (stat.size != 0 || stat.blocks != 0) {
         return Err(ReadFault::Fault(TextKind::BadReply));
@@ -207,12 +200,7 @@ fn reply_of(
         }
         (ReplyWord::Bytes, [digits]) => bytes_of(alloc, digits),
         (ReplyWord::Stat, [ino, dir, uid, gid, size, blocks, links]) => {
-            let words = SizeWords {
-                size,
-                blocks,
-                links,
-            };
-            stat_of(ino, dir, uid, gid, words)
+            stat_of(ino, dir, uid, gid, size, blocks, links)
         }
         (
             ReplyWord::Quota,

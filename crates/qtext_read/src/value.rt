@@ -2,12 +2,11 @@
 ghost use Rattle.std.specs.Prelude.{◌≡◌, ◌≤◌, length, map, IfOk};
 ghost use Rattle.qplain.specs.declared.edition.Edition.TheVariants.{Two};
 ghost use Rattle.qtext_read.specs.Judged.{IsJudged, is_value, values_before};
-ghost use Rattle.qtext_read.specs.Rows.{row};
 
-use crate::argument::{data_of, kind_of, owner_of, path_of};
-use crate::row::{Argument, MAX_FILL, Verb, row_of};
+use crate::argument::{kind_of, owner_of, path_of};
+use crate::row::{Argument, MAX_FILL};
 use qplain::Edition;
-use qtext::{ReadFault, TextKind, byte_of, id_of, number, number_of};
+use qtext::{ReadFault, TextKind, byte_of, data_of, id_of, number, number_of};
 use std::alloc::{AllocError, Global};
 
 /// Whether something was read, whatever it is. An Err is out of memory.
@@ -47,9 +46,9 @@ fn is_value(alloc: Global, argument: Argument, word: &[u8]) -> Result<bool, Allo
     }
 }
 
-/// How many words stand before the first that is none in the place of its argument.
+/// How many of these words stand before the first that is none in its place of the row. An Err is out of memory.
 #[tactic(auto, unfolding(crate::specs::Judged::values_before))]
-fn before(alloc: Global, row: &[Argument], words: &[&[u8]]) -> Result<usize, AllocError>
+pub fn values_before(alloc: Global, row: &[Argument], words: &[&[u8]]) -> Result<usize, AllocError>
     ensures before { IfOk result (λ before.
         before ≡ values_before Two row.now (map (λ word. word.now) words.now)) }
     ensures within { IfOk result (λ before. before ≤ length words.now) }
@@ -61,18 +60,8 @@ fn before(alloc: Global, row: &[Argument], words: &[&[u8]]) -> Result<usize, All
         return Ok(0);
     };
     if is_value(alloc, *argument, word)? {
-        Ok(1 + before(alloc, row, words)?)
+        Ok(1 + values_before(alloc, row, words)?)
     } else {
         Ok(0)
     }
-}
-
-/// How many of the words behind a verb of a script stand before the first that is none in the place of its argument.
-/// An Err is out of memory.
-pub fn values_before(alloc: Global, verb: Verb, words: &[&[u8]]) -> Result<usize, AllocError>
-    ensures before { IfOk result (λ before.
-        before ≡ values_before Two (row verb) (map (λ word. word.now) words.now)) }
-    ensures within { IfOk result (λ before. before ≤ length words.now) }
-{
-    before(alloc, row_of(verb), words)
 }

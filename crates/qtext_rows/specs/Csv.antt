@@ -37,9 +37,9 @@ status_text used soft hard = if is_over used hard then codes "hard" else if is_o
     else codes "ok"
 
 -- what is left of a grace at a moment: nothing where none runs, the seconds, or none
-abbrev pub left_text : ℕ → Option ℕ → List ℕ
-left_text moment None = []
-left_text moment (Some end) = if nat_lt moment end then decimal (end - moment) else codes "none"
+abbrev pub grace_left : ℕ → Option ℕ → List ℕ
+grace_left moment None = []
+grace_left moment (Some end) = if nat_lt moment end then decimal (end - moment) else codes "none"
 
 -- the fields of a record: its name, how its uses stand, KiB in use, their limits and grace, inodes, theirs
 abbrev pub csv_fields : ℕ → RecordRow → List (List ℕ)
@@ -47,8 +47,8 @@ csv_fields moment r = r.name
     ∷ status_text (amount_of Blocks r.blocks) r.limits.block_soft r.limits.block_hard
     ∷ status_text (amount_of Inodes r.inodes) r.limits.inode_soft r.limits.inode_hard
     ∷ decimal (amount_of Blocks r.blocks) ∷ decimal r.limits.block_soft ∷ decimal r.limits.block_hard
-    ∷ left_text moment r.block_end
-    ∷ decimal r.inodes ∷ decimal r.limits.inode_soft ∷ decimal r.limits.inode_hard ∷ left_text moment r.inode_end ∷ []
+    ∷ grace_left moment r.block_end
+    ∷ decimal r.inodes ∷ decimal r.limits.inode_soft ∷ decimal r.limits.inode_hard ∷ grace_left moment r.inode_end ∷ []
 
 -- a record of this kind, and nothing of one of another, nor of one that is over no limit where only those are asked for
 abbrev pub csv_record : View → Kind → ℕ → RecordRow → List ℕ

@@ -24,13 +24,13 @@ shown_write path off bytes None = call_members (Write path off bytes)
 shown_write path off bytes (Some byte) = fill_members path off (length bytes) byte
 
 -- a call as it is shown
-abbrev pub shown_call : Call → List ℕ
-shown_call (Write path off bytes) = shown_write path off bytes (repeated bytes)
-shown_call call = call_members call
+abbrev pub shown_call_member : Call → List ℕ
+shown_call_member (Write path off bytes) = shown_write path off bytes (repeated bytes)
+shown_call_member call = call_members call
 
 -- the moment, the caller and the call of a line
 abbrev pub asked_members : Line → List ℕ
-asked_members l = caller_members l.moment l.cred ++ shown_call l.call
+asked_members l = caller_members l.moment l.cred ++ shown_call_member l.call
 
 -- a line's object: whose it is, what it asked for where calls are to be shown, and what it was answered
 abbrev pub line_object : Bool → ℕ → ℕ → Line → Result Receipt CallFault → List ℕ

@@ -1,7 +1,7 @@
 //! The lines of transcripts as objects.
 ghost use Rattle.std.specs.Prelude.{◌++◌, [], if◌then◌else◌};
 ghost use Rattle.qtext.specs.Written.{Writes};
-ghost use Rattle.qtext_rows.specs.Lines.{asked_members, line_object, line_start, shown_call};
+ghost use Rattle.qtext_rows.specs.Lines.{asked_members, line_object, line_start, shown_call_member};
 ghost use Rattle.qtext_rows.specs.Lines.{transcript_objects, transcripts_objects};
 ghost use Rattle.qtext_rows.specs.Replies.{answer_members};
 
@@ -28,7 +28,7 @@ fn put_start<W: Write>(out: &mut W, worker: u64, place: u64) -> Written
 
 /// Writes a call, of which a write is told as a fill where all of its bytes are equal.
 fn put_shown_call<W: Write>(out: &mut W, call: &Call) -> Written
-    ensures { Writes (W.contents out.old) (W.contents out.new) result (shown_call call.now) }
+    ensures { Writes (W.contents out.old) (W.contents out.new) result (shown_call_member call.now) }
 {
     match call {
         Call::Write { path, off, bytes } => match repeated(bytes.input()) {

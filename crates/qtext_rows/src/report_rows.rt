@@ -5,7 +5,7 @@ ghost use Rattle.csv.specs.Writing.{default_writer, row_text};
 ghost use Rattle.qrules.specs.Kinds.{is_same_kind};
 ghost use Rattle.qrules.specs.declared.kind.Kind.TheVariants.{Group, Project};
 ghost use Rattle.qtext.specs.Written.{Writes};
-ghost use Rattle.qtext_rows.specs.Csv.{csv_fields, csv_heads, csv_kind, csv_record, csv_text, kind_head, left_text};
+ghost use Rattle.qtext_rows.specs.Csv.{csv_fields, csv_heads, csv_kind, csv_record, csv_text, grace_left, kind_head};
 ghost use Rattle.qtext_rows.specs.Csv.{status_text};
 
 use crate::Written;
@@ -68,7 +68,7 @@ fn number(n: u64) -> TextLine
 
 /// What is left of a grace.
 fn left(moment: u64, end: Option<u64>) -> TextLine
-    ensures { result ≡ left_text moment end }
+    ensures { result ≡ grace_left moment end }
 {
     match end {
         None => TextLine::new(),

@@ -14,7 +14,7 @@ use Rattle.qrun_replay.specs.declared.outcome.Outcome.{Outcome}
 use Rattle.qtext.specs.declared.telling.Telling.{Telling}
 use Rattle.qtext_outcome.specs.Denials.{IsDone}
 use Rattle.qtext_outcome.specs.Moments.{moment_of}
-use Rattle.qtext_outcome.specs.Outcomes.{left_text}
+use Rattle.qtext_outcome.specs.Outcomes.{outcome_end}
 use Rattle.qtext_rows.specs.Formats.{formatted_text}
 use Rattle.qtext_files.specs.Spelling.{CanBeRead, journal_spelling}
 use Rattle.qtext_expand.specs.Expansions.{expansion}
@@ -26,12 +26,12 @@ use Rattle.qtext_job.specs.declared.job.Job.TheVariants.{Run, Replay, Serve, Exp
 use Rattle.qtext_job.specs.declared.pair.Pair.{Pair}
 use Rattle.qtext_job.specs.declared.line_fault.LineFault.{LineFault}
 use Rattle.qtext_job.specs.declared.line_fault.LineFault.TheVariants.{Line, Memory}
-use Rattle.qtool_files.specs.Held.{Held, IsKept, IsUnder}
+use Rattle.qtool_files.specs.Held.{Held, StandsUnder, IsUnder}
 use Rattle.qtool.specs.Under.{IsConfigUnder, IsReplayUnder, IsRunUnder, IsServiceUnder}
 
 -- an outcome's text as it is asked for, as of the moment that is asked for
-abbrev pub told_text : Telling → Outcome → List ℕ
-told_text telling outcome = formatted_text telling.view outcome (moment_of telling.at outcome.transcripts)
+abbrev pub printed_text : Telling → Outcome → List ℕ
+printed_text telling outcome = formatted_text telling.view outcome (moment_of telling.at outcome.transcripts)
 
 -- it is told with 1 where a line was not done and the caller is strict, and else with 0
 abbrev pub IsToldWith : Telling → List Transcript → ℕ → Type 0
@@ -41,13 +41,13 @@ IsToldWith telling transcripts status =
 
 -- the output grew by the outcome's text, and this is the status for it
 pub record IsTold (telling : Telling) (outcome : Outcome) (status : ℕ) (old new : Option (List ℕ)) : Type 0 where
-  pub text : Appends old new (told_text telling outcome)
+  pub text : Appends old new (printed_text telling outcome)
   pub status_is : IsToldWith telling outcome.transcripts status
 
 -- where a file is named for the journal, its spelling stands under that name, and can be read again
 abbrev pub IsJournalKept : Held → Held → Option (List ℕ) → Written → Type 0
 IsJournalKept files kept name journal =
-    IfSome name (λ name. IsKept files kept name (journal_spelling journal) × CanBeRead journal)
+    IfSome name (λ name. StandsUnder files kept name (journal_spelling journal) × CanBeRead journal)
 
 -- an outcome of the run was printed, and its journal is kept where a file is named for it
 pub record PrintsRun (config : List ℕ) (scripts : List (List ℕ)) (boards : ℕ) (telling : Telling)
@@ -68,7 +68,7 @@ pub record PrintsReplay (config journal : List ℕ) (telling : Telling) (status 
 pub record PrintsService (config : List ℕ) (at : ℕ) (files : Held) (old new : Option (List ℕ)) : Type 0 where
   pub outcome : Outcome
   pub is : IsServiceUnder files config outcome
-  pub prints : Appends old new (left_text outcome at)
+  pub prints : Appends old new (outcome_end outcome at)
 
 -- the file that is read for a friendly script of this name: what standard input comes from where it is `-`
 abbrev pub friendly_file : List ℕ → List ℕ

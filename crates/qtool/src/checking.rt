@@ -1,4 +1,4 @@
-//! All that is wrong in a configuration and in scripts, told at once.
+//! All that is wrong in a configuration and in scripts, told at once, up to a bound for each file.
 ghost use Rattle.std.specs.Prelude.{◌≡◌, [], Ok, Some, true, map, All, option_map, string_bytes, IfOk};
 ghost use Rattle.qtext_check.specs.Faults.{faults_of};
 ghost use Rattle.qtool.specs.Printed.{IsAllSound, IsSoundUnder};
@@ -9,7 +9,7 @@ use crate::reading::{load, text_of};
 use crate::standard::test_scripts;
 use crate::{Config, Files, Setup};
 use qtext::put;
-use qtext_check::{Finding, Verdict, check_config, finding_text, findings_of, put_name};
+use qtext_check::{Finding, MOST_TOLD, Verdict, check_config, finding_text, findings_of, put_name};
 use std::alloc::Global;
 use std::io::Write;
 
@@ -33,19 +33,32 @@ fn tell_text<E: Write>(name: &str, text: &[u8], err: &mut E) {
     let _ = put(err, text);
 }
 
+/// Tells how many faults a file has beside those that were told, where it has more.
+fn tell_more<E: Write>(alloc: Global, name: &str, more: u64, err: &mut E) -> Result<(), Ending> {
+    if more > 0 {
+        let Ok(text) = format!(in alloc; ": {more} more\n") else {
+            return Err(Ending::Memory);
+        };
+        tell_text(name, text.as_bytes(), err);
+    }
+    Ok(())
+}
+
+/// Tells the first of these faults, and how many more there are.
 fn tell<E: Write>(
     alloc: Global,
     name: &str,
     findings: &[Finding<'_>],
     err: &mut E,
 ) -> Result<(), Ending> {
-    for finding in findings {
+    let told = findings.len().min(MOST_TOLD);
+    for finding in &findings[..told] {
         let Ok(text) = finding_text(alloc, finding) else {
             return Err(Ending::Memory);
         };
         tell_text(name, &text, err);
     }
-    Ok(())
+    tell_more(alloc, name, (findings.len() - told) as u64, err)
 }
 
 /// Reads a configuration. What is wrong in it is told before it ends for that.
@@ -61,10 +74,11 @@ fn sound_config<F: Files, E: Write>(
     let bytes = load(alloc, files, name)?;
     match check_config(alloc, text_of(alloc, name, &bytes)?) {
         Ok(Verdict::Sound(config)) => Ok(config),
-        Ok(Verdict::Faulty(findings)) => {
+        Ok(Verdict::Faulty(findings, more)) => {
             for finding in &findings {
                 tell_text(name, &finding.text, err);
             }
+            tell_more(alloc, name, more, err)?;
             Err(Ending::Faulty)
         }
         Err(_none) => Err(Ending::Memory),

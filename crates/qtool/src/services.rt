@@ -1,11 +1,11 @@
 //! Services: clients by the names of their streams, from the command line to what is left of them.
 ghost use Rattle.std.specs.Prelude.{◌≡◌, ◌⊎◌, ◌<◌, ◌≤◌, All, IfOk, OnOk, length};
 ghost use Rattle.std.specs.Io.KnownBytes.{Appends};
-ghost use Rattle.qtext_outcome.specs.Outcomes.{left_text};
+ghost use Rattle.qtext_outcome.specs.Outcomes.{outcome_end};
 ghost use Rattle.qshare.specs.declared.opening.TheConstants.{MAX_SEATS};
 ghost use Rattle.qrun.specs.Serving.{monitors_in};
 ghost use Rattle.qrun.specs.Watching.{seats_for};
-ghost use Rattle.qrun_worker.specs.Work.{IsNew};
+ghost use Rattle.qrun_worker.specs.Work.{IsNewClient};
 ghost use Rattle.qtool.specs.Printed.{PrintsService, seen, told_at};
 ghost use Rattle.qtool.specs.Under.{IsServiceUnder};
 
@@ -64,7 +64,7 @@ fn client_of<'a, F: NamedStreams>(
     names: &ClientNames<'_>,
     stop: Option<&'a AtomicBool>,
 ) -> Result<NamedClient<'a, F>, NoMemory>
-    ensures { IfOk result (λ c. IsNew c.owed c.stands) }
+    ensures { IfOk result (λ c. IsNewClient c.owed c.stands) }
 {
     let streams = ToldStreams {
         streams: files.streams(names.input, names.output)?,
@@ -84,7 +84,7 @@ fn clients_of<'a, F: NamedStreams>(
     stop: Option<&'a AtomicBool>,
 ) -> Result<Vec<NamedClient<'a, F>>, NoMemory>
     ensures many { IfOk result (λ clients. length clients.items ≡ length names.now) }
-    ensures new { IfOk result (λ clients. All (λ c. IsNew c.owed c.stands) clients.items) }
+    ensures new { IfOk result (λ clients. All (λ c. IsNewClient c.owed c.stands) clients.items) }
 {
     let mut clients = Vec::new(alloc);
     for names in names {
@@ -209,7 +209,7 @@ fn finish_service<F: Files, O: Write>(
     files: &mut F,
     out: &mut O,
 ) -> Result<(), Ending>
-    ensures { OnOk result (Appends (O.contents out.old) (O.contents out.new) (left_text outcome asked.entry.at)) }
+    ensures { OnOk result (Appends (O.contents out.old) (O.contents out.new) (outcome_end outcome asked.entry.at)) }
 {
     let written = write_service(&outcome, asked.at, asked.names.journal, files, out);
     mem::forget(outcome);

@@ -4,7 +4,7 @@ ghost use Rattle.qtext_client.specs.Wires.{HeldBy};
 
 use crate::fault_text::put_client_fault;
 use qrun_client::ClientEnd;
-use qtext_client::{Pair, Streams};
+use qtext_client::{OpenStreams, Streams};
 use std::io::{BufWriter, Write};
 
 /// The streams of the client of this number, their names, and where their faults are told.
@@ -60,7 +60,7 @@ impl<S: Streams + Drop, E: Write + Drop> Streams for ToldStreams<S, E> {
 
     ghost took = { λ t. S.took t.streams };
 
-    fn open(&mut self) -> Result<Pair<S::In, S::Out>, ClientEnd> {
+    fn open(&mut self) -> Result<OpenStreams<S::In, S::Out>, ClientEnd> {
         self.streams.open()
     }
 

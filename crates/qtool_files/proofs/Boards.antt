@@ -7,7 +7,7 @@ use Rattle.qplain.specs.Setups.{Setting}
 use Rattle.qtext.specs.Written.{Writes}
 use Rattle.qtext_metrics.specs.Metrics.{metrics_text}
 use Rattle.qtool_files.specs.BoardFiles.{HoldsLast, IsBoardFile}
-use Rattle.qtool_files.specs.Held.{IsKept}
+use Rattle.qtool_files.specs.Held.{StandsUnder}
 use Rattle.qtool_files.proofs.Drafts.{written_whole}
 
 abbrev Files : Type 0
@@ -15,7 +15,7 @@ Files = Option (List ℕ → Option (List ℕ))
 
 -- a draft that was empty, and to which this text was written, was put under the name
 pub shown_whole : (old new : Files) (empty written : Option (List ℕ)) (name text : List ℕ) → (IsSome old → empty ≡ Some []) → Appends empty written text
-    → ((t : List ℕ) → written ≡ Some t → IsKept old new name t) → IsKept old new name text
+    → ((t : List ℕ) → written ≡ Some t → StandsUnder old new name t) → StandsUnder old new name text
 shown_whole None new empty written name text none appends kept = tt
 shown_whole (Some old) new empty written name text none appends kept = kept text (written_whole empty written text (none refl) appends)
 
@@ -26,17 +26,17 @@ wrote_whole old new (Ok done) text sound writes = writes
 wrote_whole old new (Err refused) text sound writes = absurd cc
 
 -- a text in the place of another
-kept_over : (old mid new : Files) (name first text : List ℕ) → IsKept old mid name first → IsKept mid new name text → IsKept old new name text
+kept_over : (old mid new : Files) (name first text : List ℕ) → StandsUnder old mid name first → StandsUnder mid new name text → StandsUnder old new name text
 kept_over None mid new name first text one two = tt
 kept_over (Some old) None new name first text one two = absurd one
 kept_over (Some old) (Some mid) None name first text one two = absurd two
 kept_over (Some old) (Some mid) (Some new) name first text one two = (two.0, λ other apart. two.1 other apart ∙ one.1 other apart)
 
 module _ (setting : Setting) (name : List ℕ) where
-  holds_more : (old mid new : Files) (b : Board) (boards : List Board) → IsKept old mid name (metrics_text setting b)
+  holds_more : (old mid new : Files) (b : Board) (boards : List Board) → StandsUnder old mid name (metrics_text setting b)
       → HoldsLast setting name mid new boards → HoldsLast setting name old new (b ∷ boards)
   holds_more old mid new b boards one (inl (none, same)) =
-      inr ([], b, ap (λ bs. b ∷ bs) none, subst (λ f. IsKept old f name (metrics_text setting b)) (sym same) one)
+      inr ([], b, ap (λ bs. b ∷ bs) none, subst (λ f. StandsUnder old f name (metrics_text setting b)) (sym same) one)
   holds_more old mid new b boards one (inr (before, last, is, two)) =
       inr (b ∷ before, last, ap (λ bs. b ∷ bs) is, kept_over old mid new name (metrics_text setting b) (metrics_text setting last) one two)
 
@@ -65,7 +65,7 @@ module _ (setting : Setting) (name : List ℕ) where
           some (x ∷ before) b none = absurd cc
 
   -- a board was written
-  pub writes : (old mid new : Files) (b : Board) (boards : List Board) (after : Bool) → IsKept old mid name (metrics_text setting b)
+  pub writes : (old mid new : Files) (b : Board) (boards : List Board) (after : Bool) → StandsUnder old mid name (metrics_text setting b)
       → IsBoardFile setting name false mid boards after new → IsBoardFile setting name false old (b ∷ boards) after new
   writes old mid new b boards after kept is = record {
     written = b ∷ is.written;

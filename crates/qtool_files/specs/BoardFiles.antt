@@ -4,14 +4,15 @@ use mathlib.Core.List.{IsPrefix}
 use Rattle.qplain.specs.declared.board.Board.{Board}
 use Rattle.qplain.specs.Setups.{Setting}
 use Rattle.qtext_metrics.specs.Metrics.{metrics_text}
-use Rattle.qtool_files.specs.Held.{IsKept}
+use Rattle.qtool_files.specs.Held.{StandsUnder}
 
 -- after these boards were written the text of the last stands under the name, and under any other what stood there;
 -- where there was none all is as it was
 abbrev pub HoldsLast : Setting → List ℕ → Option (List ℕ → Option (List ℕ)) → Option (List ℕ → Option (List ℕ))
     → List Board → Type 0
 HoldsLast setting name old new boards = ((boards ≡ []) × (new ≡ old))
-    ⊎ ((before : List Board) × (b : Board) × (boards ≡ before ++ b ∷ []) × IsKept old new name (metrics_text setting b))
+    ⊎ ((before : List Board) × (b : Board) × (boards ≡ before ++ b ∷ [])
+    × StandsUnder old new name (metrics_text setting b))
 
 -- a file that is shown these boards, and has refused or not: the first of them were written, all of them unless it has
 -- refused by then, and the files hold the last of those; one that has refused before writes no more

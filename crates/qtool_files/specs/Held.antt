@@ -12,8 +12,8 @@ IsUnder None name text = Unit {0}
 IsUnder (Some held) name text = held name ≡ Some text
 
 -- under this name stands this text, and under any other what stood there
-abbrev pub IsKept : Held → Held → List ℕ → List ℕ → Type 0
-IsKept None new name text = Unit {0}
-IsKept (Some old) None name text = ⊥
-IsKept (Some old) (Some new) name text =
+abbrev pub StandsUnder : Held → Held → List ℕ → List ℕ → Type 0
+StandsUnder None new name text = Unit {0}
+StandsUnder (Some old) None name text = ⊥
+StandsUnder (Some old) (Some new) name text =
     (new name ≡ Some text) × ((other : List ℕ) → other ≢ name → new other ≡ old other)

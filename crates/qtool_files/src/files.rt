@@ -1,6 +1,6 @@
 //! Files and streams of clients by name, as the program asks for them.
 ghost use Rattle.std.specs.Prelude.{◌≡◌, ℕ, List, [], Option, None, Some, IfOk, IsSome, OnErr, OnOk};
-ghost use Rattle.qtool_files.specs.Held.{IsKept, IsUnder};
+ghost use Rattle.qtool_files.specs.Held.{StandsUnder, IsUnder};
 
 use qplain::{NoMemory, Script};
 use qrun::Gate;
@@ -58,13 +58,13 @@ pub trait Files {
     /// was, and nothing of the draft.
     fn keep(&mut self, draft: Self::Draft, name: &str) -> Result<(), FileFault>
         ensures kept { (text : List ℕ) → Self.Draft.contents draft ≡ Some text
-            → OnOk result (IsKept (held self.old) (held self.new) name.now text) }
+            → OnOk result (StandsUnder (held self.old) (held self.new) name.now text) }
         ensures err { OnErr result (held self.new ≡ held self.old) };
 
     /// The same, where the file may be lost if the machine fails.
     fn show(&mut self, draft: Self::Draft, name: &str) -> Result<(), FileFault>
         ensures shown { (text : List ℕ) → Self.Draft.contents draft ≡ Some text
-            → OnOk result (IsKept (held self.old) (held self.new) name.now text) }
+            → OnOk result (StandsUnder (held self.old) (held self.new) name.now text) }
         ensures err { OnErr result (held self.new ≡ held self.old) };
 
     /// Takes a draft away.

@@ -2,10 +2,10 @@
 ghost use Rattle.std.specs.Prelude.{◌≡◌, Err, IfOk, IfErr, IfSome, IsSome, OnErr, OnOk};
 ghost use Rattle.std.specs.Io.KnownBytes.{Appends};
 ghost use Rattle.qtext.specs.Written.{AppendsFront, Writes};
-ghost use Rattle.qtext_outcome.specs.Outcomes.{left_text};
+ghost use Rattle.qtext_outcome.specs.Outcomes.{outcome_end};
 ghost use Rattle.qtext_rows.specs.Formats.{formatted_text};
 ghost use Rattle.qtext_files.specs.Spelling.{CanBeRead, journal_spelling};
-ghost use Rattle.qtool_files.specs.Held.{IsKept};
+ghost use Rattle.qtool_files.specs.Held.{StandsUnder};
 ghost use Rattle.qtool_files.specs.declared.finishing.Refuser.TheVariants.{Output};
 
 use crate::Files;
@@ -45,7 +45,7 @@ fn finish_outcome<W: Write>(
 /// Writes what is left of a service with the report at the moment, and flushes it.
 #[tactic(auto, using(crate::proofs::Flushes::refused_at_the_flush, qtext::proofs::Fronts::keeps_appends))]
 fn finish_left<W: Write>(outcome: &Outcome, at: u64, out: &mut W) -> Result<(), RefusedWrite>
-    ensures { Writes (W.contents out.old) (W.contents out.new) result (left_text outcome.now at) }
+    ensures { Writes (W.contents out.old) (W.contents out.new) result (outcome_end outcome.now at) }
 {
     if put_left(out, outcome, at).is_err() || out.flush().is_err() {
         return Err(RefusedWrite);
@@ -69,7 +69,8 @@ fn finish_journal<W: Write>(journal: &Journal, out: &mut W) -> Result<(), Refuse
 #[tactic(auto, using(crate::proofs::Drafts::written_whole))]
 fn keep_journal<F: Files>(journal: &Journal, files: &mut F, name: &str) -> Result<(), RefusedWrite>
     ensures again { IfOk result (λ _. CanBeRead journal.now) }
-    ensures kept { OnOk result (IsKept (F.held files.old) (F.held files.new) name.now (journal_spelling journal.now)) }
+    ensures kept { OnOk result
+        (StandsUnder (F.held files.old) (F.held files.new) name.now (journal_spelling journal.now)) }
     ensures err { OnErr result (F.held files.new ≡ F.held files.old) }
 {
     let Ok(mut draft) = files.draft(name) else {
@@ -90,7 +91,7 @@ fn keep_asked<F: Files>(
 ) -> Result<(), RefusedWrite>
     ensures again { IfOk result (λ _. IsSome journal.entry → CanBeRead outcome.now.journal) }
     ensures kept { OnOk result (IfSome journal.entry (λ name.
-        IsKept (F.held files.old) (F.held files.new) name.now (journal_spelling outcome.now.journal))) }
+        StandsUnder (F.held files.old) (F.held files.new) name.now (journal_spelling outcome.now.journal))) }
     ensures err { OnErr result (F.held files.new ≡ F.held files.old) }
 {
     match journal {
@@ -122,7 +123,7 @@ pub fn write_run<F: Files, O: Write>(
 
     // Where files tell what they hold, as the machine's do not.
     ensures kept { IfOk result (λ _. IfSome journal.entry (λ name.
-        IsKept (F.held files.old) (F.held files.new) name.now (journal_spelling outcome.now.journal))) }
+        StandsUnder (F.held files.old) (F.held files.new) name.now (journal_spelling outcome.now.journal))) }
     ensures as_before { IfErr result (λ _. F.held files.new ≡ F.held files.old) }
 {
     if finish_outcome(outcome, view, at, out).is_err() {
@@ -142,13 +143,13 @@ pub fn write_service<F: Files, O: Write>(
     out: &mut O,
 ) -> Result<(), Refuser>
     ensures whole { (result ≡ Err Output → ⊥)
-        → Appends (O.contents out.old) (O.contents out.new) (left_text outcome.now at) }
+        → Appends (O.contents out.old) (O.contents out.new) (outcome_end outcome.now at) }
     ensures beginning { result ≡ Err Output
-        → AppendsFront (O.contents out.old) (O.contents out.new) (left_text outcome.now at) }
+        → AppendsFront (O.contents out.old) (O.contents out.new) (outcome_end outcome.now at) }
     ensures no_file { result ≡ Err Output → files.new ≡ files.old }
     ensures again { IfOk result (λ _. IsSome journal.entry → CanBeRead outcome.now.journal) }
     ensures kept { IfOk result (λ _. IfSome journal.entry (λ name.
-        IsKept (F.held files.old) (F.held files.new) name.now (journal_spelling outcome.now.journal))) }
+        StandsUnder (F.held files.old) (F.held files.new) name.now (journal_spelling outcome.now.journal))) }
     ensures as_before { IfErr result (λ _. F.held files.new ≡ F.held files.old) }
 {
     if finish_left(outcome, at, out).is_err() {

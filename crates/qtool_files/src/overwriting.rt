@@ -1,6 +1,6 @@
 //! What the journal of a run must not be written over.
 ghost use Rattle.std.specs.Prelude.{◌≡◌, ◌≤◌, IfErr, IfSome, length};
-ghost use Rattle.qtool_files.specs.Overwritten.{IsOneOf};
+ghost use Rattle.qtool_files.specs.Overwritten.{IsScriptOf};
 
 use crate::Files;
 
@@ -36,7 +36,7 @@ pub fn test_journal<F: Files>(
     config: &str,
     scripts: &[String],
 ) -> Result<(), Overwritten>
-    ensures one { IfErr result (IsOneOf (length scripts.now)) }
+    ensures one { IfErr result (IsScriptOf (length scripts.now)) }
     ensures same { F.held files.new ≡ F.held files.old }
 {
     let Some(name) = journal else {

@@ -4,7 +4,7 @@ ghost use Rattle.std.specs.Prelude.{◌≢◌, refl, ⊤};
 ghost use Rattle.qrun_client.specs.declared.client.ClientEnd.TheVariants.{Served};
 
 use qrun_client::ClientEnd;
-use qtext_client::{Pair, Streams};
+use qtext_client::{OpenStreams, Streams};
 use std::fs::{self, File, OpenOptions};
 use std::io::{self, BufReader, BufWriter, ErrorKind, Read, Write};
 
@@ -107,13 +107,13 @@ impl Streams for ClientStreams<'_> {
 
     ghost took = { λ _. None };
 
-    fn open(&mut self) -> Result<Pair<Source, Sink>, ClientEnd> {
+    fn open(&mut self) -> Result<OpenStreams<Source, Sink>, ClientEnd> {
         let input = match open_source(self.rt, self.input.as_str()) {
             Ok(input) => input,
             Err(error) => return Err(unopened(&error, ClientEnd::NoInput)),
         };
         match open_sink(self.rt, self.output.as_str()) {
-            Ok(output) => Ok(Pair { input, output }),
+            Ok(output) => Ok(OpenStreams { input, output }),
             Err(error) => Err(unopened(&error, ClientEnd::NoOutput)),
         }
     }

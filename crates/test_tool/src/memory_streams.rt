@@ -3,7 +3,7 @@
 ghost use Rattle.std.specs.Prelude.{refl, ⊤};
 
 use crate::short::Short;
-use qtext_client::{Pair, Streams};
+use qtext_client::{OpenStreams, Streams};
 use qtool::ClientEnd;
 use std::alloc::Global;
 use std::io::{BufReader, BufWriter};
@@ -30,7 +30,7 @@ impl Streams for MemoryStreams {
 
     ghost took = { λ _. None };
 
-    fn open(&mut self) -> Result<Pair<&'static [u8], Short>, ClientEnd> {
+    fn open(&mut self) -> Result<OpenStreams<&'static [u8], Short>, ClientEnd> {
         let Some(lines) = self.lines else {
             return Err(ClientEnd::NoInput);
         };
@@ -39,7 +39,7 @@ impl Streams for MemoryStreams {
         };
         let replies = Short::new(self.alloc, self.left, true);
         match BufWriter::with_capacity(self.alloc, BUFFER, replies) {
-            Ok(output) => Ok(Pair { input, output }),
+            Ok(output) => Ok(OpenStreams { input, output }),
             Err(_) => Err(ClientEnd::Memory),
         }
     }

@@ -88,6 +88,7 @@ impl Store {
         ensures blocks { result.weight.blocks ≡ weight Blocks (inode_of node.now) }
         ensures few { result.weight.blocks ≤ MAX_BLOCKS }
     {
+        // Shows that the store holds its invariant, in which the inode's blocks are few. Nothing runs.
         let _ = &self.next;
         self.claim(request, node.owners, node.blocks())
     }

@@ -1,6 +1,6 @@
 //! What a decision leaves to do.
 ghost use Rattle.std.specs.Prelude.{◌≡◌};
-ghost use Rattle.qstore.specs.Told.{told};
+ghost use Rattle.qstore.specs.Told.{total_change};
 
 use crate::{Exchange, Plan, Refusal, Reply, Store};
 use qstore_accounts::change_of;
@@ -29,7 +29,7 @@ impl Store {
     #[inline(always)]
     pub(super) fn granted(&mut self, number: u64, exchange: &Exchange, change: TreeChange) -> Reply
         ensures plan { self.new ≡ record self.old { plan = Plan.Change change } }
-        ensures reply { result ≡ Reply.Done number (told exchange.now) }
+        ensures reply { result ≡ Reply.Done number (total_change exchange.now) }
     {
         self.plan = Plan::Change { change };
         Reply::Done(number, change_of(exchange.from, exchange.to))

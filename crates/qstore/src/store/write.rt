@@ -10,7 +10,7 @@ ghost use Rattle.qstore.specs.Decided.{CanDecide, IsDecisionOf, IsPlanned, IsStr
 ghost use Rattle.qstore.specs.Ready.{CanCarryOut, effect};
 ghost use Rattle.qstore.specs.Stored.{IsStorable};
 ghost use Rattle.qstore.specs.Targets.{IsTarget, put_plan, put_planned, put_reply};
-ghost use Rattle.qstore.specs.Told.{told};
+ghost use Rattle.qstore.specs.Told.{total_change};
 
 use crate::{Call, Cred, Decision, Exchange, NoMemory, Refusal, Reply, Request, Store};
 use qblocks::{Input, Spare};
@@ -181,7 +181,7 @@ impl Store {
         requires can { CanCarryOut self.old (put_plan target.now off (input_bytes bytes) spare) }
         requires sound { IsStorable (effect self.old (put_plan target.now off (input_bytes bytes) spare)) }
         ensures state { self.new.state ≡ effect self.old (put_plan target.now off (input_bytes bytes.entry) spare) }
-        ensures reply { result ≡ Reply.Done target.now.number (told target.now.exchange) }
+        ensures reply { result ≡ Reply.Done target.now.number (total_change target.now.exchange) }
     {
         write(&mut self.tree, target.number, off, bytes, spare);
         self.accounts.settle(&self.bill);

@@ -3,6 +3,8 @@
 use super::rules::{Form, is_in_range, rule_of};
 use super::telling::Said;
 use super::{Check, Done, Site};
+use crate::MOST_TOLD;
+use qplain::MAX_PRINCIPALS;
 use qtext_config::{ConfigFault, DOCUMENT_KEYS, PRINCIPAL_KEYS};
 use toml::{Table, Value};
 
@@ -14,8 +16,11 @@ fn elements_of<'a>(document: &'a Table, key: &str) -> &'a [Value] {
     }
 }
 
-/// Which element before that of this number has the same id or name.
+/// Which element before that of this number has the same id or name. Those that are too many are not looked at.
 fn same_before(elements: &[Value], index: usize, key: &str) -> Option<usize> {
+    if index >= MAX_PRINCIPALS {
+        return None;
+    }
     let value = elements.get(index)?.get(key)?;
     let mut elements = elements.iter();
     let first = elements.position(|other| other.get(key) == Some(value))?;
@@ -107,6 +112,10 @@ impl Check<'_> {
             self.stray(Site::Document, key.as_str(), &DOCUMENT_KEYS)?;
         }
         self.strays(document)?;
-        self.findings.sort_by_key(|finding| finding.fault.number())
+        self.findings.sort_by_key(|finding| finding.fault.number())?;
+        let left_out = self.findings.len().saturating_sub(MOST_TOLD);
+        self.findings.truncate(MOST_TOLD);
+        self.more = self.more.saturating_add(left_out as u64);
+        Ok(())
     }
 }

@@ -35,13 +35,10 @@ impl<'a> Check<'a> {
         None
     }
 
-    /// How many tables a list has had.
-    fn count(&self, list: &str) -> usize {
-        let mut sites = self.places.iter().rev().map(|place| place.0);
-        match sites.find(|site| matches!(site, Site::Of(other, _) if *other == list)) {
-            Some(Site::Of(_, index)) => index.saturating_add(1),
-            _ => 0,
-        }
+    /// How many tables the list at a key has had, where it is a key of the document.
+    fn tables_of(&mut self, key: &str) -> Option<&mut usize> {
+        let at = DOCUMENT_KEYS.iter().position(|list| key == *list)?;
+        self.tables.get_mut(at)
     }
 
     fn put_place(&mut self, site: Site, key: String, at: &'a str) -> Done {
@@ -52,10 +49,16 @@ impl<'a> Check<'a> {
     fn header(&mut self, s: &'a str, keys: (String, Option<String>)) -> Result<Site, AllocError> {
         let (at, (key, second)) = (skip_ws(s.trim_start_matches('[')), keys);
         let list = DOCUMENT_KEYS.into_iter().find(|list| key.as_str() == *list);
-        let count = self.count(key.as_str());
+        let count = match self.tables_of(key.as_str()) {
+            Some(count) => *count,
+            None => 0,
+        };
         self.put_place(Site::Document, key, at)?;
         match (list, second) {
             (Some(list), None) if s.starts_with("[[") => {
+                if let Some(tables) = self.tables_of(list) {
+                    *tables = count.saturating_add(1);
+                }
                 self.put_place(Site::Of(list, count), String::new(self.alloc), at)?;
                 Ok(Site::Of(list, count))
             }

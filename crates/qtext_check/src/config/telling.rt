@@ -2,6 +2,7 @@
 
 use super::rules::Form;
 use super::{Check, ConfigFinding, Done, Site};
+use crate::MOST_TOLD;
 use crate::finding_texts::fault_text;
 use crate::near::near_of;
 use crate::shown::put_word;
@@ -92,8 +93,24 @@ impl Check<'_> {
         Ok(self.findings.push(ConfigFinding { fault, text })?)
     }
 
-    /// Puts a fault at the value, where that is at fault and known, or else at its key, or else at its table.
+    /// Whether as many faults were put that `run` tests together with this one as are told at most.
+    fn has_enough(&self, fault: &ConfigFault) -> bool {
+        let mut alike = 0usize;
+        for finding in &self.findings {
+            if finding.fault.number() == fault.number() {
+                alike = alike.saturating_add(1);
+            }
+        }
+        alike >= MOST_TOLD
+    }
+
+    /// Puts a fault at the value, where that is at fault and known, or else at its key, or else at its table. Where
+    /// there are enough it is counted.
     pub(super) fn tell(&mut self, fault: ConfigFault, at: (Site, &str), said: Said<'_>) -> Done {
+        if self.has_enough(&fault) {
+            self.more = self.more.saturating_add(1);
+            return Ok(());
+        }
         let (site, key) = at;
         let found = self.find(site, key).or(self.find(site, ""));
         let (at, from, after) = found.unwrap_or(("", "", ""));

@@ -3,7 +3,7 @@
 ghost use Rattle.std.specs.Prelude.{◌≡◌, option_map, option_and_then};
 ghost use Rattle.toml.specs.Data.{get_member, as_str, as_integer};
 ghost use Rattle.toml.specs.View.{view, table_view};
-ghost use Rattle.qtext_config.specs.ConfigFaults.{Field, GivesBy, Tells};
+ghost use Rattle.qtext_config.specs.ConfigFaults.{Field, GivesBy, NamesCause};
 ghost use Rattle.qtext_config.specs.ConfigFields.{found, text_at, integer_at, limit_of, limit_at};
 
 use crate::ConfigFault;
@@ -12,7 +12,7 @@ use toml::{Table, Value};
 
 /// The fault of a key.
 pub(super) fn field(alloc: Global, key: &str) -> ConfigFault
-    ensures { Tells result (Field key.now) }
+    ensures { NamesCause result (Field key.now) }
 {
     match String::from_str(alloc, key) {
         Ok(key) => ConfigFault::Field(key),

@@ -9,7 +9,7 @@ use Rattle.qstore.specs.Requests.{are_declared}
 use Rattle.qstore_change.specs.FileTypes.{inode_new}
 use Rattle.qstore.specs.Kept.{stored_of}
 use Rattle.qstore.specs.Stored.{Stored}
-use Rattle.qstore.specs.Told.{told}
+use Rattle.qstore.specs.Told.{total_change}
 use Rattle.qstore.proofs.Calls.{created-asked, made-declared, same-with_room}
 use Rattle.qstore.proofs.Deciding.{decision-billed, decision-unbilled, decision-unmade, kept}
 use Rattle.qstore.proofs.store.Store.make_inode.Goals as goal
@@ -96,4 +96,4 @@ returns c =
       inode_room = room.inode;
       name_room = room.name;
     }))
-    (c.granted.ensures.reply ∙ ap (λ n. Done n (told exchange)) number))
+    (c.granted.ensures.reply ∙ ap (λ n. Done n (total_change exchange)) number))

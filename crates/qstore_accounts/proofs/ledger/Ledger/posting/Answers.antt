@@ -3,7 +3,7 @@ use Rattle.std.proofs.lemmas.Option.{same_Some}
 use Rattle.qrules.specs.declared.record.TheConstants.{MAX_USE}
 use Rattle.qrules.specs.Sort.{Inodes, Blocks}
 use Rattle.qplain.specs.Use.{use_of}
-use Rattle.qstore_accounts.specs.declared.change.Change.TheVariants.{Uses}
+use Rattle.qstore_accounts.specs.declared.record_change.RecordChange.TheVariants.{Uses}
 use Rattle.qstore_accounts.specs.Claims.{weight_at}
 use Rattle.qstore_accounts.specs.Ledgers.{uses_after}
 use Rattle.qstore_accounts.proofs.Shares.{gained-le, lost-le, use-then}

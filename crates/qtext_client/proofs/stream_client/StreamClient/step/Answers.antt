@@ -1,5 +1,5 @@
 use Rattle.std.proofs.Common.{Some, inr, refl, ◌∙◌}
-use Rattle.qtext_client.specs.declared.telling.Telling.TheVariants.{NoMemory}
+use Rattle.qtext_client.specs.declared.response.Response.TheVariants.{NoMemory}
 use Rattle.qtext_client.proofs.Talked.{begun, handed_one, told_one}
 use Rattle.qtext_client.proofs.stream_client.StreamClient.step.Goals as goal
 
@@ -22,7 +22,7 @@ returns-in-None-clause-talk g c =
     let heard = c.in-None.ensures in
     let (text, hears, alone) = heard.heard in
     let tells = c.tell_of-in-None.ensures in
-    told_one g.S.Streams.took c.args.self.now c.tell_of-in-None.new.self c.hear.new.self c.hear.new.self.wire text c.in-None.telling
+    told_one g.S.Streams.took c.args.self.now c.tell_of-in-None.new.self c.hear.new.self c.hear.new.self.wire text c.in-None.response
     c.requires.answered heard.stays tells.stays hears tells.wire alone
 
 pub returns-in-End-clause-talk : goal.returns-in-End-clause-talk

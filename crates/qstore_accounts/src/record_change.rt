@@ -8,12 +8,12 @@ use qrules::{Limits, Record};
 
 /// What becomes other of a record: its uses, or its limits. Its grace ends follow, and are made where it is settled.
 #[derive(Clone, Copy)]
-pub enum Change {
+pub enum RecordChange {
     Uses { blocks: u64, inodes: u64 },
     Limits(Limits),
 }
 
-impl Change {
+impl RecordChange {
     /// Makes the change, with the grace ends that then stand. It tests nothing.
     #[inline(always)]
     pub(crate) fn make(&self, account: &mut Record, times: Times)
@@ -23,8 +23,10 @@ impl Change {
     {
         let Times { graces, moment } = times;
         match *self {
-            Change::Uses { blocks, inodes } => account.set_uses(blocks, inodes, graces, moment),
-            Change::Limits(limits) => account.set_limits(limits, graces, moment),
+            RecordChange::Uses { blocks, inodes } => account.set_uses(
+                blocks, inodes, graces, moment,
+            ),
+            RecordChange::Limits(limits) => account.set_limits(limits, graces, moment),
         }
     }
 }

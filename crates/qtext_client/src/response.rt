@@ -1,7 +1,7 @@
 //! What a client is told, a line for each of its own.
 ghost use Rattle.std.specs.Prelude.{◌≡◌};
 ghost use Rattle.qtext.specs.Written.{Writes};
-ghost use Rattle.qtext_client.specs.Tellings.{has_failed, line_fault_words, telling_text};
+ghost use Rattle.qtext_client.specs.Responses.{has_failed, bad_line_words, response_text};
 
 use qrun_client::Answer;
 use qtext::{Piece, RefusedWrite, TextKind, TextLine, put, put_pieces};
@@ -10,7 +10,7 @@ use std::io::Write;
 
 /// What is wrong with a line that is none of a script.
 #[derive(Clone, Copy, Debug, PartialEq, Eq)]
-pub enum LineFault {
+pub enum BadLine {
     /// It does not say what a script's line says.
     Text(TextKind),
     /// It is longer than the bound.
@@ -19,42 +19,42 @@ pub enum LineFault {
 
 /// What a client is told of one line.
 #[derive(Debug, PartialEq, Eq, Drop)]
-pub enum Telling {
+pub enum Response {
     /// What a store answered to it.
     Answer(Answer),
     /// It is no line of a script.
-    Fault(LineFault),
+    Fault(BadLine),
     /// Memory was wanting for it, whatever it says.
     NoMemory,
 }
 
-impl Telling {
+impl Response {
     /// Whether the line has failed: it is in no journal, though it may be a line of a script.
     pub fn has_failed(&self) -> bool
         ensures { result ≡ has_failed self.now }
     {
         match self {
-            Telling::Answer(answer) => answer.is_err(),
-            Telling::Fault(_) => false,
-            Telling::NoMemory => true,
+            Response::Answer(answer) => answer.is_err(),
+            Response::Fault(_) => false,
+            Response::NoMemory => true,
         }
     }
 }
 
-impl LineFault {
+impl BadLine {
     /// The words that name it.
     fn words(self) -> &'static str
-        ensures { result.now ≡ line_fault_words self }
+        ensures { result.now ≡ bad_line_words self }
     {
         match self {
-            LineFault::Text(kind) => kind.words(),
-            LineFault::Length => "line length",
+            BadLine::Text(kind) => kind.words(),
+            BadLine::Length => "line length",
         }
     }
 }
 
-fn put_fault<W: Write>(out: &mut W, fault: LineFault) -> Result<(), RefusedWrite>
-    ensures { Writes (W.contents out.old) (W.contents out.new) result (telling_text (Telling.Fault fault)) }
+fn put_fault<W: Write>(out: &mut W, fault: BadLine) -> Result<(), RefusedWrite>
+    ensures { Writes (W.contents out.old) (W.contents out.new) result (response_text (Response.Fault fault)) }
 {
     let pieces = [
         Piece::Text(b"- fault "),
@@ -66,16 +66,16 @@ fn put_fault<W: Write>(out: &mut W, fault: LineFault) -> Result<(), RefusedWrite
 
 /// Writes the line that a client is told. An answer is put together in place of what the text line holds. After an Err
 /// some beginning of it went out.
-pub fn put_telling<W: Write>(
+pub fn put_response<W: Write>(
     out: &mut W,
     line: &mut TextLine,
-    telling: &Telling,
+    response: &Response,
 ) -> Result<(), RefusedWrite>
-    ensures { Writes (W.contents out.old) (W.contents out.new) result (telling_text telling.now) }
+    ensures { Writes (W.contents out.old) (W.contents out.new) result (response_text response.now) }
 {
-    match telling {
-        Telling::Answer(answer) => put_answer(out, line, answer),
-        Telling::Fault(fault) => put_fault(out, *fault),
-        Telling::NoMemory => put(out, b"- failed OutOfMemory\n"),
+    match response {
+        Response::Answer(answer) => put_answer(out, line, answer),
+        Response::Fault(fault) => put_fault(out, *fault),
+        Response::NoMemory => put(out, b"- failed OutOfMemory\n"),
     }
 }
