@@ -1,13 +1,16 @@
 -- The only line of a text.
 use Rattle.std.proofs.Common.{◌≡◌, ℕ, ◌<◌, Bool, List, [], ◌∷◌, None, Result, Ok, Err, length, refl, ap, ◌∙◌}
 use Rattle.qplain.specs.declared.line.Line.{Line}
+use Rattle.qtext.specs.declared.read_fault.ReadFault.{ReadFault}
+use Rattle.qtext.specs.declared.read_fault.ReadFault.TheVariants as faults
 use Rattle.qtext.specs.declared.text_fault.TextFault.{TextFault}
 use Rattle.qtext.specs.declared.text_fault.TextKind.{TextKind}
+use Rattle.qtext.specs.Gives.{Gives}
 use Rattle.qtext.specs.Reading.{each_of}
 use Rattle.qtext_files.specs.Scripts.{at_line, script_line_of, script_of}
 use Rattle.qtext_files.proofs.OneLine.{IsCutAfter, first_line, none_after, none_alone, one_of, said_alone}
 use Rattle.qtext_files.proofs.RawLines.{no_line_of}
-use Rattle.qsession_text.specs.Lines.{only_line}
+use Rattle.qsession_text.specs.Lines.{ReadsOne, only_line}
 
 -- a text of no bytes has none
 pub only_of_none : (text : List ℕ) → length text ≡ 0 → only_line (script_of text) ≡ None
@@ -37,3 +40,10 @@ line_said text bytes after whole line cut e said = only_said text bytes after wh
 pub fault_said : (text bytes after : List ℕ) (whole : Bool) (kind : TextKind) → IsCutAfter text bytes after whole → length after ≡ 0
     → script_line_of (first_line bytes whole) ≡ Err kind → only_line (script_of text) ≡ None
 fault_said text bytes after whole kind cut e said = ap (λ s. only_line s) (only_said text bytes after whole cut e ∙ ap one_of said)
+
+-- what is read of the first where nothing stands after it
+pub one_read : (text bytes after : List ℕ) (whole : Bool) (read : Result Line ReadFault) → IsCutAfter text bytes after whole → length after ≡ 0
+    → Gives read (script_line_of (first_line bytes whole)) → ReadsOne read (script_of text)
+one_read text bytes after whole (Ok line) cut e said = line_said text bytes after whole line cut e said
+one_read text bytes after whole (Err faults.Memory) cut e said = tt
+one_read text bytes after whole (Err (faults.Fault kind)) cut e said = fault_said text bytes after whole kind cut e said

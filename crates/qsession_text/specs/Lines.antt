@@ -3,6 +3,8 @@ use Rattle.std.specs.Prelude.{◌≡◌, ℕ, Bool, false, ◌==◌, if◌then�
 use Rattle.std.specs.Prelude.{Option, Some, None, Result, Ok, Err}
 use Rattle.qplain.specs.declared.bounds.TheConstants.{MAX_ENTRIES}
 use Rattle.qplain.specs.declared.line.Line.{Line}
+use Rattle.qtext.specs.declared.read_fault.ReadFault.{ReadFault}
+use Rattle.qtext.specs.declared.read_fault.ReadFault.TheVariants as faults
 use Rattle.qtext.specs.declared.text_fault.TextFault.{TextFault}
 use Rattle.qtext_read.specs.Replies.{reply_text}
 use Rattle.qsession.specs.declared.fault.Fault.{Fault}
@@ -14,6 +16,16 @@ use Rattle.qsession.specs.Steps.{holding_after, reply_to}
 abbrev pub only_line : Result (List Line) TextFault → Option Line
 only_line (Ok (line ∷ [])) = Some line
 only_line script = None
+
+-- the fault is that the text does not say one line, unless memory ran out
+abbrev pub FailsOne : ReadFault → Result (List Line) TextFault → Type 0
+FailsOne faults.Memory script = Unit {0}
+FailsOne (faults.Fault kind) script = only_line script ≡ None
+
+-- what was answered is the one line that the text says, unless memory ran out
+abbrev pub ReadsOne : Result Line ReadFault → Result (List Line) TextFault → Type 0
+ReadsOne (Ok line) script = script ≡ Ok (line ∷ [])
+ReadsOne (Err fault) script = FailsOne fault script
 
 -- a journal is kept, and has all the entries that it may have
 abbrev pub is_full : Option KeptJournal → Bool

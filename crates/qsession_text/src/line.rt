@@ -1,48 +1,50 @@
 //! A line of a script, as a call of a session.
-ghost use Rattle.std.specs.Prelude.{◌≡◌, ◌≢◌, ◌∷◌, ◌++◌, ◌⊎◌, [], None, Some, IfOk, IfErr, codes};
+ghost use Rattle.std.specs.Prelude.{◌≡◌, ◌≢◌, ◌++◌, Some, IfOk, codes};
 ghost use Rattle.qtext_files.specs.Scripts.{script_of};
 ghost use Rattle.qtext_read.specs.Replies.{reply_text};
 ghost use Rattle.qsession.specs.Holdings.{holding_of};
 ghost use Rattle.qsession.specs.Tellings.{IsPutIn, UnlessMemory};
-ghost use Rattle.qsession_text.specs.Lines.{MakesCall, session_answer, only_line};
+ghost use Rattle.qsession_text.specs.Lines.{MakesCall, ReadsOne, only_line, session_answer};
 
 use crate::buffer::put_text;
 use qplain::{Line, NoMemory, Reply};
 use qsession::{Fault, Kept};
-use qtext::{ReadFault, TextLine};
+use qtext::{ReadFault, TextKind, TextLine};
 use qtext_files::{next_line, read_line};
 use qtext_read::Paths;
 use qtext_write::put_reply;
 use std::alloc::Global;
 
-/// The one line that the text says. Err is Memory, or Line where it says none, or more than one.
-fn line_in(alloc: Global, text: &[u8]) -> Result<Line, Fault>
-    ensures line { IfOk result (λ line. script_of text.now ≡ Ok (line ∷ [])) }
-    ensures fault { IfErr result (λ fault. (fault ≡ Fault.Memory)
-        ⊎ ((fault ≡ Fault.Line) × (only_line (script_of text.now) ≡ None))) }
+/// As many words as most lines have.
+const FEW_WORDS: usize = 8;
+
+/// As many bytes as most replies have.
+const FEW_BYTES: usize = 128;
+
+/// What is wrong with a text that says no line, or more than one.
+const NOT_ONE: ReadFault = ReadFault::Fault(TextKind::WordCount);
+
+/// The one line that the text says.
+fn line_in(alloc: Global, text: &[u8]) -> Result<Line, ReadFault>
+    ensures { ReadsOne result (script_of text.now) }
 {
     if text.is_empty() {
-        return Err(Fault::Line);
+        return Err(NOT_ONE);
     }
-    let mut room = Vec::new(alloc);
-    let Ok(line) = next_line(&mut room, text) else {
-        return Err(Fault::Memory);
-    };
+    let mut room = Vec::with_capacity(alloc, FEW_WORDS)?;
+    let line = next_line(&mut room, text)?;
     if !line.after.is_empty() {
-        return Err(Fault::Line);
+        return Err(NOT_ONE);
     }
-    match read_line(alloc, &mut Paths::apart(), 1, &line, &room) {
-        Ok(line) => Ok(line),
-        Err(ReadFault::Memory) => Err(Fault::Memory),
-        Err(ReadFault::Fault(_)) => Err(Fault::Line),
-    }
+    // A line is large, and a `match` or a `?` would move it once more.
+    read_line(alloc, &mut Paths::apart(), 1, &line, &room)
 }
 
 /// A reply as a line of text.
 fn reply_line(alloc: Global, reply: &Reply) -> Result<Vec<u8>, NoMemory>
     ensures { IfOk result (λ out. out.items ≡ reply_text reply.now ++ codes "\n") }
 {
-    let mut out = Vec::new(alloc);
+    let mut out = Vec::with_capacity(alloc, FEW_BYTES)?;
     let mut line = TextLine::new();
     match put_reply(&mut out, &mut line, reply) {
         Ok(()) => Ok(out),
@@ -70,7 +72,8 @@ pub fn answer_line(
 {
     let line = match line_in(alloc, text) {
         Ok(line) => line,
-        Err(fault) => return fault.code(),
+        Err(ReadFault::Memory) => return Fault::Memory.code(),
+        Err(ReadFault::Fault(_)) => return Fault::Line.code(),
     };
     let reply = match kept.ready(&line.cred, line.moment, &line.call) {
         Ok(reply) => reply,
