@@ -112,8 +112,8 @@ fn left_behind(number: u64, after: &[u8]) -> &[u8]
 
 /// All that is wrong in a script, each line by itself: for what it is no line of a script, or, where the setup is
 /// known, with what a store of it refuses its call whatever it holds: a moment past 2^40, a caller or an owner that is
-/// not declared, a path, data, a limit or a grace that no call may have (profile). Behind the first line that is too many
-/// none is looked at.
+/// not declared, a path, data, a limit or a grace that no call may have (profile). Behind the first line that is too
+/// many none is looked at.
 ///
 /// An Err is out of memory, and tells nothing.
 pub fn findings_of<'a>(

@@ -66,7 +66,7 @@ fn in_one_case(verb: Verb, arguments: &[&[u8]]) -> bool
     }
 }
 
-/// The call of a verb that so many of the words behind it belong to, with data in lower case, and how many words it has.
+/// The call of a verb that so many words behind it belong to, with data in lower case, and how many words it has.
 #[tactic(auto, unfolding(crate::specs::Journaled::counted_call_of, crate::specs::Journaled::journaled_call_of))]
 fn counted_call_of<'a>(
     alloc: Global,
