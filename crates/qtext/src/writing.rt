@@ -23,13 +23,18 @@ pub fn put<W: Write>(out: &mut W, text: &[u8]) -> Result<(), RefusedWrite>
     Ok(())
 }
 
+/// What is written at once of many spaces.
+const SPACES: &[u8] = b"                ";
+
 fn put_spaces<W: Write>(out: &mut W, count: usize) -> Result<(), RefusedWrite>
     ensures { Writes (W.contents out.old) (W.contents out.new) result (spaces count) }
 {
-    for _ in 0..count {
-        put(out, b" ")?;
+    let mut rest = count;
+    while rest > SPACES.len() {
+        put(out, SPACES)?;
+        rest -= SPACES.len();
     }
-    Ok(())
+    put(out, SPACES.split_at(rest).0)
 }
 
 fn put_number<W: Write>(out: &mut W, n: u64) -> Result<(), RefusedWrite>

@@ -114,13 +114,13 @@ fn write_of<'a>(
     paths: &mut Paths<'a>,
     path: &'a [u8],
     off: &[u8],
-    data: &[u8],
+    bytes: &[u8],
 ) -> Result<Call, ReadFault>
-    ensures { (edition : Edition) → Gives result (call_of edition Write (path.now ∷ off.now ∷ data.now ∷ [])) }
+    ensures { (edition : Edition) → Gives result (call_of edition Write (path.now ∷ off.now ∷ bytes.now ∷ [])) }
 {
-    let path = paths.read(alloc, path, &[off, data])?;
+    let path = paths.read(alloc, path, &[off, bytes])?;
     let off = number(off)?;
-    let bytes = SharedItems::new(data_of(alloc, data)?.into_vec())?;
+    let bytes = SharedItems::new(data_of(alloc, bytes)?.into_vec())?;
     Ok(Call::Write {
         path,
         off,
