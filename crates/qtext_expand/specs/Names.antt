@@ -1,6 +1,6 @@
 -- Ids in place of names.
 use Rattle.std.specs.Prelude.{ℕ, List, [], ◌∷◌, ◌++◌, codes, Option, Some, None, if◌then◌else◌}
-use Rattle.std.specs.List.{flat_map, list_any}
+use Rattle.std.specs.List.{flat_map}
 use Rattle.std.specs.Str.{bytes_eq}
 use Rattle.qplain.specs.Setups.{Setting}
 use Rattle.qplain.specs.declared.principal.Principal.{Principal}

@@ -1,5 +1,5 @@
 -- Lines as a script has them.
-use Rattle.std.specs.Prelude.{ℕ, true, List, [], ◌∷◌, Result, Ok, Err}
+use Rattle.std.specs.Prelude.{ℕ, true, List, Result, Ok}
 use Rattle.qplain.specs.declared.line.Line.{Line}
 use Rattle.qtext.specs.declared.text_fault.TextKind.{TextKind}
 use Rattle.qtext.specs.Reading.{◌>>=◌, each_of}

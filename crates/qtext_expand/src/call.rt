@@ -17,6 +17,9 @@ use qtext::{Piece, ReadFault, TextKind};
 use qtext_read::{Argument, row_of, takes, verb_of};
 use std::alloc::{AllocError, Global};
 
+/// What comes of the calls of a line, as texts.
+type Calls = Result<Vec<Vec<u8>>, ReadFault>;
+
 /// A word in the place of an argument, worked out; an id is of the kind that the first word names.
 fn worked<'a>(
     setup: &Setup,
@@ -95,12 +98,7 @@ fn put_arguments(
     }
 }
 
-fn one_call(
-    alloc: Global,
-    setup: &Setup,
-    verb: &[u8],
-    words: &[&[u8]],
-) -> Result<Vec<Vec<u8>>, ReadFault>
+fn one_call(alloc: Global, setup: &Setup, verb: &[u8], words: &[&[u8]]) -> Calls
     ensures { GivesTexts result (one_call setup.now verb.now (map (λ word. word.now) words.now)) }
 {
     let mut call = Vec::new(alloc);
@@ -110,7 +108,7 @@ fn one_call(
 }
 
 #[tactic(auto, unfolding(crate::specs::FriendlyCalls::ways_of))]
-fn ways_of(alloc: Global, paths: &[&[u8]]) -> Result<Vec<Vec<u8>>, ReadFault>
+fn ways_of(alloc: Global, paths: &[&[u8]]) -> Calls
     ensures { GivesTexts result (ways_of (map (λ path. path.now) paths.now)) }
 {
     match paths {
@@ -120,7 +118,7 @@ fn ways_of(alloc: Global, paths: &[&[u8]]) -> Result<Vec<Vec<u8>>, ReadFault>
 }
 
 #[tactic(auto, unfolding(crate::specs::FriendlyCalls::removals_of))]
-fn removals_of(alloc: Global, paths: &[&[u8]]) -> Result<Vec<Vec<u8>>, ReadFault>
+fn removals_of(alloc: Global, paths: &[&[u8]]) -> Calls
     ensures { GivesTexts result (removals_of (map (λ path. path.now) paths.now)) }
 {
     match paths {
@@ -130,12 +128,7 @@ fn removals_of(alloc: Global, paths: &[&[u8]]) -> Result<Vec<Vec<u8>>, ReadFault
 }
 
 /// The calls of a word and those behind it, where no flag asks for more.
-fn plain_calls(
-    alloc: Global,
-    setup: &Setup,
-    verb: &[u8],
-    words: &[&[u8]],
-) -> Result<Vec<Vec<u8>>, ReadFault>
+fn plain_calls(alloc: Global, setup: &Setup, verb: &[u8], words: &[&[u8]]) -> Calls
     ensures { GivesTexts result (plain_calls setup.now verb.now (map (λ word. word.now) words.now)) }
 {
     match words {
@@ -146,12 +139,7 @@ fn plain_calls(
     }
 }
 
-fn calls_by(
-    alloc: Global,
-    setup: &Setup,
-    verb: &[u8],
-    words: &[&[u8]],
-) -> Result<Vec<Vec<u8>>, ReadFault>
+fn calls_by(alloc: Global, setup: &Setup, verb: &[u8], words: &[&[u8]]) -> Calls
     ensures { GivesTexts result (calls_by setup.now verb.now (map (λ word. word.now) words.now)) }
 {
     let [flag, behind @ ..] = words else {
@@ -167,11 +155,7 @@ fn calls_by(
 }
 
 #[tactic(auto, unfolding(crate::specs::FriendlyCalls::calls_of))]
-pub(crate) fn calls_of(
-    alloc: Global,
-    setup: &Setup,
-    words: &[&[u8]],
-) -> Result<Vec<Vec<u8>>, ReadFault>
+pub(crate) fn calls_of(alloc: Global, setup: &Setup, words: &[&[u8]]) -> Calls
     ensures { GivesTexts result (calls_of setup.now (map (λ word. word.now) words.now)) }
 {
     match words {

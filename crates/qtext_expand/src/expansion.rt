@@ -12,7 +12,7 @@ ghost use Rattle.qtext_expand.specs.FriendlyWords.{ended};
 ghost use Rattle.qtext_expand.specs.GivesAs.{AreBytes, GivesBy, ReadsBytes};
 ghost use Rattle.qtext_expand.specs.WrittenAs.{written_as};
 
-use crate::line::{Expanded, Standing, line_written};
+use crate::line::{Expanded, Standing};
 use qplain::{MAX_LINES, Setup};
 use qtext::{ReadFault, TextFault, TextKind};
 use qtext_files::{NextLine, next_line};
@@ -37,8 +37,6 @@ fn put_ended(text: &mut Vec<u8>, lines: &[Vec<u8>]) -> Result<(), AllocError>
 
 /// What a line is written out as after so many lines, or the first thing wrong in it.
 fn line_after(
-    alloc: Global,
-    setup: &Setup,
     before: usize,
     standing: Standing<'_>,
     line: &NextLine<'_>,
@@ -47,11 +45,11 @@ fn line_after(
     requires before { before ≤ MAX_LINES }
     requires bytes { line.now.is_text ≡ list_all is_text_byte line.now.bytes.now }
     requires words { line.now.is_text ≡ true → map (λ word. word.now) words.now ≡ words_of line.now.bytes.now }
-    ensures gives { GivesBy written_as result (written_after setup.now before standing.entry.when standing.entry.who.now
-        line.now.whole line.now.bytes.now) }
+    ensures gives { GivesBy written_as result (written_after standing.entry.setup.now before standing.entry.when
+        standing.entry.who.now line.now.whole line.now.bytes.now) }
     ensures few { IfOk result (λ w. before + length w.lines.items ≤ MAX_LINES) }
 {
-    let expanded = line_written(alloc, setup, standing, line, words)?;
+    let expanded = standing.written(line, words)?;
     if expanded.lines.len() > MAX_LINES - before {
         return Err(ReadFault::Fault(TextKind::TooMany));
     }
@@ -74,8 +72,13 @@ fn expansion_of(alloc: Global, setup: &Setup, text: &[u8]) -> Result<Vec<u8>, Te
         let Ok(line) = next_line(&mut room, rest) else {
             return Err(WANT_OF_MEMORY);
         };
-        let standing = Standing { when, who: &who };
-        match line_after(alloc, setup, before, standing, &line, &room) {
+        let standing = Standing {
+            alloc,
+            setup,
+            when,
+            who: &who,
+        };
+        match line_after(before, standing, &line, &room) {
             Ok(expanded) => {
                 match put_ended(&mut out, &expanded.lines) {
                     Ok(()) => {}

@@ -103,15 +103,13 @@ pub(crate) fn fill_calls(
 {
     if let (Some(off), Some(count)) = (value(Measure::Bytes, off)?, value(Measure::Bytes, count)?) {
         if off.checked_add(count).is_some() {
-            return pieces_of(
-                alloc,
-                Filled {
-                    path,
-                    off,
-                    count,
-                    byte,
-                },
-            );
+            let filled = Filled {
+                path,
+                off,
+                count,
+                byte,
+            };
+            return pieces_of(alloc, filled);
         }
     }
     Ok(as_told(alloc, path, off, count, byte)?)

@@ -28,11 +28,20 @@ pub(crate) struct Expanded {
     pub(crate) lines: Vec<Vec<u8>>,
 }
 
-/// Where the clock stands and who calls, where a line does not tell.
+/// What a line is read against: the setup, and where the clock stands and who calls, where a line does not tell.
 #[derive(Clone, Copy)]
 pub(crate) struct Standing<'a> {
+    pub(crate) alloc: Global,
+    pub(crate) setup: &'a Setup,
     pub(crate) when: u64,
     pub(crate) who: &'a [u8],
+}
+
+/// A line's caller, and what follows.
+#[derive(Drop)]
+struct Called<'a, 'w> {
+    caller: Vec<u8>,
+    rest: &'w [&'a [u8]],
 }
 
 /// No line, and the same standing but for the moment.
@@ -44,37 +53,6 @@ fn nothing(alloc: Global, when: u64, who: &[u8]) -> Result<Expanded, AllocError>
         who: Vec::from_slice(alloc, who)?,
         lines: Vec::new(alloc),
     })
-}
-
-#[derive(Drop)]
-struct Called<'a, 'w> {
-    caller: Vec<u8>,
-    rest: &'w [&'a [u8]],
-}
-
-/// A line's caller, and what follows: where it tells none, who calls is as before.
-#[tactic(auto, unfolding(crate::specs::FriendlyLines::called))]
-fn split_caller<'a, 'w>(
-    alloc: Global,
-    setup: &Setup,
-    who: &[u8],
-    words: &'w [&'a [u8]],
-) -> Result<Called<'a, 'w>, AllocError>
-    ensures caller { IfOk result (λ c. c.caller.items
-        ≡ (called setup.now who.now (map (λ word. word.now) words.now)).caller) }
-    ensures rest { IfOk result (λ c. map (λ word. word.now) c.rest.now
-        ≡ (called setup.now who.now (map (λ word. word.now) words.now)).rest) }
-{
-    match words {
-        [first, rest @ ..] if is_caller(first) => Ok(Called {
-            caller: caller_ids(alloc, setup, first)?,
-            rest,
-        }),
-        _ => Ok(Called {
-            caller: Vec::from_slice(alloc, who)?,
-            rest: words,
-        }),
-    }
 }
 
 fn call_head<'a>(alloc: Global, moment: Piece<'a>, caller: &'a [u8]) -> Result<Vec<u8>, AllocError>
@@ -109,146 +87,137 @@ fn judged_lines(alloc: Global, head: &[u8], calls: &[Vec<u8>]) -> Result<Vec<Vec
     Ok(lines)
 }
 
-/// `[MOMENT] [CALLER] CALL`, for each of its calls a line.
-#[tactic(auto, unfolding(crate::specs::FriendlyLines::call_lines))]
-fn call_lines(
-    alloc: Global,
-    setup: &Setup,
-    standing: Standing<'_>,
-    words: &[&[u8]],
-) -> Result<Expanded, ReadFault>
-    ensures { GivesBy written_as result
-        (call_lines setup.now standing.entry.when standing.entry.who.now (map (λ word. word.now) words.now)) }
-{
-    let timed = split_moment(standing.when, words)?;
-    let called = split_caller(alloc, setup, standing.who, timed.rest)?;
-    let head = call_head(alloc, timed.moment, &called.caller)?;
-    let calls = calls_of(alloc, setup, called.rest)?;
-    let lines = judged_lines(alloc, &head, &calls)?;
-    Ok(Expanded {
-        when: timed.when,
-        who: Vec::from_slice(alloc, standing.who)?,
-        lines,
-    })
-}
-
-#[tactic(auto, unfolding(crate::specs::FriendlyLines::as_caller))]
-fn as_caller(
-    alloc: Global,
-    setup: &Setup,
-    when: u64,
-    words: &[&[u8]],
-) -> Result<Expanded, ReadFault>
-    ensures { GivesBy written_as result (as_caller setup.now when (map (λ word. word.now) words.now)) }
-{
-    match words {
-        [caller] => {
-            let who = caller_ids(alloc, setup, caller)?;
-            caller_of(alloc, &who)?;
-            Ok(nothing(alloc, when, &who)?)
-        }
-        _ => Err(ReadFault::Fault(TextKind::WordCount)),
-    }
-}
-
-#[tactic(auto, unfolding(crate::specs::FriendlyLines::at_moment))]
-fn at_moment(alloc: Global, standing: Standing<'_>, words: &[&[u8]]) -> Result<Expanded, ReadFault>
-    ensures { GivesBy written_as result
-        (at_moment standing.entry.when standing.entry.who.now (map (λ word. word.now) words.now)) }
-{
-    match words {
-        [moment] => match moment_in(standing.when, moment)? {
-            Some(when) => Ok(nothing(alloc, when, standing.who)?),
-            None => Err(ReadFault::Fault(TextKind::BadNumber)),
-        },
-        _ => Err(ReadFault::Fault(TextKind::WordCount)),
-    }
-}
-
-#[tactic(auto, unfolding(crate::specs::FriendlyLines::words_written))]
-fn words_written(
-    alloc: Global,
-    setup: &Setup,
-    standing: Standing<'_>,
-    words: &[&[u8]],
-) -> Result<Expanded, ReadFault>
-    ensures { GivesBy written_as result
-        (words_written setup.now standing.entry.when standing.entry.who.now (map (λ word. word.now) words.now)) }
-{
-    match words {
-        [] => Ok(nothing(alloc, standing.when, standing.who)?),
-        [first, rest @ ..] => {
-            if *first == b"as".as_slice() {
-                return as_caller(alloc, setup, standing.when, rest);
-            }
-            if *first == b"at".as_slice() {
-                return at_moment(alloc, standing, rest);
-            }
-            call_lines(alloc, setup, standing, words)
+impl Standing<'_> {
+    /// A line's caller, and what follows: where it tells none, who calls is as before.
+    #[tactic(auto, unfolding(crate::specs::FriendlyLines::called))]
+    fn split_caller<'a, 'w>(self, words: &'w [&'a [u8]]) -> Result<Called<'a, 'w>, AllocError>
+        ensures caller { IfOk result (λ c. c.caller.items
+            ≡ (called self.entry.setup.now self.entry.who.now (map (λ word. word.now) words.now)).caller) }
+        ensures rest { IfOk result (λ c. map (λ word. word.now) c.rest.now
+            ≡ (called self.entry.setup.now self.entry.who.now (map (λ word. word.now) words.now)).rest) }
+    {
+        match words {
+            [first, rest @ ..] if is_caller(first) => Ok(Called {
+                caller: caller_ids(self.alloc, self.setup, first)?,
+                rest,
+            }),
+            _ => Ok(Called {
+                caller: Vec::from_slice(self.alloc, self.who)?,
+                rest: words,
+            }),
         }
     }
-}
 
-#[tactic(auto, unfolding(crate::specs::FriendlyLines::friendly_written))]
-fn friendly_written(
-    alloc: Global,
-    setup: &Setup,
-    standing: Standing<'_>,
-    line: &NextLine<'_>,
-    words: &[&[u8]],
-) -> Result<Expanded, ReadFault>
-    requires bytes { line.now.is_text ≡ list_all is_text_byte line.now.bytes.now }
-    requires words { line.now.is_text ≡ true → map (λ word. word.now) words.now ≡ words_of line.now.bytes.now }
-    ensures { GivesBy written_as result
-        (friendly_written setup.now standing.entry.when standing.entry.who.now line.now.bytes.now) }
-{
-    if begins(b'#', line.bytes) {
-        return Ok(nothing(alloc, standing.when, standing.who)?);
+    /// `[MOMENT] [CALLER] CALL`, for each of its calls a line.
+    #[tactic(auto, unfolding(crate::specs::FriendlyLines::call_lines))]
+    fn call_lines(self, words: &[&[u8]]) -> Result<Expanded, ReadFault>
+        ensures { GivesBy written_as result
+            (call_lines self.entry.setup.now self.entry.when self.entry.who.now (map (λ word. word.now) words.now)) }
+    {
+        let timed = split_moment(self.when, words)?;
+        let called = self.split_caller(timed.rest)?;
+        let head = call_head(self.alloc, timed.moment, &called.caller)?;
+        let calls = calls_of(self.alloc, self.setup, called.rest)?;
+        let lines = judged_lines(self.alloc, &head, &calls)?;
+        Ok(Expanded {
+            when: timed.when,
+            who: Vec::from_slice(self.alloc, self.who)?,
+            lines,
+        })
     }
-    if !line.is_text {
-        return Err(ReadFault::Fault(TextKind::BadByte));
-    }
-    let words = friendly_words(alloc, words)?;
-    words_written(alloc, setup, standing, &words)
-}
 
-fn as_it_stands(
-    alloc: Global,
-    moment: u64,
-    who: &[u8],
-    bytes: &[u8],
-) -> Result<Expanded, AllocError>
-    ensures { IfOk result (λ w. written_as w ≡ as_it_stands moment who.now bytes.now) }
-{
-    let mut lines = Vec::new(alloc);
-    lines.push(Vec::from_slice(alloc, bytes)?)?;
-    Ok(Expanded {
-        when: moment,
-        who: Vec::from_slice(alloc, who)?,
-        lines,
-    })
-}
-
-/// What a line is written out as, or the first thing wrong in it. An Err gives nothing.
-#[tactic(auto, unfolding(crate::specs::FriendlyLines::line_written))]
-pub(crate) fn line_written(
-    alloc: Global,
-    setup: &Setup,
-    standing: Standing<'_>,
-    line: &NextLine<'_>,
-    words: &[&[u8]],
-) -> Result<Expanded, ReadFault>
-    requires bytes { line.now.is_text ≡ list_all is_text_byte line.now.bytes.now }
-    requires words { line.now.is_text ≡ true → map (λ word. word.now) words.now ≡ words_of line.now.bytes.now }
-    ensures { GivesBy written_as result (line_written setup.now standing.entry.when standing.entry.who.now
-        line.now.whole line.now.bytes.now) }
-{
-    if !line.whole {
-        return Err(ReadFault::Fault(TextKind::Cut));
+    #[tactic(auto, unfolding(crate::specs::FriendlyLines::as_caller))]
+    fn as_caller(self, words: &[&[u8]]) -> Result<Expanded, ReadFault>
+        ensures { GivesBy written_as result
+            (as_caller self.entry.setup.now self.entry.when (map (λ word. word.now) words.now)) }
+    {
+        match words {
+            [caller] => {
+                let who = caller_ids(self.alloc, self.setup, caller)?;
+                caller_of(self.alloc, &who)?;
+                Ok(nothing(self.alloc, self.when, &who)?)
+            }
+            _ => Err(ReadFault::Fault(TextKind::WordCount)),
+        }
     }
-    match line_moment(alloc, line, words) {
-        Ok(moment) => Ok(as_it_stands(alloc, moment, standing.who, line.bytes)?),
-        Err(ReadFault::Fault(_)) => friendly_written(alloc, setup, standing, line, words),
-        Err(ReadFault::Memory) => Err(ReadFault::Memory),
+
+    #[tactic(auto, unfolding(crate::specs::FriendlyLines::at_moment))]
+    fn at_moment(self, words: &[&[u8]]) -> Result<Expanded, ReadFault>
+        ensures { GivesBy written_as result
+            (at_moment self.entry.when self.entry.who.now (map (λ word. word.now) words.now)) }
+    {
+        match words {
+            [moment] => match moment_in(self.when, moment)? {
+                Some(when) => Ok(nothing(self.alloc, when, self.who)?),
+                None => Err(ReadFault::Fault(TextKind::BadNumber)),
+            },
+            _ => Err(ReadFault::Fault(TextKind::WordCount)),
+        }
+    }
+
+    #[tactic(auto, unfolding(crate::specs::FriendlyLines::words_written))]
+    fn words_written(self, words: &[&[u8]]) -> Result<Expanded, ReadFault>
+        ensures { GivesBy written_as result
+            (words_written self.entry.setup.now self.entry.when self.entry.who.now (map (λ word. word.now) words.now)) }
+    {
+        match words {
+            [] => Ok(nothing(self.alloc, self.when, self.who)?),
+            [first, rest @ ..] => {
+                if *first == b"as".as_slice() {
+                    return self.as_caller(rest);
+                }
+                if *first == b"at".as_slice() {
+                    return self.at_moment(rest);
+                }
+                self.call_lines(words)
+            }
+        }
+    }
+
+    #[tactic(auto, unfolding(crate::specs::FriendlyLines::friendly_written))]
+    fn friendly_written(self, line: &NextLine<'_>, words: &[&[u8]]) -> Result<Expanded, ReadFault>
+        requires bytes { line.now.is_text ≡ list_all is_text_byte line.now.bytes.now }
+        requires words { line.now.is_text ≡ true → map (λ word. word.now) words.now ≡ words_of line.now.bytes.now }
+        ensures { GivesBy written_as result
+            (friendly_written self.entry.setup.now self.entry.when self.entry.who.now line.now.bytes.now) }
+    {
+        if begins(b'#', line.bytes) {
+            return Ok(nothing(self.alloc, self.when, self.who)?);
+        }
+        if !line.is_text {
+            return Err(ReadFault::Fault(TextKind::BadByte));
+        }
+        let words = friendly_words(self.alloc, words)?;
+        self.words_written(&words)
+    }
+
+    fn as_it_stands(self, moment: u64, bytes: &[u8]) -> Result<Expanded, AllocError>
+        ensures { IfOk result (λ w. written_as w ≡ as_it_stands moment self.entry.who.now bytes.now) }
+    {
+        let mut lines = Vec::new(self.alloc);
+        lines.push(Vec::from_slice(self.alloc, bytes)?)?;
+        Ok(Expanded {
+            when: moment,
+            who: Vec::from_slice(self.alloc, self.who)?,
+            lines,
+        })
+    }
+
+    /// What a line is written out as, or the first thing wrong in it. An Err gives nothing.
+    #[tactic(auto, unfolding(crate::specs::FriendlyLines::line_written))]
+    pub(crate) fn written(self, line: &NextLine<'_>, words: &[&[u8]]) -> Result<Expanded, ReadFault>
+        requires bytes { line.now.is_text ≡ list_all is_text_byte line.now.bytes.now }
+        requires words { line.now.is_text ≡ true → map (λ word. word.now) words.now ≡ words_of line.now.bytes.now }
+        ensures { GivesBy written_as result (line_written self.entry.setup.now self.entry.when self.entry.who.now
+            line.now.whole line.now.bytes.now) }
+    {
+        if !line.whole {
+            return Err(ReadFault::Fault(TextKind::Cut));
+        }
+        match line_moment(self.alloc, line, words) {
+            Ok(moment) => Ok(self.as_it_stands(moment, line.bytes)?),
+            Err(ReadFault::Fault(_)) => self.friendly_written(line, words),
+            Err(ReadFault::Memory) => Err(ReadFault::Memory),
+        }
     }
 }
