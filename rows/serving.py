@@ -21,13 +21,13 @@ def until(is_so, seconds=PATIENCE):
 
 
 class Client:
-    """A client that writes into a FIFO and reads from another."""
+    """A client that writes into a FIFO and reads from another; bound to a caller where one is told."""
 
-    def __init__(self, folder, number):
+    def __init__(self, folder, number, caller=""):
         self.paths = [folder / f"{number}.{side}" for side in ("in", "out")]
         for path in self.paths:
             os.mkfifo(path)
-        self.word = ":".join(path.name for path in self.paths)
+        self.word = (caller and f"{caller}=") + ":".join(path.name for path in self.paths)
 
     def open(self):
         """Opens its streams, the input first, as the service does."""
@@ -53,12 +53,13 @@ class Client:
 
 
 class Service:
-    """A service with so many clients over FIFOs in a folder, or with the clients of these words."""
+    """A service with so many clients over FIFOs in a folder, or one for each of these callers, or with the clients of
+    these words."""
 
-    def __init__(self, folder, clients=0, words=(), config=EXAMPLE, stdin=subprocess.DEVNULL, **further):
+    def __init__(self, folder, clients=0, words=(), config=EXAMPLE, stdin=subprocess.DEVNULL, callers=(), **further):
         folder.mkdir(exist_ok=True)
         self.folder = folder
-        self.clients = [Client(folder, number) for number in range(1, clients + 1)]
+        self.clients = [Client(folder, *client) for client in enumerate(callers or [""] * clients, 1)]
         words = ["serve", "--config", config, *words, *(client.word for client in self.clients)]
         pipes = {"stdin": stdin, "stdout": subprocess.PIPE, "stderr": subprocess.PIPE, **further}
         self.process = subprocess.Popen([BUILT, *words], cwd=folder, **pipes)

@@ -4,3 +4,4 @@ pub mod LineParts
 pub mod OneLine
 pub mod Talking
 pub mod Talked
+pub mod Bound

@@ -1,6 +1,7 @@
 -- What comes of clients of streams.
 use Rattle.std.proofs.Common.{◌≡◌, ◌⊎◌, inl, inr, ℕ, ◌+◌, ◌≤◌, ◌&&◌, List, [], ◌∷◌, ◌++◌, length, Option, Some, None, IfSome, IsSome, Result, Ok, Err, refl, sym, ap, subst, ◌∙◌, append-nil, length-append, arith}
 use Rattle.std.proofs.lemmas.List.Elements.{All-nil}
+use Rattle.qplain.specs.Caller.{Caller}
 use Rattle.qplain.specs.declared.call_fault.CallFault.{CallFault}
 use Rattle.qplain.specs.declared.line.Line.{Line}
 use Rattle.qplain.specs.declared.receipt.Receipt.{Receipt}
@@ -9,11 +10,11 @@ use Rattle.qrun_client.specs.declared.client.ClientEnd.{ClientEnd}
 use Rattle.qrun_client.specs.declared.client.ClientEnd.TheVariants.{Served}
 use Rattle.qrun_replay.specs.declared.failed_line.FailedLine.{FailedLine}
 use Rattle.qtext_files.specs.Scripts.{script_of}
-use Rattle.qtext_client.specs.Conversations.{AreFirstLines, ComesTo, IsToldOf, Progress, StaysThere, TalksOn, comes_to, lines_said}
+use Rattle.qtext_client.specs.Conversations.{AreFirstLines, ComesTo, IsToldOf, MayWrite, Progress, StaysThere, TalksOn, comes_to, lines_said}
 use Rattle.qtext_client.specs.Hearings.{IsToldAlone}
 use Rattle.qtext_client.specs.Responses.{has_failed, response_text}
 use Rattle.qtext_client.specs.Wires.{HasEnded, HasLetGo, Hears, IsGone, IsToldLast, Stays, TellsNothing, Wire}
-use Rattle.qtext_client.specs.declared.response.BadLine.TheVariants.{Text, Length}
+use Rattle.qtext_client.specs.declared.response.BadLine.TheVariants.{Text, Length, OtherCaller}
 use Rattle.qtext_client.specs.declared.response.Response.{Response}
 use Rattle.qtext_client.specs.declared.response.Response.TheVariants.{Answer, Fault, NoMemory}
 use Rattle.qtext_client.proofs.Talking.{ends_by, has_ended_so, heard_so, no_end, none_told, stays_so, told_so}
@@ -24,12 +25,14 @@ in_own_form (Ok receipt) = refl
 in_own_form (Err fault) = refl
 
 -- what may be told of a line of a client that hands out so many may be told where it hands out more
-told_later : (few many : ℕ) (text : List ℕ) (response : Response) → few ≤ many → IsToldOf few text response → IsToldOf many text response
-told_later few many text (Answer answer) less is = is
-told_later few many text (Fault (Text kind)) less (inl says) = inl says
-told_later few many text (Fault (Text kind)) less (inr full) = inr (full.0, omega (arith, less, full.1))
-told_later few many text (Fault Length) less is = is
-told_later few many text NoMemory less is = is
+told_later : (bound : Option Caller) (few many : ℕ) (text : List ℕ) (response : Response) → few ≤ many
+    → IsToldOf bound few text response → IsToldOf bound many text response
+told_later bound few many text (Answer answer) less is = is
+told_later bound few many text (Fault (Text kind)) less (inl says) = inl says
+told_later bound few many text (Fault (Text kind)) less (inr full) = inr (full.0, omega (arith, less, full.1))
+told_later bound few many text (Fault Length) less is = is
+told_later bound few many text (Fault OtherCaller) less is = is
+told_later bound few many text NoMemory less is = is
 
 module _ {S : Type 0} (took : S → Option (List ℕ)) (p q : Progress) where
   -- a step of a client that is owed nothing, which hands out no line
@@ -46,29 +49,29 @@ module _ {S : Type 0} (took : S → Option (List ℕ)) (p q : Progress) where
   pub begun : (new : Wire) → p.owed ≡ None → q ≡ record p { wire = new } → Stays p.wire new ⊎ HasEnded p.wire new
       → ComesOf (comes_to took p) (comes_to took q)
   begun new none stays began = step_of new none stays (λ lines answers wrote end comes. elim began [
-    | inl same ↦ stays_so p.stops wrote end lines answers _ p.wire new same comes
-    | inr ended ↦ has_ended_so p.stops wrote end lines answers _ p.wire new ended comes
+    | inl same ↦ stays_so p.stops p.bound wrote end lines answers _ p.wire new same comes
+    | inr ended ↦ has_ended_so p.stops p.bound wrote end lines answers _ p.wire new ended comes
   ])
 
   -- a line was heard, and then this was told of it
   pub told_one : (mid : Progress) (new : Wire) (text : List ℕ) (response : Response) → p.owed ≡ None → mid ≡ record p { wire = new } → StaysThere mid q
       → Hears p.wire new text → IsToldLast (mid.stops && has_failed response) mid.wire q.wire (response_text response)
-      → IsToldAlone (length p.stands) text response → ComesOf (comes_to took p) (comes_to took q)
+      → IsToldAlone p.bound (length p.stands) text response → ComesOf (comes_to took p) (comes_to took q)
   told_one mid new text response none before stays hears is_told alone =
       step_of q.wire none (stays ∙ (λ i. record (before i) { wire = q.wire })) (λ lines answers wrote end comes.
-      heard_so p.stops wrote end lines answers _ p.wire new text response lines answers hears
-      (told_later (length p.stands) (length p.stands + length lines) text response (omega arith) alone.is)
+      heard_so p.stops p.bound wrote end lines answers _ p.wire new text response lines answers hears
+      (told_later p.bound (length p.stands) (length p.stands + length lines) text response (omega arith) alone.is)
       (ap (λ l. l ++ lines) (sym alone.nothing)) (ap (λ l. l ++ answers) (sym alone.none))
-      (told_so p.stops wrote end lines answers _ _ new q.wire response refl hears.still.1
+      (told_so p.stops p.bound wrote end lines answers _ _ new q.wire response refl hears.still.1
       (subst (λ m. IsToldLast (m.stops && has_failed response) m.wire q.wire (response_text response)) before is_told) comes))
 
   -- a line was heard and handed out
   pub handed_one : (new : Wire) (text : List ℕ) (line : Line) → p.owed ≡ None → q ≡ record p { owed = Some line; wire = new } → Hears p.wire new text
-      → script_of text ≡ Ok (line ∷ []) → ComesOf (comes_to took p) (comes_to took q)
-  handed_one new text line none is hears says lines answers left comes =
+      → script_of text ≡ Ok (line ∷ []) → MayWrite p.bound line → ComesOf (comes_to took p) (comes_to took q)
+  handed_one new text line none is hears says may lines answers left comes =
       let (answer, more, further, lines_are, answers_are, goes) = subst (λ x. comes_to took x lines answers left) is comes in
       subst (λ o. comes_to took (record p { owed = o }) lines answers left) (sym none)
-      (heard_so p.stops (took left.streams) left.end lines answers _ p.wire new text (Answer answer) more further hears (line, says)
+      (heard_so p.stops p.bound (took left.streams) left.end lines answers _ p.wire new text (Answer answer) more further hears (line, says, may)
       (lines_are ∙ ap (λ s. lines_said s ++ more) (sym says)) answers_are goes)
 
   -- it was kept where an answer stands, and then the answer was told
@@ -83,7 +86,7 @@ module _ {S : Type 0} (took : S → Option (List ℕ)) (p q : Progress) where
         answers,
         refl,
         refl,
-        told_so p.stops (took left.streams) left.end lines answers _ _ p.wire q.wire (Answer answer)
+        told_so p.stops p.bound (took left.streams) left.end lines answers _ _ p.wire q.wire (Answer answer)
             (omega (arith, length-append p.stands (stand ∷ []))) still
             (subst (λ m. IsToldLast (m.stops && has_failed (Answer answer)) m.wire q.wire (response_text (Answer answer))) kept is_told)
             (subst (λ x. comes_to took x lines answers left) (stays ∙ (λ i. record (kept i) { wire = q.wire })) comes),
@@ -95,11 +98,11 @@ pub taken_apart : (p : Progress) (new : Wire) (wrote : Option (List ℕ)) (end :
 unfolding AreFirstLines
 taken_apart p new wrote end none ended deaf ends took =
     let given = length p.stands + 0 in
-    let nothing : TalksOn p.stops given new wrote end [] [] [] = record {
+    let nothing : TalksOn p.stops p.bound given new wrote end [] [] [] = record {
       talk = record {
         exchanges = [];
         rest = [];
-        each = All-nil (λ e. IsToldOf given e.text e.response);
+        each = All-nil (λ e. IsToldOf p.bound given e.text e.response);
         lines_are = refl;
         answers_are = refl;
         heard = subst (λ h. IfSome h (λ bytes. AreFirstLines bytes [] [])) (sym deaf) refl;
@@ -109,7 +112,7 @@ taken_apart p new wrote end none ended deaf ends took =
       written = λ other. held wrote took;
       ended = subst (λ e. IfSome e (λ x. x ≡ end)) (sym ends) refl;
     } in
-    subst (λ o. ComesTo (record p { owed = o }) [] [] wrote end) (sym none) (has_ended_so p.stops wrote end [] [] given p.wire new ended nothing)
+    subst (λ o. ComesTo (record p { owed = o }) [] [] wrote end) (sym none) (has_ended_so p.stops p.bound wrote end [] [] given p.wire new ended nothing)
   where
     held : (known : Option (List ℕ)) → new.wrote ≡ known → IfSome known (λ bytes. (before : List ℕ) × (new.wrote ≡ Some before) × (bytes ≡ before ++ []))
     held None is = tt

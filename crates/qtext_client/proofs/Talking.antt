@@ -2,6 +2,7 @@
 use Rattle.std.proofs.Common.{◌≡◌, All, inl, inr, ℕ, Bool, true, false, ◌&&◌, List, [], ◌∷◌, ◌++◌, length, map, Option, Some, None, IfSome, IsSome, Result, refl, sym, ap, subst, ◌∙◌, append_assoc, arith}
 use Rattle.std.specs.List.{flat_map}
 use Rattle.std.proofs.lemmas.List.Elements.{All-cons}
+use Rattle.qplain.specs.Caller.{Caller}
 use Rattle.qplain.specs.declared.call_fault.CallFault.{CallFault}
 use Rattle.qplain.specs.declared.line.Line.{Line}
 use Rattle.qplain.specs.declared.receipt.Receipt.{Receipt}
@@ -74,10 +75,11 @@ pub none_told : EndsAtFailure []
 unfolding EndsAtFailure
 none_told = tt
 
-module _ (stops : Bool) (wrote : Option (List ℕ)) (end : ClientEnd) (lines : List Line) (answers : List (Result Receipt CallFault)) where
+module _ (stops : Bool) (bound : Option Caller) (wrote : Option (List ℕ)) (end : ClientEnd) (lines : List Line)
+    (answers : List (Result Receipt CallFault)) where
   -- what comes of a client that is told this first
   abbrev Talks : ℕ → Wire → List Response → Type 0
-  Talks given wire first = TalksOn stops given wire wrote end first lines answers
+  Talks given wire first = TalksOn stops bound given wire wrote end first lines answers
 
   not_ended : (e : Option ClientEnd) → e ≡ None → IfSome e (λ x. x ≡ end)
   not_ended e none = subst (λ e. IfSome e (λ x. x ≡ end)) (sym none) tt
@@ -92,7 +94,7 @@ module _ (stops : Bool) (wrote : Option (List ℕ)) (end : ClientEnd) (lines : L
     talk = record {
       exchanges = comes.talk.exchanges;
       rest = rest;
-      each = subst (λ m. All (λ e. IsToldOf m e.text e.response) comes.talk.exchanges) same comes.talk.each;
+      each = subst (λ m. All (λ e. IsToldOf bound m e.text e.response) comes.talk.exchanges) same comes.talk.each;
       lines_are = comes.talk.lines_are;
       answers_are = comes.talk.answers_are;
       heard = heard;
@@ -172,15 +174,15 @@ module _ (stops : Bool) (wrote : Option (List ℕ)) (end : ClientEnd) (lines : L
 
   -- a line was heard, of which it is told this
   pub heard_so : (given : ℕ) (old new : Wire) (text : List ℕ) (response : Response) (more : List Line) (further : List (Result Receipt CallFault))
-      → Hears old new text → IsToldOf given text response → lines ≡ handed_out text response ++ more → answers ≡ answers_in response ++ further
-      → TalksOn stops given new wrote end (response ∷ []) more further → Talks given old []
+      → Hears old new text → IsToldOf bound given text response → lines ≡ handed_out text response ++ more → answers ≡ answers_in response ++ further
+      → TalksOn stops bound given new wrote end (response ∷ []) more further → Talks given old []
   heard_so given old new text response more further hears is lines_are answers_are comes =
       let talk = comes.talk in
       record {
         talk = record {
           exchanges = record { text = text; response = response } ∷ talk.exchanges;
           rest = talk.rest;
-          each = All-cons (λ e. IsToldOf given e.text e.response) (record { text = text; response = response }) talk.exchanges is talk.each;
+          each = All-cons (λ e. IsToldOf bound given e.text e.response) (record { text = text; response = response }) talk.exchanges is talk.each;
           lines_are = lines_are ∙ ap (λ l. handed_out text response ++ l) talk.lines_are;
           answers_are = answers_are ∙ ap (λ l. answers_in response ++ l) talk.answers_are;
           heard = more_heard old.hears new.hears text (map (λ e. e.text) talk.exchanges) talk.rest hears.line talk.heard;

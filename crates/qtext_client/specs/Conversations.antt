@@ -3,6 +3,7 @@ use Rattle.std.specs.Prelude.{◌≡◌, ◌≢◌, ◌≤◌, ◌<◌, ◌+◌,
 use Rattle.std.specs.Prelude.{Option, Some, None, IfSome, Result, Ok, Err}
 use Rattle.std.specs.List.{flat_map}
 use Rattle.std.specs.Io.BufRead.{drop_through, take_through}
+use Rattle.qplain.specs.Caller.{Caller}
 use Rattle.qplain.specs.declared.call_fault.CallFault.{CallFault}
 use Rattle.qplain.specs.declared.line.Line.{Line}
 use Rattle.qplain.specs.declared.receipt.Receipt.{Receipt}
@@ -15,7 +16,7 @@ use Rattle.qrun_client.specs.declared.client.ClientEnd.TheVariants.{Served, Outp
 use Rattle.qrun_client.specs.declared.client.TheConstants.{MAX_GIVEN}
 use Rattle.qtext_client.specs.declared.bounded_line.TheConstants.{MAX_LINE}
 use Rattle.qtext_client.specs.declared.response.BadLine.{BadLine}
-use Rattle.qtext_client.specs.declared.response.BadLine.TheVariants.{Text, Length}
+use Rattle.qtext_client.specs.declared.response.BadLine.TheVariants.{Text, Length, OtherCaller}
 use Rattle.qtext_client.specs.declared.response.Response.{Response}
 use Rattle.qtext_client.specs.declared.response.Response.TheVariants.{Answer, Fault, NoMemory}
 use Rattle.qtext_client.specs.Responses.{EndsAtFailure, answers_in, response_text}
@@ -27,17 +28,28 @@ pub record Exchange : Type 0 where
   pub text : List ℕ
   pub response : Response
 
--- a client that hands out N lines in all may be told this fault of a line of this text
-abbrev pub IsLineFaultOf : ℕ → List ℕ → BadLine → Type 0
-IsLineFaultOf given text (Text kind) = (script_of text ≡ Err (record { line = 1; kind = kind }))
-    ⊎ ((kind ≡ TooMany) × (MAX_GIVEN ≤ given))
-IsLineFaultOf given text Length = MAX_LINE < length text
+-- a client that is bound to a caller may write this line: it is one of that caller; and one that is not any line
+abbrev pub MayWrite : Option Caller → Line → Type 0
+MayWrite None line = ⊤
+MayWrite (Some caller) line = line.cred ≡ caller
 
--- it may be told this of it: an answer to the one line that it says, its fault, or that memory was wanting
-abbrev pub IsToldOf : ℕ → List ℕ → Response → Type 0
-IsToldOf given text (Answer answer) = (line : Line) × (script_of text ≡ Ok (line ∷ []))
-IsToldOf given text (Fault fault) = IsLineFaultOf given text fault
-IsToldOf given text NoMemory = ⊤
+-- a script has one line, of which this holds
+abbrev pub HasOne : (Line → Type 0) → Result (List Line) TextFault → Type 0
+HasOne Holds script = (line : Line) × (script ≡ Ok (line ∷ [])) × Holds line
+
+-- a client that is bound so, and hands out N lines in all, may be told this fault of a line of this text
+abbrev pub IsLineFaultOf : Option Caller → ℕ → List ℕ → BadLine → Type 0
+IsLineFaultOf bound given text (Text kind) = (script_of text ≡ Err (record { line = 1; kind = kind }))
+    ⊎ ((kind ≡ TooMany) × (MAX_GIVEN ≤ given))
+IsLineFaultOf bound given text Length = MAX_LINE < length text
+IsLineFaultOf bound given text OtherCaller = HasOne (λ line. MayWrite bound line → ⊥) (script_of text)
+
+-- it may be told this of it: an answer to the one line that it says, which it may write, its fault, or that memory was
+-- wanting
+abbrev pub IsToldOf : Option Caller → ℕ → List ℕ → Response → Type 0
+IsToldOf bound given text (Answer answer) = HasOne (MayWrite bound) (script_of text)
+IsToldOf bound given text (Fault fault) = IsLineFaultOf bound given text fault
+IsToldOf bound given text NoMemory = ⊤
 
 -- the lines that a script says, none where it has a fault
 abbrev pub lines_said : Result (List Line) TextFault → List Line
@@ -56,23 +68,24 @@ AreFirstLines bytes [] rest = rest ≡ bytes
 AreFirstLines bytes (text ∷ texts) rest = (text ≡ take_through 10 bytes) × (0 < length text)
     × AreFirstLines (drop_through 10 bytes) texts rest
 
--- a client that hands out N lines in all has said lines one after the other, and was told something of each, in their
--- order: these are the lines that it handed out, and the answers that it was told; where the bytes of its input are
--- known, its lines are the first of them, and all of them where it was served
-pub record IsTalk (given : ℕ) (hears : Option (List ℕ)) (lines : List Line) (answers : List (Result Receipt CallFault))
-    (end : ClientEnd) : Type 0 where
+-- a client that is bound so, and hands out N lines in all, has said lines one after the other, and was told something
+-- of each, in their order: these are the lines that it handed out, and the answers that it was told; where the bytes of
+-- its input are known, its lines are the first of them, and all of them where it was served
+pub record IsTalk (bound : Option Caller) (given : ℕ) (hears : Option (List ℕ)) (lines : List Line)
+    (answers : List (Result Receipt CallFault)) (end : ClientEnd) : Type 0 where
   pub exchanges : List Exchange
   pub rest : List ℕ
-  pub each : All (λ e. IsToldOf given e.text e.response) exchanges
+  pub each : All (λ e. IsToldOf bound given e.text e.response) exchanges
   pub lines_are : lines ≡ flat_map (λ e. handed_out e.text e.response) exchanges
   pub answers_are : answers ≡ flat_map (λ e. answers_in e.response) exchanges
   pub heard : IfSome hears (λ bytes. AreFirstLines bytes (map (λ e. e.text) exchanges) rest)
   pub all_heard : end ≡ Served → rest ≡ []
 
--- how far a client is: whether it stops at a failed line, where the answers that it was told stand, the line that it is
--- still owed an answer to, and what is known of its streams
+-- how far a client is: whether it stops at a failed line, to whom it is bound, where the answers that it was told
+-- stand, the line that it is still owed an answer to, and what is known of its streams
 pub record Progress : Type 0 where
   pub stops : Bool
+  pub bound : Option Caller
   pub stands : List (Result ℕ FailedLine)
   pub owed : Option Line
   pub wire : Wire
@@ -83,9 +96,10 @@ StaysThere old new = new ≡ record old { wire = new.wire }
 
 -- a client that hands out N lines in all is told this first, and then talks on: where it stops at a failed line none is
 -- told of after that; and where its output tells its bytes and has refused nothing, they grew by the text of all
-pub record TalksOn (stops : Bool) (given : ℕ) (wire : Wire) (wrote : Option (List ℕ)) (end : ClientEnd)
-    (first : List Response) (lines : List Line) (answers : List (Result Receipt CallFault)) : Type 0 where
-  pub talk : IsTalk given wire.hears lines answers end
+pub record TalksOn (stops : Bool) (bound : Option Caller) (given : ℕ) (wire : Wire) (wrote : Option (List ℕ))
+    (end : ClientEnd) (first : List Response) (lines : List Line) (answers : List (Result Receipt CallFault))
+    : Type 0 where
+  pub talk : IsTalk bound given wire.hears lines answers end
   pub at_failure : stops ≡ true → EndsAtFailure (first ++ map (λ e. e.response) talk.exchanges)
   pub written : end ≢ Output
       → GrowsBy wire.wrote wrote (flat_map response_text (first ++ map (λ e. e.response) talk.exchanges))
@@ -104,7 +118,7 @@ GoesOnBehindOwed (Some line) Goes lines answers = (answer : Result Receipt CallF
 -- these the answers
 abbrev pub ComesTo : Progress → List Line → List (Result Receipt CallFault) → Option (List ℕ) → ClientEnd → Type 0
 ComesTo p lines answers wrote end =
-    GoesOnBehindOwed p.owed (TalksOn p.stops (length p.stands + length lines) p.wire wrote end) lines answers
+    GoesOnBehindOwed p.owed (TalksOn p.stops p.bound (length p.stands + length lines) p.wire wrote end) lines answers
 
 -- so it is with a client of streams whose outputs, once let go of, took these bytes
 abbrev pub comes_to : {S : Type 0} → (S → Option (List ℕ)) → Progress → List Line → List (Result Receipt CallFault)

@@ -8,13 +8,15 @@ use qtext::{Piece, RefusedWrite, TextKind, TextLine, put, put_pieces};
 use qtext_write::put_answer;
 use std::io::Write;
 
-/// What is wrong with a line that is none of a script.
+/// What is wrong with a line that is none of a script, or none of its client's.
 #[derive(Clone, Copy, Debug, PartialEq, Eq)]
 pub enum BadLine {
     /// It does not say what a script's line says.
     Text(TextKind),
     /// It is longer than the bound.
     Length,
+    /// It is of another caller than the client is bound to.
+    OtherCaller,
 }
 
 /// What a client is told of one line.
@@ -22,7 +24,7 @@ pub enum BadLine {
 pub enum Response {
     /// What a store answered to it.
     Answer(Answer),
-    /// It is no line of a script.
+    /// It is no line of a script, or none of its client's.
     Fault(BadLine),
     /// Memory was wanting for it, whatever it says.
     NoMemory,
@@ -49,6 +51,7 @@ impl BadLine {
         match self {
             BadLine::Text(kind) => kind.words(),
             BadLine::Length => "line length",
+            BadLine::OtherCaller => "caller",
         }
     }
 }

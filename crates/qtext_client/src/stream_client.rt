@@ -1,11 +1,12 @@
 //! A client that writes script lines into a stream, and reads what it is told from another.
-ghost use Rattle.std.specs.Prelude.{◌≡◌, ◌<◌, ◌∷◌, ◌++◌, ◌&&◌, [], None, Some, IsSome, OnErr, OnOk, is_some, length};
+ghost use Rattle.std.specs.Prelude.{◌≡◌, ◌<◌, ◌∷◌, ◌++◌, ◌&&◌, ◌↔◌, [], true, None, Some, IsSome, OnErr, OnOk};
+ghost use Rattle.std.specs.Prelude.{is_some, length, option_map};
 ghost use Rattle.qplain.specs.declared.line.Line.{Line as ScriptLine};
 ghost use Rattle.qrun_client.specs.declared.client.TheConstants.{MAX_GIVEN};
 ghost use Rattle.qtext_client.specs.BoundedLines.{IsOneLine};
 ghost use Rattle.qrun_client.specs.Clients.{ComesOf, HasLowPlace, IsAnswerIn, Takes, place_of};
 ghost use Rattle.qrun_replay.specs.Places.{stand_at};
-ghost use Rattle.qtext_client.specs.Conversations.{StaysThere, comes_to};
+ghost use Rattle.qtext_client.specs.Conversations.{MayWrite, StaysThere, comes_to};
 ghost use Rattle.qtext_client.specs.declared.stream_client.Heard.TheVariants.{End};
 ghost use Rattle.qtext_client.specs.declared.stream_client.Step.TheVariants.{Ended};
 ghost use Rattle.qtext_client.specs.Hearings.{HearsLine, HearsText, IsLine, is_handed_out};
@@ -17,7 +18,7 @@ use crate::bounded_line::Got;
 use crate::connection::{Connection, EndedClient};
 use crate::response::{BadLine, Response};
 use crate::streams::Streams;
-use qplain::{Call, CallPaths, Line, NoMemory, Path, Receipt};
+use qplain::{Call, CallPaths, Cred, Line, NoMemory, Path, Receipt};
 use qrun_client::{Answer, Client, ClientEnd, MAX_GIVEN};
 use qrun_replay::Places;
 use qtext::{ReadFault, TextKind};
@@ -50,15 +51,17 @@ enum Step {
 
 /// A client that writes script lines, and reads what it is told of each: an answer, or what is wrong with the line.
 ///
-/// A line that is none of a script is told as a fault: it is never handed out, and takes no place. From 2,097,152 lines
-/// on no line is handed out. A client ends where its lines end, where a stream is refused, or where it has gone away;
-/// and, where it was made to, at its first line that fails. It keeps where its answers stand, 8 bytes each, and of its
-/// lines only the one that is still to be answered and those that failed. Contracts see whether it was made to stop,
-/// where the answers stand, that one line, and what is known of its streams.
+/// A line that is none of a script is told as a fault, and so is one of another caller than the client is bound to: it
+/// is never handed out, and takes no place. From 2,097,152 lines on no line is handed out. A client ends where its
+/// lines end, where a stream is refused, or where it has gone away; and, where it was made to, at its first line that
+/// fails. It keeps where its answers stand, 8 bytes each, and of its lines only the one that is still to be answered
+/// and those that failed. Contracts see whether it was made to stop, to whom it is bound, where the answers stand, that
+/// one line, and what is known of its streams.
 #[derive(Drop)]
 pub struct StreamClient<'a, S: Streams + Drop> {
     alloc: Global,
     stop: Option<&'a AtomicBool>,
+    bound: Option<&'a Cred>,
     connection: Connection<S>,
     text: Vec<u8>,
     /// The path of the last line that has one.
@@ -68,7 +71,7 @@ pub struct StreamClient<'a, S: Streams + Drop> {
 }
 
 impl<'a, S: Streams + Drop> Model for StreamClient<'a, S> {
-    ghost use Rattle.std.specs.Prelude.{is_some};
+    ghost use Rattle.std.specs.Prelude.{is_some, option_map};
     ghost use Rattle.qtext_client.specs.Conversations.{Progress};
     ghost use Rattle.qtext_client.specs.Talks.{IsKept};
 
@@ -76,6 +79,7 @@ impl<'a, S: Streams + Drop> Model for StreamClient<'a, S> {
 
     ghost view = { λ c. record {
       stops = is_some c.stop;
+      bound = option_map (λ caller. caller.now) c.bound;
       stands = c.places.stands;
       owed = c.line;
       wire = c.connection;
@@ -100,10 +104,25 @@ fn path_after(before: Option<Path>, call: &Call) -> Option<Path> {
     }
 }
 
+/// Whether a client that is bound so may write a line.
+fn may_write(bound: Option<&Cred>, line: &Line) -> bool
+    ensures { result ≡ true ↔ MayWrite (option_map (λ caller. caller.now) bound.entry) line.now }
+{
+    match bound {
+        Some(caller) => line.cred == *caller,
+        None => true,
+    }
+}
+
 /// What a text of one line comes to, beside the path of the line before it.
-fn heard_in<'x>(alloc: Global, path: Option<&'x Path>, text: &'x [u8]) -> Heard
+fn heard_in<'x>(
+    alloc: Global,
+    bound: Option<&Cred>,
+    path: Option<&'x Path>,
+    text: &'x [u8],
+) -> Heard
     requires { IsOneLine text.now }
-    ensures { HearsText result (script_of text.now) }
+    ensures { HearsText (option_map (λ caller. caller.now) bound.entry) result (script_of text.now) }
 {
     let mut room = Vec::new(alloc);
     let Ok(line) = next_line(&mut room, text) else {
@@ -113,7 +132,12 @@ fn heard_in<'x>(alloc: Global, path: Option<&'x Path>, text: &'x [u8]) -> Heard
         return Heard::None(Response::NoMemory);
     };
     match read_line(alloc, &mut paths, 1, &line, &room) {
-        Ok(line) => Heard::Line(line),
+        Ok(line) => {
+            if may_write(bound, &line) {
+                return Heard::Line(line);
+            }
+            Heard::None(Response::Fault(BadLine::OtherCaller))
+        }
         Err(ReadFault::Memory) => Heard::None(Response::NoMemory),
         Err(ReadFault::Fault(kind)) => Heard::None(Response::Fault(BadLine::Text(kind))),
     }
@@ -123,10 +147,17 @@ impl<'a, S: Streams + Drop> StreamClient<'a, S> {
     /// A client that has handed out no line, and whose streams are opened when the first is asked for.
     ///
     /// With a flag it stops at its first line that fails, sets the flag, and hands out no line where that is set: so do
-    /// all clients that share it, but for lines that were handed out by then.
-    pub fn new(alloc: Global, streams: S, stop: Option<&'a AtomicBool>) -> Self
+    /// all clients that share it, but for lines that were handed out by then. With a caller it is bound to that one: it
+    /// hands out no line of another.
+    pub fn new(
+        alloc: Global,
+        streams: S,
+        stop: Option<&'a AtomicBool>,
+        bound: Option<&'a Cred>,
+    ) -> Self
         ensures { result ≡ record {
           stops = is_some stop.entry;
+          bound = option_map (λ caller. caller.now) bound.entry;
           stands = [];
           owed = None;
           wire = record { hears = S.says streams; wrote = Some []; end = None };
@@ -135,6 +166,7 @@ impl<'a, S: Streams + Drop> StreamClient<'a, S> {
         StreamClient {
             alloc,
             stop,
+            bound,
             connection: Connection::new(streams),
             text: Vec::new(alloc),
             path: None,
@@ -166,7 +198,7 @@ impl<'a, S: Streams + Drop> StreamClient<'a, S> {
     fn hear(&mut self) -> Heard
         requires answered { self.old.owed ≡ None }
         ensures stays { StaysThere self.old self.new }
-        ensures heard { HearsLine (length self.old.stands) self.old.wire self.new.wire result }
+        ensures heard { HearsLine self.old.bound (length self.old.stands) self.old.wire self.new.wire result }
         ensures few { IsLine result → length self.new.stands < MAX_GIVEN }
     {
         match self.connection.next_line(&mut self.text) {
@@ -175,7 +207,7 @@ impl<'a, S: Streams + Drop> StreamClient<'a, S> {
             _ if self.places.len() >= MAX_GIVEN => Heard::None(Response::Fault(BadLine::Text(
                 TextKind::TooMany,
             ))),
-            Got::Text => heard_in(self.alloc, self.path.as_ref(), &self.text),
+            Got::Text => heard_in(self.alloc, self.bound, self.path.as_ref(), &self.text),
             Got::TooLong => Heard::None(Response::Fault(BadLine::Length)),
             Got::NoMemory => Heard::None(Response::NoMemory),
         }

@@ -9,13 +9,13 @@ use Rattle.qtext_job.specs.Commands.{quotafs}
 use Rattle.qtext_job.specs.Jobs.{HasScript, IsAskedBy, IsJobOf, IsNamedBy}
 
 named_some : (name : Text) (rows : List Row) (job : Job) → IsNamedBy name rows job → HasScript job
-named_some name rows (Run config telling journal boards batch scripts) is =
+named_some name rows (Run run) is =
     let some = is.6.1 in
-    omega (arith, some, length-map scripts.items (λ s. string_bytes s))
-named_some name rows (Replay config telling journal) is = tt
-named_some name rows (Serve config at stop_at_failure journal board pairs) is = tt
-named_some name rows (Expand config script) is = tt
-named_some name rows (Check config scripts) is = tt
+    omega (arith, some, length-map run.scripts.items (λ s. string_bytes s))
+named_some name rows (Replay replay) is = tt
+named_some name rows (Serve serve) is = tt
+named_some name rows (Expand expand) is = tt
+named_some name rows (Check check) is = tt
 
 job_some : (named : Option (Text × List Row)) (job : Job) → IsJobOf named job → HasScript job
 job_some None job is = absurd is

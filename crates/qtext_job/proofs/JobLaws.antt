@@ -190,49 +190,49 @@ passed_on (Err e) P Q fault is h weaker = rw is (unless_weaker P Q fault weaker 
 -- a run has how it is told, and its numbers
 pub its_numbers : (rows : List Row) (job : Job) → IsNamedBy (codes "run") rows job
     → ((telling : Telling) × IsTellingIn rows telling) × ((boards : ℕ) × AreBoardsIn rows boards) × ((batch : ℕ) × IsBatchIn rows batch)
-its_numbers rows (Run config telling journal boards batch scripts) h = ((telling, h.2), (boards, h.4), (batch, h.5))
-its_numbers rows (Serve config at stop_at_failure journal board pairs) h =
+its_numbers rows (Run run) h = ((run.telling, h.2), (run.boards, h.4), (run.batch, h.5))
+its_numbers rows (Serve serve) h =
     let same : codes "run" ≡ codes "serve" = h.0 in
     absurd cc
-its_numbers rows (Replay config telling journal) h =
+its_numbers rows (Replay replay) h =
     let same : codes "run" ≡ codes "replay" = h.0 in
     absurd cc
-its_numbers rows (Expand config script) h =
+its_numbers rows (Expand expand) h =
     let same : codes "run" ≡ codes "expand" = h.0 in
     absurd cc
-its_numbers rows (Check config scripts) h =
+its_numbers rows (Check check) h =
     let same : codes "run" ≡ codes "check" = h.0 in
     absurd cc
 
 -- a replay has how it is told
 pub its_telling : (rows : List Row) (job : Job) → IsNamedBy (codes "replay") rows job → (telling : Telling) × IsTellingIn rows telling
-its_telling rows (Run config telling journal boards batch scripts) h =
+its_telling rows (Run run) h =
     let same : codes "replay" ≡ codes "run" = h.0 in
     absurd cc
-its_telling rows (Serve config at stop_at_failure journal board pairs) h =
+its_telling rows (Serve serve) h =
     let same : codes "replay" ≡ codes "serve" = h.0 in
     absurd cc
-its_telling rows (Replay config telling journal) h = (telling, h.2)
-its_telling rows (Expand config script) h =
+its_telling rows (Replay replay) h = (replay.telling, h.2)
+its_telling rows (Expand expand) h =
     let first : 114 ≡ 101 = ap (λ name. get_or name 0 0) h.0 in
     absurd (omega (arith, first))
-its_telling rows (Check config scripts) h =
+its_telling rows (Check check) h =
     let same : codes "replay" ≡ codes "check" = h.0 in
     absurd cc
 
 -- a job that serves has its moment
 pub its_moment : (rows : List Row) (job : Job) → IsNamedBy (codes "serve") rows job → (at : ℕ) × IsMomentIn rows at
-its_moment rows (Run config telling journal boards batch scripts) h =
+its_moment rows (Run run) h =
     let same : codes "serve" ≡ codes "run" = h.0 in
     absurd cc
-its_moment rows (Serve config at stop_at_failure journal board pairs) h = (at, h.2)
-its_moment rows (Replay config telling journal) h =
+its_moment rows (Serve serve) h = (serve.at, h.2)
+its_moment rows (Replay replay) h =
     let same : codes "serve" ≡ codes "replay" = h.0 in
     absurd cc
-its_moment rows (Expand config script) h =
+its_moment rows (Expand expand) h =
     let same : codes "serve" ≡ codes "expand" = h.0 in
     absurd cc
-its_moment rows (Check config scripts) h =
+its_moment rows (Check check) h =
     let first : 115 ≡ 99 = ap (λ name. get_or name 0 0) h.0 in
     absurd (omega (arith, first))
 

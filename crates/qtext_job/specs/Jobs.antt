@@ -31,34 +31,34 @@ checked_in rows = unwrap_or (all_of (codes "scripts") rows) []
 
 -- the job of a subcommand of this name with these matches
 abbrev pub IsNamedBy : Text → List Row → Job → Type 0
-IsNamedBy name rows (Run config telling journal boards batch scripts) = (name ≡ codes "run")
-    × (first_of (codes "config") rows ≡ Some (string_bytes config))
-    × IsTellingIn rows telling
-    × (first_of (codes "journal") rows ≡ option_map (λ s. string_bytes s) journal)
-    × AreBoardsIn rows boards
-    × IsBatchIn rows batch
-    × AreScriptsIn rows (map (λ s. string_bytes s) scripts.items)
-IsNamedBy name rows (Serve config at stop_at_failure journal board pairs) = (name ≡ codes "serve")
-    × (first_of (codes "config") rows ≡ Some (string_bytes config))
-    × IsMomentIn rows at
-    × (stop_at_failure ≡ is_given (codes "stop-at-failure") rows)
-    × (first_of (codes "journal") rows ≡ option_map (λ s. string_bytes s) journal)
-    × (first_of (codes "board") rows ≡ option_map (λ s. string_bytes s) board)
-    × AreClientsIn rows pairs.items
-IsNamedBy name rows (Replay config telling journal) = (name ≡ codes "replay")
-    × (first_of (codes "config") rows ≡ Some (string_bytes config))
-    × IsTellingIn rows telling
-    × (first_of (codes "journal") rows ≡ Some (string_bytes journal))
-IsNamedBy name rows (Expand config script) = (name ≡ codes "expand")
-    × (first_of (codes "config") rows ≡ Some (string_bytes config))
-    × (first_of (codes "script") rows ≡ option_map (λ s. string_bytes s) script)
-IsNamedBy name rows (Check config scripts) = (name ≡ codes "check")
-    × (first_of (codes "config") rows ≡ Some (string_bytes config))
-    × (map (λ s. string_bytes s) scripts.items ≡ checked_in rows)
+IsNamedBy name rows (Run run) = (name ≡ codes "run")
+    × (first_of (codes "config") rows ≡ Some (string_bytes run.config))
+    × IsTellingIn rows run.telling
+    × (first_of (codes "journal") rows ≡ option_map (λ s. string_bytes s) run.journal)
+    × AreBoardsIn rows run.boards
+    × IsBatchIn rows run.batch
+    × AreScriptsIn rows (map (λ s. string_bytes s) run.scripts.items)
+IsNamedBy name rows (Serve serve) = (name ≡ codes "serve")
+    × (first_of (codes "config") rows ≡ Some (string_bytes serve.config))
+    × IsMomentIn rows serve.at
+    × (serve.stop_at_failure ≡ is_given (codes "stop-at-failure") rows)
+    × (first_of (codes "journal") rows ≡ option_map (λ s. string_bytes s) serve.journal)
+    × (first_of (codes "board") rows ≡ option_map (λ s. string_bytes s) serve.board)
+    × AreClientsIn rows serve.pairs.items
+IsNamedBy name rows (Replay replay) = (name ≡ codes "replay")
+    × (first_of (codes "config") rows ≡ Some (string_bytes replay.config))
+    × IsTellingIn rows replay.telling
+    × (first_of (codes "journal") rows ≡ Some (string_bytes replay.journal))
+IsNamedBy name rows (Expand expand) = (name ≡ codes "expand")
+    × (first_of (codes "config") rows ≡ Some (string_bytes expand.config))
+    × (first_of (codes "script") rows ≡ option_map (λ s. string_bytes s) expand.script)
+IsNamedBy name rows (Check check) = (name ≡ codes "check")
+    × (first_of (codes "config") rows ≡ Some (string_bytes check.config))
+    × (map (λ s. string_bytes s) check.scripts.items ≡ checked_in rows)
 
 -- a run has a script
 abbrev pub HasScript : Job → Type 0
-HasScript (Run config telling journal boards batch scripts) = 1 ≤ length scripts.items
+HasScript (Run run) = 1 ≤ length run.scripts.items
 HasScript job = Unit {0}
 
 -- the job of a subcommand's name and its matches

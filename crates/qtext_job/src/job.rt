@@ -27,49 +27,63 @@ const MAX_BOARDS: u64 = 1000;
 /// As many lines go under one lock at most.
 const MAX_BATCH: u64 = 64;
 
+/// To run the scripts on a store of the configuration, each up to N lines at a time, while N boards are taken, to tell
+/// what came of it, and to write the journal of the run where a file is named for it.
+#[derive(Debug, Drop)]
+pub struct RunJob {
+    pub config: String,
+    pub telling: Telling,
+    pub journal: Option<String>,
+    pub boards: u64,
+    pub batch: u64,
+    pub scripts: Vec<String>,
+}
+
+/// To answer the clients' lines on a store of the configuration, until all have ended or, where it is to stop at that,
+/// the first line has failed, to report at the moment, in seconds, to write the journal where a file is named for it,
+/// and likewise the board while clients are served. Where no client is named there is one, on standard input and
+/// output.
+#[derive(Debug, Drop)]
+pub struct ServeJob {
+    pub config: String,
+    pub at: u64,
+    pub stop_at_failure: bool,
+    pub journal: Option<String>,
+    pub board: Option<String>,
+    pub pairs: Vec<Pair>,
+}
+
+/// To play the journal on a store of the configuration, and to tell what came of it.
+#[derive(Debug, Drop)]
+pub struct ReplayJob {
+    pub config: String,
+    pub telling: Telling,
+    pub journal: String,
+}
+
+/// To write a friendly script out as a plain one, for a store of the configuration: that in the file, or standard input
+/// where none is named.
+#[derive(Debug, Drop)]
+pub struct ExpandJob {
+    pub config: String,
+    pub script: Option<String>,
+}
+
+/// To play nothing, and to tell all that is wrong in the configuration and in the scripts, of which there may be none.
+#[derive(Debug, Drop)]
+pub struct CheckJob {
+    pub config: String,
+    pub scripts: Vec<String>,
+}
+
 /// What the program is asked to do. Files are named as they stand on the command line.
 #[derive(Debug, Drop)]
 pub enum Job {
-    /// To run the scripts on a store of the configuration, each up to N lines at a time, while N boards are
-    /// taken, to tell what came of it, and to write the journal of the run where a file is named for it.
-    Run {
-        config: String,
-        telling: Telling,
-        journal: Option<String>,
-        boards: u64,
-        batch: u64,
-        scripts: Vec<String>,
-    },
-    /// To answer the clients' lines on a store of the configuration, until all have ended or, where it is to stop at
-    /// that, the first line has failed, to report at the moment, in seconds, to write the journal where a file is named
-    /// for it, and likewise the board while clients are served. Where no client is named there is one, on standard
-    /// input and output.
-    Serve {
-        config: String,
-        at: u64,
-        stop_at_failure: bool,
-        journal: Option<String>,
-        board: Option<String>,
-        pairs: Vec<Pair>,
-    },
-    /// To play the journal on a store of the configuration, and to tell what came of it.
-    Replay {
-        config: String,
-        telling: Telling,
-        journal: String,
-    },
-    /// To write a friendly script out as a plain one, for a store of the configuration: that in the file, or standard
-    /// input where none is named.
-    Expand {
-        config: String,
-        script: Option<String>,
-    },
-    /// To play nothing, and to tell all that is wrong in the configuration and in the scripts, of which there may be
-    /// none.
-    Check {
-        config: String,
-        scripts: Vec<String>,
-    },
+    Run(RunJob),
+    Serve(ServeJob),
+    Replay(ReplayJob),
+    Expand(ExpandJob),
+    Check(CheckJob),
 }
 
 /// What an error of `clap` is reported as.
@@ -169,14 +183,14 @@ fn run(alloc: Global, matches: &ArgMatches<'_>) -> Result<Job, LineFault>
     let boards = number(alloc, matches, "boards", 0, MAX_BOARDS)?;
     let batch = number(alloc, matches, "batch", 1, MAX_BATCH)?;
     let scripts = scripts(alloc, matches)?;
-    Ok(Job::Run {
+    Ok(Job::Run(RunJob {
         config,
         telling,
         journal,
         boards,
         batch,
         scripts,
-    })
+    }))
 }
 
 fn serve(alloc: Global, matches: &ArgMatches<'_>) -> Result<Job, LineFault>
@@ -185,14 +199,14 @@ fn serve(alloc: Global, matches: &ArgMatches<'_>) -> Result<Job, LineFault>
         ((job : Job) × IsNamedBy (codes "serve") (rows_of (found_of matches.now)) job)) }
 {
     let config = named(alloc, matches, "config")?;
-    Ok(Job::Serve {
+    Ok(Job::Serve(ServeJob {
         config,
         at: number(alloc, matches, "at", 0, MAX_MOMENT)?,
         stop_at_failure: is_set(matches, "stop-at-failure"),
         journal: optional(alloc, matches, "journal")?,
         board: optional(alloc, matches, "board")?,
         pairs: clients(alloc, matches)?,
-    })
+    }))
 }
 
 fn replay(alloc: Global, matches: &ArgMatches<'_>) -> Result<Job, LineFault>
@@ -200,11 +214,11 @@ fn replay(alloc: Global, matches: &ArgMatches<'_>) -> Result<Job, LineFault>
     ensures err { IfErr result (FailsUnless
         ((job : Job) × IsNamedBy (codes "replay") (rows_of (found_of matches.now)) job)) }
 {
-    Ok(Job::Replay {
+    Ok(Job::Replay(ReplayJob {
         config: named(alloc, matches, "config")?,
         telling: telling(alloc, matches)?,
         journal: named(alloc, matches, "journal")?,
-    })
+    }))
 }
 
 fn expand(alloc: Global, matches: &ArgMatches<'_>) -> Result<Job, LineFault>
@@ -214,7 +228,7 @@ fn expand(alloc: Global, matches: &ArgMatches<'_>) -> Result<Job, LineFault>
 {
     let config = named(alloc, matches, "config")?;
     let script = optional(alloc, matches, "script")?;
-    Ok(Job::Expand { config, script })
+    Ok(Job::Expand(ExpandJob { config, script }))
 }
 
 /// The scripts that are named, none where no word names one.
@@ -235,7 +249,7 @@ fn check(alloc: Global, matches: &ArgMatches<'_>) -> Result<Job, LineFault>
 {
     let config = named(alloc, matches, "config")?;
     let scripts = checked(alloc, matches)?;
-    Ok(Job::Check { config, scripts })
+    Ok(Job::Check(CheckJob { config, scripts }))
 }
 
 fn job_of(alloc: Global, matches: &ArgMatches<'_>) -> Result<Job, LineFault>

@@ -1,7 +1,7 @@
 //! The command line: the job that its words ask for, or why they ask for none.
 #![tactic(auto)]
 
-pub use job::Job;
+pub use job::{CheckJob, ExpandJob, Job, ReplayJob, RunJob, ServeJob};
 pub use line_fault::LineFault;
 pub use pair::Pair;
 

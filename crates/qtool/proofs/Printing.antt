@@ -1,10 +1,14 @@
--- What was printed of a run, from what was read and what was told.
+-- What was printed of a run, or of a service, from what was read and what was told.
 use Rattle.std.proofs.Common.{◌≡◌, ℕ, List, Option, Result, Ok, Err, IfOk, subst}
+use Rattle.std.specs.Io.KnownBytes.{Appends}
+use Rattle.qplain.specs.Caller.{Caller}
 use Rattle.qrun_replay.specs.declared.outcome.Outcome.{Outcome}
 use Rattle.qtext.specs.declared.telling.Telling.{Telling}
 use Rattle.qtool_files.specs.Held.{Held}
-use Rattle.qtool.specs.Printed.{IsJournalKept, IsTold, PrintsRun}
-use Rattle.qtool.specs.Under.{IsRunUnder}
+use Rattle.qtext_outcome.specs.Outcomes.{outcome_end}
+use Rattle.qtool.specs.Callers.{AreKept}
+use Rattle.qtool.specs.Printed.{IsJournalKept, IsTold, PrintsRun, PrintsService}
+use Rattle.qtool.specs.Under.{IsRunUnder, IsServiceUnder}
 use Rattle.qtool.specs.declared.ending.Ending.{Ending}
 
 -- an outcome of the run was told, and its journal kept
@@ -15,3 +19,10 @@ pub prints_run : (config : List ℕ) (scripts : List (List ℕ)) (boards : ℕ) 
 prints_run config scripts boards telling journal outcome (Ok status) files left kept old new is same told written =
     record { outcome = outcome; is = is; told = told; journal_is = subst (λ f. IsJournalKept f kept journal outcome.journal) same written }
 prints_run config scripts boards telling journal outcome (Err ending) files left kept old new is same told written = tt
+
+-- what a service left was told, and its clients kept to their callers
+pub prints_service : {T : Type 0} (config : List ℕ) (callers : List (Option Caller)) (at : ℕ) (files : Held) (old new : Option (List ℕ))
+    (outcome : Outcome) (result : Result T Ending) → IsServiceUnder files config outcome → AreKept callers outcome.journal.entries
+    → Appends old new (outcome_end outcome at) → IfOk result (λ _. PrintsService config callers at files old new)
+prints_service config callers at files old new outcome (Ok x) is kept prints = record { outcome = outcome; is = is; kept = kept; prints = prints }
+prints_service config callers at files old new outcome (Err ending) is kept prints = tt

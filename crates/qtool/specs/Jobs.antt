@@ -6,11 +6,11 @@ use Rattle.qtext_job.specs.declared.job.Job.TheVariants.{Run, Replay, Serve, Exp
 
 -- a run makes 1 to 64 lines under one lock
 abbrev pub HasBatch : Job → Type 0
-HasBatch (Run config telling journal boards batch scripts) = (1 ≤ batch) × (batch ≤ 64)
-HasBatch (Replay config telling journal) = Unit {0}
-HasBatch (Serve config at stop_at_failure journal board pairs) = Unit {0}
-HasBatch (Expand config script) = Unit {0}
-HasBatch (Check config scripts) = Unit {0}
+HasBatch (Run run) = (1 ≤ run.batch) × (run.batch ≤ 64)
+HasBatch (Replay replay) = Unit {0}
+HasBatch (Serve serve) = Unit {0}
+HasBatch (Expand expand) = Unit {0}
+HasBatch (Check check) = Unit {0}
 
 -- there is a seat for each script, and one more where boards are taken
 abbrev pub HasSeats : ℕ → ℕ → Type 0
@@ -18,8 +18,8 @@ HasSeats scripts boards = (scripts ≤ MAX_WORKERS) × (0 < boards → scripts <
 
 -- clients are to be served
 abbrev pub IsService : Job → Type 0
-IsService (Run config telling journal boards batch scripts) = ⊥
-IsService (Replay config telling journal) = ⊥
-IsService (Serve config at stop_at_failure journal board pairs) = Unit {0}
-IsService (Expand config script) = ⊥
-IsService (Check config scripts) = ⊥
+IsService (Run run) = ⊥
+IsService (Replay replay) = ⊥
+IsService (Serve serve) = Unit {0}
+IsService (Expand expand) = ⊥
+IsService (Check check) = ⊥

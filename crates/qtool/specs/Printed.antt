@@ -7,6 +7,7 @@ use Rattle.std.specs.List.{list_any}
 use Rattle.std.specs.Str.{bytes_eq}
 use Rattle.clap.specs.Words.{IsAmong, fault_of}
 use Rattle.clap.specs.declared.error.kind.ErrorKind.{ErrorKind}
+use Rattle.qplain.specs.Caller.{Caller}
 use Rattle.qplain.specs.Journals.{Written}
 use Rattle.qplain.specs.Setups.{Setting}
 use Rattle.qplain.specs.declared.transcript.Transcript.{Transcript}
@@ -27,6 +28,7 @@ use Rattle.qtext_job.specs.declared.pair.Pair.{Pair}
 use Rattle.qtext_job.specs.declared.line_fault.LineFault.{LineFault}
 use Rattle.qtext_job.specs.declared.line_fault.LineFault.TheVariants.{Line, Memory}
 use Rattle.qtool_files.specs.Held.{Held, StandsUnder, IsUnder}
+use Rattle.qtool.specs.Callers.{AreKept, callers_of}
 use Rattle.qtool.specs.Under.{IsConfigUnder, IsReplayUnder, IsRunUnder, IsServiceUnder}
 
 -- an outcome's text as it is asked for, as of the moment that is asked for
@@ -64,10 +66,12 @@ pub record PrintsReplay (config journal : List ℕ) (telling : Telling) (status 
   pub is : IsReplayUnder files config journal outcome
   pub told : IsTold telling outcome status old new
 
--- what a service left was printed, with the report as of this moment
-pub record PrintsService (config : List ℕ) (at : ℕ) (files : Held) (old new : Option (List ℕ)) : Type 0 where
+-- what a service left was printed, whose clients are bound to these callers, with the report as of this moment
+pub record PrintsService (config : List ℕ) (callers : List (Option Caller)) (at : ℕ) (files : Held)
+    (old new : Option (List ℕ)) : Type 0 where
   pub outcome : Outcome
   pub is : IsServiceUnder files config outcome
+  pub kept : AreKept callers outcome.journal.entries
   pub prints : Appends old new (outcome_end outcome at)
 
 -- the file that is read for a friendly script of this name: what standard input comes from where it is `-`
@@ -119,19 +123,20 @@ told_at false scene = scene.output
 
 -- what the job asks for was printed between these scenes, where it ended with this status
 abbrev pub IsPrinted : Job → ℕ → Scene → Scene → Type 0
-IsPrinted (Run config telling journal boards batch scripts) status old new =
-    PrintsRun (string_bytes config) (map (λ s. string_bytes s) scripts.items) boards telling
-    (option_map (λ s. string_bytes s) journal) status old.files new.files old.output new.output
-IsPrinted (Replay config telling journal) status old new =
-    PrintsReplay (string_bytes config) (string_bytes journal) telling status old.files old.output new.output
-IsPrinted (Serve config at stop_at_failure journal board pairs) status old new = (status ≡ 0)
-    × PrintsService (string_bytes config) at old.files (told_at (is_taken pairs.items) old)
-    (told_at (is_taken pairs.items) new)
-IsPrinted (Expand config script) status old new =
-    (status ≡ 0) × PrintsExpansion (string_bytes config)
-    (unwrap_or (option_map (λ s. string_bytes s) script) (codes "-")) old.files old.output new.output
-IsPrinted (Check config scripts) status old new =
-    (status ≡ 0) × IsAllSound (string_bytes config) (map (λ s. string_bytes s) scripts.items) old.files
+IsPrinted (Run run) status old new =
+    PrintsRun (string_bytes run.config) (map (λ s. string_bytes s) run.scripts.items) run.boards run.telling
+    (option_map (λ s. string_bytes s) run.journal) status old.files new.files old.output new.output
+IsPrinted (Replay replay) status old new =
+    PrintsReplay (string_bytes replay.config) (string_bytes replay.journal) replay.telling status old.files old.output
+    new.output
+IsPrinted (Serve serve) status old new = (status ≡ 0)
+    × PrintsService (string_bytes serve.config) (callers_of serve.pairs.items) serve.at old.files
+    (told_at (is_taken serve.pairs.items) old) (told_at (is_taken serve.pairs.items) new)
+IsPrinted (Expand expand) status old new =
+    (status ≡ 0) × PrintsExpansion (string_bytes expand.config)
+    (unwrap_or (option_map (λ s. string_bytes s) expand.script) (codes "-")) old.files old.output new.output
+IsPrinted (Check check) status old new =
+    (status ≡ 0) × IsAllSound (string_bytes check.config) (map (λ s. string_bytes s) check.scripts.items) old.files
     × (new.output ≡ old.output)
 
 -- of what is told of words that are no job: that help or the version was asked for

@@ -10,6 +10,7 @@ use crate::standard::test_scripts;
 use crate::{Config, Files, Setup};
 use qtext::put;
 use qtext_check::{Finding, MOST_TOLD, Verdict, check_config, finding_text, findings_of, put_name};
+use qtext_job::CheckJob;
 use std::alloc::Global;
 use std::io::Write;
 
@@ -145,14 +146,14 @@ fn are_sound_files<F: Files, E: Write>(
 /// where nothing is. Without a configuration the scripts are looked at all the same.
 pub(crate) fn check_job<F: Files, E: Write>(
     alloc: Global,
-    config: &str,
-    names: &[String],
+    job: &CheckJob,
     files: &mut F,
     err: &mut E,
 ) -> Result<(), Ending>
-    ensures { IfOk result
-        (λ _. IsAllSound config.now (map (λ n. string_bytes n) names.now) (F.held files.old)) }
+    ensures { IfOk result (λ _. IsAllSound (string_bytes job.now.config)
+        (map (λ n. string_bytes n) job.now.scripts.items) (F.held files.old)) }
 {
+    let (config, names) = (job.config.as_str(), job.scripts.as_slice());
     test_scripts(config, names).map_err(Ending::Clash)?;
     let read = sound_config(alloc, config, files, err);
     let Some(config) = or_told(read, err)? else {

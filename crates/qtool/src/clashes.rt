@@ -134,7 +134,7 @@ fn all_named<'a>(alloc: Global, names: ServiceNames<'a>) -> Result<Vec<Named<'a>
         name: names.config,
     })?;
     let mut client = 0u64;
-    for ClientNames { input, output } in names.clients {
+    for ClientNames { input, output, .. } in names.clients {
         client += 1;
         all.push(Named {
             role: Role::Input(client),

@@ -1,16 +1,19 @@
 //! The names of a service: of the streams of its clients, and of what it reads and writes besides.
-ghost use Rattle.std.specs.Prelude.{◌≡◌, ◌<◌, IfOk, length};
+ghost use Rattle.std.specs.Prelude.{◌≡◌, ◌<◌, IfOk, length, map};
 ghost use Rattle.std.specs.List.{list_any};
+ghost use Rattle.qtool.specs.Callers.{callers_of};
+ghost use Rattle.qtool.specs.ClientNames.{bound_in};
 ghost use Rattle.qtool.specs.Printed.{is_taken, is_to_standard};
 
 use crate::standard::STANDARD;
-use qplain::NoMemory;
+use qplain::{Cred, NoMemory};
 use qtext_job::Pair;
 use std::alloc::Global;
 
-/// The names of a client's streams.
+/// To whom a client is bound, where it is, and the names of its streams.
 #[derive(Clone, Copy, Debug)]
 pub(crate) struct ClientNames<'a> {
+    pub(crate) bound: Option<&'a Cred>,
     pub(crate) input: &'a str,
     pub(crate) output: &'a str,
 }
@@ -36,22 +39,34 @@ pub(crate) fn is_output_taken(pairs: &[Pair]) -> bool
     pairs.is_empty() || is_any_to_standard(pairs)
 }
 
-/// The names of all clients; of one on standard input and output where none is named.
-pub(crate) fn names_of(alloc: Global, pairs: &[Pair]) -> Result<Vec<ClientNames<'_>>, NoMemory>
-    ensures { IfOk result (λ names. 0 < length names.items) }
+/// The names of clients of which some are named.
+fn named(alloc: Global, pairs: &[Pair]) -> Result<Vec<ClientNames<'_>>, NoMemory>
+    ensures { IfOk result (λ names. map bound_in names.items ≡ map (λ p. p.caller) pairs.now) }
 {
     let mut names = Vec::new(alloc);
     for pair in pairs {
         names.push(ClientNames {
+            bound: pair.caller.as_ref(),
             input: pair.input.as_str(),
             output: pair.output.as_str(),
         })?;
     }
-    if names.is_empty() {
-        names.push(ClientNames {
-            input: STANDARD,
-            output: STANDARD,
-        })?;
+    Ok(names)
+}
+
+/// The names of all clients; of one on standard input and output, bound to nobody, where none is named.
+pub(crate) fn names_of(alloc: Global, pairs: &[Pair]) -> Result<Vec<ClientNames<'_>>, NoMemory>
+    ensures some { IfOk result (λ names. 0 < length names.items) }
+    ensures callers { IfOk result (λ names. map bound_in names.items ≡ callers_of pairs.now) }
+{
+    if !pairs.is_empty() {
+        return named(alloc, pairs);
     }
+    let mut names = Vec::new(alloc);
+    names.push(ClientNames {
+        bound: None,
+        input: STANDARD,
+        output: STANDARD,
+    })?;
     Ok(names)
 }

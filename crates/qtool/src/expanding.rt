@@ -1,19 +1,18 @@
 //! Friendly scripts, from their file to the output.
-ghost use Rattle.std.specs.Prelude.{◌≡◌, codes, option_map, unwrap_or, IfErr, IfOk};
+ghost use Rattle.std.specs.Prelude.{◌≡◌, codes, option_map, string_bytes, unwrap_or, IfErr, IfOk};
 ghost use Rattle.qtext.specs.Written.{Writes};
 ghost use Rattle.qtool.specs.Endings.{IsLeftUnlessRefused};
 ghost use Rattle.qtool.specs.Printed.{PrintsExpansion, friendly_file};
 
 use crate::ending::Ending;
 use crate::reading::{configuration, load};
+use crate::standard::{STANDARD, optional};
 use crate::{Files, TextFault, TextKind};
 use qtext::{RefusedWrite, put};
 use qtext_expand::expand;
+use qtext_job::ExpandJob;
 use std::alloc::Global;
 use std::io::Write;
-
-/// The name of standard input.
-const STANDARD: &str = "-";
 
 /// The file that is read for a name.
 fn file_of(name: &str) -> &str
@@ -48,18 +47,19 @@ fn ending_of(alloc: Global, name: &str, fault: TextFault) -> Ending {
 /// as a plain one. A fault leaves the output as it was.
 pub(crate) fn expand_job<F: Files, O: Write>(
     alloc: Global,
-    config: &str,
-    script: Option<&str>,
+    job: &ExpandJob,
     files: &mut F,
     out: &mut O,
 ) -> Result<(), Ending>
-    ensures printed { IfOk result (λ _. PrintsExpansion config.now
-        (unwrap_or (option_map (λ n. n.now) script.entry) (codes "-")) (F.held files.old) (O.contents out.old)
-        (O.contents out.new)) }
+    ensures printed { IfOk result (λ _. PrintsExpansion (string_bytes job.now.config)
+        (unwrap_or (option_map (λ s. string_bytes s) job.now.script) (codes "-")) (F.held files.old)
+        (O.contents out.old) (O.contents out.new)) }
     ensures left { IfErr result (IsLeftUnlessRefused (O.contents out.old) (O.contents out.new)) }
 {
-    let config = configuration(alloc, files, config).map_err(|ending| ending.explained(false))?;
-    let name = script.unwrap_or(STANDARD);
+    let config = configuration(alloc, files, job.config.as_str()).map_err(|ending| ending.explained(
+        false,
+    ))?;
+    let name = optional(&job.script).unwrap_or(STANDARD);
     let friendly = load(alloc, files, file_of(name)).map_err(|ending| ending.explained(false))?;
     match expand(alloc, &config.setup, &friendly) {
         Ok(text) => finish_text(&text, out).map_err(|_| Ending::Output),

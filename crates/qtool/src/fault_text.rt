@@ -86,6 +86,7 @@ fn why_words(why: FileFault) -> &'static [u8] {
         FileFault::Folder => b"it is a folder",
         FileFault::NotPermitted => b"it may not be read",
         FileFault::NotText => b"it is not UTF-8",
+        FileFault::LongLine => b"4 MiB of it have no line end",
         FileFault::Fails | FileFault::Memory => b"the system fails to read it",
     }
 }

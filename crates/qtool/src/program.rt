@@ -1,31 +1,22 @@
 //! The whole program over files, output and fault lines.
-ghost use Rattle.std.specs.Prelude.{◌≡◌, ◌⊎◌, map, string_bytes, option_map, IfErr, IfOk};
+ghost use Rattle.std.specs.Prelude.{◌≡◌, ◌⊎◌, map, string_bytes, IfErr, IfOk};
 ghost use Rattle.qtext_job.specs.Jobs.{HasScript};
 ghost use Rattle.qtool.specs.Endings.{IsFaultStatus, IsLeftUnlessRefused, IsStatus, IsUntouchedAt, IsUntouchedBy};
 ghost use Rattle.qtool.specs.Jobs.{HasBatch, IsService};
 ghost use Rattle.qtool.specs.Printed.{AsksForHelp, IsPrinted, IsPrintedBy, seen};
 
 use crate::checking::check_job;
-use crate::clashes::ServiceNames;
-use crate::client_names::{is_output_taken, names_of};
 use crate::ending::Ending;
 use crate::expanding::expand_job;
-use crate::replaying::{AskedReplay, replay_job};
-use crate::running::{AskedRun, run_job};
-use crate::services::{Asked, serve_job};
-use crate::{Files, Job, LineFault, Machine, NamedStreams, Options};
+use crate::replaying::replay_job;
+use crate::running::run_job;
+use crate::services::serve_job;
+use crate::{Files, Job, LineFault, Machine, NamedStreams};
 use qtext::put;
 use std::io::Write;
 use std::sync::Wait;
 use std::thread::Threads;
 use std::time::Clock;
-
-/// A name that may be left out.
-fn optional(name: &Option<String>) -> Option<&str>
-    ensures { option_map (λ n. n.now) result ≡ option_map (λ s. string_bytes s) name.now }
-{
-    name.as_ref().map(String::as_str)
-}
 
 /// Does what the job asks for: comes to an outcome, and only then writes. Ok is the status.
 fn do_job<F, O, E, R>(
@@ -49,75 +40,18 @@ where
         IsLeftUnlessRefused (O.contents out.old) (O.contents out.new) ending ⊎ IsService job.now) }
 {
     match job {
-        Job::Run {
-            config,
-            telling,
-            journal,
-            boards,
-            batch,
-            scripts,
-        } => {
-            let options = Options {
-                boards: *boards,
-                batch: *batch,
-            };
-            let asked = AskedRun {
-                config: config.as_str(),
-                scripts: scripts.as_slice(),
-                options,
-                telling: *telling,
-                journal: optional(journal),
-            };
-            run_job(machine, asked, files, out, err)
-        }
-        Job::Replay {
-            config,
-            telling,
-            journal,
-        } => {
-            let asked = AskedReplay {
-                config: config.as_str(),
-                journal: journal.as_str(),
-                telling: *telling,
-            };
-            replay_job(machine.alloc, machine.seed, asked, files, out, err)
-        }
-        Job::Expand { config, script } => {
-            expand_job(machine.alloc, config.as_str(), optional(script), files, out)?;
+        Job::Run(run) => run_job(machine, run, files, out, err),
+        Job::Replay(replay) => replay_job(machine, replay, files, out, err),
+        Job::Expand(expand) => {
+            expand_job(machine.alloc, expand, files, out)?;
             Ok(0)
         }
-        Job::Check { config, scripts } => {
-            check_job(
-                machine.alloc,
-                config.as_str(),
-                scripts.as_slice(),
-                files,
-                err,
-            )?;
+        Job::Check(check) => {
+            check_job(machine.alloc, check, files, err)?;
             Ok(0)
         }
-        Job::Serve {
-            config,
-            at,
-            stop_at_failure,
-            journal,
-            board,
-            pairs,
-        } => {
-            let clients = names_of(machine.alloc, pairs.as_slice())?;
-            let names = ServiceNames {
-                config: config.as_str(),
-                clients: &clients,
-                journal: optional(journal),
-                board: optional(board),
-            };
-            let asked = Asked {
-                names,
-                at: *at,
-                stop_at_failure: *stop_at_failure,
-                is_taken: is_output_taken(pairs.as_slice()),
-            };
-            serve_job(machine, asked, files, out, err)?;
+        Job::Serve(serve) => {
+            serve_job(machine, serve, files, out, err)?;
             Ok(0)
         }
     }

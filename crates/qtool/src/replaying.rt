@@ -1,5 +1,5 @@
 //! Replays, from the name of a journal to what is told of it.
-ghost use Rattle.std.specs.Prelude.{◌≡◌, IfErr, IfOk};
+ghost use Rattle.std.specs.Prelude.{◌≡◌, IfErr, IfOk, string_bytes};
 ghost use Rattle.qtool.specs.Endings.{IsLeftUnlessRefused};
 ghost use Rattle.qtool.specs.Printed.{PrintsReplay};
 ghost use Rattle.qtool.specs.Under.{IsReplayUnder};
@@ -8,7 +8,8 @@ use crate::ending::Ending;
 use crate::finish::finish;
 use crate::reading::{configuration, load};
 use crate::standard::test_played;
-use crate::{Files, Outcome, Telling, TextReplayFault, replay_text};
+use crate::{Files, Machine, Outcome, TextReplayFault, replay_text};
+use qtext_job::ReplayJob;
 use std::alloc::Global;
 use std::io::Write;
 
@@ -37,31 +38,25 @@ fn replay_of<F: Files>(
     replay_text(alloc, config, text, seed).map_err(ending_of_replay)
 }
 
-/// What a replay is asked for.
-#[derive(Clone, Copy)]
-pub(crate) struct AskedReplay<'a> {
-    pub(crate) config: &'a str,
-    pub(crate) journal: &'a str,
-    pub(crate) telling: Telling,
-}
-
 /// Plays the journal, and only then writes what came of it. Ok is the status.
-pub(crate) fn replay_job<F: Files, O: Write, E: Write>(
-    alloc: Global,
-    seed: u64,
-    asked: AskedReplay<'_>,
+pub(crate) fn replay_job<F: Files, O: Write, E: Write, R>(
+    machine: &Machine<'_, R>,
+    replay: &ReplayJob,
     files: &mut F,
     out: &mut O,
     err: &mut E,
 ) -> Result<u8, Ending>
-    ensures printed { IfOk result (λ status. PrintsReplay asked.entry.config.now asked.entry.journal.now
-        asked.entry.telling status (F.held files.old) (O.contents out.old) (O.contents out.new)) }
+    ensures printed { IfOk result (λ status. PrintsReplay (string_bytes replay.now.config)
+        (string_bytes replay.now.journal) replay.now.telling status (F.held files.old) (O.contents out.old)
+        (O.contents out.new)) }
     ensures left { IfErr result (IsLeftUnlessRefused (O.contents out.old) (O.contents out.new)) }
 {
-    let (config, journal) = (asked.config, asked.journal);
+    let Machine { alloc, seed, .. } = *machine;
+    let (config, journal) = (replay.config.as_str(), replay.journal.as_str());
+    let telling = replay.telling;
     test_played(config, journal).map_err(Ending::Clash)?;
     let outcome = replay_of(alloc, seed, config, journal, files).map_err(|ending| ending.explained(
-        asked.telling.verbose,
+        telling.verbose,
     ))?;
-    finish(outcome, asked.telling, None, files, out, err)
+    finish(outcome, telling, None, files, out, err)
 }

@@ -10,9 +10,10 @@ ghost use Rattle.qtool.specs.declared.ending.Ending.TheVariants.{TooManyScripts,
 use crate::ending::Ending;
 use crate::finish::finish;
 use crate::reading::{configuration, read_scripts};
-use crate::standard::test_scripts;
-use crate::{Files, Machine, NoGate, Options, Outcome, RunFault, Telling, run_with};
+use crate::standard::{optional, test_scripts};
+use crate::{Files, Machine, NoGate, Options, Outcome, RunFault, run_with};
 use qplain::MAX_WORKERS;
+use qtext_job::RunJob;
 use qtool_files::test_journal;
 use std::io::Write;
 use std::sync::Wait;
@@ -69,37 +70,32 @@ fn run_of<F: Files, R: Threads + Wait + Sync>(
     outcome.map_err(ending_of_run)
 }
 
-/// What a run is asked for.
-#[derive(Clone, Copy)]
-pub(crate) struct AskedRun<'a> {
-    pub(crate) config: &'a str,
-    pub(crate) scripts: &'a [String],
-    pub(crate) options: Options,
-    pub(crate) telling: Telling,
-    pub(crate) journal: Option<&'a str>,
-}
-
 /// Runs the scripts, and only then writes what came of it. Ok is the status.
 pub(crate) fn run_job<F: Files, O: Write, E: Write, R: Threads + Wait + Sync>(
     machine: &Machine<'_, R>,
-    asked: AskedRun<'_>,
+    run: &RunJob,
     files: &mut F,
     out: &mut O,
     err: &mut E,
 ) -> Result<u8, Ending>
-    requires some { 1 ≤ length asked.scripts.now }
-    requires batch { (1 ≤ asked.options.batch) × (asked.options.batch ≤ 64) }
+    requires some { 1 ≤ length run.now.scripts.items }
+    requires batch { (1 ≤ run.now.batch) × (run.now.batch ≤ 64) }
     ensures printed { IfOk result (λ status.
-        PrintsRun asked.entry.config.now (map (λ n. string_bytes n) asked.entry.scripts.now)
-        asked.entry.options.boards asked.entry.telling (option_map (λ n. n.now) asked.entry.journal) status
+        PrintsRun (string_bytes run.now.config) (map (λ n. string_bytes n) run.now.scripts.items)
+        run.now.boards run.now.telling (option_map (λ n. string_bytes n) run.now.journal) status
         (F.held files.old) (F.held files.new) (O.contents out.old) (O.contents out.new)) }
     ensures left { IfErr result (IsLeftUnlessRefused (O.contents out.old) (O.contents out.new)) }
 {
-    let (config, scripts) = (asked.config, asked.scripts);
+    let (config, scripts) = (run.config.as_str(), run.scripts.as_slice());
+    let (journal, telling) = (optional(&run.journal), run.telling);
     test_scripts(config, scripts).map_err(Ending::Clash)?;
-    test_journal(files, asked.journal, config, scripts).map_err(Ending::Overwrites)?;
-    let outcome = run_of(machine, config, scripts, asked.options, files).map_err(
-        |ending| ending.explained(asked.telling.verbose),
+    test_journal(files, journal, config, scripts).map_err(Ending::Overwrites)?;
+    let options = Options {
+        boards: run.boards,
+        batch: run.batch,
+    };
+    let outcome = run_of(machine, config, scripts, options, files).map_err(
+        |ending| ending.explained(telling.verbose),
     )?;
-    finish(outcome, asked.telling, asked.journal, files, out, err)
+    finish(outcome, telling, journal, files, out, err)
 }

@@ -1,25 +1,29 @@
 //! Services: clients by the names of their streams, from the command line to what is left of them.
-ghost use Rattle.std.specs.Prelude.{◌≡◌, ◌⊎◌, ◌<◌, ◌≤◌, All, IfOk, OnOk, length};
+ghost use Rattle.std.specs.Prelude.{◌≡◌, ◌<◌, ◌≤◌, All, IfOk, OnOk, length, map, string_bytes};
 ghost use Rattle.std.specs.Io.KnownBytes.{Appends};
 ghost use Rattle.qtext_outcome.specs.Outcomes.{outcome_end};
 ghost use Rattle.qshare.specs.declared.opening.TheConstants.{MAX_SEATS};
 ghost use Rattle.qrun.specs.Serving.{monitors_in};
 ghost use Rattle.qrun.specs.Watching.{seats_for};
 ghost use Rattle.qrun_worker.specs.Work.{IsNewClient};
-ghost use Rattle.qtool.specs.Printed.{PrintsService, seen, told_at};
+ghost use Rattle.qtool.specs.Callers.{AreKept, callers_of};
+ghost use Rattle.qtool.specs.ClientNames.{bound_in};
+ghost use Rattle.qtool.specs.Printed.{PrintsService, is_taken, seen, told_at};
 ghost use Rattle.qtool.specs.Under.{IsServiceUnder};
 
 use crate::clashes::{ServiceNames, find_clash};
-use crate::client_names::ClientNames;
+use crate::client_names::{ClientNames, is_output_taken, names_of};
 use crate::ending::Ending;
 use crate::reading::configuration;
 use crate::running::ending_of_run;
+use crate::standard::optional;
 use crate::told_streams::ToldStreams;
 use crate::{Files, Machine, NamedStreams, Outcome, Setup, serve, write_service};
 use qplain::{MAX_WORKERS, NoMemory};
 use qrun::Service;
 use qrun_client::ClientEnd;
 use qtext_client::{EndedClient, StreamClient};
+use qtext_job::ServeJob;
 use qtool_files::{BoardFile, ShownBoards};
 use std::alloc::Global;
 use std::io::Write;
@@ -55,16 +59,17 @@ struct Left<F: NamedStreams> {
     refused: bool,
 }
 
-/// The client of this number, none of whose streams is opened yet, and which stops at a failed line where it has a
-/// flag.
+/// The client of this number, none of whose streams is opened yet, bound as its names say, and which stops at a failed
+/// line where it has a flag.
 fn client_of<'a, F: NamedStreams>(
     alloc: Global,
     files: &F,
     client: u64,
-    names: &ClientNames<'_>,
+    names: &ClientNames<'a>,
     stop: Option<&'a AtomicBool>,
 ) -> Result<NamedClient<'a, F>, NoMemory>
-    ensures { IfOk result (λ c. IsNewClient c.owed c.stands) }
+    ensures new { IfOk result (λ c. IsNewClient c.owed c.stands) }
+    ensures bound { IfOk result (λ c. c.bound ≡ bound_in names.now) }
 {
     let streams = ToldStreams {
         streams: files.streams(names.input, names.output)?,
@@ -73,18 +78,19 @@ fn client_of<'a, F: NamedStreams>(
         input: String::from_str(alloc, names.input)?,
         output: String::from_str(alloc, names.output)?,
     };
-    Ok(StreamClient::new(alloc, streams, stop))
+    Ok(StreamClient::new(alloc, streams, stop, names.bound))
 }
 
 /// A client for each pair of names.
 fn clients_of<'a, F: NamedStreams>(
     alloc: Global,
     files: &F,
-    names: &[ClientNames<'_>],
+    names: &[ClientNames<'a>],
     stop: Option<&'a AtomicBool>,
 ) -> Result<Vec<NamedClient<'a, F>>, NoMemory>
     ensures many { IfOk result (λ clients. length clients.items ≡ length names.now) }
     ensures new { IfOk result (λ clients. All (λ c. IsNewClient c.owed c.stands) clients.items) }
+    ensures bound { IfOk result (λ clients. map (λ c. c.bound) clients.items ≡ map bound_in names.now) }
 {
     let mut clients = Vec::new(alloc);
     for names in names {
@@ -132,28 +138,26 @@ fn has_refused<F: Files>(boards: &Option<ShownBoards<'_, F>>) -> bool {
     }
 }
 
-/// Serves the clients of these names until all have ended. Too many clients are reported first, before any file is
-/// touched, then names that clash, then the configuration.
+/// Serves the clients of these names until all have ended, or a line has failed where it is to stop at that. Too many
+/// clients are reported first, before any file is touched, then names that clash, then the configuration.
 fn serve_of<F: Files + NamedStreams + Send, R: Threads + Wait + Clock + Sync>(
     machine: &Machine<'_, R>,
-    asked: Asked<'_>,
+    names: ServiceNames<'_>,
+    stop_at_failure: bool,
     files: &mut F,
 ) -> Result<Left<F>, Ending>
-    requires { 0 < length asked.names.clients.now }
-    ensures { IfOk result (λ left. IsServiceUnder (F.held files.old) asked.entry.names.config.now left.outcome) }
+    requires { 0 < length names.clients.now }
+    ensures under { IfOk result (λ left. IsServiceUnder (F.held files.old) names.entry.config.now left.outcome) }
+    ensures kept { IfOk result
+        (λ left. AreKept (map bound_in names.entry.clients.now) left.outcome.journal.entries) }
 {
     let Machine { rt, alloc, .. } = *machine;
-    let names = asked.names;
     test_names(alloc, files, names)?;
     let config = configuration(alloc, files, names.config).map_err(|ending| ending.explained(
         false,
     ))?;
     let failed = AtomicBool::new(false);
-    let stop = if asked.stop_at_failure {
-        Some(&failed)
-    } else {
-        None
-    };
+    let stop = if stop_at_failure { Some(&failed) } else { None };
     let clients = clients_of(alloc, files, names.clients, stop)?;
     let monitor = monitor_of(rt, alloc, files, names.board, &config.setup)?;
     match serve(machine, config.setup, clients, monitor) {
@@ -192,26 +196,16 @@ fn test_ends<S: Drop>(clients: &[EndedClient<S>]) -> Result<(), Ending> {
     Ok(())
 }
 
-/// What a service is asked for, beside its names.
-#[derive(Clone, Copy)]
-pub(crate) struct Asked<'a> {
-    pub(crate) names: ServiceNames<'a>,
-    pub(crate) at: u64,
-    pub(crate) stop_at_failure: bool,
-    /// Whether standard output is some client's.
-    pub(crate) is_taken: bool,
-}
-
 /// Writes what a service has left. Its memory is left to the system, as that of a run.
 fn finish_service<F: Files, O: Write>(
     outcome: Outcome,
-    asked: Asked<'_>,
+    job: &ServeJob,
     files: &mut F,
     out: &mut O,
 ) -> Result<(), Ending>
-    ensures { OnOk result (Appends (O.contents out.old) (O.contents out.new) (outcome_end outcome asked.entry.at)) }
+    ensures { OnOk result (Appends (O.contents out.old) (O.contents out.new) (outcome_end outcome job.now.at)) }
 {
-    let written = write_service(&outcome, asked.at, asked.names.journal, files, out);
+    let written = write_service(&outcome, job.at, optional(&job.journal), files, out);
     mem::forget(outcome);
     match written {
         Ok(()) => Ok(()),
@@ -229,7 +223,7 @@ fn end_of<S: Drop>(clients: &[EndedClient<S>], refused: bool) -> Result<(), Endi
 /// output where the output is a client's, and then the journal to its file.
 pub(crate) fn serve_job<F, O, E, R>(
     machine: &Machine<'_, R>,
-    asked: Asked<'_>,
+    job: &ServeJob,
     files: &mut F,
     out: &mut O,
     err: &mut E,
@@ -239,20 +233,28 @@ where
     O: Write,
     E: Write,
     R: Threads + Wait + Clock + Sync,
-    requires { 0 < length asked.names.clients.now }
-    ensures { IfOk result (λ _. PrintsService asked.entry.names.config.now asked.entry.at (F.held files.old)
-        (told_at asked.entry.is_taken (seen (F.held files.old) (O.contents out.old) (E.contents err.old)))
-        (told_at asked.entry.is_taken (seen (F.held files.new) (O.contents out.new) (E.contents err.new)))) }
+    ensures { IfOk result (λ _. PrintsService (string_bytes job.now.config) (callers_of job.now.pairs.items)
+        job.now.at (F.held files.old)
+        (told_at (is_taken job.now.pairs.items) (seen (F.held files.old) (O.contents out.old) (E.contents err.old)))
+        (told_at (is_taken job.now.pairs.items) (seen (F.held files.new) (O.contents out.new) (E.contents err.new)))) }
 {
+    let pairs = job.pairs.as_slice();
+    let named = names_of(machine.alloc, pairs)?;
+    let names = ServiceNames {
+        config: job.config.as_str(),
+        clients: &named,
+        journal: optional(&job.journal),
+        board: optional(&job.board),
+    };
     let Left {
         outcome,
         clients,
         refused,
-    } = serve_of(machine, asked, files)?;
-    if asked.is_taken {
-        finish_service(outcome, asked, files, err)?;
+    } = serve_of(machine, names, job.stop_at_failure, files)?;
+    if is_output_taken(pairs) {
+        finish_service(outcome, job, files, err)?;
         return end_of(&clients, refused);
     }
-    finish_service(outcome, asked, files, out)?;
+    finish_service(outcome, job, files, out)?;
     end_of(&clients, refused)
 }

@@ -1,9 +1,17 @@
-//! Standard input and output, under the name that stands for them.
+//! Names as they stand on the command line: those that may be left out, and that of standard input and output.
+ghost use Rattle.std.specs.Prelude.{◌≡◌, option_map, string_bytes};
 
 use crate::clashes::{Clash, Role};
 
 /// The name of standard input and of standard output.
 pub(crate) const STANDARD: &str = "-";
+
+/// A name that may be left out.
+pub(crate) fn optional(name: &Option<String>) -> Option<&str>
+    ensures { option_map (λ n. n.now) result ≡ option_map (λ s. string_bytes s) name.now }
+{
+    name.as_ref().map(String::as_str)
+}
 
 /// Tests that of the configuration and the scripts no two are standard input.
 pub(crate) fn test_scripts(config: &str, scripts: &[String]) -> Result<(), Clash> {

@@ -18,6 +18,8 @@ pub enum FileFault {
     NotPermitted,
     /// It is no UTF-8.
     NotText,
+    /// More of its bytes stand in a line than may.
+    LongLine,
     /// It cannot be read, or not be made, for another reason.
     Fails,
     /// Memory was wanted and not there.

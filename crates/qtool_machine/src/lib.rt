@@ -7,3 +7,4 @@ mod client_streams;
 mod draft;
 mod machine_files;
 mod progress;
+mod whole_text;

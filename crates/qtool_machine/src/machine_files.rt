@@ -3,10 +3,11 @@
 use crate::client_streams::{ClientStreams, STANDARD};
 use crate::draft::Draft;
 use crate::progress::Progress;
+use crate::whole_text::whole_text;
 use qplain::{NoMemory, Script};
 use qtool_files::{FileFault, Files, NamedStreams};
 use std::fs::{self, Metadata};
-use std::io::{self, BufWriter, ErrorKind, Read, Stderr};
+use std::io::{self, BufWriter, ErrorKind, Stderr};
 use std::os::unix::fs::MetadataExt;
 
 /// The name under which the system has what standard input comes from.
@@ -40,14 +41,13 @@ fn path_of<'a>(name: &'a str, standard: &'static str) -> &'a str {
     if name == STANDARD { standard } else { name }
 }
 
-/// The bytes of a file, or of standard input.
-fn bytes_of(rt: &HostRuntime, name: &str) -> io::Result<Vec<u8>> {
-    if name != STANDARD {
-        return fs::read(rt, name);
+/// What was read, or why not.
+fn read_as(text: io::Result<Option<Vec<u8>>>) -> Result<Vec<u8>, FileFault> {
+    match text {
+        Ok(Some(text)) => Ok(text),
+        Ok(None) => Err(FileFault::LongLine),
+        Err(error) => Err(fault_of(&error)),
     }
-    let mut bytes = Vec::new(rt.alloc());
-    rt.stdin().read_to_end(&mut bytes)?;
-    Ok(bytes)
 }
 
 /// Whether both are of one file or folder.
@@ -92,7 +92,14 @@ impl<'a> Files for MachineFiles<'a> {
     type Progress = Progress<'a>;
 
     fn read(&mut self, name: &str) -> Result<Vec<u8>, FileFault> {
-        bytes_of(self.rt, name).map_err(|error| fault_of(&error))
+        let alloc = self.rt.alloc();
+        if name == STANDARD {
+            return read_as(whole_text(alloc, self.rt.stdin()));
+        }
+        match fs::open(self.rt, name) {
+            Ok(file) => read_as(whole_text(alloc, file)),
+            Err(error) => Err(fault_of(&error)),
+        }
     }
 
     fn is_same(&mut self, name: &str, other: &str) -> bool {

@@ -25,7 +25,8 @@ The boards that one more thread takes while the scripts run, at most 1000";
 /// What help says of clients.
 const CLIENTS: &str = "\
 The clients: lines come from the file or pipe IN, which is opened first, and replies go to OUT; - is standard input or \
-output, and no pair stands for -:-. Behind -- a pair may begin with -";
+output, and no pair stands for -:-. Behind -- a pair may begin with -. UID:GID[,GROUP..]= before a pair binds its \
+client to this caller: lines of others are refused";
 
 /// What help says of the end at a failure.
 const STOP_AT_FAILURE: &str = "\

@@ -8,11 +8,13 @@ use Rattle.qtool.proofs.running.run_job.Goals as goal
 
 pub returns-clause-printed : goal.returns-clause-printed
 returns-clause-printed g c =
-    let asked = c.args.asked in
+    let run = c.args.run.now in
+    let config = string_bytes run.config in
     let outcome = c.in_ok-outcome.outcome in
-    let scripts = map (λ n. string_bytes n) asked.scripts.now in
-    let found = was_ok (IsRunUnder _ asked.config.now scripts asked.options.boards) c.run_of.result c.map_err-3.result outcome _ _ c.in_ok-outcome.was
-    c.map_err-3.ensures.cases c.map_err-3.ensures.variant c.run_of.ensures.ran in
-    prints_run asked.config.now scripts asked.options.boards asked.telling (option_map (λ n. n.now) asked.journal) outcome c.finish.result _ _ _ _ _
-    (subst (λ f. IsRunUnder f asked.config.now scripts asked.options.boards outcome) c.test_journal.ensures.same found)
-    (c.run_of.ensures.same ∙ c.test_journal.ensures.same) c.finish.ensures.told c.finish.ensures.kept
+    let scripts = map (λ n. string_bytes n) run.scripts.items in
+    let ran = rw (c.as_str-config.ensures.value, c.as_slice-scripts.ensures.value) at c.run_of.ensures.ran in
+    let found = was_ok (IsRunUnder _ config scripts run.boards) c.run_of.result c.map_err-3.result outcome _ _ c.in_ok-outcome.was
+    c.map_err-3.ensures.cases c.map_err-3.ensures.variant ran in
+    prints_run config scripts run.boards run.telling (option_map (λ n. string_bytes n) run.journal) outcome c.finish.result _ _ _ _ _
+    (subst (λ f. IsRunUnder f config scripts run.boards outcome) c.test_journal.ensures.same found)
+    (c.run_of.ensures.same ∙ c.test_journal.ensures.same) c.finish.ensures.told (rw c.optional-journal.ensures at c.finish.ensures.kept)

@@ -1,7 +1,10 @@
-use Rattle.std.proofs.Common.{[], ◌∷◌, All, length, ap, sym, subst, length-append, arith}
+use Rattle.std.proofs.Common.{[], ◌∷◌, ◌∙◌, All, length, map, ap, sym, subst, length-append, arith}
+use Rattle.std.proofs.lemmas.List.{take_all}
 use Rattle.std.proofs.lemmas.List.Elements.{All-push}
 use Rattle.qrun_worker.specs.Work.{IsNewClient}
 use Rattle.qtext_client.specs.Conversations.{Progress}
+use Rattle.qtool.specs.ClientNames.{bound_in}
+use Rattle.qtool.proofs.Keeping.{bound_more}
 use Rattle.qtool.proofs.services.clients_of.Goals as goal
 
 pub loop-names-preserved : goal.loop-names-preserved
@@ -9,7 +12,13 @@ loop-names-preserved g c =
     let pushed = c.in_ok-push.ensures.items in
     let before = c.loop-names.clients.items in
     let client = c.in_ok-client.client in
-    let New : Progress → Type 0 = λ p. IsNewClient p.owed p.stands in (
-      omega (arith, ap length pushed, length-append before (client ∷ []), c.loop-names.invariant.0),
-      subst (All New) (sym pushed) (All-push New before client c.loop-names.invariant.1 c.in_ok-client.ensures),
-    )
+    let New : Progress → Type 0 = λ p. IsNewClient p.owed p.stands in record {
+      many = omega (arith, ap length pushed, length-append before (client ∷ []), c.loop-names.invariant.many);
+      new = subst (All New) (sym pushed) (All-push New before client c.loop-names.invariant.new c.in_ok-client.ensures.new);
+      bound = ap (map (λ c. c.bound)) pushed
+          ∙ bound_more bound_in before c.args.names.now c.loop-names.names-index c.names-item.result client c.loop-names-test.true c.loop-names.invariant.bound
+          (c.in_ok-client.ensures.bound ∙ ap bound_in c.names-item.is);
+    }
+
+pub returns-clause-bound : goal.returns-clause-bound
+returns-clause-bound g c = rw (take_all _ _ c.loop-names-test.false) at c.loop-names.invariant.bound

@@ -1,11 +1,12 @@
 use Rattle.std.proofs.Common.{subst}
 use Rattle.qtool.specs.Under.{IsConfigUnder}
+use Rattle.qtool.proofs.Keeping.{keeps_callers}
 use Rattle.qtool.proofs.Results.{was_ok}
 use Rattle.qtool.proofs.services.serve_of.Goals as goal
 
-pub returns-in-Ok : goal.returns-in-Ok
-returns-in-Ok g c =
-    let name = c.args.asked.names.config.now in
+pub returns-in-Ok-clause-under : goal.returns-in-Ok-clause-under
+returns-in-Ok-clause-under g c =
+    let name = c.args.names.config.now in
     let config = c.in_ok-config.config in
     let read : IsConfigUnder (g.F.Files.held c.test_names.new.files) name config.setup =
     was_ok (λ k. IsConfigUnder (g.F.Files.held c.test_names.new.files) name k.setup) c.configuration.result c.map_err.result config _ _
@@ -15,3 +16,7 @@ returns-in-Ok g c =
       config_is = subst (λ f. IsConfigUnder f name config.setup) c.test_names.ensures.same read;
       is = c.in-Ok.ensures.outcome;
     }
+
+pub returns-in-Ok-clause-kept : goal.returns-in-Ok-clause-kept
+returns-in-Ok-clause-kept g c =
+    keeps_callers _ _ _ _ _ c.in-Ok.ensures.outcome c.in-Ok.ensures.clients c.in_ok-clients.ensures.new _ c.in_ok-clients.ensures.bound
