@@ -45,7 +45,7 @@ SINCE = {
     "fills of 64 KiB onto one place":
         "16 blocks are filled one by one",
     "64 KiB a line as hex digits":
-        "digits are read 32 at a time, into room that is cleared first, and each 4 MiB are searched for a line end, some 660 a line",
+        "digits are read 32 at a time, into room that is cleared first",
     "reads of 64 KiB":
         "a read makes a list for its reply, which is written in pieces of 256 bytes",
     ".. with 64 users and 64 groups":

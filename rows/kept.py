@@ -7,7 +7,7 @@ import time
 from itertools import count
 from threading import Thread
 
-from rows import BUILT, ROWS, HEAD, ROOT, call, journal_of, preloaded
+from rows import BUILT, ROWS, HEAD, ROOT, call, journal_of, preloaded, unwritten
 
 CONFIG = ROWS / "a0/config.toml"
 FIRST = ROWS / "a0/create_write_stat"
@@ -77,7 +77,8 @@ def killed_at_each_step(run, library):
 def refused_at_each_step(run, library):
     """No space at each of these calls: as before, and no part; the outcome is whole where the journal is refused."""
     ends = list(at_each(run, library, "STEP_TELL", "STEP_NUMBER", STEP_REFUSED="1"))
-    yield "refused at each step", {end for end, _ in ends}, {(4, OUTPUT, "before", 0)}
+    ends_so = {(4, OUTPUT, "before", 0), (4, unwritten(run.file), "before", 0)}
+    yield "refused at each step", {end for end, _ in ends}, ends_so
     yield "refused at each step: outcomes", {whole for _, whole in ends}, {False, True}
 
 
@@ -123,7 +124,7 @@ def limits(run):
         shell = ["bash", "-c", f'ulimit -f {limit} && exec "$@"', "bash", ROOT / "quotafs"]
         done = subprocess.run([*shell, *run.words], capture_output=True, timeout=60)
         answer = done.returncode, done.stderr, run.found(), done.stdout == run.answer[1]
-        yield f"a file at its limit of {limit} KiB", answer, (4, OUTPUT, ("before", 0), True)
+        yield f"a file at its limit of {limit} KiB", answer, (4, unwritten(run.file), ("before", 0), True)
 
 
 def taken(work):

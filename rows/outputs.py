@@ -3,7 +3,7 @@ limit or a device stops it."""
 import os
 import subprocess
 
-from rows import BUILT, ROWS, EMPTY, EXAMPLE, ROOT, call, command_lines, journal_of, preloaded
+from rows import BUILT, ROWS, EMPTY, EXAMPLE, ROOT, call, command_lines, journal_of, preloaded, unwritten
 
 FULL = (4, b"quotafs: output\n")
 FIRST = ROWS / "a0/create_write_stat"
@@ -75,7 +75,7 @@ def journals(work):
     """Journals that cannot be made or are refused, behind the whole outcome, and outputs that refuse before them."""
     outcome, journal, file = content(ROWS / f"{FIRST}.0.out"), content(ROWS / f"{FIRST}.journal"), work / "kept"
     for name, path in [("a full device", "/dev/full"), ("no folder", work / "none/journal"), ("a folder", work)]:
-        yield f"a journal to {name}", call(run_with_journal(path)), (4, outcome, FULL[1])
+        yield f"a journal to {name}", call(run_with_journal(path)), (4, outcome, unwritten(path))
     for before in [None, b"before\n" * 1_000]:
         if before:
             file.write_bytes(before)
@@ -97,12 +97,12 @@ def long_journals(work):
         journal = journal_of(script.read_bytes().splitlines(), out)
         yield f"a journal of {lines} entries", (status, content(file)), (0, journal)
         refused = call(run_with_journal("/dev/full", script))
-        yield f"a journal of {lines} entries to a full device", refused, (4, out, FULL[1])
+        yield f"a journal of {lines} entries to a full device", refused, (4, out, unwritten("/dev/full"))
         shell = ["bash", "-c", 'ulimit -f 1 && exec "$@"', "bash", ROOT / "quotafs"]
         file.write_bytes(b"before\n")
         done = subprocess.run([*shell, *run_with_journal(file, script)], capture_output=True, timeout=60)
         answer = done.returncode, done.stdout, done.stderr, content(file)
-        yield f"a journal of {lines} entries to a file at its limit", answer, (4, out, FULL[1], b"before\n")
+        yield f"a journal of {lines} entries to a file at its limit", answer, (4, out, unwritten(file), b"before\n")
 
 
 def checks(work):

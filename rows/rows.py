@@ -45,6 +45,11 @@ WITHOUT = {
 HEAD = b"quotafs journal 2 workers 1\n"
 
 
+def unwritten(file):
+    """What is told where no journal can be written to a file."""
+    return f"quotafs: cannot write {file}\n".encode()
+
+
 def call(words, program=BUILT, folder=ROOT, **further):
     """Status, output and error output of a run."""
     done = subprocess.run([program, *words], capture_output=True, cwd=folder, timeout=60, **further)
@@ -152,7 +157,7 @@ class JournalRow(Row):
         self.out += whole.read_bytes() if whole.exists() else self.journal
 
     def ending(self, answer):
-        no_file = 4, self.outcome, b"quotafs: output\n"
+        no_file = 4, self.outcome, unwritten("/dev/stdout")
         return "no journal" if answer == no_file else super().ending(answer)
 
 

@@ -6,7 +6,7 @@ import re
 import tempfile
 from pathlib import Path
 
-from rows import EMPTY, EXAMPLE, FAILED, HEAD, WITHOUT, Case, call, journal_of, played
+from rows import EMPTY, EXAMPLE, FAILED, HEAD, WITHOUT, Case, call, journal_of, played, unwritten
 
 DONE, NO_SPACE = b"done %d blocks +0 -0 inodes +1 -0", b"refused ENOSPC"
 TWO = HEAD.replace(b"workers 1", b"workers 2")
@@ -70,7 +70,7 @@ class Workers(Case):
             return WITHOUT.get(answer)
         if not self.is_whole(outcome):
             return None
-        if (status, head, err) == (4, b"", b"quotafs: output\n"):
+        if (status, head, err) == (4, b"", unwritten("/dev/stdout")):
             return "no journal" if FAILED not in outcome else None
         if (status, err) != (0, b"") or not self.comes_again(outcome, head + entries):
             return None

@@ -4,9 +4,9 @@ ghost use Rattle.std.specs.List.{flat_map};
 ghost use Rattle.qtext.specs.Written.{Writes};
 ghost use Rattle.qaudit.specs.Audits.{audit_head, audit_text, difference_text, link_text, owner_text, use_text};
 
-use crate::{CountRow, Difference, LinkRow, Written};
+use crate::{CountRow, Difference, LinkRow};
 use qrules::{Kind, RecordRow};
-use qtext::{Piece, RefusedWrite, kind_word, put_pieces};
+use qtext::{Piece, Written, kind_word, put_pieces};
 use std::io::Write;
 
 fn put_use<W: Write>(out: &mut W, kind: Kind, row: &RecordRow, counted: &CountRow) -> Written
@@ -98,7 +98,7 @@ fn put_head<W: Write>(out: &mut W, count: u64) -> Written
 ///
 /// Blocks are of 4096 bytes. After an Err some beginning of the text went out.
 #[tactic(auto, using(qtext::proofs::Fronts::front_of_first, qtext::proofs::Fronts::writes_then))]
-pub fn put_audit<W: Write>(out: &mut W, differences: &[Difference]) -> Result<(), RefusedWrite>
+pub fn put_audit<W: Write>(out: &mut W, differences: &[Difference]) -> Written
     ensures { Writes (W.contents out.old) (W.contents out.new) result (audit_text differences.now) }
 {
     put_head(out, differences.len() as u64)?;

@@ -19,6 +19,3 @@ mod owners;
 mod recounts;
 mod reports;
 mod tallies;
-
-/// What comes of writing to an output, which may refuse.
-type Written = Result<(), qtext::RefusedWrite>;

@@ -5,9 +5,8 @@ ghost use Rattle.qtext.specs.Written.{Writes};
 ghost use Rattle.qtext.specs.Pieces.{piece_text, right_in};
 ghost use Rattle.qaudit.specs.Reports.{flag_text, grace_text, report_text, row_text};
 
-use crate::Written;
 use qrules::{KIB_PER_BLOCK, RecordRow};
-use qtext::{Piece, RefusedWrite, kind_word, put_pieces};
+use qtext::{Piece, RefusedWrite, Written, kind_word, put_pieces};
 use std::io::Write;
 
 /// Why a report was not written whole.
@@ -94,11 +93,7 @@ fn put_row<W: Write>(out: &mut W, row: &RecordRow, moment: u64) -> Written
 ///
 /// Use and limits of blocks are in KiB, graces in seconds (profile, after repquota(8)). A place of a column is one
 /// character. After an Err some beginning of the text went out.
-pub fn put_report<W: Write>(
-    out: &mut W,
-    rows: &[RecordRow],
-    moment: u64,
-) -> Result<(), RefusedWrite>
+pub fn put_report<W: Write>(out: &mut W, rows: &[RecordRow], moment: u64) -> Written
     ensures { Writes (W.contents out.old) (W.contents out.new) result (report_text rows.now moment) }
 {
     for row in rows {

@@ -16,7 +16,7 @@ pub use text_fault::{TextFault, TextKind};
 pub use text_line::{HEAD_ROOM, LINE_ROOM, TextLine, WORD_ROOM};
 pub use view::View;
 pub use word::first_part;
-pub use writing::{put, put_pieces};
+pub use writing::{Written, put, put_pieces};
 
 mod cut;
 mod data;

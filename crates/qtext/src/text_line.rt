@@ -4,7 +4,7 @@ ghost use Rattle.qtext.specs.Pieces.{data_text};
 ghost use Rattle.qtext.specs.Written.{Passes, Writes};
 
 use crate::hex_digits::encode;
-use crate::{RefusedWrite, put};
+use crate::{Written, put};
 use itoa::Buffer;
 use std::io::Write;
 use std::marker::Model;
@@ -168,7 +168,7 @@ impl TextLine {
     }
 
     /// Writes what was put into it and a line end, at once where the writer takes all of it.
-    pub fn put_end<W: Write>(&mut self, out: &mut W) -> Result<(), RefusedWrite>
+    pub fn put_end<W: Write>(&mut self, out: &mut W) -> Written
         requires { length self.old < LINE_ROOM }
         ensures { Writes (W.contents out.old) (W.contents out.new) result (self.old ++ codes "\n") }
     {
@@ -177,7 +177,7 @@ impl TextLine {
     }
 
     /// Writes what was put into it, of which nothing is left in it.
-    pub fn put_all<W: Write>(&mut self, out: &mut W) -> Result<(), RefusedWrite>
+    pub fn put_all<W: Write>(&mut self, out: &mut W) -> Written
         ensures passes { Passes (W.contents out.old) (W.contents out.new) result self.old self.new }
         ensures none { IfOk result (λ _. self.new ≡ []) }
     {
@@ -187,7 +187,7 @@ impl TextLine {
     }
 
     /// Leaves room for what comes: where it has more than `WORD_ROOM` bytes, they are written.
-    pub fn put_full<W: Write>(&mut self, out: &mut W) -> Result<(), RefusedWrite>
+    pub fn put_full<W: Write>(&mut self, out: &mut W) -> Written
         ensures passes { Passes (W.contents out.old) (W.contents out.new) result self.old self.new }
         ensures short { IfOk result (λ _. length self.new ≤ WORD_ROOM) }
     {
@@ -198,7 +198,7 @@ impl TextLine {
     }
 
     /// Puts a word of any length after what is there. What there is no room for is written.
-    pub fn put_word<W: Write>(&mut self, out: &mut W, word: &[u8]) -> Result<(), RefusedWrite>
+    pub fn put_word<W: Write>(&mut self, out: &mut W, word: &[u8]) -> Written
         ensures passes { Passes (W.contents out.old) (W.contents out.new) result (self.old ++ word.now) self.new }
         ensures short { IfOk result (λ _. length self.new ≤ WORD_ROOM) }
     {
@@ -212,7 +212,7 @@ impl TextLine {
 
     /// Puts two lower case hexadecimal digits a byte after what is there. All but the last are written where there are
     /// more than a piece.
-    fn put_digits<W: Write>(&mut self, out: &mut W, bytes: &[u8]) -> Result<(), RefusedWrite>
+    fn put_digits<W: Write>(&mut self, out: &mut W, bytes: &[u8]) -> Written
         requires { length self.old ≤ HEAD_ROOM }
         ensures passes { Passes (W.contents out.old) (W.contents out.new) result
             (self.old ++ encode_lower bytes.now) self.new }
@@ -231,7 +231,7 @@ impl TextLine {
 
     /// Puts bytes as lower case hexadecimal digits, or `-` for none, after what is there. What there is no room for is
     /// written.
-    pub fn put_data<W: Write>(&mut self, out: &mut W, bytes: &[u8]) -> Result<(), RefusedWrite>
+    pub fn put_data<W: Write>(&mut self, out: &mut W, bytes: &[u8]) -> Written
         requires { length self.old ≤ HEAD_ROOM }
         ensures passes { Passes (W.contents out.old) (W.contents out.new) result
             (self.old ++ data_text bytes.now) self.new }

@@ -8,8 +8,11 @@ use crate::{Piece, RefusedWrite};
 use itoa::Buffer;
 use std::io::Write;
 
+/// What comes of writing a text.
+pub type Written = Result<(), RefusedWrite>;
+
 /// Writes all of the text. A writer that takes nothing refuses. After an Err some beginning of the text went out.
-pub fn put<W: Write>(out: &mut W, text: &[u8]) -> Result<(), RefusedWrite>
+pub fn put<W: Write>(out: &mut W, text: &[u8]) -> Written
     ensures { Writes (W.contents out.old) (W.contents out.new) result text.now }
 {
     let mut rest = text;
@@ -26,7 +29,7 @@ pub fn put<W: Write>(out: &mut W, text: &[u8]) -> Result<(), RefusedWrite>
 /// What is written at once of many spaces.
 const SPACES: &[u8] = b"                ";
 
-fn put_spaces<W: Write>(out: &mut W, count: usize) -> Result<(), RefusedWrite>
+fn put_spaces<W: Write>(out: &mut W, count: usize) -> Written
     ensures { Writes (W.contents out.old) (W.contents out.new) result (spaces count) }
 {
     let mut rest = count;
@@ -37,7 +40,7 @@ fn put_spaces<W: Write>(out: &mut W, count: usize) -> Result<(), RefusedWrite>
     put(out, SPACES.split_at(rest).0)
 }
 
-fn put_number<W: Write>(out: &mut W, n: u64) -> Result<(), RefusedWrite>
+fn put_number<W: Write>(out: &mut W, n: u64) -> Written
     ensures { Writes (W.contents out.old) (W.contents out.new) result (decimal n) }
 {
     let mut buffer = Buffer::new();
@@ -45,7 +48,7 @@ fn put_number<W: Write>(out: &mut W, n: u64) -> Result<(), RefusedWrite>
 }
 
 /// Writes the two digits of a byte at once.
-fn put_byte<W: Write>(out: &mut W, byte: u8) -> Result<(), RefusedWrite>
+fn put_byte<W: Write>(out: &mut W, byte: u8) -> Written
     ensures { Writes (W.contents out.old) (W.contents out.new) result (encode_lower (byte ∷ [])) }
 {
     let mut digits = [0u8; 2];
@@ -63,7 +66,7 @@ fn characters(text: &[u8]) -> usize
 }
 
 #[tactic(auto, using(crate::proofs::Fronts::front_of_first, crate::proofs::Fronts::writes_then))]
-fn put_left<W: Write>(out: &mut W, text: &[u8], places: usize) -> Result<(), RefusedWrite>
+fn put_left<W: Write>(out: &mut W, text: &[u8], places: usize) -> Written
     ensures { Writes (W.contents out.old) (W.contents out.new) result (left_in places text.now) }
 {
     put(out, text)?;
@@ -71,14 +74,14 @@ fn put_left<W: Write>(out: &mut W, text: &[u8], places: usize) -> Result<(), Ref
 }
 
 #[tactic(auto, using(crate::proofs::Fronts::front_of_first, crate::proofs::Fronts::writes_then))]
-fn put_right<W: Write>(out: &mut W, text: &[u8], places: usize) -> Result<(), RefusedWrite>
+fn put_right<W: Write>(out: &mut W, text: &[u8], places: usize) -> Written
     ensures { Writes (W.contents out.old) (W.contents out.new) result (right_in places text.now) }
 {
     put_spaces(out, places.saturating_sub(characters(text)))?;
     put(out, text)
 }
 
-fn put_piece<W: Write>(out: &mut W, piece: Piece<'_>) -> Result<(), RefusedWrite>
+fn put_piece<W: Write>(out: &mut W, piece: Piece<'_>) -> Written
     ensures { Writes (W.contents out.old) (W.contents out.new) result (piece_text piece.entry) }
 {
     match piece {
@@ -95,7 +98,7 @@ fn put_piece<W: Write>(out: &mut W, piece: Piece<'_>) -> Result<(), RefusedWrite
 }
 
 /// Writes the pieces one after the other. After an Err some beginning of their text went out.
-pub fn put_pieces<W: Write>(out: &mut W, pieces: &[Piece<'_>]) -> Result<(), RefusedWrite>
+pub fn put_pieces<W: Write>(out: &mut W, pieces: &[Piece<'_>]) -> Written
     ensures { Writes (W.contents out.old) (W.contents out.new) result (pieces_text pieces.now) }
 {
     for piece in pieces {

@@ -3,7 +3,7 @@
 use crate::fault::Wrong;
 use crate::near::{MOST_DIFFERING, difference};
 use qplain::Refusal;
-use qtext::{Piece, RefusedWrite, TextKind, put, put_pieces};
+use qtext::{Piece, TextKind, Written, put, put_pieces};
 use qtext_read::{Argument, VERBS, Verb, row_of, verb_of, verb_word};
 use std::io::Write;
 
@@ -39,7 +39,7 @@ fn sign(argument: Argument) -> &'static str {
 }
 
 /// Writes all verbs, one of which may stand there.
-fn put_verbs<W: Write>(out: &mut W) -> Result<(), RefusedWrite> {
+fn put_verbs<W: Write>(out: &mut W) -> Written {
     let verbs: &[Verb] = &VERBS;
     let [first, others @ .., last] = verbs else {
         return Ok(());
@@ -52,7 +52,7 @@ fn put_verbs<W: Write>(out: &mut W) -> Result<(), RefusedWrite> {
 }
 
 /// Writes the words that a call has.
-fn put_form<W: Write>(out: &mut W, verb: Verb) -> Result<(), RefusedWrite> {
+fn put_form<W: Write>(out: &mut W, verb: Verb) -> Written {
     put(out, verb_word(verb))?;
     for argument in row_of(verb) {
         let sign = sign(*argument).as_bytes();
@@ -148,7 +148,7 @@ pub(crate) fn put_allowed<W: Write>(
     wrong: Wrong,
     verb: &[u8],
     word: usize,
-) -> Result<(), RefusedWrite> {
+) -> Written {
     match (wrong, verb_of(verb)) {
         (Wrong::Text(TextKind::WordCount), Ok(verb)) => put_form(out, verb),
         (Wrong::Text(TextKind::BadVerb | TextKind::WordCount), _) => put_verbs(out),

@@ -9,12 +9,12 @@ use crate::fault::{Finding, Wrong};
 use crate::place::{bytes_before, word_of};
 use crate::shown::{put_pointed, put_word};
 use qplain::Refusal;
-use qtext::{Piece, RefusedWrite, TextKind, put, put_pieces};
+use qtext::{Piece, TextKind, Written, put, put_pieces};
 use std::alloc::{AllocError, Global};
 use std::io::Write;
 
 /// Writes what is wrong.
-fn put_wrong<W: Write>(out: &mut W, wrong: Wrong) -> Result<(), RefusedWrite> {
+fn put_wrong<W: Write>(out: &mut W, wrong: Wrong) -> Written {
     match wrong {
         Wrong::Text(kind) => put(out, kind.words().as_bytes()),
         Wrong::Refused(Refusal::ENAMETOOLONG) => put(out, b"refused ENAMETOOLONG"),
@@ -31,11 +31,7 @@ fn shown_word<'a>(finding: &Finding<'a>) -> &'a [u8] {
 }
 
 /// Writes the word at fault, or the byte.
-fn put_at_fault<W: Write>(
-    out: &mut W,
-    finding: &Finding<'_>,
-    word: &[u8],
-) -> Result<(), RefusedWrite> {
+fn put_at_fault<W: Write>(out: &mut W, finding: &Finding<'_>, word: &[u8]) -> Written {
     if finding.fault.wrong == Wrong::Text(TextKind::BadByte) {
         return match finding.bytes.get(bytes_before(finding)) {
             Some(byte) => put_pieces(out, &[Piece::Text(b": 0x"), Piece::Byte(*byte)]),
@@ -49,7 +45,7 @@ fn put_at_fault<W: Write>(
     put_word(out, word)
 }
 
-fn put_near<W: Write>(out: &mut W, near: Option<&[u8]>) -> Result<(), RefusedWrite> {
+fn put_near<W: Write>(out: &mut W, near: Option<&[u8]>) -> Written {
     match near {
         Some(near) => put_pieces(
             out,
@@ -60,7 +56,7 @@ fn put_near<W: Write>(out: &mut W, near: Option<&[u8]>) -> Result<(), RefusedWri
 }
 
 /// Writes what is wrong, the word, what is allowed in its place, and a word near to it.
-fn put_reason<W: Write>(out: &mut W, finding: &Finding<'_>) -> Result<(), RefusedWrite> {
+fn put_reason<W: Write>(out: &mut W, finding: &Finding<'_>) -> Written {
     let wrong = finding.fault.wrong;
     let verb = word_of(finding.bytes, 2);
     let word = shown_word(finding);
@@ -80,12 +76,7 @@ fn reason_text(alloc: Global, finding: &Finding<'_>) -> Result<Vec<u8>, AllocErr
 }
 
 /// Writes a reason, and below it a line and a caret behind so many bytes of it.
-fn put_told<W: Write>(
-    out: &mut W,
-    bytes: &[u8],
-    before: usize,
-    reason: &[u8],
-) -> Result<(), RefusedWrite> {
+fn put_told<W: Write>(out: &mut W, bytes: &[u8], before: usize, reason: &[u8]) -> Written {
     put(out, reason)?;
     put(out, b"\n")?;
     put_pointed(out, bytes, before)

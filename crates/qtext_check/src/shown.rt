@@ -5,7 +5,7 @@ ghost use Rattle.qtext.specs.Written.{Writes};
 ghost use Rattle.qtext_check.specs.Shown.{escaped_byte, shown_byte, shown_word};
 
 use crate::place::is_text;
-use qtext::{Piece, RefusedWrite, put, put_pieces};
+use qtext::{Piece, Written, put, put_pieces};
 use std::io::Write;
 
 /// Of a word so many bytes are shown at most.
@@ -15,7 +15,7 @@ const WORD: usize = 60;
 const LINE: usize = 100;
 
 /// Writes a byte, and where it is no text a question mark.
-fn put_shown_byte<W: Write>(out: &mut W, byte: u8) -> Result<(), RefusedWrite>
+fn put_shown_byte<W: Write>(out: &mut W, byte: u8) -> Written
     ensures { Writes (W.contents out.old) (W.contents out.new) result (shown_byte byte) }
 {
     if is_text(byte) {
@@ -26,7 +26,7 @@ fn put_shown_byte<W: Write>(out: &mut W, byte: u8) -> Result<(), RefusedWrite>
 }
 
 /// Writes bytes, each that is no text as a question mark.
-fn put_shown<W: Write>(out: &mut W, bytes: &[u8]) -> Result<(), RefusedWrite>
+fn put_shown<W: Write>(out: &mut W, bytes: &[u8]) -> Written
     ensures { Writes (W.contents out.old) (W.contents out.new) result (flat_map shown_byte bytes.now) }
 {
     for byte in bytes {
@@ -37,7 +37,7 @@ fn put_shown<W: Write>(out: &mut W, bytes: &[u8]) -> Result<(), RefusedWrite>
 
 /// Writes 60 bytes of a word and two dots.
 #[tactic(auto, using(qtext::proofs::Fronts::front_of_first, qtext::proofs::Fronts::writes_then))]
-fn put_beginning<W: Write>(out: &mut W, word: &[u8]) -> Result<(), RefusedWrite>
+fn put_beginning<W: Write>(out: &mut W, word: &[u8]) -> Written
     requires { WORD < length word.now }
     ensures { Writes (W.contents out.old) (W.contents out.new) result
         (flat_map shown_byte (take WORD word.now) ++ codes "..") }
@@ -47,7 +47,7 @@ fn put_beginning<W: Write>(out: &mut W, word: &[u8]) -> Result<(), RefusedWrite>
 }
 
 /// Writes a word, or of a long one 60 bytes and two dots; each byte that is no text as a question mark.
-pub fn put_word<W: Write>(out: &mut W, word: &[u8]) -> Result<(), RefusedWrite>
+pub fn put_word<W: Write>(out: &mut W, word: &[u8]) -> Written
     ensures { Writes (W.contents out.old) (W.contents out.new) result (shown_word word.now) }
 {
     if word.len() > WORD {
@@ -57,7 +57,7 @@ pub fn put_word<W: Write>(out: &mut W, word: &[u8]) -> Result<(), RefusedWrite>
     }
 }
 
-fn put_caret<W: Write>(out: &mut W, before: usize) -> Result<(), RefusedWrite> {
+fn put_caret<W: Write>(out: &mut W, before: usize) -> Written {
     for _ in 0..before {
         put(out, b" ")?;
     }
@@ -65,11 +65,7 @@ fn put_caret<W: Write>(out: &mut W, before: usize) -> Result<(), RefusedWrite> {
 }
 
 /// Writes a line, or of a long one a part, and below it a caret behind so many bytes of it.
-pub(crate) fn put_pointed<W: Write>(
-    out: &mut W,
-    bytes: &[u8],
-    before: usize,
-) -> Result<(), RefusedWrite> {
+pub(crate) fn put_pointed<W: Write>(out: &mut W, bytes: &[u8], before: usize) -> Written {
     let from = before.saturating_sub(LINE / 2).min(bytes.len());
     let to = from.saturating_add(LINE).min(bytes.len());
     put_shown(out, &bytes[from..to])?;
@@ -78,7 +74,7 @@ pub(crate) fn put_pointed<W: Write>(
 }
 
 /// Writes a name with its control bytes escaped as TOML does, so that a fault stays one line.
-pub fn put_name<W: Write>(out: &mut W, name: &[u8]) -> Result<(), RefusedWrite>
+pub fn put_name<W: Write>(out: &mut W, name: &[u8]) -> Written
     ensures { Writes (W.contents out.old) (W.contents out.new) result (flat_map escaped_byte name.now) }
 {
     for byte in name {
@@ -87,7 +83,7 @@ pub fn put_name<W: Write>(out: &mut W, name: &[u8]) -> Result<(), RefusedWrite>
     Ok(())
 }
 
-fn put_name_byte<W: Write>(out: &mut W, byte: u8) -> Result<(), RefusedWrite>
+fn put_name_byte<W: Write>(out: &mut W, byte: u8) -> Written
     ensures { Writes (W.contents out.old) (W.contents out.new) result (escaped_byte byte) }
 {
     match byte {

@@ -1,7 +1,8 @@
--- First lines and their parts, what they say, and what comes of a client.
+-- First lines and their parts, what they say, what is left of a share, and what comes of a client.
 pub mod FirstLines
 pub mod LineParts
 pub mod OneLine
+pub mod Spending
 pub mod Talking
 pub mod Talked
 pub mod Bound

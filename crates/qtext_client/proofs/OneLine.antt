@@ -1,10 +1,12 @@
 -- What a text of one line says.
-use Rattle.std.proofs.Common.{◌≡◌, inl, inr, ◌≤◌, ℕ, ◌+◌, eqb, Bool, true, false, List, [], ◌∷◌, length}
+use Rattle.std.proofs.Common.{◌≡◌, inl, inr, ◌≤◌, ℕ, Result, ◌+◌, eqb, Bool, true, false, List, [], ◌∷◌, length}
 use Rattle.std.proofs.Common.{take, refl, sym, ap, ◌∙◌, arith, drop_of_length-le}
 use Rattle.std.proofs.lemmas.Bool.{cases_lt}
 use Rattle.std.specs.List.{position_or_len}
 use Rattle.std.specs.Io.BufRead.{take_through}
+use Rattle.qplain.specs.declared.line.Line.{Line}
 use Rattle.qtext.specs.Words.{parts}
+use Rattle.qtext.specs.declared.text_fault.TextKind.{TextKind}
 use Rattle.qtext.proofs.Splitting.{parts_at, parts_none}
 use Rattle.qtext_files.specs.RawLines.{RawLine, raw_lines}
 use Rattle.qtext_files.specs.Scripts.{script_line_of, script_of}
@@ -40,3 +42,8 @@ pub one_said : (text bytes after : List ℕ) (whole : Bool) → IsOneLine text �
 one_said text bytes after whole one cut =
     let (l, is) = one_raw text one in
     said_alone text bytes whole (only_first (raw_lines text) _ l (first_line bytes whole) is cut)
+
+-- and so is what is read of it
+pub said_as : (text bytes after : List ℕ) (whole : Bool) (read : Result Line TextKind) → IsOneLine text → IsCutAfter text bytes after whole
+    → script_line_of (first_line bytes whole) ≡ read → script_of text ≡ one_of read
+said_as text bytes after whole read one cut is = one_said text bytes after whole one cut ∙ ap one_of is

@@ -1,7 +1,6 @@
 -- What comes of clients of streams.
 use Rattle.std.proofs.Common.{◌≡◌, ◌⊎◌, inl, inr, ℕ, ◌+◌, ◌≤◌, ◌&&◌, List, [], ◌∷◌, ◌++◌, length, Option, Some, None, IfSome, IsSome, Result, Ok, Err, refl, sym, ap, subst, ◌∙◌, append-nil, length-append, arith}
 use Rattle.std.proofs.lemmas.List.Elements.{All-nil}
-use Rattle.qplain.specs.Caller.{Caller}
 use Rattle.qplain.specs.declared.call_fault.CallFault.{CallFault}
 use Rattle.qplain.specs.declared.line.Line.{Line}
 use Rattle.qplain.specs.declared.receipt.Receipt.{Receipt}
@@ -10,13 +9,16 @@ use Rattle.qrun_client.specs.declared.client.ClientEnd.{ClientEnd}
 use Rattle.qrun_client.specs.declared.client.ClientEnd.TheVariants.{Served}
 use Rattle.qrun_replay.specs.declared.failed_line.FailedLine.{FailedLine}
 use Rattle.qtext_files.specs.Scripts.{script_of}
-use Rattle.qtext_client.specs.Conversations.{AreFirstLines, ComesTo, IsToldOf, MayWrite, Progress, StaysThere, TalksOn, comes_to, lines_said}
+use Rattle.qtext_client.specs.Conversations.{AreFirstLines, ComesTo, Had, IsToldOf, Progress, StaysThere, TalksOn, comes_to, had_behind, lines_said}
 use Rattle.qtext_client.specs.Hearings.{IsToldAlone}
 use Rattle.qtext_client.specs.Responses.{has_failed, response_text}
+use Rattle.qtext_client.specs.Terms.{Binding, IsSpent, MayWrite, StaysWithin, behind, behind_all}
 use Rattle.qtext_client.specs.Wires.{HasEnded, HasLetGo, Hears, IsGone, IsToldLast, Stays, TellsNothing, Wire}
-use Rattle.qtext_client.specs.declared.response.BadLine.TheVariants.{Text, Length, OtherCaller}
+use Rattle.qtext_client.specs.declared.response.BadLine.TheVariants.{Text, Length, OtherCaller, Depth, Share}
 use Rattle.qtext_client.specs.declared.response.Response.{Response}
 use Rattle.qtext_client.specs.declared.response.Response.TheVariants.{Answer, Fault, NoMemory}
+use Rattle.qtext_client.specs.declared.terms.Allowance.{Allowance}
+use Rattle.qtext_client.proofs.Spending.{spent_later}
 use Rattle.qtext_client.proofs.Talking.{ends_by, has_ended_so, heard_so, no_end, none_told, stays_so, told_so}
 
 -- an answer in its own form
@@ -24,15 +26,29 @@ pub in_own_form : (answer : Result Receipt CallFault) → in_form (λ receipt. r
 in_own_form (Ok receipt) = refl
 in_own_form (Err fault) = refl
 
--- what may be told of a line of a client that hands out so many may be told where it hands out more
-told_later : (bound : Option Caller) (few many : ℕ) (text : List ℕ) (response : Response) → few ≤ many
-    → IsToldOf bound few text response → IsToldOf bound many text response
-told_later bound few many text (Answer answer) less is = is
-told_later bound few many text (Fault (Text kind)) less (inl says) = inl says
-told_later bound few many text (Fault (Text kind)) less (inr full) = inr (full.0, omega (arith, less, full.1))
-told_later bound few many text (Fault Length) less is = is
-told_later bound few many text (Fault OtherCaller) less is = is
-told_later bound few many text NoMemory less is = is
+-- what has been used up by then is used up later
+abbrev HasMore : Had → Had → Type 0
+HasMore had later = (had.lines ≤ later.lines) × (IsSpent had.left → IsSpent later.left)
+
+-- what may be told of a line of a client that has had so much may be told where it has had more
+told_later : (bound : Option Binding) (had later : Had) (text : List ℕ) (response : Response) → HasMore had later
+    → IsToldOf bound had text response → IsToldOf bound later text response
+told_later bound had later text (Answer answer) more is = is
+told_later bound had later text (Fault (Text kind)) more (inl says) = inl says
+told_later bound had later text (Fault (Text kind)) more (inr full) = inr (full.0, omega (arith, more.0, full.1))
+told_later bound had later text (Fault Length) more is = is
+told_later bound had later text (Fault OtherCaller) more is = is
+told_later bound had later text (Fault Depth) more is = is
+told_later bound had later text (Fault Share) more is = more.1 is
+told_later bound had later text NoMemory more is = is
+
+-- a line that is answered while something is left stands before those that are answered later
+within_first : (share : Option Allowance) (line : Line) (answer : Result Receipt CallFault) (more : List Line) (further : List (Result Receipt CallFault))
+    (lines : List Line) (answers : List (Result Receipt CallFault)) → lines ≡ line ∷ more → answers ≡ answer ∷ further → (IsSpent share → ⊥)
+    → StaysWithin (behind share line answer) more further → StaysWithin share lines answers
+unfolding StaysWithin
+within_first share line answer more further lines answers lines_are answers_are some later =
+    subst (λ l. StaysWithin share l answers) (sym lines_are) (subst (StaysWithin share (line ∷ more)) (sym answers_are) (some, later))
 
 module _ {S : Type 0} (took : S → Option (List ℕ)) (p q : Progress) where
   -- a step of a client that is owed nothing, which hands out no line
@@ -45,38 +61,52 @@ module _ {S : Type 0} (took : S → Option (List ℕ)) (p q : Progress) where
       (step lines answers (took left.streams) left.end
       (subst (λ x. comes_to took x lines answers left) (stays ∙ (λ i. record p { owed = none i; wire = new })) comes))
 
+  -- what it has had in all, said before its answer was kept and behind that
+  had_one_more : (line : Line) (answer : Result Receipt CallFault) (stand : Result ℕ FailedLine) (lines : List Line)
+      (answers : List (Result Receipt CallFault))
+      → had_behind (record p { stands = p.stands ++ stand ∷ []; share = behind p.share line answer }) lines answers
+      ≡ had_behind p (line ∷ lines) (answer ∷ answers)
+  unfolding behind_all
+  had_one_more line answer stand lines answers =
+      let many : length (p.stands ++ stand ∷ []) + length lines ≡ length p.stands + length (line ∷ lines)
+      = omega (arith, length-append p.stands (stand ∷ [])) in
+      λ i. record { lines = many i; left = behind_all (behind p.share line answer) lines answers }
+
   -- the streams were opened, or were not to be had
   pub begun : (new : Wire) → p.owed ≡ None → q ≡ record p { wire = new } → Stays p.wire new ⊎ HasEnded p.wire new
       → ComesOf (comes_to took p) (comes_to took q)
   begun new none stays began = step_of new none stays (λ lines answers wrote end comes. elim began [
-    | inl same ↦ stays_so p.stops p.bound wrote end lines answers _ p.wire new same comes
-    | inr ended ↦ has_ended_so p.stops p.bound wrote end lines answers _ p.wire new ended comes
+    | inl same ↦ stays_so p.stops p.bound p.share wrote end lines answers _ p.wire new same comes
+    | inr ended ↦ has_ended_so p.stops p.bound p.share wrote end lines answers _ p.wire new ended comes
   ])
 
   -- a line was heard, and then this was told of it
   pub told_one : (mid : Progress) (new : Wire) (text : List ℕ) (response : Response) → p.owed ≡ None → mid ≡ record p { wire = new } → StaysThere mid q
       → Hears p.wire new text → IsToldLast (mid.stops && has_failed response) mid.wire q.wire (response_text response)
-      → IsToldAlone p.bound (length p.stands) text response → ComesOf (comes_to took p) (comes_to took q)
+      → IsToldAlone p.bound (had_behind p [] []) text response → ComesOf (comes_to took p) (comes_to took q)
+  unfolding behind_all
   told_one mid new text response none before stays hears is_told alone =
       step_of q.wire none (stays ∙ (λ i. record (before i) { wire = q.wire })) (λ lines answers wrote end comes.
-      heard_so p.stops p.bound wrote end lines answers _ p.wire new text response lines answers hears
-      (told_later p.bound (length p.stands) (length p.stands + length lines) text response (omega arith) alone.is)
-      (ap (λ l. l ++ lines) (sym alone.nothing)) (ap (λ l. l ++ answers) (sym alone.none))
-      (told_so p.stops p.bound wrote end lines answers _ _ new q.wire response refl hears.still.1
+      heard_so p.stops p.bound p.share wrote end lines answers _ p.wire new text response lines answers p.share hears
+      (told_later p.bound (had_behind p [] []) (had_behind p lines answers) text response
+      (omega arith, spent_later p.share lines answers) alone.is)
+      (ap (λ l. l ++ lines) (sym alone.nothing)) (ap (λ l. l ++ answers) (sym alone.none)) comes.within
+      (told_so p.stops p.bound p.share wrote end lines answers _ _ new q.wire response refl hears.still.1
       (subst (λ m. IsToldLast (m.stops && has_failed response) m.wire q.wire (response_text response)) before is_told) comes))
 
   -- a line was heard and handed out
   pub handed_one : (new : Wire) (text : List ℕ) (line : Line) → p.owed ≡ None → q ≡ record p { owed = Some line; wire = new } → Hears p.wire new text
-      → script_of text ≡ Ok (line ∷ []) → MayWrite p.bound line → ComesOf (comes_to took p) (comes_to took q)
-  handed_one new text line none is hears says may lines answers left comes =
+      → script_of text ≡ Ok (line ∷ []) → MayWrite p.bound line → (IsSpent p.share → ⊥) → ComesOf (comes_to took p) (comes_to took q)
+  handed_one new text line none is hears says may some lines answers left comes =
       let (answer, more, further, lines_are, answers_are, goes) = subst (λ x. comes_to took x lines answers left) is comes in
       subst (λ o. comes_to took (record p { owed = o }) lines answers left) (sym none)
-      (heard_so p.stops p.bound (took left.streams) left.end lines answers _ p.wire new text (Answer answer) more further hears (line, says, may)
-      (lines_are ∙ ap (λ s. lines_said s ++ more) (sym says)) answers_are goes)
+      (heard_so p.stops p.bound p.share (took left.streams) left.end lines answers _ p.wire new text (Answer answer) more further
+      (behind p.share line answer) hears (line, says, may) (lines_are ∙ ap (λ s. lines_said s ++ more) (sym says)) answers_are
+      (within_first p.share line answer more further lines answers lines_are answers_are some goes.within) goes)
 
   -- it was kept where an answer stands, and then the answer was told
   pub answered_one : (mid : Progress) (line : Line) (answer : Result Receipt CallFault) (stand : Result ℕ FailedLine) → p.owed ≡ Some line
-      → p.wire.end ≡ None → mid ≡ record p { stands = p.stands ++ stand ∷ []; owed = None } → StaysThere mid q
+      → p.wire.end ≡ None → mid ≡ record p { stands = p.stands ++ stand ∷ []; share = behind p.share line answer; owed = None } → StaysThere mid q
       → IsToldLast (mid.stops && has_failed (Answer answer)) mid.wire q.wire (response_text (Answer answer))
       → GoesOn line answer (comes_to took p) (comes_to took q)
   answered_one mid line answer stand owed still kept stays is_told lines answers left comes =
@@ -86,8 +116,8 @@ module _ {S : Type 0} (took : S → Option (List ℕ)) (p q : Progress) where
         answers,
         refl,
         refl,
-        told_so p.stops p.bound (took left.streams) left.end lines answers _ _ p.wire q.wire (Answer answer)
-            (omega (arith, length-append p.stands (stand ∷ []))) still
+        told_so p.stops p.bound (behind p.share line answer) (took left.streams) left.end lines answers _ _ p.wire q.wire (Answer answer)
+            (had_one_more line answer stand lines answers) still
             (subst (λ m. IsToldLast (m.stops && has_failed (Answer answer)) m.wire q.wire (response_text (Answer answer))) kept is_told)
             (subst (λ x. comes_to took x lines answers left) (stays ∙ (λ i. record (kept i) { wire = q.wire })) comes),
       )
@@ -95,24 +125,25 @@ module _ {S : Type 0} (took : S → Option (List ℕ)) (p q : Progress) where
 -- of a client that has ended and is owed nothing nothing more comes
 pub taken_apart : (p : Progress) (new : Wire) (wrote : Option (List ℕ)) (end : ClientEnd) → p.owed ≡ None → HasEnded p.wire new
     → new.hears ≡ Some [] → new.end ≡ Some end → new.wrote ≡ wrote → ComesTo p [] [] wrote end
-unfolding AreFirstLines
+unfolding AreFirstLines StaysWithin
 taken_apart p new wrote end none ended deaf ends took =
-    let given = length p.stands + 0 in
-    let nothing : TalksOn p.stops p.bound given new wrote end [] [] [] = record {
+    let had = had_behind p [] [] in
+    let nothing : TalksOn p.stops p.bound p.share had new wrote end [] [] [] = record {
       talk = record {
         exchanges = [];
         rest = [];
-        each = All-nil (λ e. IsToldOf p.bound given e.text e.response);
+        each = All-nil (λ e. IsToldOf p.bound had e.text e.response);
         lines_are = refl;
         answers_are = refl;
         heard = subst (λ h. IfSome h (λ bytes. AreFirstLines bytes [] [])) (sym deaf) refl;
         all_heard = λ served. refl;
       };
+      within = tt;
       at_failure = λ is. none_told;
       written = λ other. held wrote took;
       ended = subst (λ e. IfSome e (λ x. x ≡ end)) (sym ends) refl;
     } in
-    subst (λ o. ComesTo (record p { owed = o }) [] [] wrote end) (sym none) (has_ended_so p.stops p.bound wrote end [] [] given p.wire new ended nothing)
+    subst (λ o. ComesTo (record p { owed = o }) [] [] wrote end) (sym none) (has_ended_so p.stops p.bound p.share wrote end [] [] had p.wire new ended nothing)
   where
     held : (known : Option (List ℕ)) → new.wrote ≡ known → IfSome known (λ bytes. (before : List ℕ) × (new.wrote ≡ Some before) × (bytes ≡ before ++ []))
     held None is = tt

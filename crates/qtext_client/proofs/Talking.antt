@@ -2,17 +2,18 @@
 use Rattle.std.proofs.Common.{◌≡◌, All, inl, inr, ℕ, Bool, true, false, ◌&&◌, List, [], ◌∷◌, ◌++◌, length, map, Option, Some, None, IfSome, IsSome, Result, refl, sym, ap, subst, ◌∙◌, append_assoc, arith}
 use Rattle.std.specs.List.{flat_map}
 use Rattle.std.proofs.lemmas.List.Elements.{All-cons}
-use Rattle.qplain.specs.Caller.{Caller}
 use Rattle.qplain.specs.declared.call_fault.CallFault.{CallFault}
 use Rattle.qplain.specs.declared.line.Line.{Line}
 use Rattle.qplain.specs.declared.receipt.Receipt.{Receipt}
 use Rattle.qrun_client.specs.declared.client.ClientEnd.{ClientEnd}
 use Rattle.qrun_client.specs.declared.client.ClientEnd.TheVariants.{Output, Served}
 use Rattle.qtext_client.specs.BoundedLines.{Passes}
-use Rattle.qtext_client.specs.Conversations.{AreFirstLines, Exchange, IsToldOf, TalksOn, handed_out}
+use Rattle.qtext_client.specs.Conversations.{AreFirstLines, Exchange, Had, IsToldOf, TalksOn, handed_out}
 use Rattle.qtext_client.specs.Responses.{EndsAtFailure, answers_in, has_failed, response_text}
+use Rattle.qtext_client.specs.Terms.{Binding, StaysWithin}
 use Rattle.qtext_client.specs.Wires.{EndsBy, GrowsBy, HasEnded, Hears, IsGoneIf, IsToldLast, LetsGo, Stays, StaysKnown, TellsNothing, Wire}
 use Rattle.qtext_client.specs.declared.response.Response.{Response}
+use Rattle.qtext_client.specs.declared.terms.Allowance.{Allowance}
 
 pub no_end : IsSome {T = ClientEnd} None → ⊥
 no_end some = absurd cc
@@ -75,17 +76,17 @@ pub none_told : EndsAtFailure []
 unfolding EndsAtFailure
 none_told = tt
 
-module _ (stops : Bool) (bound : Option Caller) (wrote : Option (List ℕ)) (end : ClientEnd) (lines : List Line)
+module _ (stops : Bool) (bound : Option Binding) (share : Option Allowance) (wrote : Option (List ℕ)) (end : ClientEnd) (lines : List Line)
     (answers : List (Result Receipt CallFault)) where
   -- what comes of a client that is told this first
-  abbrev Talks : ℕ → Wire → List Response → Type 0
-  Talks given wire first = TalksOn stops bound given wire wrote end first lines answers
+  abbrev Talks : Had → Wire → List Response → Type 0
+  Talks had wire first = TalksOn stops bound share had wire wrote end first lines answers
 
   not_ended : (e : Option ClientEnd) → e ≡ None → IfSome e (λ x. x ≡ end)
   not_ended e none = subst (λ e. IfSome e (λ x. x ≡ end)) (sym none) tt
 
   -- what comes of it with these streams is what came of it with others
-  abbrev talks_so : (given n : ℕ) (old new : Wire) (first second : List Response) (rest : List ℕ) → given ≡ n → (comes : Talks given new first)
+  abbrev talks_so : (given n : Had) (old new : Wire) (first second : List Response) (rest : List ℕ) → given ≡ n → (comes : Talks given new first)
       → IfSome old.hears (λ bytes. AreFirstLines bytes (map (λ e. e.text) comes.talk.exchanges) rest) → (end ≡ Served → rest ≡ [])
       → (stops ≡ true → EndsAtFailure (second ++ map (λ e. e.response) comes.talk.exchanges))
       → ((end ≡ Output → ⊥) → GrowsBy old.wrote wrote (flat_map response_text (second ++ map (λ e. e.response) comes.talk.exchanges)))
@@ -100,13 +101,14 @@ module _ (stops : Bool) (bound : Option Caller) (wrote : Option (List ℕ)) (end
       heard = heard;
       all_heard = all;
     };
+    within = comes.within;
     at_failure = stops;
     written = written;
     ended = ended;
   }
 
   -- it has ended, and nothing more is told
-  ends_so : (given n : ℕ) (by : ClientEnd) (old new : Wire) (first : List Response) → given ≡ n → EndsBy by old new → EndsAtFailure (first ++ [])
+  ends_so : (given n : Had) (by : ClientEnd) (old new : Wire) (first : List Response) → given ≡ n → EndsBy by old new → EndsAtFailure (first ++ [])
       → (comes : Talks given new []) → (by ≡ end → (end ≡ Output → ⊥)
       → GrowsBy old.wrote wrote (flat_map response_text (first ++ map (λ e. e.response) comes.talk.exchanges)))
       → (before : Talks n old first) × (before.talk.exchanges ≡ [])
@@ -124,24 +126,24 @@ module _ (stops : Bool) (bound : Option Caller) (wrote : Option (List ℕ)) (end
         none,
       )
 
-  ended_so : (given : ℕ) (by : ClientEnd) (old new : Wire) → EndsBy by old new → Talks given new []
+  ended_so : (given : Had) (by : ClientEnd) (old new : Wire) → EndsBy by old new → Talks given new []
       → (before : Talks given old []) × (before.talk.exchanges ≡ [])
   ended_so given by old new ends comes = ends_so given given by old new [] refl ends none_told comes
       (λ so other. grew_before old.wrote new.wrote wrote _ (ends.wrote (λ is. other (sym so ∙ is))) (comes.written other))
 
-  pub has_ended_so : (given : ℕ) (old new : Wire) → HasEnded old new → Talks given new [] → Talks given old []
+  pub has_ended_so : (given : Had) (old new : Wire) → HasEnded old new → Talks given new [] → Talks given old []
   has_ended_so given old new (by, inl ends) comes = (ended_so given by old new ends comes).0
   has_ended_so given old new (by, inr before) comes = subst (λ w. Talks given w []) before.1 comes
 
   -- nothing was said or told
-  pub stays_so : (given : ℕ) (old new : Wire) → Stays old new → Talks given new [] → Talks given old []
+  pub stays_so : (given : Had) (old new : Wire) → Stays old new → Talks given new [] → Talks given old []
   stays_so given old new stays comes = talks_so given given old new [] [] comes.talk.rest refl comes
       (heard_before old.hears new.hears (map (λ e. e.text) comes.talk.exchanges) comes.talk.rest stays.hears comes.talk.heard)
       comes.talk.all_heard comes.at_failure (λ other. grew_before old.wrote new.wrote wrote _ stays.wrote (comes.written other))
       (subst (λ e. IfSome e (λ x. x ≡ end)) stays.ends comes.ended)
 
   -- it may have ended by then; where that was so at a failed line nothing more was told
-  gone_so : (failed last : Bool) → last ≡ (stops && failed) → (given : ℕ) (old new : Wire) → old.end ≡ None → IsGoneIf last old new
+  gone_so : (failed last : Bool) → last ≡ (stops && failed) → (given : Had) (old new : Wire) → old.end ≡ None → IsGoneIf last old new
       → Talks given new [] → (before : Talks given old []) × (stops ≡ true → failed ≡ true → before.talk.exchanges ≡ [])
   gone_so failed true is given old new still (by, other, inl gone) comes =
       let ended = ended_so given by old new (ends_by by old new other gone) comes in
@@ -153,7 +155,7 @@ module _ (stops : Bool) (bound : Option Caller) (wrote : Option (List ℕ)) (end
   )
 
   -- it was told this, or could not be
-  pub told_so : (given n : ℕ) (old new : Wire) (response : Response) → given ≡ n → old.end ≡ None
+  pub told_so : (given n : Had) (old new : Wire) (response : Response) → given ≡ n → old.end ≡ None
       → IsToldLast (stops && has_failed response) old new (response_text response) → Talks given new [] → Talks n old (response ∷ [])
   told_so given n old new response same still is_told comes =
       elim is_told.told [
@@ -173,10 +175,12 @@ module _ (stops : Bool) (bound : Option Caller) (wrote : Option (List ℕ)) (end
       ]
 
   -- a line was heard, of which it is told this
-  pub heard_so : (given : ℕ) (old new : Wire) (text : List ℕ) (response : Response) (more : List Line) (further : List (Result Receipt CallFault))
-      → Hears old new text → IsToldOf bound given text response → lines ≡ handed_out text response ++ more → answers ≡ answers_in response ++ further
-      → TalksOn stops bound given new wrote end (response ∷ []) more further → Talks given old []
-  heard_so given old new text response more further hears is lines_are answers_are comes =
+  pub heard_so : (given : Had) (old new : Wire) (text : List ℕ) (response : Response) (more : List Line)
+      (further : List (Result Receipt CallFault)) (left : Option Allowance) → Hears old new text → IsToldOf bound given text response
+      → lines ≡ handed_out text response ++ more
+      → answers ≡ answers_in response ++ further → StaysWithin share lines answers
+      → TalksOn stops bound left given new wrote end (response ∷ []) more further → Talks given old []
+  heard_so given old new text response more further left hears is lines_are answers_are within comes =
       let talk = comes.talk in
       record {
         talk = record {
@@ -188,6 +192,7 @@ module _ (stops : Bool) (bound : Option Caller) (wrote : Option (List ℕ)) (end
           heard = more_heard old.hears new.hears text (map (λ e. e.text) talk.exchanges) talk.rest hears.line talk.heard;
           all_heard = talk.all_heard;
         };
+        within = within;
         at_failure = comes.at_failure;
         written = λ other. grew_before old.wrote new.wrote wrote _ hears.wrote (comes.written other);
         ended = not_ended old.end hears.still.0;

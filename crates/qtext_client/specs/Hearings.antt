@@ -1,6 +1,5 @@
 -- What came of a text of one line. No public clause cites this module.
 use Rattle.std.specs.Prelude.{◌≡◌, Bool, true, false, ℕ, List, [], ◌∷◌, Option, Result, Ok, Err, ⊤}
-use Rattle.qplain.specs.Caller.{Caller}
 use Rattle.qplain.specs.declared.line.Line.{Line as ScriptLine}
 use Rattle.qtext.specs.declared.text_fault.TextFault.{TextFault}
 use Rattle.qtext_client.specs.declared.stream_client.Heard.{Heard}
@@ -8,12 +7,13 @@ use Rattle.qtext_client.specs.declared.stream_client.Heard.TheVariants.{Line, No
 use Rattle.qtext_client.specs.declared.stream_client.Step.{Step}
 use Rattle.qtext_client.specs.declared.stream_client.Step.TheVariants.{HandedOut, Told, Ended}
 use Rattle.qtext_client.specs.declared.response.BadLine.{BadLine}
-use Rattle.qtext_client.specs.declared.response.BadLine.TheVariants.{Text, Length, OtherCaller}
+use Rattle.qtext_client.specs.declared.response.BadLine.TheVariants.{Text, Length, OtherCaller, Depth, Share}
 use Rattle.qtext_client.specs.declared.response.Response.{Response}
 use Rattle.qtext_client.specs.declared.response.Response.TheVariants.{Answer, Fault, NoMemory}
 use Rattle.qtext_files.specs.Scripts.{script_of}
-use Rattle.qtext_client.specs.Conversations.{HasOne, IsToldOf, MayWrite, handed_out}
+use Rattle.qtext_client.specs.Conversations.{Had, HasOne, IsToldOf, handed_out}
 use Rattle.qtext_client.specs.Responses.{answers_in}
+use Rattle.qtext_client.specs.Terms.{Binding, IsSpent, MayNotWrite, MayWrite}
 use Rattle.qtext_client.specs.Wires.{HasEnded, Hears, Wire}
 
 -- a line of a script came
@@ -23,36 +23,38 @@ IsLine (NoLine response) = ⊥
 IsLine End = ⊥
 
 -- the fault is the one that the script says, or its line is none that a client may write that is bound so
-abbrev pub IsFaultIn : Option Caller → Result (List ScriptLine) TextFault → BadLine → Type 0
+abbrev pub IsFaultIn : Option Binding → Result (List ScriptLine) TextFault → BadLine → Type 0
 IsFaultIn bound said (Text kind) = said ≡ Err (record { line = 1; kind = kind })
 IsFaultIn bound said Length = ⊥
-IsFaultIn bound said OtherCaller = HasOne (λ line. MayWrite bound line → ⊥) said
+IsFaultIn bound said OtherCaller = HasOne (λ line. MayNotWrite bound line OtherCaller) said
+IsFaultIn bound said Depth = HasOne (λ line. MayNotWrite bound line Depth) said
+IsFaultIn bound said Share = ⊥
 
 -- what is told of a line that is not handed out, by what the script says that has this line alone
-abbrev pub IsSaidIn : Option Caller → Result (List ScriptLine) TextFault → Response → Type 0
+abbrev pub IsSaidIn : Option Binding → Result (List ScriptLine) TextFault → Response → Type 0
 IsSaidIn bound said (Answer answer) = ⊥
 IsSaidIn bound said (Fault fault) = IsFaultIn bound said fault
 IsSaidIn bound said NoMemory = ⊤
 
 -- the line, or the fault in it, is what the script says that has this line alone, and it may write the line
-abbrev pub HearsText : Option Caller → Heard → Result (List ScriptLine) TextFault → Type 0
+abbrev pub HearsText : Option Binding → Heard → Result (List ScriptLine) TextFault → Type 0
 HearsText bound (Line line) said = (said ≡ Ok (line ∷ [])) × MayWrite bound line
 HearsText bound (NoLine response) said = IsSaidIn bound said response
 HearsText bound End said = ⊥
 
 -- this may be told of a line of this text that is not handed out
-pub record IsToldAlone (bound : Option Caller) (given : ℕ) (text : List ℕ) (response : Response) : Type 0 where
-  pub is : IsToldOf bound given text response
+pub record IsToldAlone (bound : Option Binding) (had : Had) (text : List ℕ) (response : Response) : Type 0 where
+  pub is : IsToldOf bound had text response
   pub nothing : handed_out text response ≡ []
   pub none : answers_in response ≡ []
 
--- what came of a line of a client that is bound so, and has handed out N lines
-abbrev pub HearsLine : Option Caller → ℕ → Wire → Wire → Heard → Type 0
-HearsLine bound given old new (Line line) = (text : List ℕ) × Hears old new text
-    × (script_of text ≡ Ok (line ∷ [])) × MayWrite bound line
-HearsLine bound given old new (NoLine response) = (text : List ℕ) × Hears old new text
-    × IsToldAlone bound given text response
-HearsLine bound given old new End = HasEnded old new
+-- what came of a line of a client that is bound so, and has had this so far
+abbrev pub HearsLine : Option Binding → Had → Wire → Wire → Heard → Type 0
+HearsLine bound had old new (Line line) = (text : List ℕ) × Hears old new text
+    × (script_of text ≡ Ok (line ∷ [])) × MayWrite bound line × (IsSpent had.left → ⊥)
+HearsLine bound had old new (NoLine response) = (text : List ℕ) × Hears old new text
+    × IsToldAlone bound had text response
+HearsLine bound had old new End = HasEnded old new
 
 -- a line is handed out
 abbrev pub is_handed_out : Step → Bool

@@ -6,7 +6,7 @@ use Rattle.qplain.specs.declared.receipt.Receipt.{Receipt}
 use Rattle.qtext.specs.TextFaults.{text_kind_words}
 use Rattle.qtext_write.specs.Answers.{answer_text}
 use Rattle.qtext_client.specs.declared.response.BadLine.{BadLine}
-use Rattle.qtext_client.specs.declared.response.BadLine.TheVariants.{Text, Length, OtherCaller}
+use Rattle.qtext_client.specs.declared.response.BadLine.TheVariants.{Text, Length, OtherCaller, Depth, Share}
 use Rattle.qtext_client.specs.declared.response.Response.{Response}
 use Rattle.qtext_client.specs.declared.response.Response.TheVariants.{Answer, Fault, NoMemory}
 
@@ -15,6 +15,8 @@ abbrev pub bad_line_words : BadLine → List ℕ
 bad_line_words (Text kind) = text_kind_words kind
 bad_line_words Length = codes "line length"
 bad_line_words OtherCaller = codes "caller"
+bad_line_words Depth = codes "path depth"
+bad_line_words Share = codes "share"
 
 -- the line that a client is told
 abbrev pub response_text : Response → List ℕ

@@ -6,9 +6,11 @@ pub use connection::EndedClient;
 pub use response::{BadLine, Response, put_response};
 pub use stream_client::StreamClient;
 pub use streams::{OpenStreams, Streams};
+pub use terms::{Allowance, Terms};
 
 mod bounded_line;
 mod connection;
 mod response;
 mod stream_client;
 mod streams;
+mod terms;

@@ -4,7 +4,7 @@ ghost use Rattle.qtext.specs.Written.{Writes};
 ghost use Rattle.qtext_client.specs.Responses.{has_failed, bad_line_words, response_text};
 
 use qrun_client::Answer;
-use qtext::{Piece, RefusedWrite, TextKind, TextLine, put, put_pieces};
+use qtext::{Piece, TextKind, TextLine, Written, put, put_pieces};
 use qtext_write::put_answer;
 use std::io::Write;
 
@@ -17,6 +17,10 @@ pub enum BadLine {
     Length,
     /// It is of another caller than the client is bound to.
     OtherCaller,
+    /// A path of it has more components than the client may ask for.
+    Depth,
+    /// The client has used up what it may take of the service.
+    Share,
 }
 
 /// What a client is told of one line.
@@ -52,11 +56,13 @@ impl BadLine {
             BadLine::Text(kind) => kind.words(),
             BadLine::Length => "line length",
             BadLine::OtherCaller => "caller",
+            BadLine::Depth => "path depth",
+            BadLine::Share => "share",
         }
     }
 }
 
-fn put_fault<W: Write>(out: &mut W, fault: BadLine) -> Result<(), RefusedWrite>
+fn put_fault<W: Write>(out: &mut W, fault: BadLine) -> Written
     ensures { Writes (W.contents out.old) (W.contents out.new) result (response_text (Response.Fault fault)) }
 {
     let pieces = [
@@ -69,11 +75,7 @@ fn put_fault<W: Write>(out: &mut W, fault: BadLine) -> Result<(), RefusedWrite>
 
 /// Writes the line that a client is told. An answer is put together in place of what the text line holds. After an Err
 /// some beginning of it went out.
-pub fn put_response<W: Write>(
-    out: &mut W,
-    line: &mut TextLine,
-    response: &Response,
-) -> Result<(), RefusedWrite>
+pub fn put_response<W: Write>(out: &mut W, line: &mut TextLine, response: &Response) -> Written
     ensures { Writes (W.contents out.old) (W.contents out.new) result (response_text response.now) }
 {
     match response {

@@ -6,11 +6,13 @@ ghost use Rattle.qrun_client.specs.declared.client.TheConstants.{MAX_GIVEN};
 ghost use Rattle.qtext_client.specs.BoundedLines.{IsOneLine};
 ghost use Rattle.qrun_client.specs.Clients.{ComesOf, HasLowPlace, IsAnswerIn, Takes, place_of};
 ghost use Rattle.qrun_replay.specs.Places.{stand_at};
-ghost use Rattle.qtext_client.specs.Conversations.{MayWrite, StaysThere, comes_to};
+ghost use Rattle.qtext_client.specs.Conversations.{StaysThere, comes_to, had_behind};
 ghost use Rattle.qtext_client.specs.declared.stream_client.Heard.TheVariants.{End};
 ghost use Rattle.qtext_client.specs.declared.stream_client.Step.TheVariants.{Ended};
 ghost use Rattle.qtext_client.specs.Hearings.{HearsLine, HearsText, IsLine, is_handed_out};
 ghost use Rattle.qtext_client.specs.Responses.{has_failed, response_text};
+ghost use Rattle.qtext_client.specs.Talks.{behind_owed};
+ghost use Rattle.qtext_client.specs.Terms.{IsSpent, behind, binding_of};
 ghost use Rattle.qtext_client.specs.Wires.{IsGone, IsGoneIf, IsToldLast};
 ghost use Rattle.qtext_files.specs.Scripts.{script_of};
 
@@ -18,7 +20,8 @@ use crate::bounded_line::Got;
 use crate::connection::{Connection, EndedClient};
 use crate::response::{BadLine, Response};
 use crate::streams::Streams;
-use qplain::{Call, CallPaths, Cred, Line, NoMemory, Path, Receipt};
+use crate::terms::{Terms, fault_of};
+use qplain::{Call, CallPaths, Line, NoMemory, Path, Receipt};
 use qrun_client::{Answer, Client, ClientEnd, MAX_GIVEN};
 use qrun_replay::Places;
 use qtext::{ReadFault, TextKind};
@@ -51,17 +54,17 @@ enum Step {
 
 /// A client that writes script lines, and reads what it is told of each: an answer, or what is wrong with the line.
 ///
-/// A line that is none of a script is told as a fault, and so is one of another caller than the client is bound to: it
-/// is never handed out, and takes no place. From 2,097,152 lines on no line is handed out. A client ends where its
-/// lines end, where a stream is refused, or where it has gone away; and, where it was made to, at its first line that
-/// fails. It keeps where its answers stand, 8 bytes each, and of its lines only the one that is still to be answered
-/// and those that failed. Contracts see whether it was made to stop, to whom it is bound, where the answers stand, that
-/// one line, and what is known of its streams.
+/// A line that is none of a script is told as a fault, and so is one that its terms do not allow: it is never handed
+/// out, and takes no place. From 2,097,152 lines on no line is handed out. A client ends where its lines end, where a
+/// stream is refused, or where it has gone away; and, where it was made to, at its first line that fails. It keeps
+/// where its answers stand, 8 bytes each, and of its lines only the one that is still to be answered and those that
+/// failed. Contracts see whether it was made to stop, to whom it is bound, what is left of its share, where the answers
+/// stand, that one line, and what is known of its streams.
 #[derive(Drop)]
 pub struct StreamClient<'a, S: Streams + Drop> {
     alloc: Global,
     stop: Option<&'a AtomicBool>,
-    bound: Option<&'a Cred>,
+    terms: Option<Terms<'a>>,
     connection: Connection<S>,
     text: Vec<u8>,
     /// The path of the last line that has one.
@@ -74,12 +77,14 @@ impl<'a, S: Streams + Drop> Model for StreamClient<'a, S> {
     ghost use Rattle.std.specs.Prelude.{is_some, option_map};
     ghost use Rattle.qtext_client.specs.Conversations.{Progress};
     ghost use Rattle.qtext_client.specs.Talks.{IsKept};
+    ghost use Rattle.qtext_client.specs.Terms.{binding_of};
 
     ghost Value = { Progress };
 
     ghost view = { λ c. record {
       stops = is_some c.stop;
-      bound = option_map (λ caller. caller.now) c.bound;
+      bound = option_map binding_of c.terms;
+      share = option_map (λ terms. terms.share) c.terms;
       stands = c.places.stands;
       owed = c.line;
       wire = c.connection;
@@ -104,25 +109,15 @@ fn path_after(before: Option<Path>, call: &Call) -> Option<Path> {
     }
 }
 
-/// Whether a client that is bound so may write a line.
-fn may_write(bound: Option<&Cred>, line: &Line) -> bool
-    ensures { result ≡ true ↔ MayWrite (option_map (λ caller. caller.now) bound.entry) line.now }
-{
-    match bound {
-        Some(caller) => line.cred == *caller,
-        None => true,
-    }
-}
-
 /// What a text of one line comes to, beside the path of the line before it.
 fn heard_in<'x>(
     alloc: Global,
-    bound: Option<&Cred>,
+    terms: Option<Terms<'_>>,
     path: Option<&'x Path>,
     text: &'x [u8],
 ) -> Heard
     requires { IsOneLine text.now }
-    ensures { HearsText (option_map (λ caller. caller.now) bound.entry) result (script_of text.now) }
+    ensures { HearsText (option_map binding_of terms.entry) result (script_of text.now) }
 {
     let mut room = Vec::new(alloc);
     let Ok(line) = next_line(&mut room, text) else {
@@ -132,12 +127,10 @@ fn heard_in<'x>(
         return Heard::None(Response::NoMemory);
     };
     match read_line(alloc, &mut paths, 1, &line, &room) {
-        Ok(line) => {
-            if may_write(bound, &line) {
-                return Heard::Line(line);
-            }
-            Heard::None(Response::Fault(BadLine::OtherCaller))
-        }
+        Ok(line) => match fault_of(terms, &line) {
+            None => Heard::Line(line),
+            Some(fault) => Heard::None(Response::Fault(fault)),
+        },
         Err(ReadFault::Memory) => Heard::None(Response::NoMemory),
         Err(ReadFault::Fault(kind)) => Heard::None(Response::Fault(BadLine::Text(kind))),
     }
@@ -147,17 +140,18 @@ impl<'a, S: Streams + Drop> StreamClient<'a, S> {
     /// A client that has handed out no line, and whose streams are opened when the first is asked for.
     ///
     /// With a flag it stops at its first line that fails, sets the flag, and hands out no line where that is set: so do
-    /// all clients that share it, but for lines that were handed out by then. With a caller it is bound to that one: it
-    /// hands out no line of another.
+    /// all clients that share it, but for lines that were handed out by then. With terms it hands out no line of
+    /// another caller or with a deeper path, and none once its share is used up.
     pub fn new(
         alloc: Global,
         streams: S,
         stop: Option<&'a AtomicBool>,
-        bound: Option<&'a Cred>,
+        terms: Option<Terms<'a>>,
     ) -> Self
         ensures { result ≡ record {
           stops = is_some stop.entry;
-          bound = option_map (λ caller. caller.now) bound.entry;
+          bound = option_map binding_of terms.entry;
+          share = option_map (λ terms. terms.share) terms.entry;
           stands = [];
           owed = None;
           wire = record { hears = S.says streams; wrote = Some []; end = None };
@@ -166,7 +160,7 @@ impl<'a, S: Streams + Drop> StreamClient<'a, S> {
         StreamClient {
             alloc,
             stop,
-            bound,
+            terms,
             connection: Connection::new(streams),
             text: Vec::new(alloc),
             path: None,
@@ -183,6 +177,16 @@ impl<'a, S: Streams + Drop> StreamClient<'a, S> {
         }
     }
 
+    /// Whether it has used up its share, where it has one.
+    fn is_spent(&self) -> bool
+        ensures { result ≡ true ↔ IsSpent self.now.share }
+    {
+        match &self.terms {
+            Some(terms) => terms.share.calls == 0 || terms.share.bytes == 0,
+            None => false,
+        }
+    }
+
     /// Ends the client, since a line of another one has failed.
     fn end_stopped(&mut self) -> Heard
         requires answered { self.old.owed ≡ None }
@@ -195,10 +199,11 @@ impl<'a, S: Streams + Drop> StreamClient<'a, S> {
     }
 
     /// Waits for a line, and reads it.
+    #[tactic(auto, unfolding(crate::specs::Terms::behind_all))]
     fn hear(&mut self) -> Heard
         requires answered { self.old.owed ≡ None }
         ensures stays { StaysThere self.old self.new }
-        ensures heard { HearsLine self.old.bound (length self.old.stands) self.old.wire self.new.wire result }
+        ensures heard { HearsLine self.old.bound (had_behind self.old [] []) self.old.wire self.new.wire result }
         ensures few { IsLine result → length self.new.stands < MAX_GIVEN }
     {
         match self.connection.next_line(&mut self.text) {
@@ -207,7 +212,8 @@ impl<'a, S: Streams + Drop> StreamClient<'a, S> {
             _ if self.places.len() >= MAX_GIVEN => Heard::None(Response::Fault(BadLine::Text(
                 TextKind::TooMany,
             ))),
-            Got::Text => heard_in(self.alloc, self.bound, self.path.as_ref(), &self.text),
+            _ if self.is_spent() => Heard::None(Response::Fault(BadLine::Share)),
+            Got::Text => heard_in(self.alloc, self.terms, self.path.as_ref(), &self.text),
             Got::TooLong => Heard::None(Response::Fault(BadLine::Length)),
             Got::NoMemory => Heard::None(Response::NoMemory),
         }
@@ -227,15 +233,30 @@ impl<'a, S: Streams + Drop> StreamClient<'a, S> {
         Ok(())
     }
 
-    /// Keeps where the answer stands to the line that is owed one, which is let go of.
+    /// Takes the line that is owed an answer, and that, from its share, where it has one.
+    fn spend(&mut self, answer: &Answer)
+        ensures { self.new ≡ record self.old { share = behind_owed self.old.share self.old.owed answer.now } }
+    {
+        if let Some(terms) = &mut self.terms
+            && let Some(line) = &self.line
+        {
+            terms.share = terms.share.after(&line.call, answer);
+        }
+    }
+
+    /// Keeps where the answer stands to the line that is owed one, which is taken from the share and let go of.
     fn keep_place(&mut self, answer: &Answer)
         requires owed { IsSome self.old.owed }
         requires low { HasLowPlace answer.now }
         ensures open { self.old.wire.end ≡ None }
-        ensures answered { self.new ≡ record self.old { stands = self.new.stands; owed = None } }
-        ensures stands { (line : ScriptLine) → self.old.owed ≡ Some line
-            → self.new.stands ≡ self.old.stands ++ stand_at line (place_of answer.now) ∷ [] }
+        ensures answered { self.new.owed ≡ None }
+        ensures kept { (line : ScriptLine) → self.old.owed ≡ Some line → self.new ≡ record self.old {
+          stands = self.old.stands ++ stand_at line (place_of answer.now) ∷ [];
+          share = behind self.old.share line answer.now;
+          owed = None;
+        } }
     {
+        self.spend(answer);
         match answer {
             Ok(receipt) => {
                 self.line = None;

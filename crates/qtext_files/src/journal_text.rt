@@ -6,7 +6,7 @@ ghost use Rattle.qtext.specs.Written.{Writes};
 ghost use Rattle.qtext_files.specs.Spelling.{CanBeRead, entry_text, head_text, journal_spelling};
 
 use qplain::{Edition, Entry, Journal};
-use qtext::{RefusedWrite, TextLine};
+use qtext::{RefusedWrite, TextLine, Written};
 use qtext_write::{WriteFault, put_call, put_caller, put_reply};
 use std::io::Write;
 
@@ -22,12 +22,7 @@ fn head_start(edition: Edition) -> &'static [u8]
 }
 
 /// `quotafs journal E workers W`.
-fn put_head<W: Write>(
-    out: &mut W,
-    line: &mut TextLine,
-    edition: Edition,
-    workers: u64,
-) -> Result<(), RefusedWrite>
+fn put_head<W: Write>(out: &mut W, line: &mut TextLine, edition: Edition, workers: u64) -> Written
     ensures { Writes (W.contents out.old) (W.contents out.new) result (head_text edition workers) }
 {
     line.clear();
@@ -37,7 +32,7 @@ fn put_head<W: Write>(
 }
 
 /// `WORKER MOMENT CALLER CALL => REPLY`.
-fn put_entry<W: Write>(out: &mut W, line: &mut TextLine, entry: &Entry) -> Result<(), RefusedWrite>
+fn put_entry<W: Write>(out: &mut W, line: &mut TextLine, entry: &Entry) -> Written
     ensures writes { Writes (W.contents out.old) (W.contents out.new) result (entry_text entry.now) }
     ensures held { IfOk result (λ _. HasLawfulStat entry.now.reply → IsHeld entry.now) }
 {
@@ -52,11 +47,7 @@ fn put_entry<W: Write>(out: &mut W, line: &mut TextLine, entry: &Entry) -> Resul
     put_reply(out, line, &entry.reply)
 }
 
-fn put_entries<W: Write>(
-    out: &mut W,
-    line: &mut TextLine,
-    entries: &[Entry],
-) -> Result<(), RefusedWrite>
+fn put_entries<W: Write>(out: &mut W, line: &mut TextLine, entries: &[Entry]) -> Written
     ensures writes { Writes (W.contents out.old) (W.contents out.new) result (flat_map entry_text entries.now) }
     ensures held { IfOk result (λ _. AllByRecursion (λ e. HasLawfulStat e.reply → IsHeld e) entries.now) }
 {
@@ -70,7 +61,7 @@ fn put_entries<W: Write>(
 /// leading zeros. It takes no memory.
 ///
 /// After an Err some beginning of the text went out.
-pub fn put_journal<W: Write>(out: &mut W, journal: &Journal) -> Result<(), RefusedWrite>
+pub fn put_journal<W: Write>(out: &mut W, journal: &Journal) -> Written
     ensures writes { Writes (W.contents out.old) (W.contents out.new) result (journal_spelling journal.now) }
 
     // What was written whole is read again as that journal: whoever spelled each part knows that its type can hold it.

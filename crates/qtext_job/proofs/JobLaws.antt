@@ -18,9 +18,11 @@ use Rattle.qtext_job.specs.declared.job.Job.{Job}
 use Rattle.qtext_job.specs.declared.job.Job.TheVariants.{Run, Serve, Replay, Expand, Check}
 use Rattle.qtext_job.specs.declared.line_fault.LineFault.{LineFault}
 use Rattle.qtext_job.specs.declared.line_fault.LineFault.TheVariants.{Line, Memory}
+use Rattle.qtext_job.specs.declared.share_options.ShareOptions.{ShareOptions}
 use Rattle.qtext.specs.declared.telling.Telling.{Telling}
 use Rattle.qtext_job.specs.Jobs.{AreBoardsIn, AreScriptsIn, FailsUnless, IsAskedBy, IsBatchIn, IsJobOf, IsNamedBy, IsRefusalOf, IsToldBy}
 use Rattle.qtext_job.specs.Numbers.{IsNumberAt, Spells}
+use Rattle.qtext_job.specs.Shares.{AreSharesIn}
 use Rattle.qtext_job.specs.Tellings.{IsMomentIn, IsTellingIn}
 use Rattle.qtext_job.specs.Commands.{quotafs}
 
@@ -220,19 +222,20 @@ its_telling rows (Check check) h =
     let same : codes "replay" ≡ codes "check" = h.0 in
     absurd cc
 
--- a job that serves has its moment
-pub its_moment : (rows : List Row) (job : Job) → IsNamedBy (codes "serve") rows job → (at : ℕ) × IsMomentIn rows at
-its_moment rows (Run run) h =
+-- a job that serves has its moment, and what a bound client may take
+pub its_service : (rows : List Row) (job : Job) → IsNamedBy (codes "serve") rows job
+    → ((at : ℕ) × IsMomentIn rows at) × ((shares : ShareOptions) × AreSharesIn rows shares)
+its_service rows (Run run) h =
     let same : codes "serve" ≡ codes "run" = h.0 in
     absurd cc
-its_moment rows (Serve serve) h = (serve.at, h.2)
-its_moment rows (Replay replay) h =
+its_service rows (Serve serve) h = ((serve.at, h.2), (serve.shares, h.6))
+its_service rows (Replay replay) h =
     let same : codes "serve" ≡ codes "replay" = h.0 in
     absurd cc
-its_moment rows (Expand expand) h =
+its_service rows (Expand expand) h =
     let same : codes "serve" ≡ codes "expand" = h.0 in
     absurd cc
-its_moment rows (Check check) h =
+its_service rows (Check check) h =
     let first : 115 ≡ 99 = ap (λ name. get_or name 0 0) h.0 in
     absurd (omega (arith, first))
 

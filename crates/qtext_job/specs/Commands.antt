@@ -72,6 +72,18 @@ boards = record (option (codes "boards")) { parser = Some (Unsigned 0 1000); def
 abbrev pub batch : Rule
 batch = record (option (codes "batch")) { parser = Some (Unsigned 1 64); defaults = codes "1" ∷ [] }
 
+-- `--share-calls N`, from 0 to 1048576, and 0 where it is not given
+abbrev pub share_calls : Rule
+share_calls = record (option (codes "share-calls")) { parser = Some (Unsigned 0 1048576); defaults = codes "0" ∷ [] }
+
+-- `--share-kib N`, from 0 to 1048576, and 0 where it is not given
+abbrev pub share_kib : Rule
+share_kib = record (option (codes "share-kib")) { parser = Some (Unsigned 0 1048576); defaults = codes "0" ∷ [] }
+
+-- `--share-depth N`, from 1 to 2048, and 64 where it is not given
+abbrev pub share_depth : Rule
+share_depth = record (option (codes "share-depth")) { parser = Some (Unsigned 1 2048); defaults = codes "64" ∷ [] }
+
 -- one or more scripts
 abbrev pub scripts : Rule
 scripts = record (words (codes "scripts")) { required = true }
@@ -113,9 +125,13 @@ with_files a = with_rule (with_rule a journal) (option (codes "board"))
 abbrev pub with_end : App → App
 with_end a = with_files (with_rule (with_rule a at) (flag (codes "stop-at-failure")))
 
+-- a command with the options of what a bound client may take
+abbrev pub with_shares : App → App
+with_shares a = with_rule (with_rule (with_rule a share_calls) share_kib) share_depth
+
 -- `serve`, of any number of clients, each a word that has to be a pair
 abbrev pub serve : App
-serve = with_rule (with_end (configured (codes "serve"))) (words (codes "clients"))
+serve = with_rule (with_shares (with_end (configured (codes "serve")))) (words (codes "clients"))
 
 -- `replay`
 abbrev pub replay : App

@@ -11,6 +11,7 @@ use Rattle.qtext_job.specs.declared.line_fault.LineFault.TheVariants.{Line, Memo
 use Rattle.qtext_job.specs.Commands.{quotafs}
 use Rattle.qtext_job.specs.Pairs.{AreClientsIn}
 use Rattle.qtext_job.specs.Numbers.{IsNumberAt}
+use Rattle.qtext_job.specs.Shares.{AreSharesIn}
 use Rattle.qtext_job.specs.Tellings.{IsMomentIn, IsTellingIn, is_given}
 
 -- how many boards are taken is the number at `--boards`, at most 1000
@@ -44,6 +45,7 @@ IsNamedBy name rows (Serve serve) = (name ≡ codes "serve")
     × (serve.stop_at_failure ≡ is_given (codes "stop-at-failure") rows)
     × (first_of (codes "journal") rows ≡ option_map (λ s. string_bytes s) serve.journal)
     × (first_of (codes "board") rows ≡ option_map (λ s. string_bytes s) serve.board)
+    × AreSharesIn rows serve.shares
     × AreClientsIn rows serve.pairs.items
 IsNamedBy name rows (Replay replay) = (name ≡ codes "replay")
     × (first_of (codes "config") rows ≡ Some (string_bytes replay.config))

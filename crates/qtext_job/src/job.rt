@@ -5,13 +5,13 @@ ghost use Rattle.clap.specs.declared.error.kind.ErrorKind.TheVariants.{OutOfMemo
 ghost use Rattle.qtext_job.specs.declared.line_fault.LineFault.TheVariants.{Memory};
 ghost use Rattle.qtext_job.specs.Jobs.{AreScriptsIn, FailsUnless, IsAskedBy, IsJobOf, IsNamedBy};
 ghost use Rattle.qtext_job.specs.Jobs.{IsRefusalOf, IsToldBy, checked_in};
-ghost use Rattle.qtext_job.specs.Numbers.{IsNumberAt};
 
-use crate::line_fault::mistake;
-use crate::number::number_at;
+use crate::line_fault::missing;
+use crate::number::number;
 use crate::pair::clients;
 use crate::report_options::{is_set, telling};
-use crate::{LineFault, Pair};
+use crate::share_options::shares;
+use crate::{LineFault, Pair, ShareOptions};
 use clap::error::ErrorKind;
 use clap::{ArgMatches, Error};
 use command::command;
@@ -41,8 +41,8 @@ pub struct RunJob {
 
 /// To answer the clients' lines on a store of the configuration, until all have ended or, where it is to stop at that,
 /// the first line has failed, to report at the moment, in seconds, to write the journal where a file is named for it,
-/// and likewise the board while clients are served. Where no client is named there is one, on standard input and
-/// output.
+/// and likewise the board while clients are served. Each client that is bound to a caller may take the shares at most.
+/// Where no client is named there is one, on standard input and output.
 #[derive(Debug, Drop)]
 pub struct ServeJob {
     pub config: String,
@@ -50,6 +50,7 @@ pub struct ServeJob {
     pub stop_at_failure: bool,
     pub journal: Option<String>,
     pub board: Option<String>,
+    pub shares: ShareOptions,
     pub pairs: Vec<Pair>,
 }
 
@@ -103,13 +104,6 @@ fn fault(alloc: Global, error: &Error) -> LineFault
     }
 }
 
-/// For what no clause of `clap` rules out, and what it never answers: matches that name no job.
-fn missing(alloc: Global) -> LineFault
-    ensures { FailsUnless ⊥ result }
-{
-    mistake(String::from_str(alloc, "error: missing argument\n"))
-}
-
 fn named(alloc: Global, matches: &ArgMatches<'_>, id: &str) -> Result<String, LineFault>
     ensures ok { IfOk result (λ s. first_of id.now (rows_of (found_of matches.now)) ≡ Some (string_bytes s)) }
     ensures err { IfErr result (FailsUnless
@@ -154,24 +148,6 @@ fn scripts(alloc: Global, matches: &ArgMatches<'_>) -> Result<Vec<String>, LineF
     }
 }
 
-/// The number at an option that is given, or has a default, within these bounds.
-fn number(
-    alloc: Global,
-    matches: &ArgMatches<'_>,
-    id: &str,
-    least: u64,
-    most: u64,
-) -> Result<u64, LineFault>
-    ensures ok { IfOk result (IsNumberAt id.now least most (rows_of (found_of matches.now))) }
-    ensures err { IfErr result (FailsUnless
-        ((n : ℕ) × IsNumberAt id.now least most (rows_of (found_of matches.now)) n)) }
-{
-    match number_at(matches, id, least, most) {
-        Some(number) => Ok(number),
-        None => Err(missing(alloc)),
-    }
-}
-
 fn run(alloc: Global, matches: &ArgMatches<'_>) -> Result<Job, LineFault>
     ensures ok { IfOk result (IsNamedBy (codes "run") (rows_of (found_of matches.now))) }
     ensures err { IfErr result (FailsUnless
@@ -205,6 +181,7 @@ fn serve(alloc: Global, matches: &ArgMatches<'_>) -> Result<Job, LineFault>
         stop_at_failure: is_set(matches, "stop-at-failure"),
         journal: optional(alloc, matches, "journal")?,
         board: optional(alloc, matches, "board")?,
+        shares: shares(alloc, matches)?,
         pairs: clients(alloc, matches)?,
     }))
 }
@@ -271,8 +248,11 @@ impl Job {
     /// with the moment that the word at `--at` spells, in seconds from 0 to 2^40, and 0 where there is none, or of a
     /// run and of a replay the last one where the word is `last`, in the format that `--format` names, and as text
     /// where it does not, the flags that are given, the boards at `--boards`, from 0 to 1000, and 0 where there is
-    /// none, and the lines at `--batch`, from 1 to 64, and 1 where there is none; and each client of a service as a
-    /// word cut at its first colon, with a name on both sides.
+    /// none, and the lines at `--batch`, from 1 to 64, and 1 where there is none. Each client of a service is a pair, a
+    /// word cut at its first colon, with a name on both sides; before the pair there may stand `UID:GID[,GROUP..]=`, a
+    /// caller to whom it is bound (see `src/pair.rt`). What a bound client may take is the number at `--share-calls`
+    /// and that at `--share-kib`, each from 0 to 1048576, and 0 where there is none, and that at `--share-depth`, from
+    /// 1 to 2048, and 64 where there is none.
     ///
     /// A request for help or for the version is a fault, too, whose text is for the output. Out of memory may come in
     /// place of any answer.

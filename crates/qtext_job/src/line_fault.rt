@@ -52,6 +52,13 @@ pub(crate) fn mistake(text: Result<String, AllocError>) -> LineFault
     }
 }
 
+/// For what no clause of `clap` rules out, and what it never answers: matches that name no job.
+pub(crate) fn missing(alloc: Global) -> LineFault
+    ensures { FailsUnless ⊥ result }
+{
+    mistake(String::from_str(alloc, "error: missing argument\n"))
+}
+
 /// What is said of a word that its place does not take, and of what is wanted there.
 fn text_of(alloc: Global, word: &str, place: &str, wanted: &str) -> Result<String, AllocError> {
     format!(in alloc;

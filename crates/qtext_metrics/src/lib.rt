@@ -5,6 +5,3 @@ pub use metrics::put_metrics;
 
 mod family;
 mod metrics;
-
-/// What comes of writing to an output, which may refuse.
-type Written = Result<(), qtext::RefusedWrite>;

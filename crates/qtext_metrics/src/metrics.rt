@@ -6,11 +6,10 @@ ghost use Rattle.qtext.specs.Written.{Writes};
 ghost use Rattle.qtext.specs.Pieces.{piece_text};
 ghost use Rattle.qtext_metrics.specs.Metrics.{family_text, family_head, holder_text, metrics_text, family_row, total_text};
 
-use crate::Written;
 use crate::family::Family;
 use qplain::{Board, Principal, Setup};
 use qrules::{BoardRow, Kind};
-use qtext::{Piece, RefusedWrite, kind_word, put_pieces};
+use qtext::{Piece, Written, kind_word, put_pieces};
 use std::io::Write;
 
 fn principals_in(setup: &Setup, kind: Kind) -> &[Principal]
@@ -130,7 +129,7 @@ fn put_families<W: Write>(out: &mut W, setup: &Setup, board: &Board, families: &
 /// Families stand in a fixed order, and rows as the board has them. Blocks are of 4096 bytes, their limits in KiB, and
 /// ends of graces are moments, in seconds. A limit is written where there is one, and an end where a grace runs. A row
 /// of nobody in the setup has its id for a name. After an Err some beginning of the text went out.
-pub fn put_metrics<W: Write>(out: &mut W, setup: &Setup, board: &Board) -> Result<(), RefusedWrite>
+pub fn put_metrics<W: Write>(out: &mut W, setup: &Setup, board: &Board) -> Written
     ensures { Writes (W.contents out.old) (W.contents out.new) result (metrics_text setup.now board.now) }
 {
     put_families(out, setup, board, &Family::all())

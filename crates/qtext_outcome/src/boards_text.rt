@@ -4,10 +4,9 @@ ghost use Rattle.std.specs.List.{flat_map};
 ghost use Rattle.qtext.specs.Written.{Writes};
 ghost use Rattle.qtext_outcome.specs.Boards.{boards_head, boards_text, look_fault_text, look_text};
 
-use crate::Written;
 use crate::counts::put_counts;
 use qplain::{Board, LookFault};
-use qtext::{Piece, put_pieces};
+use qtext::{Piece, Written, put_pieces};
 use std::io::Write;
 
 /// The word of a look that was shown no board.

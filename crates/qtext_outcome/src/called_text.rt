@@ -6,12 +6,11 @@ ghost use Rattle.qtext.specs.Written.{Passes, Writes};
 ghost use Rattle.qtext_write.specs.declared.call_text.TheConstants.{CALL_PLACE, CALL_ROOM};
 ghost use Rattle.qtext_outcome.specs.Calls.{called_lines, called_text, fill_text, repeated, shown_call};
 
-use crate::Written;
 use crate::transcript_text::put_answer;
 use qblocks::Input;
 use qplain::{Call, CallFault, Path};
 use qrun_replay::{PlacedLine, PlacedReply, PlacedTranscript};
-use qtext::TextLine;
+use qtext::{TextLine, Written};
 use qtext_write::{CALL_PLACE, CALL_ROOM, put_call, put_caller};
 use std::io::Write;
 

@@ -4,8 +4,7 @@ ghost use Rattle.std.specs.List.{concat, flat_map};
 ghost use Rattle.qtext.specs.Written.{Writes};
 ghost use Rattle.qtext_outcome.specs.Counts.{counts_text};
 
-use crate::Written;
-use qtext::{Piece, put, put_pieces};
+use qtext::{Piece, Written, put, put_pieces};
 use std::io::Write;
 
 /// Writes each of these words and the count behind it.

@@ -12,10 +12,9 @@ ghost use Rattle.qtext_outcome.specs.Denials.{
   refused_number,
 };
 
-use crate::Written;
 use qplain::{CallFault, Reply};
 use qrun_replay::{PlacedReply, PlacedTranscript};
-use qtext::{Piece, RefusedWrite, put_pieces};
+use qtext::{Piece, Written, put_pieces};
 use std::io::Write;
 
 fn refused_number(reply: &Reply) -> u32
@@ -112,10 +111,7 @@ fn put_kinds<W: Write>(
 
 /// Writes how many lines were refused or failed, a line for each kind that there is, in the order of their numbers. It
 /// takes no memory. After an Err some beginning of the text went out.
-pub fn put_denials<W: Write>(
-    out: &mut W,
-    transcripts: &[PlacedTranscript],
-) -> Result<(), RefusedWrite>
+pub fn put_denials<W: Write>(out: &mut W, transcripts: &[PlacedTranscript]) -> Written
     ensures { Writes (W.contents out.old) (W.contents out.new) result (denials_text transcripts.now) }
 {
     let kinds: [(u32, &[u8]); 17] = [

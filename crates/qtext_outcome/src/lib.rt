@@ -22,6 +22,3 @@ mod shown_report;
 mod shown_text;
 mod transcript_text;
 mod units;
-
-/// What comes of writing to an output, which may refuse.
-type Written = Result<(), qtext::RefusedWrite>;

@@ -7,11 +7,11 @@ ghost use Rattle.qtext_outcome.specs.Outcomes.{totals_text};
 
 use crate::counts::put_counts;
 use crate::shown_text::{put_shown, put_shown_left};
-use crate::{Shown, WriteFault, Written};
+use crate::{Shown, WriteFault};
 use qaudit::put_audit;
 use qplain::Tallies;
 use qrun_replay::Outcome;
-use qtext::{Format, RefusedWrite, View};
+use qtext::{Format, RefusedWrite, View, Written};
 use std::io::Write;
 
 /// A view that asks for nothing.
@@ -67,7 +67,7 @@ pub(crate) fn put_rest<W: Write>(out: &mut W, outcome: &Outcome) -> Written
 /// Writes what is left at the end of a run or of a service: the quota report as of the moment, the totals, the tallies
 /// of the journal, and what an audit of the store found. It takes no memory. After an Err some beginning of the text
 /// went out.
-pub fn put_left<W: Write>(out: &mut W, outcome: &Outcome, moment: u64) -> Result<(), RefusedWrite>
+pub fn put_left<W: Write>(out: &mut W, outcome: &Outcome, moment: u64) -> Written
     ensures { Writes (W.contents out.old) (W.contents out.new) result (outcome_end outcome.now moment) }
 {
     let view = PLAIN;
@@ -80,11 +80,7 @@ pub fn put_left<W: Write>(out: &mut W, outcome: &Outcome, moment: u64) -> Result
 ///
 /// Totals and bounds are in blocks of 4096 bytes and in inodes; the report is in KiB (profile, after repquota(8)).
 /// After an Err some beginning of the text went out.
-pub fn put_outcome<W: Write>(
-    out: &mut W,
-    outcome: &Outcome,
-    moment: u64,
-) -> Result<(), RefusedWrite>
+pub fn put_outcome<W: Write>(out: &mut W, outcome: &Outcome, moment: u64) -> Written
     ensures { Writes (W.contents out.old) (W.contents out.new) result (outcome_text outcome.now moment) }
 {
     put_shown(out, PLAIN, outcome, moment)

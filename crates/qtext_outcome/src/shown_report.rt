@@ -7,11 +7,11 @@ ghost use Rattle.qaudit.specs.Reports.{column, flag_text, grace_text};
 ghost use Rattle.qtext_outcome.specs.Reports.{heads_text, human_row, inode_columns, is_over_any, row_start};
 ghost use Rattle.qtext_outcome.specs.Reports.{shown_report, shown_row, shown_rows, space_columns};
 
+use crate::Shown;
 use crate::units::{count, space};
-use crate::{Shown, Written};
 use qaudit::put_report;
 use qrules::{KIB_PER_BLOCK, RecordRow};
-use qtext::{Piece, TextLine, View, kind_word, put, put_pieces};
+use qtext::{Piece, TextLine, View, Written, kind_word, put, put_pieces};
 use std::io::Write;
 use std::slice;
 

@@ -5,13 +5,13 @@ ghost use Rattle.qtext_outcome.specs.Outcomes.{outcome_text};
 ghost use Rattle.qtext_outcome.specs.Reports.{shown_report};
 ghost use Rattle.qtext_outcome.specs.Views.{plain, shown_left, shown_text, shown_told};
 
+use crate::Shown;
 use crate::boards_text::put_boards;
 use crate::outcome_text::{put_moment, put_rest};
 use crate::shown_report::put_shown_report;
 use crate::transcript_text::put_transcripts;
-use crate::{Shown, Written};
 use qrun_replay::Outcome;
-use qtext::{RefusedWrite, View};
+use qtext::{View, Written};
 use std::io::Write;
 
 /// Writes the transcripts, with the calls where they are asked for, and then the boards.
@@ -37,12 +37,7 @@ pub(crate) fn put_shown_left<W: Write>(out: &mut W, shown: Shown, outcome: &Outc
 /// alone. Under a view that asks for nothing it is what `put_outcome` writes. It takes no memory. After an Err some
 /// beginning of the text went out.
 #[tactic(auto, using(qtext::proofs::Fronts::front_of_first, qtext::proofs::Fronts::writes_then))]
-pub fn put_shown<W: Write>(
-    out: &mut W,
-    view: View,
-    outcome: &Outcome,
-    moment: u64,
-) -> Result<(), RefusedWrite>
+pub fn put_shown<W: Write>(out: &mut W, view: View, outcome: &Outcome, moment: u64) -> Written
     ensures writes { Writes (W.contents out.old) (W.contents out.new) result (shown_text view outcome.now moment) }
     ensures plain { view ≡ plain → shown_text view outcome.now moment ≡ outcome_text outcome.now moment }
 {

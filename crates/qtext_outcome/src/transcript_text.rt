@@ -4,12 +4,11 @@ ghost use Rattle.qtext.specs.Written.{Writes};
 ghost use Rattle.qtext_outcome.specs.Calls.{answers_text, shown_transcript};
 ghost use Rattle.qtext_write.specs.Answers.{answer_text};
 
-use crate::Written;
 use crate::called_text::put_called_lines;
 use crate::counts::put_counts;
 use qplain::CallFault;
 use qrun_replay::{PlacedReply, PlacedTranscript};
-use qtext::TextLine;
+use qtext::{TextLine, Written};
 use qtext_write::put_reply;
 use std::io::Write;
 

@@ -13,18 +13,14 @@ use crate::value::{Value, id_or_null};
 use qblocks::Input;
 use qplain::{Call, Cred, Path};
 use qrules::Kind;
-use qtext::{RefusedWrite, TextLine, kind_word};
+use qtext::{TextLine, Written, kind_word};
 use qtext_read::{Argument, CallParts, Values, Verb, name_of, parts_of, row_of, verb_word};
 use qtext_write::put_caller;
 use std::io::Write;
 
 /// Writes values in the places of arguments, each by the argument's name.
 #[tactic(auto, using(qtext::proofs::Fronts::front_of_first, qtext::proofs::Fronts::writes_then))]
-fn put_values<W: Write>(
-    out: &mut W,
-    row: &[Argument],
-    values: &[Value<'_>],
-) -> Result<(), RefusedWrite>
+fn put_values<W: Write>(out: &mut W, row: &[Argument], values: &[Value<'_>]) -> Written
     ensures { Writes (W.contents out.old) (W.contents out.new) result
         (flat_map (λ p. member (name p.0) p.1) (zip row.now (map value_text values.now))) }
 {
@@ -40,7 +36,7 @@ fn put_values<W: Write>(
 
 /// Writes a call of this verb as a member, with these values in the places of its arguments.
 #[tactic(auto, using(qtext::proofs::Fronts::front_of_first, qtext::proofs::Fronts::writes_then))]
-fn put_named<W: Write>(out: &mut W, verb: Verb, values: &[Value<'_>]) -> Result<(), RefusedWrite>
+fn put_named<W: Write>(out: &mut W, verb: Verb, values: &[Value<'_>]) -> Written
     ensures { Writes (W.contents out.old) (W.contents out.new) result
         (named_call verb (map value_text values.now)) }
 {
@@ -68,7 +64,7 @@ pub(crate) fn put_fill<W: Write>(
     off: u64,
     count: u64,
     byte: u8,
-) -> Result<(), RefusedWrite>
+) -> Written
     ensures { Writes (W.contents out.old) (W.contents out.new) result (fill_members path.now off count byte) }
 {
     let byte = Value::Digits(Input::Fill { count: 1, byte });
@@ -82,7 +78,7 @@ pub(crate) fn put_fill<W: Write>(
 }
 
 /// Writes a call as a member.
-pub(crate) fn put_call<W: Write>(out: &mut W, call: &Call) -> Result<(), RefusedWrite>
+pub(crate) fn put_call<W: Write>(out: &mut W, call: &Call) -> Written
     ensures { Writes (W.contents out.old) (W.contents out.new) result (call_members call.now) }
 {
     let CallParts { verb, values } = parts_of(call);
@@ -130,11 +126,7 @@ pub(crate) fn put_call<W: Write>(out: &mut W, call: &Call) -> Result<(), Refused
 }
 
 /// Writes a line's moment and caller as members.
-pub(crate) fn put_caller_members<W: Write>(
-    out: &mut W,
-    moment: u64,
-    cred: &Cred,
-) -> Result<(), RefusedWrite>
+pub(crate) fn put_caller_members<W: Write>(out: &mut W, moment: u64, cred: &Cred) -> Written
     ensures { Writes (W.contents out.old) (W.contents out.new) result (caller_members moment cred.now) }
 {
     let mut caller = TextLine::new();

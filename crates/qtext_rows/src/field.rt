@@ -5,8 +5,7 @@ ghost use Rattle.csv.specs.Writing.{default_writer, escaped, field_text, needs_b
 ghost use Rattle.qtext.specs.Written.{Writes};
 ghost use Rattle.qtext_rows.specs.Csv.{doubled_byte, next_field};
 
-use crate::Written;
-use qtext::put;
+use qtext::{Written, put};
 use std::io::Write;
 
 /// Whether a field with this byte has quotes.

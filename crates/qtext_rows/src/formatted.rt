@@ -5,7 +5,7 @@ ghost use Rattle.qtext_rows.specs.Formats.{formatted_text};
 use crate::objects::put_json;
 use crate::report_rows::put_csv;
 use qrun_replay::Outcome;
-use qtext::{Format, RefusedWrite, View};
+use qtext::{Format, View, Written};
 use qtext_outcome::{Shown, put_shown};
 use std::io::Write;
 
@@ -15,12 +15,7 @@ use std::io::Write;
 /// values, whatever the view asks for in larger units or heads; CSV has no calls.
 ///
 /// It takes no memory. After an Err some beginning of the text went out.
-pub fn put_formatted<W: Write>(
-    out: &mut W,
-    view: View,
-    outcome: &Outcome,
-    moment: u64,
-) -> Result<(), RefusedWrite>
+pub fn put_formatted<W: Write>(out: &mut W, view: View, outcome: &Outcome, moment: u64) -> Written
     ensures { Writes (W.contents out.old) (W.contents out.new) result (formatted_text view outcome.now moment) }
 {
     let shown = Shown { view, moment };

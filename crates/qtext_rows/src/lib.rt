@@ -14,6 +14,3 @@ mod reply_members;
 mod report_rows;
 mod rest_objects;
 mod value;
-
-/// What comes of writing to an output, which may refuse.
-type Written = Result<(), qtext::RefusedWrite>;

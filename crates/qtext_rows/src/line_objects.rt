@@ -5,13 +5,13 @@ ghost use Rattle.qtext_rows.specs.Lines.{asked_members, line_object, line_start,
 ghost use Rattle.qtext_rows.specs.Lines.{transcript_objects, transcripts_objects};
 ghost use Rattle.qtext_rows.specs.Replies.{answer_members};
 
-use crate::Written;
 use crate::call_members::{put_call, put_caller_members, put_fill};
 use crate::part::{Part, put_parts};
 use crate::reply_members::{put_failed, put_receipt};
 use crate::value::Value;
 use qplain::{Call, CallFault};
 use qrun_replay::{PlacedLine, PlacedReply, PlacedTranscript};
+use qtext::Written;
 use qtext_outcome::repeated;
 use std::io::Write;
 

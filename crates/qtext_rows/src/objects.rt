@@ -2,12 +2,11 @@
 ghost use Rattle.qtext.specs.Written.{Writes};
 ghost use Rattle.qtext_rows.specs.Json.{json_text, left_objects, records_and_rest, told_objects};
 
-use crate::Written;
 use crate::line_objects::put_transcripts;
 use crate::record_objects::put_records;
 use crate::rest_objects::{put_looks, put_moment, put_rest};
 use qrun_replay::Outcome;
-use qtext::View;
+use qtext::{View, Written};
 use qtext_outcome::Shown;
 use std::io::Write;
 

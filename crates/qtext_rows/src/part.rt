@@ -3,9 +3,8 @@ ghost use Rattle.std.specs.Prelude.{◌++◌};
 ghost use Rattle.qtext.specs.Written.{Writes};
 ghost use Rattle.qtext_rows.specs.Values.{key, member, part_text, parts_text, value_text};
 
-use crate::Written;
 use crate::value::{Value, put_value};
-use qtext::{Piece, put, put_pieces};
+use qtext::{Piece, Written, put, put_pieces};
 use std::io::Write;
 
 /// A part of an object.

@@ -4,11 +4,10 @@ ghost use Rattle.qtext.specs.Written.{Writes};
 ghost use Rattle.qtext_rows.specs.Records.{grace_left, record_object, record_objects, shown_object};
 ghost use Rattle.qtext_rows.specs.Values.{value_text};
 
-use crate::Written;
 use crate::part::{Part, put_parts};
 use crate::value::Value;
 use qrules::RecordRow;
-use qtext::kind_word;
+use qtext::{Written, kind_word};
 use qtext_outcome::{Shown, is_over, is_over_any, kib_of};
 use std::io::Write;
 

@@ -7,13 +7,12 @@ ghost use Rattle.qtext_rows.specs.Replies.{quota_members, refused_members, reply
 ghost use Rattle.qtext_rows.specs.Values.{member};
 ghost use Rattle.qplain.specs.declared.refusal.Refusal.TheVariants.{EDQUOT};
 
-use crate::Written;
 use crate::part::{Part, put_parts};
 use crate::value::{Value, or_null};
 use qblocks::Input;
 use qplain::{CallFault, Change, Quota, Refusal, Reply, Stat};
 use qrules::{Kind, Over};
-use qtext::{kind_word, over_word};
+use qtext::{Written, kind_word, over_word};
 use qtext_read::refusal_name;
 use std::io::Write;
 

@@ -8,11 +8,10 @@ ghost use Rattle.qtext.specs.Written.{Writes};
 ghost use Rattle.qtext_rows.specs.Csv.{csv_fields, csv_heads, csv_kind, csv_record, csv_text, grace_left, kind_head};
 ghost use Rattle.qtext_rows.specs.Csv.{status_text};
 
-use crate::Written;
 use crate::field::put_row;
 use itoa::Buffer;
 use qrules::{Kind, RecordRow};
-use qtext::TextLine;
+use qtext::{TextLine, Written};
 use qtext_outcome::{Shown, is_over, is_over_any, kib_of};
 use std::io::Write;
 

@@ -5,14 +5,13 @@ ghost use Rattle.qtext.specs.Written.{Writes};
 ghost use Rattle.qtext_rows.specs.Rest.{audit_objects, audit_start, difference_object, link_object, look_object};
 ghost use Rattle.qtext_rows.specs.Rest.{moment_object, rest_objects, tally_object, totals_object, use_object};
 
-use crate::Written;
 use crate::part::{Part, put_parts};
 use crate::value::{Value, or_null};
 use qaudit::{CountRow, Difference, LinkRow};
 use qplain::{Board, LookFault, Tallies};
 use qrules::Kind;
 use qrun_replay::Outcome;
-use qtext::kind_word;
+use qtext::{Written, kind_word};
 use qtext_outcome::look_fault_word;
 use std::io::Write;
 

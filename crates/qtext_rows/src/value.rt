@@ -8,9 +8,8 @@ ghost use Rattle.qblocks.specs.Input.{input_bytes};
 ghost use Rattle.qtext.specs.Written.{Writes};
 ghost use Rattle.qtext_rows.specs.Values.{digits_text, flag_text, or_null, value_text};
 
-use crate::Written;
 use qblocks::Input;
-use qtext::{Piece, TextLine, put, put_pieces};
+use qtext::{Piece, TextLine, Written, put, put_pieces};
 use std::io::Write;
 
 /// A value that has no members.

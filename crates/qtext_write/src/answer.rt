@@ -5,7 +5,7 @@ ghost use Rattle.qtext_write.specs.Answers.{answer_text, call_fault_text};
 
 use crate::reply_text::put_reply;
 use qplain::{CallFault, Receipt};
-use qtext::{Piece, RefusedWrite, TextLine, put_pieces};
+use qtext::{Piece, TextLine, Written, put_pieces};
 use std::io::Write;
 
 fn fault_word(fault: CallFault) -> &'static [u8]
@@ -17,11 +17,7 @@ fn fault_word(fault: CallFault) -> &'static [u8]
     }
 }
 
-fn put_receipt<W: Write>(
-    out: &mut W,
-    line: &mut TextLine,
-    receipt: &Receipt,
-) -> Result<(), RefusedWrite>
+fn put_receipt<W: Write>(out: &mut W, line: &mut TextLine, receipt: &Receipt) -> Written
     ensures { Writes (W.contents out.old) (W.contents out.new) result (answer_text (Ok receipt.now)) }
 {
     line.clear();
@@ -32,7 +28,7 @@ fn put_receipt<W: Write>(
 
 /// Writes the line of a call that was not journaled. It is out of line, so that an answer has no room for pieces.
 #[inline(never)]
-fn put_failed<W: Write>(out: &mut W, fault: CallFault) -> Result<(), RefusedWrite>
+fn put_failed<W: Write>(out: &mut W, fault: CallFault) -> Written
     ensures { Writes (W.contents out.old) (W.contents out.new) result (answer_text (Err fault)) }
 {
     let pieces = [
@@ -49,7 +45,7 @@ pub fn put_answer<W: Write>(
     out: &mut W,
     line: &mut TextLine,
     answer: &Result<Receipt, CallFault>,
-) -> Result<(), RefusedWrite>
+) -> Written
     ensures { Writes (W.contents out.old) (W.contents out.new) result (answer_text answer.now) }
 {
     match answer {

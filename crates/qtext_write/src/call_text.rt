@@ -14,7 +14,7 @@ ghost use Rattle.qtext_write.specs.Texts.{project_text, spaced};
 use crate::data_text::put_input;
 use qplain::{Call, Data, Path};
 use qrules::{Graces, Kind, Limits};
-use qtext::{LINE_ROOM, RefusedWrite, TextLine, WORD_ROOM, kind_word};
+use qtext::{LINE_ROOM, TextLine, WORD_ROOM, Written, kind_word};
 use qtext_read::{CallParts, Values, parts_of, verb_word};
 use std::io::Write;
 
@@ -25,7 +25,7 @@ pub const CALL_PLACE: usize = 464;
 pub const CALL_ROOM: usize = 640;
 
 /// Puts a space and a path.
-fn put_path<W: Write>(out: &mut W, line: &mut TextLine, path: &Path) -> Result<(), RefusedWrite>
+fn put_path<W: Write>(out: &mut W, line: &mut TextLine, path: &Path) -> Written
     requires { length line.old < LINE_ROOM }
     ensures passes { Passes (W.contents out.old) (W.contents out.new) result (line.old ++ 32 ∷ path.now) line.new }
     ensures short { IfOk result (λ _. length line.new ≤ WORD_ROOM) }
@@ -36,12 +36,7 @@ fn put_path<W: Write>(out: &mut W, line: &mut TextLine, path: &Path) -> Result<(
 }
 
 /// Puts two paths, each after a space.
-fn put_paths<W: Write>(
-    out: &mut W,
-    line: &mut TextLine,
-    from: &Path,
-    to: &Path,
-) -> Result<(), RefusedWrite>
+fn put_paths<W: Write>(out: &mut W, line: &mut TextLine, from: &Path, to: &Path) -> Written
     requires { length line.old < LINE_ROOM }
     ensures passes { Passes (W.contents out.old) (W.contents out.new) result
         (line.old ++ (32 ∷ from.now ++ 32 ∷ to.now)) line.new }
@@ -53,12 +48,7 @@ fn put_paths<W: Write>(
 }
 
 /// Puts a path and a number, each after a space.
-fn put_at<W: Write>(
-    out: &mut W,
-    line: &mut TextLine,
-    path: &Path,
-    number: u64,
-) -> Result<(), RefusedWrite>
+fn put_at<W: Write>(out: &mut W, line: &mut TextLine, path: &Path, number: u64) -> Written
     requires { length line.old < LINE_ROOM }
     ensures passes { Passes (W.contents out.old) (W.contents out.new) result
         (line.old ++ (32 ∷ path.now ++ 32 ∷ decimal number)) line.new }
@@ -71,13 +61,7 @@ fn put_at<W: Write>(
 }
 
 /// Puts a path, an offset and a length, each after a space.
-fn put_range<W: Write>(
-    out: &mut W,
-    line: &mut TextLine,
-    path: &Path,
-    off: u64,
-    len: u64,
-) -> Result<(), RefusedWrite>
+fn put_range<W: Write>(out: &mut W, line: &mut TextLine, path: &Path, off: u64, len: u64) -> Written
     requires { length line.old < LINE_ROOM }
     ensures passes { Passes (W.contents out.old) (W.contents out.new) result
         (line.old ++ ((32 ∷ path.now ++ 32 ∷ decimal off) ++ 32 ∷ decimal len)) line.new }
@@ -96,7 +80,7 @@ fn put_bytes<W: Write>(
     path: &Path,
     off: u64,
     bytes: &Data,
-) -> Result<(), RefusedWrite>
+) -> Written
     requires { length line.old < LINE_ROOM }
     ensures passes { Passes (W.contents out.old) (W.contents out.new) result
         (line.old ++ ((32 ∷ path.now ++ 32 ∷ decimal off) ++ 32 ∷ data_text bytes.now)) line.new }
@@ -171,11 +155,7 @@ fn put_limits(line: &mut TextLine, limits: &Limits)
 }
 
 /// Puts the values of a call, each after a space.
-fn put_values<W: Write>(
-    out: &mut W,
-    line: &mut TextLine,
-    values: Values<'_>,
-) -> Result<(), RefusedWrite>
+fn put_values<W: Write>(out: &mut W, line: &mut TextLine, values: Values<'_>) -> Written
     requires { length line.old ≤ WORD_ROOM }
     ensures passes { Passes (W.contents out.old) (W.contents out.new) result
         (line.old ++ spaced (flat_map value_words (values_of values.entry))) line.new }
@@ -205,7 +185,7 @@ fn put_values<W: Write>(
 }
 
 /// Puts a call after what is there, in the one spelling that journals have. What there is no room for is written.
-pub fn put_call<W: Write>(out: &mut W, line: &mut TextLine, call: &Call) -> Result<(), RefusedWrite>
+pub fn put_call<W: Write>(out: &mut W, line: &mut TextLine, call: &Call) -> Written
     requires { length line.old ≤ CALL_PLACE }
     ensures passes { Passes (W.contents out.old) (W.contents out.new) result
         (line.old ++ join_with_byte 32 (call_words call.now)) line.new }

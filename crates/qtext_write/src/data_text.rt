@@ -7,7 +7,7 @@ ghost use Rattle.qtext.specs.Pieces.{data_text};
 ghost use Rattle.qtext.specs.Written.{Passes};
 
 use qblocks::Input;
-use qtext::{HEAD_ROOM, LINE_ROOM, RefusedWrite, TextLine, put};
+use qtext::{HEAD_ROOM, LINE_ROOM, TextLine, Written, put};
 use std::io::Write;
 
 /// How many equal bytes' digits are written at once.
@@ -15,12 +15,7 @@ const FILL_PIECE: usize = 256;
 
 /// Puts the digits of N equal bytes after what is there. All but the last are written where there are more than
 /// a piece.
-fn put_equal<W: Write>(
-    out: &mut W,
-    line: &mut TextLine,
-    count: u64,
-    byte: u8,
-) -> Result<(), RefusedWrite>
+fn put_equal<W: Write>(out: &mut W, line: &mut TextLine, count: u64, byte: u8) -> Written
     requires { length line.old ≤ HEAD_ROOM }
     ensures passes { Passes (W.contents out.old) (W.contents out.new) result
         (line.old ++ encode_lower (replicate count byte)) line.new }
@@ -38,11 +33,7 @@ fn put_equal<W: Write>(
 }
 
 /// Puts bytes that are laid out after what is there. What there is no room for is written.
-fn put_laid_out<W: Write>(
-    out: &mut W,
-    line: &mut TextLine,
-    bytes: &[u8],
-) -> Result<(), RefusedWrite>
+fn put_laid_out<W: Write>(out: &mut W, line: &mut TextLine, bytes: &[u8]) -> Written
     requires { length line.old ≤ HEAD_ROOM }
     ensures passes { Passes (W.contents out.old) (W.contents out.new) result
         (line.old ++ data_text bytes.now) line.new }
@@ -53,11 +44,7 @@ fn put_laid_out<W: Write>(
 }
 
 /// Puts the bytes of a write after what is there. What there is no room for is written.
-pub(crate) fn put_input<W: Write>(
-    out: &mut W,
-    line: &mut TextLine,
-    bytes: Input<'_>,
-) -> Result<(), RefusedWrite>
+pub(crate) fn put_input<W: Write>(out: &mut W, line: &mut TextLine, bytes: Input<'_>) -> Written
     requires { length line.old ≤ HEAD_ROOM }
     ensures passes { Passes (W.contents out.old) (W.contents out.new) result
         (line.old ++ data_text (input_bytes bytes.entry)) line.new }

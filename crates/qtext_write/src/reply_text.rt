@@ -8,7 +8,7 @@ ghost use Rattle.qtext_read.specs.Replies.{done_text, end_text, quota_text, refu
 
 use qplain::{Change, Quota, Refusal, Reply, Stat};
 use qrules::{Kind, Over};
-use qtext::{HEAD_ROOM, LINE_ROOM, RefusedWrite, TextLine, kind_word, over_word};
+use qtext::{HEAD_ROOM, LINE_ROOM, TextLine, Written, kind_word, over_word};
 use qtext_read::refusal_name;
 use std::io::Write;
 
@@ -103,7 +103,7 @@ fn put_quota(line: &mut TextLine, quota: &Quota)
 }
 
 /// Writes what the line holds, the bytes that were read, and a line end.
-fn put_bytes<W: Write>(out: &mut W, line: &mut TextLine, bytes: &[u8]) -> Result<(), RefusedWrite>
+fn put_bytes<W: Write>(out: &mut W, line: &mut TextLine, bytes: &[u8]) -> Written
     requires { length line.old ≤ REPLY_PLACE }
     ensures writes { Writes (W.contents out.old) (W.contents out.new) result
         (line.old ++ ((codes "bytes " ++ data_text bytes.now) ++ codes "\n")) }
@@ -116,11 +116,7 @@ fn put_bytes<W: Write>(out: &mut W, line: &mut TextLine, bytes: &[u8]) -> Result
 
 /// Writes what the line holds, a reply and a line end, by one write where the writer takes all of it and the reply
 /// has no more bytes than a piece of data.
-pub fn put_reply<W: Write>(
-    out: &mut W,
-    line: &mut TextLine,
-    reply: &Reply,
-) -> Result<(), RefusedWrite>
+pub fn put_reply<W: Write>(out: &mut W, line: &mut TextLine, reply: &Reply) -> Written
     requires { length line.old ≤ REPLY_PLACE }
     ensures writes { Writes (W.contents out.old) (W.contents out.new) result
         (line.old ++ reply_text reply.now ++ codes "\n") }

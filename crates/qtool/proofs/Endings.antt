@@ -5,8 +5,7 @@ use Rattle.qtext_job.specs.declared.job.Job.{Job}
 use Rattle.qtext_job.specs.declared.line_fault.LineFault.{LineFault}
 use Rattle.qtext_job.specs.declared.line_fault.LineFault.TheVariants.{Line, Memory}
 use Rattle.qtool.specs.declared.ending.Ending.{Ending}
-use Rattle.qtool.specs.declared.ending.Ending.TheVariants.{Output}
-use Rattle.qtool.specs.Endings.{IsFaultStatus, IsLeftUnlessRefused, IsUntouchedAt, IsUntouchedBy}
+use Rattle.qtool.specs.Endings.{IsFaultStatus, IsLeftUnlessRefused, IsRefusal, IsUntouchedAt, IsUntouchedBy}
 use Rattle.qtool.specs.Jobs.{IsService}
 use Rattle.qtool.specs.Printed.{AskForHelp, AsksForHelp}
 
@@ -35,7 +34,7 @@ refused status four (inr three) = omega (arith, four, three)
 
 -- an output that has not refused is as it was, whatever the status, and at 4 nothing is said of it
 pub untouched_by_ending : (ending : Ending) (job : Job) (status : ℕ) (old new : Option (List ℕ))
-    → IsLeftUnlessRefused old new ending ⊎ IsService job → (ending ≡ Output → status ≡ 4) → IsUntouchedAt status old new ⊎ IsService job
+    → IsLeftUnlessRefused old new ending ⊎ IsService job → (IsRefusal ending → status ≡ 4) → IsUntouchedAt status old new ⊎ IsService job
 untouched_by_ending ending job status old new (inl (inl is)) output =
     inl (λ asked. absurd (refused status (output is) asked))
 untouched_by_ending ending job status old new (inl (inr same)) output = inl (λ asked. same)

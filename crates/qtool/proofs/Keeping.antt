@@ -1,11 +1,11 @@
--- The entries of clients that are bound are their callers'.
-use Rattle.std.proofs.Common.{◌≡◌, ◌+◌, ◌<◌, ◌==◌, ℕ, zero, suc, Bool, true, false, List, [], ◌∷◌, All, Option, Some, None, Result, Ok, Err, map, filter, take, get_or, length, ◌++◌, refl, sym, subst, ◌∙◌, arith, tests}
-use Rattle.std.specs.Prelude.{slice_get, slice_index_or}
+-- The journal has of each client what it may write, and within its share.
+use Rattle.std.proofs.Common.{◌≡◌, inl, inr, ◌+◌, ◌<◌, ◌≤◌, ◌==◌, ℕ, zero, suc, Bool, true, false, List, [], ◌∷◌, All, Option, Some, None, Result, Ok, Err, map, filter, take, get_or, length, ◌++◌, refl, sym, subst, ◌∙◌, arith, tests}
+use Rattle.std.specs.Prelude.{slice_get, slice_index_or, sum_by}
 use Rattle.std.specs.List.{enumerate_from}
 use Rattle.std.proofs.lemmas.List.{map-append, map_more}
 use Rattle.std.proofs.lemmas.List.Elements.{All-cons, All-head, All-nil, All-tail}
-use Rattle.qplain.specs.Caller.{Caller}
-use Rattle.qplain.specs.Journal.{entry_of}
+use Rattle.std.proofs.lemmas.List.Sums.{sum_by-cons}
+use Rattle.qplain.specs.Journal.{entries_of, entry_of}
 use Rattle.qplain.specs.Setups.{Setting}
 use Rattle.qplain.specs.Transcripts.{journaled_lines}
 use Rattle.qplain.specs.declared.call_fault.CallFault.{CallFault}
@@ -18,10 +18,13 @@ use Rattle.qrun_replay.specs.Placed.{line_of_entry}
 use Rattle.qrun_replay.specs.Runs.{AreTranscriptsOf, IsServiceOf, IsTranscriptOf, lines_of}
 use Rattle.qrun_replay.specs.declared.outcome.Outcome.{Outcome}
 use Rattle.qrun_worker.specs.Work.{IsNewClient}
-use Rattle.qtext_client.specs.Conversations.{GoesOnBehindOwed, MayWrite, Progress, TalksOn, comes_to}
+use Rattle.qtext_client.specs.Conversations.{GoesOnBehindOwed, Progress, TalksOn, comes_to, had_behind}
+use Rattle.qtext_client.specs.Terms.{IsSpent, MayWrite, StaysWithin, bytes_answered, bytes_called, allowance_after}
 use Rattle.qtext_client.specs.declared.connection.EndedClient.{EndedClient}
+use Rattle.qtext_client.specs.declared.terms.Allowance.{Allowance}
 use Rattle.qtext_client.proofs.Bound.{bound_lines}
-use Rattle.qtool.specs.Callers.{AreKept}
+use Rattle.qtool.specs.ClientNames.{terms_of_client}
+use Rattle.qtool.specs.Terms.{AreKept, AreWithin, ClientTerms, bytes_held}
 
 -- the entries that stand for lines of which something holds
 journaled_all : (P : Line → Type 0) (worker : ℕ) (lines : List Line) (answers : List (Result Receipt CallFault)) → All P lines
@@ -78,19 +81,68 @@ transcript_at first journal (x ∷ ts) are (suc k) t less =
     subst (λ w. IsTranscriptOf w (slice_index_or ts k t).lines journal (slice_index_or ts k t)) same
     (transcript_at (first + 1) journal ts are.1 k t (omega arith))
 
--- a client that is bound
-record Bound (clients : List Progress) (k : ℕ) (caller : Caller) : Type 0 where
+-- what is not nothing is something
+positive : (n : ℕ) → (n ≡ 0 → ⊥) → 0 < n
+positive zero some = absurd (some refl)
+positive (suc n) some = omega arith
+
+-- what is left where a line may be answered
+some_left : (share : Allowance) → (IsSpent (Some share) → ⊥) → (0 < share.calls) × (0 < share.bytes)
+some_left share some = (positive share.calls (λ none. some (inl none)), positive share.bytes (λ none. some (inr none)))
+
+-- lines that were answered within a share have no more entries than it allows
+few_entries : (worker : ℕ) (share : Allowance) (lines : List Line) (answers : List (Result Receipt CallFault))
+    → StaysWithin (Some share) lines answers → length (journaled_lines worker lines answers) ≤ share.calls
+unfolding journaled_lines StaysWithin
+few_entries worker share [] answers within = omega arith
+few_entries worker share (line ∷ lines) [] within = omega arith
+few_entries worker share (line ∷ lines) (Ok receipt ∷ answers) within =
+    let some = some_left share within.0 in
+    let later = few_entries worker (allowance_after share line.call (Ok receipt)) lines answers within.1 in
+    omega (arith, some.0, later)
+few_entries worker share (line ∷ lines) (Err fault ∷ answers) within =
+    let later = few_entries worker (allowance_after share line.call (Err fault)) lines answers within.1 in
+    omega (arith, later)
+
+-- and before each of these they hold less than it allows
+small_before : (worker : ℕ) (share : Allowance) (lines : List Line) (answers : List (Result Receipt CallFault)) (n : ℕ)
+    → StaysWithin (Some share) lines answers → n < length (journaled_lines worker lines answers)
+    → sum_by (λ x. bytes_held x.1) (take n (journaled_lines worker lines answers)) < share.bytes
+unfolding journaled_lines StaysWithin
+small_before worker share [] answers n within less = absurd (omega arith)
+small_before worker share (line ∷ lines) [] n within less = absurd (omega arith)
+small_before worker share (line ∷ lines) (Ok receipt ∷ answers) zero within less = (some_left share within.0).1
+small_before worker share (line ∷ lines) (Ok receipt ∷ answers) (suc n) within less =
+    let later = small_before worker (allowance_after share line.call (Ok receipt)) lines answers n within.1 (omega (arith, less)) in
+    let held : ℕ × Entry → ℕ = λ x. bytes_held x.1 in
+    let entry : ℕ × Entry = (receipt.place, entry_of worker line receipt.reply) in
+    let split : sum_by held (take (suc n) (journaled_lines worker (line ∷ lines) (Ok receipt ∷ answers)))
+    ≡ (bytes_called line.call + bytes_answered (Ok receipt)) + sum_by held (take n (journaled_lines worker lines answers))
+    = sum_by-cons held entry (take n (journaled_lines worker lines answers)) in
+    omega (arith, later, split)
+small_before worker share (line ∷ lines) (Err fault ∷ answers) n within less =
+    let later = small_before worker (allowance_after share line.call (Err fault)) lines answers n within.1 less in
+    omega (arith, later)
+
+-- the entries of lines that were answered within a share
+within_entries : (worker : ℕ) (share : Option Allowance) (lines : List Line) (answers : List (Result Receipt CallFault))
+    → StaysWithin share lines answers → AreWithin share (journaled_lines worker lines answers)
+within_entries worker None lines answers within = tt
+within_entries worker (Some share) lines answers within =
+    (few_entries worker share lines answers within, λ n less. small_before worker share lines answers n within less)
+
+-- a client that is served on these terms
+record Served (clients : List Progress) (k : ℕ) (t : ClientTerms) : Type 0 where
   client : Progress
   less : k < length clients
   at : slice_index_or clients k client ≡ client
-  is : client.bound ≡ Some caller
+  is : terms_of_client client ≡ t
 
-bound_at : (clients : List Progress) (k : ℕ) (caller : Caller) → slice_get (map (λ c. c.bound) clients) k ≡ Some (Some caller)
-    → Bound clients k caller
-bound_at [] k caller is = absurd cc
-bound_at (c ∷ clients) zero caller is = record { client = c; less = omega arith; at = refl; is = cc }
-bound_at (c ∷ clients) (suc k) caller is =
-    let later = bound_at clients k caller is in
+served_at : (clients : List Progress) (k : ℕ) (t : ClientTerms) → slice_get (map terms_of_client clients) k ≡ Some t → Served clients k t
+served_at [] k t is = absurd cc
+served_at (c ∷ clients) zero t is = record { client = c; less = omega arith; at = refl; is = cc }
+served_at (c ∷ clients) (suc k) t is =
+    let later = served_at clients k t is in
     record { client = later.client; less = omega (arith, later.less); at = later.at; is = later.is }
 
 -- some element of a list that has one
@@ -101,39 +153,49 @@ some_of (x ∷ xs) less = x
 module _ {S : Type 0} (took : S → Option (List ℕ)) (clients : List Progress) (left : List (EndedClient S)) (setting : Setting) (o : Outcome)
     (service : IsServiceOf setting o) (of : IsOfClients (comes_to took) clients left o)
     (new : All (λ c. IsNewClient c.owed c.stands) clients) where
-  -- the lines of a client that is bound are its caller's
-  its_lines : (k : ℕ) (caller : Caller) (b : Bound clients k caller) (t : Transcript) (l : EndedClient S)
-      → All (λ line. line.cred ≡ caller) (slice_index_or o.transcripts k t).lines
-  its_lines k caller b t l =
+  -- the lines of a client are those that it may write, answered within its share
+  its_lines : (k : ℕ) (p : ClientTerms) (b : Served clients k p) (t : Transcript) (l : EndedClient S)
+      → All (MayWrite p.bound) (slice_index_or o.transcripts k t).lines
+      × StaysWithin p.share (slice_index_or o.transcripts k t).lines (slice_index_or o.transcripts k t).answers
+  its_lines k terms b t l =
       let p = b.client in
       let told = slice_index_or o.transcripts k t in
       let gone = slice_index_or left k l in
       let talk = subst (λ c. comes_to took c told.lines told.answers gone) b.at (of.each k p t l b.less) in
       let none : p.owed ≡ None = (subst (λ c. IsNewClient c.owed c.stands) b.at (new k p b.less)).0 in
-      let given = length p.stands + length told.lines in
-      let goes : TalksOn p.stops p.bound given p.wire (took gone.streams) gone.end [] told.lines told.answers =
-      subst (λ o. GoesOnBehindOwed o (TalksOn p.stops p.bound given p.wire (took gone.streams) gone.end) told.lines told.answers) none talk in
-      subst (λ bound. All (MayWrite bound) told.lines) b.is (bound_lines p.bound given p.wire.hears told.lines told.answers gone.end goes.talk)
+      let had = had_behind p told.lines told.answers in
+      let goes : TalksOn p.stops p.bound p.share had p.wire (took gone.streams) gone.end [] told.lines told.answers =
+      subst (λ o. GoesOnBehindOwed o (λ share. TalksOn p.stops p.bound share had p.wire (took gone.streams) gone.end) p.share told.lines
+      told.answers) none talk in (
+        subst (λ terms. All (MayWrite terms.bound) told.lines) b.is
+            (bound_lines p.bound had p.wire.hears told.lines told.answers gone.end goes.talk),
+        subst (λ terms. StaysWithin terms.share told.lines told.answers) b.is goes.within,
+      )
 
   -- so are its entries
-  pub keeps_callers : (callers : List (Option Caller)) → map (λ c. c.bound) clients ≡ callers → AreKept callers o.journal.entries
-  keeps_callers callers same k caller at =
-      let b = bound_at clients k caller (rw (← same) at at) in
+  pub keeps_terms : (terms : List ClientTerms) → map terms_of_client clients ≡ terms → AreKept terms o.journal.entries
+  keeps_terms terms same k p at =
+      let b = served_at clients k p (rw (← same) at at) in
       let some_left : 0 < length left = omega (arith, of.left_are, b.less) in
       let some_told : 0 < length o.transcripts = omega (arith, of.many, b.less) in
       let t = some_of o.transcripts some_told in
       let told = slice_index_or o.transcripts k t in
       let journal = o.journal.entries in
       let is = transcript_at 1 journal o.transcripts service.left.transcripts k t (omega (arith, of.many, b.less)) in
-      let P : Line → Type 0 = λ line. line.cred ≡ caller in
-      let own = journaled_all P (1 + k) told.lines told.answers (its_lines k caller b t (some_of left some_left)) in
+      let (may, within) = its_lines k p b t (some_of left some_left) in
+      let P : Line → Type 0 = MayWrite p.bound in
+      let own = journaled_all P (1 + k) told.lines told.answers may in
       let place : 1 + k ≡ k + 1 = omega arith in
-      subst (λ w. All (λ e. e.worker ≡ w → e.cred ≡ caller) journal) place
-      (own_all P 1 (1 + k) journal (subst (All (λ x. P (line_of_entry x.1))) is.own own))
+      record {
+        may = subst (λ w. All (λ e. e.worker ≡ w → P (line_of_entry e)) journal) place
+            (own_all P 1 (1 + k) journal (subst (All (λ x. P (line_of_entry x.1))) is.own own));
+        within = subst (λ w. AreWithin p.share (entries_of journal w)) place
+            (subst (AreWithin p.share) is.own (within_entries (1 + k) p.share told.lines told.answers within));
+      }
 
--- one client more, bound as its names say
-pub bound_more : {X : Type 0} (bound_in : X → Option Caller) (clients : List Progress) (names : List X) (i : ℕ) (d : X) (client : Progress)
-    → i < length names → map (λ c. c.bound) clients ≡ map bound_in (take i names) → client.bound ≡ bound_in (get_or names i d)
-    → map (λ c. c.bound) (clients ++ client ∷ []) ≡ map bound_in (take (i + 1) names)
-bound_more bound_in clients names i d client less so one =
-    map-append (λ c. c.bound) clients (client ∷ []) ∙ (λ j. so j ++ one j ∷ []) ∙ sym (map_more bound_in names i d less)
+-- one client more, served on the terms of its names
+pub served_more : {X : Type 0} (terms_in : X → ClientTerms) (clients : List Progress) (names : List X) (i : ℕ) (d : X) (client : Progress)
+    → i < length names → map terms_of_client clients ≡ map terms_in (take i names) → terms_of_client client ≡ terms_in (get_or names i d)
+    → map terms_of_client (clients ++ client ∷ []) ≡ map terms_in (take (i + 1) names)
+served_more terms_in clients names i d client less so one =
+    map-append terms_of_client clients (client ∷ []) ∙ (λ j. so j ++ one j ∷ []) ∙ sym (map_more terms_in names i d less)

@@ -7,7 +7,6 @@ use Rattle.std.specs.List.{list_any}
 use Rattle.std.specs.Str.{bytes_eq}
 use Rattle.clap.specs.Words.{IsAmong, fault_of}
 use Rattle.clap.specs.declared.error.kind.ErrorKind.{ErrorKind}
-use Rattle.qplain.specs.Caller.{Caller}
 use Rattle.qplain.specs.Journals.{Written}
 use Rattle.qplain.specs.Setups.{Setting}
 use Rattle.qplain.specs.declared.transcript.Transcript.{Transcript}
@@ -28,7 +27,7 @@ use Rattle.qtext_job.specs.declared.pair.Pair.{Pair}
 use Rattle.qtext_job.specs.declared.line_fault.LineFault.{LineFault}
 use Rattle.qtext_job.specs.declared.line_fault.LineFault.TheVariants.{Line, Memory}
 use Rattle.qtool_files.specs.Held.{Held, StandsUnder, IsUnder}
-use Rattle.qtool.specs.Callers.{AreKept, callers_of}
+use Rattle.qtool.specs.Terms.{AreKept, ClientTerms, terms_told}
 use Rattle.qtool.specs.Under.{IsConfigUnder, IsReplayUnder, IsRunUnder, IsServiceUnder}
 
 -- an outcome's text as it is asked for, as of the moment that is asked for
@@ -66,12 +65,12 @@ pub record PrintsReplay (config journal : List ℕ) (telling : Telling) (status 
   pub is : IsReplayUnder files config journal outcome
   pub told : IsTold telling outcome status old new
 
--- what a service left was printed, whose clients are bound to these callers, with the report as of this moment
-pub record PrintsService (config : List ℕ) (callers : List (Option Caller)) (at : ℕ) (files : Held)
+-- what a service left was printed, whose clients were served on these terms, with the report as of this moment
+pub record PrintsService (config : List ℕ) (terms : List ClientTerms) (at : ℕ) (files : Held)
     (old new : Option (List ℕ)) : Type 0 where
   pub outcome : Outcome
   pub is : IsServiceUnder files config outcome
-  pub kept : AreKept callers outcome.journal.entries
+  pub kept : AreKept terms outcome.journal.entries
   pub prints : Appends old new (outcome_end outcome at)
 
 -- the file that is read for a friendly script of this name: what standard input comes from where it is `-`
@@ -130,7 +129,7 @@ IsPrinted (Replay replay) status old new =
     PrintsReplay (string_bytes replay.config) (string_bytes replay.journal) replay.telling status old.files old.output
     new.output
 IsPrinted (Serve serve) status old new = (status ≡ 0)
-    × PrintsService (string_bytes serve.config) (callers_of serve.pairs.items) serve.at old.files
+    × PrintsService (string_bytes serve.config) (terms_told serve.shares serve.pairs.items) serve.at old.files
     (told_at (is_taken serve.pairs.items) old) (told_at (is_taken serve.pairs.items) new)
 IsPrinted (Expand expand) status old new =
     (status ≡ 0) × PrintsExpansion (string_bytes expand.config)

@@ -1,19 +1,27 @@
 //! The names of a service: of the streams of its clients, and of what it reads and writes besides.
-ghost use Rattle.std.specs.Prelude.{◌≡◌, ◌<◌, IfOk, length, map};
+ghost use Rattle.std.specs.Prelude.{◌≡◌, ◌<◌, IfOk, length, map, option_map};
 ghost use Rattle.std.specs.List.{list_any};
-ghost use Rattle.qtool.specs.Callers.{callers_of};
-ghost use Rattle.qtool.specs.ClientNames.{bound_in};
+ghost use Rattle.qtext_client.specs.Terms.{binding_of};
+ghost use Rattle.qtool.specs.ClientNames.{terms_in};
 ghost use Rattle.qtool.specs.Printed.{is_taken, is_to_standard};
+ghost use Rattle.qtool.specs.Terms.{or_part, share_told, terms_for, terms_told};
 
 use crate::standard::STANDARD;
-use qplain::{Cred, NoMemory};
-use qtext_job::Pair;
+use qplain::NoMemory;
+use qtext_client::{Allowance, Terms};
+use qtext_job::{Pair, ShareOptions};
 use std::alloc::Global;
 
-/// To whom a client is bound, where it is, and the names of its streams.
+/// All calls of a journal, of which bound clients have equal parts.
+const ALL_CALLS: u64 = 1_048_576;
+
+/// All bytes that the lines of clients and their answers may hold, of which bound clients have equal parts: 512 MiB.
+const ALL_BYTES: u64 = 536_870_912;
+
+/// On which terms a client is served, where it is bound, and the names of its streams.
 #[derive(Clone, Copy, Debug)]
 pub(crate) struct ClientNames<'a> {
-    pub(crate) bound: Option<&'a Cred>,
+    pub(crate) terms: Option<Terms<'a>>,
     pub(crate) input: &'a str,
     pub(crate) output: &'a str,
 }
@@ -39,14 +47,56 @@ pub(crate) fn is_output_taken(pairs: &[Pair]) -> bool
     pairs.is_empty() || is_any_to_standard(pairs)
 }
 
-/// The names of clients of which some are named.
-fn named(alloc: Global, pairs: &[Pair]) -> Result<Vec<ClientNames<'_>>, NoMemory>
-    ensures { IfOk result (λ names. map bound_in names.items ≡ map (λ p. p.caller) pairs.now) }
+/// What was told, or where that is 0 an equal part for each of so many clients.
+fn or_part(told: u64, all: u64, clients: u64) -> u64
+    requires { 0 < clients }
+    ensures { result ≡ or_part told all clients }
 {
+    if told == 0 { all / clients } else { told }
+}
+
+/// The share of each of so many clients.
+fn share_of(told: ShareOptions, clients: u64) -> Allowance
+    requires { 0 < clients }
+    ensures { result ≡ share_told told clients }
+{
+    Allowance {
+        calls: or_part(told.calls, ALL_CALLS, clients),
+        bytes: or_part(told.bytes, ALL_BYTES, clients),
+    }
+}
+
+/// On which terms the client of a pair is served, where it is bound.
+fn terms_of(pair: &Pair, depth: u64, share: Allowance) -> Option<Terms<'_>>
+    ensures bound { option_map binding_of result
+        ≡ option_map (λ caller. record { caller = caller; depth = depth }) pair.now.caller }
+    ensures share { option_map (λ t. t.share) result ≡ option_map (λ caller. share) pair.now.caller }
+{
+    match &pair.caller {
+        Some(caller) => Some(Terms {
+            caller,
+            depth,
+            share,
+        }),
+        None => None,
+    }
+}
+
+/// The names of clients of which some are named.
+fn named<'a>(
+    alloc: Global,
+    pairs: &'a [Pair],
+    told: ShareOptions,
+) -> Result<Vec<ClientNames<'a>>, NoMemory>
+    requires { 0 < length pairs.now }
+    ensures { IfOk result (λ names. map terms_in names.items
+        ≡ map (terms_for told (length pairs.now)) pairs.now) }
+{
+    let share = share_of(told, pairs.len() as u64);
     let mut names = Vec::new(alloc);
     for pair in pairs {
         names.push(ClientNames {
-            bound: pair.caller.as_ref(),
+            terms: terms_of(pair, told.depth, share),
             input: pair.input.as_str(),
             output: pair.output.as_str(),
         })?;
@@ -54,17 +104,22 @@ fn named(alloc: Global, pairs: &[Pair]) -> Result<Vec<ClientNames<'_>>, NoMemory
     Ok(names)
 }
 
-/// The names of all clients; of one on standard input and output, bound to nobody, where none is named.
-pub(crate) fn names_of(alloc: Global, pairs: &[Pair]) -> Result<Vec<ClientNames<'_>>, NoMemory>
+/// The names of all clients, which are told of the shares of those that are bound; of one on standard input and output,
+/// bound to nobody, where none is named.
+pub(crate) fn names_of<'a>(
+    alloc: Global,
+    pairs: &'a [Pair],
+    told: ShareOptions,
+) -> Result<Vec<ClientNames<'a>>, NoMemory>
     ensures some { IfOk result (λ names. 0 < length names.items) }
-    ensures callers { IfOk result (λ names. map bound_in names.items ≡ callers_of pairs.now) }
+    ensures terms { IfOk result (λ names. map terms_in names.items ≡ terms_told told pairs.now) }
 {
     if !pairs.is_empty() {
-        return named(alloc, pairs);
+        return named(alloc, pairs, told);
     }
     let mut names = Vec::new(alloc);
     names.push(ClientNames {
-        bound: None,
+        terms: None,
         input: STANDARD,
         output: STANDARD,
     })?;

@@ -1,18 +1,18 @@
 //! How the program ends early, in one line.
 ghost use Rattle.std.specs.Prelude.{◌≡◌};
-ghost use Rattle.qtool.specs.Endings.{IsFaultStatus};
-ghost use Rattle.qtool.specs.declared.ending.Ending.TheVariants.{Output};
+ghost use Rattle.qtool.specs.Endings.{IsFaultStatus, IsRefusal};
 
 use crate::clashes::Clash;
 use crate::fault_text::{
     put_clash, put_config, put_fault, put_file, put_friendly, put_journal_fault, put_mismatch,
-    put_not_started, put_overwritten, put_script,
+    put_not_started, put_overwritten, put_script, put_unwritten,
 };
-use crate::{ConfigFault, FileFault, TextFault};
+use crate::{ConfigFault, FileFault, Refuser, TextFault};
 use qplain::NoMemory;
 use qrun_client::ClientEnd;
-use qtext::RefusedWrite;
+use qtext::Written;
 use qtool_files::Overwritten;
+use std::alloc::Global;
 use std::io::Write;
 
 /// Why the program ends before its work is done.
@@ -55,13 +55,28 @@ pub(crate) enum Ending {
     NoReader,
     /// Memory was wanted and not there.
     Memory,
-    /// The output refused, or the file for the journal.
+    /// The output refused.
     Output,
+    /// No journal can be written to the file of that name.
+    Unwritten(String),
     /// What was looked at has faults, as was told.
     Faulty,
 }
 
 impl Ending {
+    /// The ending where what came of a run was refused, whose journal was to go to the file of this name.
+    pub(crate) fn refused(alloc: Global, by: Refuser, journal: Option<&str>) -> Ending
+        ensures { IsRefusal result }
+    {
+        match (by, journal) {
+            (Refuser::Journal, Some(name)) => match String::from_str(alloc, name) {
+                Ok(name) => Ending::Unwritten(name),
+                Err(_) => Ending::Output,
+            },
+            _ => Ending::Output,
+        }
+    }
+
     /// The same, but for why a file cannot be read, where that is not to be told.
     pub(crate) fn explained(self, verbose: bool) -> Ending {
         match self {
@@ -74,7 +89,7 @@ impl Ending {
     /// failed line.
     pub(crate) fn status(&self) -> u8
         ensures status { IsFaultStatus result }
-        ensures output { self.now ≡ Output → result ≡ 4 }
+        ensures refusal { IsRefusal self.now → result ≡ 4 }
     {
         match self {
             Ending::Config(ConfigFault::Memory)
@@ -83,7 +98,10 @@ impl Ending {
             | Ending::NoReader
             | Ending::NotServed(ClientEnd::Memory)
             | Ending::Memory => 3,
-            Ending::Output | Ending::Board | Ending::NotServed(ClientEnd::Output) => 4,
+            Ending::Output
+            | Ending::Unwritten(_)
+            | Ending::Board
+            | Ending::NotServed(ClientEnd::Output) => 4,
             Ending::NotServed(ClientEnd::Failed | ClientEnd::Stopped) => 5,
             _ => 2,
         }
@@ -92,14 +110,14 @@ impl Ending {
     /// Writes and flushes the line, whatever becomes of it, and answers the status.
     pub(crate) fn tell<E: Write>(&self, err: &mut E) -> u8
         ensures status { IsFaultStatus result }
-        ensures output { self.now ≡ Output → result ≡ 4 }
+        ensures refusal { IsRefusal self.now → result ≡ 4 }
     {
         let _ = self.put_line(err);
         let _ = err.flush();
         self.status()
     }
 
-    pub(crate) fn put_line<E: Write>(&self, err: &mut E) -> Result<(), RefusedWrite> {
+    pub(crate) fn put_line<E: Write>(&self, err: &mut E) -> Written {
         match self {
             Ending::Overwrites(what) => put_overwritten(err, *what),
             Ending::File { name, why } => put_file(err, name.as_bytes(), *why),
@@ -119,6 +137,7 @@ impl Ending {
             Ending::NoReader => put_fault(err, b"no reader"),
             Ending::Memory => put_fault(err, b"memory"),
             Ending::Output => put_fault(err, b"output"),
+            Ending::Unwritten(name) => put_unwritten(err, name.as_bytes()),
         }
     }
 }

@@ -8,7 +8,7 @@ use crate::ending::Ending;
 use crate::reading::{configuration, load};
 use crate::standard::{STANDARD, optional};
 use crate::{Files, TextFault, TextKind};
-use qtext::{RefusedWrite, put};
+use qtext::{RefusedWrite, Written, put};
 use qtext_expand::expand;
 use qtext_job::ExpandJob;
 use std::alloc::Global;
@@ -23,7 +23,7 @@ fn file_of(name: &str) -> &str
 
 /// Writes a text, and flushes it.
 #[tactic(auto, using(qtool_files::proofs::Flushes::refused_at_the_flush, qtext::proofs::Fronts::keeps_appends))]
-fn finish_text<O: Write>(text: &[u8], out: &mut O) -> Result<(), RefusedWrite>
+fn finish_text<O: Write>(text: &[u8], out: &mut O) -> Written
     ensures { Writes (O.contents out.old) (O.contents out.new) result text.now }
 {
     if put(out, text).is_err() || out.flush().is_err() {

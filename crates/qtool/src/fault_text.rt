@@ -2,13 +2,13 @@
 
 use crate::clashes::{Clash, Role};
 use crate::{ConfigFault, FileFault, TextFault};
-use qtext::{Piece, RefusedWrite, put, put_pieces};
+use qtext::{Piece, Written, put, put_pieces};
 use qtext_check::put_name;
 use qtool_files::Overwritten;
 use std::io::Write;
 
 /// Writes what a name of a service is of.
-fn put_role<E: Write>(err: &mut E, role: Role) -> Result<(), RefusedWrite> {
+fn put_role<E: Write>(err: &mut E, role: Role) -> Written {
     match role {
         Role::Config => put(err, b"the configuration"),
         Role::Script(number) => put_numbered(err, b"script ", number),
@@ -20,12 +20,12 @@ fn put_role<E: Write>(err: &mut E, role: Role) -> Result<(), RefusedWrite> {
     }
 }
 
-fn put_numbered<E: Write>(err: &mut E, words: &[u8], number: u64) -> Result<(), RefusedWrite> {
+fn put_numbered<E: Write>(err: &mut E, words: &[u8], number: u64) -> Written {
     put_pieces(err, &[Piece::Text(words), Piece::Number(number)])
 }
 
 /// Writes a fault of the command line: which two of its names clash.
-pub(crate) fn put_clash<E: Write>(err: &mut E, clash: Clash) -> Result<(), RefusedWrite> {
+pub(crate) fn put_clash<E: Write>(err: &mut E, clash: Clash) -> Written {
     put(err, b"error: ")?;
     match clash {
         Clash::Over(one, other) => {
@@ -44,10 +44,7 @@ pub(crate) fn put_clash<E: Write>(err: &mut E, clash: Clash) -> Result<(), Refus
 }
 
 /// Writes a fault of the command line: which of its files the journal names.
-pub(crate) fn put_overwritten<E: Write>(
-    err: &mut E,
-    what: Overwritten,
-) -> Result<(), RefusedWrite> {
+pub(crate) fn put_overwritten<E: Write>(err: &mut E, what: Overwritten) -> Written {
     put(err, b"error: the journal would be written over ")?;
     match what {
         Overwritten::Config => put(err, b"the configuration\n"),
@@ -59,7 +56,7 @@ pub(crate) fn put_overwritten<E: Write>(
     }
 }
 
-pub(crate) fn put_fault<E: Write>(err: &mut E, words: &[u8]) -> Result<(), RefusedWrite> {
+pub(crate) fn put_fault<E: Write>(err: &mut E, words: &[u8]) -> Written {
     let pieces = [
         Piece::Text(b"quotafs: "),
         Piece::Text(words),
@@ -69,11 +66,7 @@ pub(crate) fn put_fault<E: Write>(err: &mut E, words: &[u8]) -> Result<(), Refus
 }
 
 /// Writes a fault of what has this name.
-fn put_named<'a, E: Write>(
-    err: &mut E,
-    words: &'a [u8],
-    name: &'a [u8],
-) -> Result<(), RefusedWrite> {
+fn put_named<'a, E: Write>(err: &mut E, words: &'a [u8], name: &'a [u8]) -> Written {
     put_pieces(err, &[Piece::Text(b"quotafs: "), Piece::Text(words)])?;
     put_name(err, name)?;
     put(err, b"\n")
@@ -86,22 +79,23 @@ fn why_words(why: FileFault) -> &'static [u8] {
         FileFault::Folder => b"it is a folder",
         FileFault::NotPermitted => b"it may not be read",
         FileFault::NotText => b"it is not UTF-8",
-        FileFault::LongLine => b"4 MiB of it have no line end",
+        FileFault::LongLine => b"64 MiB of it have no line end",
         FileFault::Fails | FileFault::Memory => b"the system fails to read it",
     }
 }
 
 /// Writes which file cannot be read, and why, where that is to be told.
-pub(crate) fn put_file<E: Write>(
-    err: &mut E,
-    name: &[u8],
-    why: Option<FileFault>,
-) -> Result<(), RefusedWrite> {
+pub(crate) fn put_file<E: Write>(err: &mut E, name: &[u8], why: Option<FileFault>) -> Written {
     put_named(err, b"cannot read ", name)?;
     match why {
         Some(why) => put_fault(err, why_words(why)),
         None => Ok(()),
     }
+}
+
+/// Writes which file cannot be written.
+pub(crate) fn put_unwritten<E: Write>(err: &mut E, name: &[u8]) -> Written {
+    put_named(err, b"cannot write ", name)
 }
 
 /// Writes what became of the stream of this name, which is a client's.
@@ -110,7 +104,7 @@ pub(crate) fn put_client_fault<E: Write>(
     client: u64,
     words: &str,
     name: &str,
-) -> Result<(), RefusedWrite> {
+) -> Written {
     put_numbered(err, b"quotafs: client ", client)?;
     put(err, b": ")?;
     put(err, words.as_bytes())?;
@@ -118,35 +112,24 @@ pub(crate) fn put_client_fault<E: Write>(
     put(err, b"\n")
 }
 
-pub(crate) fn put_script<E: Write>(
-    err: &mut E,
-    number: u64,
-    fault: &TextFault,
-) -> Result<(), RefusedWrite> {
+pub(crate) fn put_script<E: Write>(err: &mut E, number: u64, fault: &TextFault) -> Written {
     put_numbered(err, b"quotafs: script ", number)?;
     put_text_fault(err, fault)
 }
 
-pub(crate) fn put_friendly<E: Write>(
-    err: &mut E,
-    name: &[u8],
-    fault: &TextFault,
-) -> Result<(), RefusedWrite> {
+pub(crate) fn put_friendly<E: Write>(err: &mut E, name: &[u8], fault: &TextFault) -> Written {
     put(err, b"quotafs: ")?;
     put_name(err, name)?;
     put_text_fault(err, fault)
 }
 
-pub(crate) fn put_journal_fault<E: Write>(
-    err: &mut E,
-    fault: &TextFault,
-) -> Result<(), RefusedWrite> {
+pub(crate) fn put_journal_fault<E: Write>(err: &mut E, fault: &TextFault) -> Written {
     put(err, b"quotafs: journal")?;
     put_text_fault(err, fault)
 }
 
 /// Writes which line is at fault and why, after the text's name.
-fn put_text_fault<E: Write>(err: &mut E, fault: &TextFault) -> Result<(), RefusedWrite> {
+fn put_text_fault<E: Write>(err: &mut E, fault: &TextFault) -> Written {
     let pieces = [
         Piece::Text(b": line "),
         Piece::Number(fault.line),
@@ -157,17 +140,17 @@ fn put_text_fault<E: Write>(err: &mut E, fault: &TextFault) -> Result<(), Refuse
     put_pieces(err, &pieces)
 }
 
-pub(crate) fn put_mismatch<E: Write>(err: &mut E, place: u64) -> Result<(), RefusedWrite> {
+pub(crate) fn put_mismatch<E: Write>(err: &mut E, place: u64) -> Written {
     put_numbered(err, b"quotafs: mismatch at ", place)?;
     put(err, b"\n")
 }
 
-pub(crate) fn put_not_started<E: Write>(err: &mut E, worker: u64) -> Result<(), RefusedWrite> {
+pub(crate) fn put_not_started<E: Write>(err: &mut E, worker: u64) -> Written {
     put_numbered(err, b"quotafs: worker ", worker)?;
     put(err, b" not started\n")
 }
 
-pub(crate) fn put_config<E: Write>(err: &mut E, fault: &ConfigFault) -> Result<(), RefusedWrite> {
+pub(crate) fn put_config<E: Write>(err: &mut E, fault: &ConfigFault) -> Written {
     match fault {
         ConfigFault::Text => put_fault(err, b"config: text"),
         ConfigFault::Field(key) => put_named(err, b"config: field ", key.as_bytes()),

@@ -1,10 +1,8 @@
 //! What came of a run or of a replay, told: its outcome, its journal, and which lines were not done.
-ghost use Rattle.std.specs.Prelude.{◌≡◌, option_map, IfErr, IfOk};
+ghost use Rattle.std.specs.Prelude.{option_map, IfOk};
 ghost use Rattle.qtool.specs.Printed.{IsJournalKept, IsTold, IsToldWith};
-ghost use Rattle.qtool.specs.declared.ending.Ending.TheVariants.{Output};
 
-use crate::ending::Ending;
-use crate::{Files, Outcome, write_run};
+use crate::{Files, Outcome, OutcomeText, Refuser, finish_outcome};
 use qrun_replay::PlacedTranscript;
 use qtext::Telling;
 use qtext_outcome::{are_all_done, put_denials, report_moment};
@@ -36,18 +34,18 @@ pub(crate) fn finish<F: Files, O: Write, E: Write>(
     files: &mut F,
     out: &mut O,
     err: &mut E,
-) -> Result<u8, Ending>
+) -> Result<u8, Refuser>
     ensures told { IfOk result
         (λ status. IsTold telling outcome status (O.contents out.old) (O.contents out.new)) }
     ensures kept { IfOk result (λ _. IsJournalKept (F.held files.old) (F.held files.new)
         (option_map (λ n. n.now) journal.entry) outcome.journal) }
-    ensures refused { IfErr result (λ ending. ending ≡ Output) }
 {
     let transcripts = outcome.transcripts.as_slice();
     let at = report_moment(telling.at, transcripts);
-    let told = match write_run(&outcome, telling.view, at, journal, files, out) {
+    let text = OutcomeText::Whole(telling.view);
+    let told = match finish_outcome(&outcome, text, at, journal, files, out) {
         Ok(()) => Ok(tell_denials(transcripts, telling, err)),
-        Err(_) => Err(Ending::Output),
+        Err(refuser) => Err(refuser),
     };
     mem::forget(outcome);
     told

@@ -41,7 +41,7 @@ where
 {
     match job {
         Job::Run(run) => run_job(machine, run, files, out, err),
-        Job::Replay(replay) => replay_job(machine, replay, files, out, err),
+        Job::Replay(replay) => replay_job(machine.alloc, machine.seed, replay, files, out, err),
         Job::Expand(expand) => {
             expand_job(machine.alloc, expand, files, out)?;
             Ok(0)

@@ -8,7 +8,7 @@ use crate::ending::Ending;
 use crate::finish::finish;
 use crate::reading::{configuration, load};
 use crate::standard::test_played;
-use crate::{Files, Machine, Outcome, TextReplayFault, replay_text};
+use crate::{Files, Outcome, TextReplayFault, replay_text};
 use qtext_job::ReplayJob;
 use std::alloc::Global;
 use std::io::Write;
@@ -39,8 +39,9 @@ fn replay_of<F: Files>(
 }
 
 /// Plays the journal, and only then writes what came of it. Ok is the status.
-pub(crate) fn replay_job<F: Files, O: Write, E: Write, R>(
-    machine: &Machine<'_, R>,
+pub(crate) fn replay_job<F: Files, O: Write, E: Write>(
+    alloc: Global,
+    seed: u64,
     replay: &ReplayJob,
     files: &mut F,
     out: &mut O,
@@ -51,12 +52,14 @@ pub(crate) fn replay_job<F: Files, O: Write, E: Write, R>(
         (O.contents out.new)) }
     ensures left { IfErr result (IsLeftUnlessRefused (O.contents out.old) (O.contents out.new)) }
 {
-    let Machine { alloc, seed, .. } = *machine;
     let (config, journal) = (replay.config.as_str(), replay.journal.as_str());
     let telling = replay.telling;
     test_played(config, journal).map_err(Ending::Clash)?;
     let outcome = replay_of(alloc, seed, config, journal, files).map_err(|ending| ending.explained(
         telling.verbose,
     ))?;
-    finish(outcome, telling, None, files, out, err)
+    match finish(outcome, telling, None, files, out, err) {
+        Ok(status) => Ok(status),
+        Err(refuser) => Err(Ending::refused(alloc, refuser, None)),
+    }
 }

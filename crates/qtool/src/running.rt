@@ -97,5 +97,8 @@ pub(crate) fn run_job<F: Files, O: Write, E: Write, R: Threads + Wait + Sync>(
     let outcome = run_of(machine, config, scripts, options, files).map_err(
         |ending| ending.explained(telling.verbose),
     )?;
-    finish(outcome, telling, journal, files, out, err)
+    match finish(outcome, telling, journal, files, out, err) {
+        Ok(status) => Ok(status),
+        Err(refuser) => Err(Ending::refused(machine.alloc, refuser, journal)),
+    }
 }

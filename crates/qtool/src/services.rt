@@ -6,9 +6,9 @@ ghost use Rattle.qshare.specs.declared.opening.TheConstants.{MAX_SEATS};
 ghost use Rattle.qrun.specs.Serving.{monitors_in};
 ghost use Rattle.qrun.specs.Watching.{seats_for};
 ghost use Rattle.qrun_worker.specs.Work.{IsNewClient};
-ghost use Rattle.qtool.specs.Callers.{AreKept, callers_of};
-ghost use Rattle.qtool.specs.ClientNames.{bound_in};
+ghost use Rattle.qtool.specs.ClientNames.{terms_in, terms_of_client};
 ghost use Rattle.qtool.specs.Printed.{PrintsService, is_taken, seen, told_at};
+ghost use Rattle.qtool.specs.Terms.{AreKept, terms_told};
 ghost use Rattle.qtool.specs.Under.{IsServiceUnder};
 
 use crate::clashes::{ServiceNames, find_clash};
@@ -18,7 +18,7 @@ use crate::reading::configuration;
 use crate::running::ending_of_run;
 use crate::standard::optional;
 use crate::told_streams::ToldStreams;
-use crate::{Files, Machine, NamedStreams, Outcome, Setup, serve, write_service};
+use crate::{Files, Machine, NamedStreams, Outcome, OutcomeText, Setup, finish_outcome, serve};
 use qplain::{MAX_WORKERS, NoMemory};
 use qrun::Service;
 use qrun_client::ClientEnd;
@@ -59,8 +59,8 @@ struct Left<F: NamedStreams> {
     refused: bool,
 }
 
-/// The client of this number, none of whose streams is opened yet, bound as its names say, and which stops at a failed
-/// line where it has a flag.
+/// The client of this number, none of whose streams is opened yet, on the terms of its names, and which stops at a
+/// failed line where it has a flag.
 fn client_of<'a, F: NamedStreams>(
     alloc: Global,
     files: &F,
@@ -69,7 +69,7 @@ fn client_of<'a, F: NamedStreams>(
     stop: Option<&'a AtomicBool>,
 ) -> Result<NamedClient<'a, F>, NoMemory>
     ensures new { IfOk result (λ c. IsNewClient c.owed c.stands) }
-    ensures bound { IfOk result (λ c. c.bound ≡ bound_in names.now) }
+    ensures terms { IfOk result (λ c. terms_of_client c ≡ terms_in names.now) }
 {
     let streams = ToldStreams {
         streams: files.streams(names.input, names.output)?,
@@ -78,7 +78,7 @@ fn client_of<'a, F: NamedStreams>(
         input: String::from_str(alloc, names.input)?,
         output: String::from_str(alloc, names.output)?,
     };
-    Ok(StreamClient::new(alloc, streams, stop, names.bound))
+    Ok(StreamClient::new(alloc, streams, stop, names.terms))
 }
 
 /// A client for each pair of names.
@@ -90,7 +90,7 @@ fn clients_of<'a, F: NamedStreams>(
 ) -> Result<Vec<NamedClient<'a, F>>, NoMemory>
     ensures many { IfOk result (λ clients. length clients.items ≡ length names.now) }
     ensures new { IfOk result (λ clients. All (λ c. IsNewClient c.owed c.stands) clients.items) }
-    ensures bound { IfOk result (λ clients. map (λ c. c.bound) clients.items ≡ map bound_in names.now) }
+    ensures terms { IfOk result (λ clients. map terms_of_client clients.items ≡ map terms_in names.now) }
 {
     let mut clients = Vec::new(alloc);
     for names in names {
@@ -149,7 +149,7 @@ fn serve_of<F: Files + NamedStreams + Send, R: Threads + Wait + Clock + Sync>(
     requires { 0 < length names.clients.now }
     ensures under { IfOk result (λ left. IsServiceUnder (F.held files.old) names.entry.config.now left.outcome) }
     ensures kept { IfOk result
-        (λ left. AreKept (map bound_in names.entry.clients.now) left.outcome.journal.entries) }
+        (λ left. AreKept (map terms_in names.entry.clients.now) left.outcome.journal.entries) }
 {
     let Machine { rt, alloc, .. } = *machine;
     test_names(alloc, files, names)?;
@@ -198,6 +198,7 @@ fn test_ends<S: Drop>(clients: &[EndedClient<S>]) -> Result<(), Ending> {
 
 /// Writes what a service has left. Its memory is left to the system, as that of a run.
 fn finish_service<F: Files, O: Write>(
+    alloc: Global,
     outcome: Outcome,
     job: &ServeJob,
     files: &mut F,
@@ -205,11 +206,12 @@ fn finish_service<F: Files, O: Write>(
 ) -> Result<(), Ending>
     ensures { OnOk result (Appends (O.contents out.old) (O.contents out.new) (outcome_end outcome job.now.at)) }
 {
-    let written = write_service(&outcome, job.at, optional(&job.journal), files, out);
+    let journal = optional(&job.journal);
+    let written = finish_outcome(&outcome, OutcomeText::Left, job.at, journal, files, out);
     mem::forget(outcome);
     match written {
         Ok(()) => Ok(()),
-        Err(_) => Err(Ending::Output),
+        Err(refuser) => Err(Ending::refused(alloc, refuser, journal)),
     }
 }
 
@@ -233,13 +235,13 @@ where
     O: Write,
     E: Write,
     R: Threads + Wait + Clock + Sync,
-    ensures { IfOk result (λ _. PrintsService (string_bytes job.now.config) (callers_of job.now.pairs.items)
-        job.now.at (F.held files.old)
+    ensures { IfOk result (λ _. PrintsService (string_bytes job.now.config)
+        (terms_told job.now.shares job.now.pairs.items) job.now.at (F.held files.old)
         (told_at (is_taken job.now.pairs.items) (seen (F.held files.old) (O.contents out.old) (E.contents err.old)))
         (told_at (is_taken job.now.pairs.items) (seen (F.held files.new) (O.contents out.new) (E.contents err.new)))) }
 {
     let pairs = job.pairs.as_slice();
-    let named = names_of(machine.alloc, pairs)?;
+    let named = names_of(machine.alloc, pairs, job.shares)?;
     let names = ServiceNames {
         config: job.config.as_str(),
         clients: &named,
@@ -252,9 +254,9 @@ where
         refused,
     } = serve_of(machine, names, job.stop_at_failure, files)?;
     if is_output_taken(pairs) {
-        finish_service(outcome, job, files, err)?;
+        finish_service(machine.alloc, outcome, job, files, err)?;
         return end_of(&clients, refused);
     }
-    finish_service(outcome, job, files, out)?;
+    finish_service(machine.alloc, outcome, job, files, out)?;
     end_of(&clients, refused)
 }

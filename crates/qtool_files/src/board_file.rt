@@ -6,7 +6,7 @@ ghost use Rattle.qtext_metrics.specs.Metrics.{metrics_text};
 use crate::Files;
 use qplain::{Board, Setup};
 use qrun::Monitor;
-use qtext::RefusedWrite;
+use qtext::{RefusedWrite, Written};
 use qtext_metrics::put_metrics;
 use std::io::Write;
 use std::thread;
@@ -54,7 +54,7 @@ impl<'a, F: Files, R: Clock> BoardFile<'a, F, R> {
 
 /// Writes a board, and flushes it.
 #[tactic(auto, using(crate::proofs::Flushes::refused_at_the_flush, qtext::proofs::Fronts::keeps_appends))]
-fn finish_board<W: Write>(setup: &Setup, board: &Board, out: &mut W) -> Result<(), RefusedWrite>
+fn finish_board<W: Write>(setup: &Setup, board: &Board, out: &mut W) -> Written
     ensures { Writes (W.contents out.old) (W.contents out.new) result (metrics_text setup.now board.now) }
 {
     if put_metrics(out, setup, board).is_err() || out.flush().is_err() {

@@ -3,7 +3,7 @@
 
 pub use board_file::{BoardFile, ShownBoards};
 pub use files::{FileFault, Files, NamedStreams};
-pub use finishing::{Refuser, write_run, write_service};
+pub use finishing::{OutcomeText, Refuser, finish_outcome};
 pub use overwriting::{Overwritten, test_journal};
 
 mod board_file;

@@ -4,8 +4,8 @@ use qlanes::first_place;
 use std::alloc::Global;
 use std::io::{self, Read};
 
-/// So many bytes are read before it is looked for a line end in them: 4 MiB, some 30 times the longest line of a call.
-const PIECE: u64 = 4_194_304;
+/// So many bytes are read before a line end is looked for in them: 64 MiB, some 500 times the longest line of a call.
+const PIECE: u64 = 67_108_864;
 
 /// All that is read, or None where a whole piece of it has no line end, which is told before any more is read.
 pub(crate) fn whole_text<R: Read + Drop>(

@@ -4,14 +4,14 @@ use crate::answer::Answer;
 use crate::faults::answer_of_fault;
 use crate::spellings::one_spelling;
 use qplain::{Line, Script};
-use qtext::{RefusedWrite, TextLine};
+use qtext::{TextLine, Written};
 use qtext_files::FromText;
 use qtext_write::{put_call, put_caller};
 use std::alloc::Global;
 use std::io::{self, Write};
 
 /// Writes `MOMENT CALLER CALL` as journals spell it.
-fn put_line<W: Write>(out: &mut W, text: &mut TextLine, line: &Line) -> Result<(), RefusedWrite> {
+fn put_line<W: Write>(out: &mut W, text: &mut TextLine, line: &Line) -> Written {
     text.clear();
     text.number(line.moment);
     text.byte(b' ');
@@ -22,7 +22,7 @@ fn put_line<W: Write>(out: &mut W, text: &mut TextLine, line: &Line) -> Result<(
 }
 
 /// Writes the lines of a script.
-fn put_script<W: Write>(out: &mut W, script: &Script) -> Result<(), RefusedWrite> {
+fn put_script<W: Write>(out: &mut W, script: &Script) -> Written {
     let mut text = TextLine::new();
     for line in script.lines() {
         put_line(out, &mut text, line)?;

@@ -16,6 +16,9 @@ const REPLAY: &str = "quotafs replay --config a.toml s.journal";
 /// The line of an output that refuses.
 const REFUSED: &[u8] = b"quotafs: output\n";
 
+/// The line of a file for a journal that refuses.
+const UNWRITTEN: &[u8] = b"quotafs: cannot write new.journal\n";
+
 /// Room for every output.
 const AMPLE: usize = 65_536;
 
@@ -97,7 +100,7 @@ fn ends_well<R: Threads + Wait + Clock + Sync>(
     files.keeps = keeps;
     let is_kept = left == JOURNAL.len() && flushes && keeps;
     let mut out = Short::new(alloc, AMPLE, true);
-    let (wanted, err): (u8, &[u8]) = if is_kept { (0, b"") } else { (4, REFUSED) };
+    let (wanted, err): (u8, &[u8]) = if is_kept { (0, b"") } else { (4, UNWRITTEN) };
     let told = told(rt, RUN_WITH_JOURNAL, &mut files, &mut out, err)?;
     let kept = match &files.kept {
         Some(text) => is_kept && text.as_slice() == JOURNAL,
@@ -142,8 +145,8 @@ fn a_journal_is_written_over_nothing_of_the_run(rt: HostRuntime) -> Result<(), A
 }
 
 #[test]
-fn a_file_that_cannot_be_made_is_a_refused_output(rt: HostRuntime) -> Result<(), AllocError> {
-    let end = (4, REFUSED, OUTCOME);
+fn a_file_that_cannot_be_made_is_told_by_its_name(rt: HostRuntime) -> Result<(), AllocError> {
+    let end = (4, UNWRITTEN, OUTCOME);
     assert!(rt;
         ends_so(
             &rt,

@@ -1,36 +1,24 @@
 //! The command line, as `clap` is told it.
-ghost use Rattle.std.specs.Prelude.{◌≡◌, IfOk, codes, false};
+ghost use Rattle.std.specs.Prelude.{◌≡◌, IfOk, false};
 ghost use Rattle.clap.specs.Words.{app_of, rule_of, shape_of, with_subcommand};
 ghost use Rattle.clap.specs.declared.builder.command.Command.TheViews.{out-Command};
 ghost use Rattle.qtext_job.specs.Commands as line;
 
 use after_help::AFTER_HELP;
-use argument::{flag, option, with_arg, word, words};
+use argument::{option, with_arg, word, words};
 use clap::{Arg, Command, value_parser};
 use report_command::reporting;
+use service_command::serve;
 use std::alloc::{AllocError, Global};
 
 mod after_help;
 mod argument;
 mod report_command;
-
-/// What help says of the file for boards.
-const BOARD: &str = "\
-The file that the quota records are written to while clients are served, for a monitor";
+mod service_command;
 
 /// What help says of boards.
 const BOARDS: &str = "\
 The boards that one more thread takes while the scripts run, at most 1000";
-
-/// What help says of clients.
-const CLIENTS: &str = "\
-The clients: lines come from the file or pipe IN, which is opened first, and replies go to OUT; - is standard input or \
-output, and no pair stands for -:-. Behind -- a pair may begin with -. UID:GID[,GROUP..]= before a pair binds its \
-client to this caller: lines of others are refused";
-
-/// What help says of the end at a failure.
-const STOP_AT_FAILURE: &str = "\
-Ends the service, with 5, at the first line that fails; its journal is kept";
 
 /// A command of this name that does this.
 fn named<'a>(alloc: Global, name: &'a str, about: &'a str) -> Command<'a>
@@ -104,56 +92,6 @@ fn replay<'a>(alloc: Global) -> Result<Command<'a>, AllocError>
         .help("The journal, as a run has written it")
         .required(true);
     with_arg(reporting(alloc, "replay", about)?, journal)
-}
-
-/// The command with the files that are written of what was served.
-fn with_files<'a>(alloc: Global, command: Command<'a>) -> Result<Command<'a>, AllocError>
-    ensures app { IfOk result (λ c. app_of c ≡ line.with_files (app_of command.entry)) }
-    ensures local { (out-Command command.entry).has_globals ≡ false
-        → IfOk result (λ c. (out-Command c).has_globals ≡ false) }
-{
-    let command = with_arg(command, journal(alloc))?;
-    with_arg(command, option(alloc, "board", "FILE").help(BOARD))
-}
-
-fn at<'a>(alloc: Global) -> Arg<'a>
-    ensures rule { rule_of result ≡ line.at }
-    ensures local { result.global ≡ false }
-{
-    option(alloc, "at", "MOMENT")
-        .short('a')
-        .help("The moment of the report, in seconds, from which graces are told")
-        .value_parser(value_parser!(u64).range(0..=1_099_511_627_776))
-        .default_value("0")
-}
-
-fn stop_at_failure<'a>(alloc: Global) -> Arg<'a>
-    ensures rule { rule_of result ≡ line.flag (codes "stop-at-failure") }
-    ensures local { result.global ≡ false }
-{
-    flag(alloc, "stop-at-failure", STOP_AT_FAILURE)
-}
-
-/// The command with when a service ends, and what is told of it then.
-fn with_end<'a>(alloc: Global, command: Command<'a>) -> Result<Command<'a>, AllocError>
-    ensures app { IfOk result (λ c. app_of c ≡ line.with_end (app_of command.entry)) }
-    ensures local { (out-Command command.entry).has_globals ≡ false
-        → IfOk result (λ c. (out-Command c).has_globals ≡ false) }
-{
-    let command = with_arg(command, at(alloc))?;
-    let command = with_arg(command, stop_at_failure(alloc))?;
-    with_files(alloc, command)
-}
-
-fn serve<'a>(alloc: Global) -> Result<Command<'a>, AllocError>
-    ensures app { IfOk result (λ c. app_of c ≡ line.serve) }
-    ensures local { IfOk result (λ c. (out-Command c).has_globals ≡ false) }
-{
-    let about =
-        "Answers the lines of living clients one by one and prints at the end what came of it";
-    let command = configured(alloc, "serve", about)?;
-    let command = with_end(alloc, command)?;
-    with_arg(command, words(alloc, "clients", "IN:OUT").help(CLIENTS))
 }
 
 fn expand<'a>(alloc: Global) -> Result<Command<'a>, AllocError>

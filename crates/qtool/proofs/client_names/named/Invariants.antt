@@ -1,7 +1,8 @@
-use Rattle.std.proofs.Common.{◌≡◌, map, take}
-use Rattle.qtool.specs.ClientNames.{bound_in}
+use Rattle.std.proofs.Common.{◌≡◌, length, map, take}
+use Rattle.qtool.specs.ClientNames.{terms_in}
+use Rattle.qtool.specs.Terms.{terms_for}
 use Rattle.qtool.proofs.client_names.named.Given as goal
 
--- to whom the clients so far are bound
+-- on which terms the clients so far are served
 abbrev pub invariant-loop-pair : goal.invariant-loop-pair
-invariant-loop-pair l = map bound_in l.names.items ≡ map (λ p. p.caller) (take l.pair-index l.pairs)
+invariant-loop-pair l = map terms_in l.names.items ≡ map (terms_for l.told (length l.pairs)) (take l.pair-index l.pairs)

@@ -14,7 +14,7 @@ returns-in-Ok-do_job-clause-printed g c = λ done. inr (c.in-Ok.job, c.in-Ok.ens
 pub returns-in-Ok-clause-untouched : goal.returns-in-Ok-clause-untouched
 returns-in-Ok-clause-untouched g c =
     untouched_by_words (map (λ w. string_bytes w) c.args.words.now) c.in-Ok.job c.tell.result _ _ c.in-Ok.ensures.job
-    (untouched_by_ending c.in-Err-do_job.ending c.in-Ok.job c.tell.result _ _ c.in-Err-do_job.ensures.left c.tell.ensures.output)
+    (untouched_by_ending c.in-Err-do_job.ending c.in-Ok.job c.tell.result _ _ c.in-Err-do_job.ensures.left c.tell.ensures.refusal)
 
 pub returns-clause-printed : goal.returns-clause-printed
 returns-clause-printed g c =

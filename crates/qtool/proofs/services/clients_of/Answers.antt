@@ -3,8 +3,8 @@ use Rattle.std.proofs.lemmas.List.{take_all}
 use Rattle.std.proofs.lemmas.List.Elements.{All-push}
 use Rattle.qrun_worker.specs.Work.{IsNewClient}
 use Rattle.qtext_client.specs.Conversations.{Progress}
-use Rattle.qtool.specs.ClientNames.{bound_in}
-use Rattle.qtool.proofs.Keeping.{bound_more}
+use Rattle.qtool.specs.ClientNames.{terms_in, terms_of_client}
+use Rattle.qtool.proofs.Keeping.{served_more}
 use Rattle.qtool.proofs.services.clients_of.Goals as goal
 
 pub loop-names-preserved : goal.loop-names-preserved
@@ -15,10 +15,10 @@ loop-names-preserved g c =
     let New : Progress → Type 0 = λ p. IsNewClient p.owed p.stands in record {
       many = omega (arith, ap length pushed, length-append before (client ∷ []), c.loop-names.invariant.many);
       new = subst (All New) (sym pushed) (All-push New before client c.loop-names.invariant.new c.in_ok-client.ensures.new);
-      bound = ap (map (λ c. c.bound)) pushed
-          ∙ bound_more bound_in before c.args.names.now c.loop-names.names-index c.names-item.result client c.loop-names-test.true c.loop-names.invariant.bound
-          (c.in_ok-client.ensures.bound ∙ ap bound_in c.names-item.is);
+      terms = ap (map terms_of_client) pushed
+          ∙ served_more terms_in before c.args.names.now c.loop-names.names-index c.names-item.result client c.loop-names-test.true c.loop-names.invariant.terms
+          (c.in_ok-client.ensures.terms ∙ ap terms_in c.names-item.is);
     }
 
-pub returns-clause-bound : goal.returns-clause-bound
-returns-clause-bound g c = rw (take_all _ _ c.loop-names-test.false) at c.loop-names.invariant.bound
+pub returns-clause-terms : goal.returns-clause-terms
+returns-clause-terms g c = rw (take_all _ _ c.loop-names-test.false) at c.loop-names.invariant.terms

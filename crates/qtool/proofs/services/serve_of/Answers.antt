@@ -1,6 +1,6 @@
 use Rattle.std.proofs.Common.{subst}
 use Rattle.qtool.specs.Under.{IsConfigUnder}
-use Rattle.qtool.proofs.Keeping.{keeps_callers}
+use Rattle.qtool.proofs.Keeping.{keeps_terms}
 use Rattle.qtool.proofs.Results.{was_ok}
 use Rattle.qtool.proofs.services.serve_of.Goals as goal
 
@@ -19,4 +19,4 @@ returns-in-Ok-clause-under g c =
 
 pub returns-in-Ok-clause-kept : goal.returns-in-Ok-clause-kept
 returns-in-Ok-clause-kept g c =
-    keeps_callers _ _ _ _ _ c.in-Ok.ensures.outcome c.in-Ok.ensures.clients c.in_ok-clients.ensures.new _ c.in_ok-clients.ensures.bound
+    keeps_terms _ _ _ _ _ c.in-Ok.ensures.outcome c.in-Ok.ensures.clients c.in_ok-clients.ensures.new _ c.in_ok-clients.ensures.terms

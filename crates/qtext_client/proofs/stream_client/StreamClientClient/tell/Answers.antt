@@ -1,4 +1,4 @@
-use Rattle.std.proofs.Common.{None, ap, subst, ◌∙◌}
+use Rattle.std.proofs.Common.{ap, subst, ◌∙◌}
 use Rattle.qrun_client.specs.Clients.{IsTold, place_of}
 use Rattle.qrun_replay.specs.Places.{stand_at}
 use Rattle.qtext_client.specs.Conversations.{comes_to}
@@ -13,9 +13,9 @@ returns-clause-told g c = λ line answer owed is.
     let q = c.tell_of.new.self in
     let kept = c.keep_place.ensures in
     let told = c.tell_of.ensures in
-    let stands = kept.stands line owed in
+    let place = stand_at line (place_of c.args.answer) in
+    let after = kept.kept line owed in
     subst (λ a. IsTold line a p.stands q.stands (comes_to took p) (comes_to took q)) (is ∙ in_own_form answer) (record {
-      stands = ap (λ x. x.stands) told.stays ∙ stands;
-      goes_on = answered_one took p q mid line c.args.answer (stand_at line (place_of c.args.answer)) owed kept.open
-          (kept.answered ∙ (λ i. record p { stands = stands i; owed = None })) told.stays told.wire;
+      stands = ap (λ x. x.stands) told.stays ∙ ap (λ x. x.stands) after;
+      goes_on = answered_one took p q mid line c.args.answer place owed kept.open after told.stays told.wire;
     })

@@ -2,7 +2,7 @@ use Rattle.std.proofs.Common.{ℕ, refl}
 use Rattle.clap.specs.Words.{found_of, rows_of}
 use Rattle.qtext_job.specs.Numbers.{IsNumberAt}
 use Rattle.qtext_job.proofs.JobLaws.{unless_weaker}
-use Rattle.qtext_job.proofs.job.number.Goals as goal
+use Rattle.qtext_job.proofs.number.number.Goals as goal
 
 pub returns-in-None-clause-err : goal.returns-in-None-clause-err
 returns-in-None-clause-err c =

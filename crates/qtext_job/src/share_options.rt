@@ -1,0 +1,47 @@
+//! What a command line says that a bound client may take of a service.
+ghost use Rattle.std.specs.Prelude.{IfOk, IfErr};
+ghost use Rattle.clap.specs.Words.{found_of, rows_of};
+ghost use Rattle.qtext_job.specs.Jobs.{FailsUnless};
+ghost use Rattle.qtext_job.specs.Shares.{AreSharesIn};
+ghost use Rattle.qtext_job.specs.declared.share_options.ShareOptions.{ShareOptions};
+
+use crate::LineFault;
+use crate::number::number;
+use clap::ArgMatches;
+use std::alloc::Global;
+
+/// As many lines may be named at most.
+const MAX_CALLS: u64 = 1_048_576;
+
+/// As many KiB may be named at most.
+const MAX_KIB: u64 = 1_048_576;
+
+/// As many components may be named at most.
+const MAX_DEPTH: u64 = 2048;
+
+/// What each client that is bound to a caller may take of a service at most.
+#[derive(Clone, Copy, Debug)]
+pub struct ShareOptions {
+    /// The lines of the client that are answered; 0 stands for an equal part.
+    pub calls: u64,
+    /// The bytes that its lines and the replies to them hold; 0 stands for an equal part.
+    pub bytes: u64,
+    /// The components of a path.
+    pub depth: u64,
+}
+
+/// What a bound client may take.
+pub(crate) fn shares(alloc: Global, matches: &ArgMatches<'_>) -> Result<ShareOptions, LineFault>
+    ensures ok { IfOk result (AreSharesIn (rows_of (found_of matches.now))) }
+    ensures err { IfErr result (FailsUnless
+        ((shares : ShareOptions) × AreSharesIn (rows_of (found_of matches.now)) shares)) }
+{
+    let calls = number(alloc, matches, "share-calls", 0, MAX_CALLS)?;
+    let kib = number(alloc, matches, "share-kib", 0, MAX_KIB)?;
+    let depth = number(alloc, matches, "share-depth", 1, MAX_DEPTH)?;
+    Ok(ShareOptions {
+        calls,
+        bytes: kib * 1024,
+        depth,
+    })
+}
