@@ -1,6 +1,7 @@
 /* One client of a service beside others over FIFOs: what its round trips take, while the others write what they may.
 
-   strangers N LINE OTHERS IN OUT [IN OUT ..]    the first client writes N lines, each when the one before is answered;
+   strangers N LINE OTHERS IN OUT [IN OUT ..]    the first client writes N lines, each half a millisecond after the one
+                                                 before is answered, so that it keeps to its turns;
                                                  each other writes its line of OTHERS, which a semicolon parts, over and
                                                  over, and reads what it is told, until the first has ended; one whose
                                                  line begins with ! reads nothing, and one of no line only holds its
@@ -17,7 +18,7 @@
 #include <time.h>
 #include <unistd.h>
 
-enum { MOST = 16, ROOM = 1 << 16 };
+enum { MOST = 16, ROOM = 1 << 16, BETWEEN = 500 };
 
 static atomic_bool over;
 static atomic_long answered;
@@ -116,8 +117,10 @@ int main(int words, char **word) {
     }
     long count = atol(word[1]), sum = 0, *trips = malloc(count * sizeof *trips);
     usleep(200000);
-    for (long at = 0; at < count; at++)
+    for (long at = 0; at < count; at++) {
         sum += trips[at] = turn(&clients[0]);
+        usleep(BETWEEN);
+    }
     over = 1;
     qsort(trips, count, sizeof *trips, ascending);
     printf("%ld %ld %ld\n", sum / count, trips[count * 99 / 100], answered);

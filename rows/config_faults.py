@@ -8,10 +8,13 @@ import tomllib
 
 WRONGS = "text", "field", "range", "duplicate", "no zero", "sound", "not UTF-8"
 KINDS = "user", "group", "project"
-MOST_TOLD, MOST_TABLES = 100, 64
+MOST_TOLD, MOST_TABLES, MOST_CLIENTS = 100, 64, 16
 BOUNDS = {"size": None, "nr_inodes": (1, 2**16), "block_grace": (1, 2**32 - 1), "inode_grace": (1, 2**32 - 1)}
 LIMITS = dict.fromkeys(["block_soft", "block_hard", "inode_soft", "inode_hard"], (0, 2**40))
 OF_PRINCIPAL = {"id": (0, 2**32 - 1), "name": None, **LIMITS}
+OF_CLIENT = "lines", "replies", "caller"
+ID = "(0|[1-9][0-9]{0,9})"
+CALLER = re.compile(f"{ID}:{ID}((?:,{ID}){{0,16}})")
 ORDINALS = "first second third fourth fifth sixth seventh eighth ninth tenth".split()
 UNITS = {"": 1, "k": 2**10, "m": 2**20, "g": 2**30}
 NOT_TEXT = "quotafs: cannot read %s\nquotafs: it is not UTF-8\n"
@@ -168,7 +171,7 @@ def shown(key):
 
 
 def unknown(document):
-    for key in sorted(document.keys() - BOUNDS.keys() - set(KINDS), key=str.encode):
+    for key in sorted(document.keys() - BOUNDS.keys() - {*KINDS, "client"}, key=str.encode):
         yield f"field: {shown(key)} is no key"
     strays = [(key.encode(), at, name, key) for at, (_, name, element) in enumerate(tables(document))
               if isinstance(element, dict) for key in element.keys() - OF_PRINCIPAL.keys()]
@@ -194,6 +197,33 @@ def no_zero(document):
             yield f"no zero: {kind} has no id 0"
 
 
+def is_caller(text):
+    return CALLER.fullmatch(text) is not None and all(int(number) < 2**32 for number in re.split("[:,]", text))
+
+
+def clients(document):
+    """The faults of the clients of a service, which come behind all others."""
+    found = document.get("client")
+    if not isinstance(found, list):
+        yield from ["field: client"] * ("client" in document)
+        return
+    mine = [(named("client", index), element) for index, element in enumerate(found)]
+    yield from (f"field: {name} is no table" for name, element in mine if not isinstance(element, dict))
+    mine = [(name, element) for name, element in mine if isinstance(element, dict)]
+    for name, element in mine:
+        for key in OF_CLIENT:
+            value = element.get(key)
+            if value is None and key != "caller":
+                yield f"field: {name}: {key} is missing"
+            elif value is not None and not (isinstance(value, str) and value and (key != "caller" or is_caller(value))):
+                yield f"field: {name}: {key}"
+    strays = [(key.encode(), at, name, key) for at, (name, element) in enumerate(mine)
+              for key in element.keys() - set(OF_CLIENT)]
+    yield from (f"field: {name}: {shown(key)} is no key" for _, _, name, key in sorted(strays))
+    if not 1 <= len(found) <= MOST_CLIENTS:
+        yield f"range: client has {len(found)} tables"
+
+
 def is_no_toml(value, depth=0):
     """Whether Python reads what is no TOML for the program: past 64 bits, or as deep as may be."""
     if isinstance(value, (list, dict)):
@@ -212,5 +242,5 @@ def faults(text):
         return None
     return [
         *of_document(document, "field"), *unknown(document), *of_document(document, "range"), *duplicates(document),
-        *no_zero(document),
+        *no_zero(document), *clients(document),
     ]

@@ -4,7 +4,7 @@
   prints with the report at that moment. The folder `examples` has the answers for the scripts of examples/, where a
   script has the configuration of its name, or else farm.toml.
 - configs/THEME.rows: a line is a list of old and new pieces of configs/good.toml, in pairs, and last what is then told:
-  a fault, or a line that the outcome of the empty script has.
+  a fault, or a line that the outcome of the empty script has. configs/clients.toml is another good one.
 - scripts/THEME.rows: a line is the bytes of a script, and its fault.
 - ROW.journal beside ROW.txt is the whole journal of that run; that of any other row is put together of the script and
   of the answers in ROW.MOMENT.out (`journal_of`).

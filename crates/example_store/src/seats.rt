@@ -1,8 +1,7 @@
 //! A call of a seat of a shared store.
 ghost use Rattle.std.specs.Prelude.{◌≡◌, IfOk, OnErr};
 ghost use Rattle.qplain.specs.declared.call.Call.TheVariants.{Create};
-ghost use Rattle.qstore_journaled.specs.Lines.{line_of};
-ghost use Rattle.qshare.specs.Calls.{IsCalled, IsFormOf};
+ghost use Rattle.qshare.specs.Calls.{AtGiven, IsCalled, IsFormOf};
 ghost use Rattle.qshare.specs.Seats.{HasSeenOn};
 
 use qplain::{Call, Cred, Path};
@@ -20,8 +19,8 @@ pub(crate) fn create<S: StoreId, B: Boards<S>, V: Drop, W: Wait>(
     path: Path,
 ) -> Result<Receipt, CallFault>
     ensures seen { HasSeenOn S.id.setting seat.old seat.new }
-    ensures called { IfOk result (IsFormOf (λ receipt. receipt) (IsCalled (line_of cred.now 0 (Create path)) seat.old
-        seat.new)) }
+    ensures called { IfOk result (IsFormOf (λ receipt. receipt) (AtGiven S.id.clocked cred.now 0 (Create path)
+        (λ line. IsCalled line seat.old seat.new))) }
     ensures err { OnErr result (seat.new.tally ≡ seat.old.tally) }
 {
     shared.call(rt, seat, cred, 0, &Call::Create { path })

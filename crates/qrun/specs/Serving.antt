@@ -1,5 +1,6 @@
 -- What a service owes its caller, and what is told of its clients.
-use Rattle.std.specs.Prelude.{◌≡◌, ℕ, ◌<◌, ◌≤◌, List, [], length, slice_index_or, Option, None, Some}
+use Rattle.std.specs.Prelude.{◌≡◌, ℕ, Bool, true, ◌<◌, ◌≤◌, List, [], length, slice_index_or, Option, None, Some}
+use Rattle.qshare_history.specs.Moments.{NeverFalls}
 use Rattle.qrun_client.specs.Clients.{Talk}
 use Rattle.qplain.specs.declared.edition.Edition.TheVariants.{Two}
 use Rattle.qplain.specs.declared.transcript.Transcript.{Transcript}
@@ -31,3 +32,7 @@ pub record IsOfClients {C Left : Type 0} (talk : C → Talk Left) (clients : Lis
   pub each : (k : ℕ) (c : C) (t : Transcript) (l : Left) → k < length clients
       → IsTranscriptOf (talk (slice_index_or clients k c)) (slice_index_or o.transcripts k t) (slice_index_or left k l)
   pub boards : o.boards ≡ []
+
+-- where a clock rules, the moments of the outcome's journal never fall
+abbrev pub KeepsTime : Bool → Outcome → Type 0
+KeepsTime clocked o = clocked ≡ true → NeverFalls o.journal.entries

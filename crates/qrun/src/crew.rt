@@ -3,7 +3,7 @@ ghost use Rattle.std.specs.Prelude.{◌≡◌, ◌<◌, ◌≤◌, All, length, 
 ghost use Rattle.qshare.specs.declared.held.TheConstants.{MAX_BATCH};
 ghost use Rattle.qshare.specs.Seats.{seats_of};
 ghost use Rattle.qrun.specs.Crews.{AreReady, ArePlaying};
-ghost use Rattle.qrun_worker.specs.Work.{IsNewClient};
+ghost use Rattle.qrun_worker.specs.Work.{IsNewClient, MayBeGiven};
 
 use crate::machine::Machine;
 use qplain::{NoMemory, Script};
@@ -66,7 +66,8 @@ where
     C: Client + Drop,
     G: Gate,
     R: Wait,
-    requires { seats.items ≡ seats_of (length crew) }
+    requires seats { seats.items ≡ seats_of (length crew) }
+    requires clock { MayBeGiven S.id.clocked C.clocked }
     ensures { IfOk result (λ workers. AreReady crew.entry workers.items) }
 {
     let Crew {

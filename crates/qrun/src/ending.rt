@@ -5,7 +5,8 @@ ghost use Rattle.qrun.specs.Crews.{HasEnded, IsStaff};
 ghost use Rattle.qrun.specs.Monitors.{IsShownTo};
 ghost use Rattle.qrun.specs.Observers.{looks_wanted, seat_in, shown_to};
 ghost use Rattle.qrun.specs.RunFaults.{IsFaultOf};
-ghost use Rattle.qrun.specs.Serving.{CanServe};
+ghost use Rattle.qrun.specs.Serving.{CanServe, KeepsTime};
+ghost use Rattle.qrun_worker.specs.Work.{MayBeGiven};
 
 use crate::concluding::make_outcome;
 use crate::crew::{Crew, workers_of};
@@ -53,10 +54,12 @@ where
     R: Threads + Wait + Sync,
     requires staff { IsStaff S.id.setting (length crew) S.id.counters.parts seats.items
         (option_map seat_in observer) }
+    requires clock { MayBeGiven S.id.clocked C.clocked }
     ensures ended { IfOk result (λ s. HasEnded C.talk S.id.setting crew.entry (looks_wanted observer.entry) s.left.items
         s.outcome) }
     ensures shown { IfOk result (λ s. IsShownTo M.sees (start S.id.setting) s.outcome.journal.entries
         (shown_to observer.entry) s.monitor) }
+    ensures moments { IfOk result (λ s. KeepsTime S.id.clocked s.outcome) }
     ensures fault { IfErr result (IsFaultOf S.id.counters.parts) }
 {
     let Machine { rt, alloc, seed } = *machine;
@@ -91,7 +94,9 @@ where
     R: Threads + Wait + Sync,
     requires id { opened ≡ S.id }
     requires can { CanServe S.id.setting (length crew) 0 × (S.id.counters.parts ≡ length crew) }
+    requires clock { MayBeGiven S.id.clocked C.clocked }
     ensures ended { IfOk result (λ s. HasEnded C.talk S.id.setting crew.entry 0 s.left.items s.outcome) }
+    ensures moments { IfOk result (λ s. KeepsTime S.id.clocked s.outcome) }
     ensures fault { IfErr result (IsFaultOf S.id.counters.parts) }
 {
     let (shared, seats) = match opened.without_viewers::<S>() {

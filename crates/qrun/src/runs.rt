@@ -6,6 +6,7 @@ ghost use Rattle.qrun.specs.Crews.{CanRun, HasEnded};
 ghost use Rattle.qrun.specs.RunFaults.{IsFaultOf};
 ghost use Rattle.qrun.specs.Serving.{CanServe};
 ghost use Rattle.qrun.specs.Watching.{seats_for};
+ghost use Rattle.qrun_worker.specs.Work.{MayBeGiven};
 
 use crate::crew::{Crew, clients_of};
 use crate::ending::{fault_of, play_and_end, play_unwatched};
@@ -41,7 +42,7 @@ where
     C: Client + Drop + Send,
     G: Gate + Sync,
     R: Threads + Wait + Sync,
-    requires id { opened ≡ S.id }
+    requires id { (opened ≡ S.id) × MayBeGiven S.id.clocked C.clocked }
     requires can { CanServe S.id.setting (length crew) boards × (S.id.counters.parts ≡ length crew + 1) }
     requires boards { 0 < boards }
     ensures ended { IfOk result (λ s. HasEnded C.talk S.id.setting crew.entry boards s.left.items s.outcome) }

@@ -1,13 +1,13 @@
 //! Services: living clients, each served by a worker, on a shared store of their own.
-ghost use Rattle.std.specs.Prelude.{◌≡◌, ◌+◌, All, Some, length, IfErr, IfOk};
+ghost use Rattle.std.specs.Prelude.{◌≡◌, ◌+◌, All, Some, false, length, IfErr, IfOk};
 ghost use Rattle.qplain.specs.State.{start};
 ghost use Rattle.qrun_replay.specs.Runs.{IsServiceOf};
 ghost use Rattle.qrun.specs.Crews.{HasEnded};
 ghost use Rattle.qrun.specs.Monitors.{IsShownTo};
 ghost use Rattle.qrun.specs.RunFaults.{IsFaultOf};
-ghost use Rattle.qrun.specs.Serving.{CanServe, IsOfClients, monitors_in};
+ghost use Rattle.qrun.specs.Serving.{CanServe, IsOfClients, KeepsTime, monitors_in};
 ghost use Rattle.qrun.specs.Watching.{seats_for};
-ghost use Rattle.qrun_worker.specs.Work.{IsNewClient};
+ghost use Rattle.qrun_worker.specs.Work.{IsNewClient, MayBeGiven};
 
 use crate::crew::Crew;
 use crate::ending::{fault_of, play_and_end, play_unwatched};
@@ -34,6 +34,14 @@ pub struct Service<L: Drop, W: Drop> {
     pub monitor: Option<W>,
 }
 
+/// A new store, ruled by a clock where that is so.
+fn ruled(opened: Opened, clock: bool) -> Opened
+    requires { opened.clocked ≡ false }
+    ensures { result ≡ record opened { clocked = clock } }
+{
+    if clock { opened.with_clock() } else { opened }
+}
+
 /// Has a crew play on a store of this identity, whose boards are shown to a monitor.
 fn play_shown<S, C, G, M, R>(
     machine: &Machine<'_, R>,
@@ -47,11 +55,12 @@ where
     G: Gate + Sync,
     M: Monitor + Drop + Send,
     R: Threads + Wait + Sync,
-    requires id { opened ≡ S.id }
+    requires id { (opened ≡ S.id) × MayBeGiven S.id.clocked C.clocked }
     requires can { CanServe S.id.setting (length crew) 1 × (S.id.counters.parts ≡ length crew + 1) }
     ensures ended { IfOk result (λ s. HasEnded C.talk S.id.setting crew.entry 0 s.left.items s.outcome) }
     ensures shown { IfOk result (λ s. IsShownTo M.sees (start S.id.setting) s.outcome.journal.entries (Some monitor)
         s.monitor) }
+    ensures moments { IfOk result (λ s. KeepsTime S.id.clocked s.outcome) }
     ensures fault { IfErr result (IsFaultOf S.id.counters.parts) }
 {
     let wanted = AtomicBool::new(false);
@@ -74,6 +83,9 @@ where
 /// each with the reply of its entry in the journal. A line may fail with JournalFull, and does so only where the
 /// journal has its 1,048,576 entries. The outcome keeps no boards.
 ///
+/// With a clock the moments of its journal never fall: a line that tells an earlier one than the last is made and
+/// journaled with that. Its clients allow for it.
+///
 /// This is promised if the service returns: a client that does not end holds it up, and no other client. An Err is
 /// Memory, NoReader, or NotStarted with the first thread that was refused; then the clients of all workers that were
 /// started have been served to their ends, and the store is given up.
@@ -81,6 +93,7 @@ pub fn serve<C, M, R>(
     machine: &Machine<'_, R>,
     setup: Setup,
     clients: Vec<C>,
+    clock: bool,
     monitor: Option<M>,
 ) -> Result<Service<C::Left, M::Left>, RunFault>
 where
@@ -88,8 +101,8 @@ where
     M: Monitor + Drop + Send,
     R: Threads + Wait + Sync,
     requires can { CanServe setup (length clients.items) (monitors_in monitor) }
-    requires new { All (λ c. IsNewClient (C.owed c) (C.stands c)) clients.items }
-    ensures outcome { IfOk result (λ s. IsServiceOf setup s.outcome) }
+    requires new { All (λ c. IsNewClient (C.owed c) (C.stands c)) clients.items × MayBeGiven clock C.clocked }
+    ensures outcome { IfOk result (λ s. IsServiceOf setup s.outcome × KeepsTime clock s.outcome) }
     ensures clients { IfOk result (λ s. IsOfClients C.talk clients.items s.left.items s.outcome) }
     ensures shown { IfOk result (λ s. IsShownTo M.sees (start setup) s.outcome.journal.entries monitor s.monitor) }
     ensures fault { IfErr result (IsFaultOf (seats_for (length clients.items) (monitors_in monitor))) }
@@ -100,6 +113,7 @@ where
         Ok(opened) => opened,
         Err(fault) => return Err(fault_of(fault)),
     };
+    let opened = ruled(opened, clock);
     let crew = Crew::new(clients, &NoGate, 1);
     let Some(monitor) = monitor else {
         let Service { outcome, left, .. } = play_unwatched::<Brand, C, NoGate, R>(

@@ -1,5 +1,5 @@
 //! Who hands lines to a worker, one after the other, and is told what each was answered.
-ghost use Rattle.std.specs.Prelude.{◌≡◌, [], ℕ, List, Option, None, Some, IsSome, Result, false, is_some};
+ghost use Rattle.std.specs.Prelude.{◌≡◌, [], ℕ, Bool, List, Option, None, Some, IsSome, Result, false, is_some};
 ghost use Rattle.qplain.specs.declared.call_fault.CallFault.{CallFault};
 ghost use Rattle.qplain.specs.declared.line.Line.{Line};
 ghost use Rattle.qplain.specs.declared.receipt.Receipt.{Receipt};
@@ -24,6 +24,9 @@ pub trait Client {
 
     /// What is left of it at its end, beside where its answers stand.
     type Left: Drop + Send;
+
+    /// Whether a clock may give its lines later moments than they tell.
+    ghost clocked: { Bool };
 
     /// The line that it has handed out and that is still to be answered.
     ghost owed: { Self → Option Line };
@@ -57,13 +60,13 @@ pub trait Client {
         requires owed { IsSome (owed self.now) }
         ensures { owed self.now ≡ Some result.now };
 
-    /// Takes the answer to that line.
+    /// Takes the answer to that line, which was journaled with the moment that it tells, or that a clock gave it.
     fn tell(&mut self, answer: Result<Self::Form, CallFault>)
         requires owed { IsSome (owed self.old) }
         requires answer { IsAnswerIn Self.Form.form answer }
         ensures answered { owed self.new ≡ None }
-        ensures told { Takes Self.Form.form (owed self.old) answer (stands self.old) (stands self.new) (talk self.old)
-            (talk self.new) };
+        ensures told { Takes clocked Self.Form.form (owed self.old) answer (stands self.old) (stands self.new)
+            (talk self.old) (talk self.new) };
 
     /// Ends it, when it has no more lines and each was answered: gives back where the answers stand, and what is left.
     fn into_parts(self) -> (Places, Self::Left)

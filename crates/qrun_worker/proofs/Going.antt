@@ -1,5 +1,5 @@
 -- A worker who goes on with its client: no line further, one, and some more after some.
-use Rattle.std.proofs.Common.{◌≡◌, ◌↔◌, ℕ, ◌+◌, ◌≤◌, List, [], ◌∷◌, ◌++◌, length, Option, Some, slice_get, Result, Ok, Err, IfOk, IfErr, OnErr, refl, sym, ap, subst, ◌∙◌, append-nil, append_assoc, length-append, arith}
+use Rattle.std.proofs.Common.{◌≡◌, ◌↔◌, ℕ, Bool, true, false, ◌+◌, ◌≤◌, List, [], ◌∷◌, ◌++◌, length, Option, Some, slice_get, Result, Ok, Err, IfOk, IfErr, OnErr, refl, sym, ap, subst, ◌∙◌, append-nil, append_assoc, length-append, arith}
 use mathlib.Core.List.{IsPrefix}
 use Rattle.qplain.specs.declared.bounds.TheConstants.{MAX_ENTRIES}
 use Rattle.qplain.specs.declared.call_fault.CallFault.{CallFault}
@@ -9,12 +9,14 @@ use Rattle.qplain.specs.declared.line.Line.{Line}
 use Rattle.qplain.specs.declared.receipt.Receipt.{Receipt}
 use Rattle.qplain.specs.Journal.{entry_of, no_tally}
 use Rattle.qplain.specs.Setups.{Setting}
-use Rattle.qshare.specs.Calls.{IsCalled, IsFormOf, IsHeldCall, StaysHeld}
+use Rattle.qshare_history.specs.Moments.{IsGiven}
+use Rattle.qstore_journaled.specs.Lines.{line_of}
+use Rattle.qshare.specs.Calls.{AtGiven, IsCalled, IsFormOf, IsHeldCall, StaysHeld}
 use Rattle.qshare.specs.Holds.{Holding}
 use Rattle.qshare.specs.Seats.{HasSeenOn, Seated}
 use Rattle.qrun_client.specs.Clients.{ComesOf, IsAnswerIn, IsTold, Takes, Talk, in_form}
 use Rattle.qrun_replay.specs.declared.failed_line.FailedLine.{FailedLine}
-use Rattle.qrun_worker.specs.Work.{AreAnswers, HasGone, IsPlayed, Worked, stands_of}
+use Rattle.qrun_worker.specs.Work.{AreAnswers, HasGone, IsPlayed, MayBeGiven, Worked, stands_of}
 use Rattle.qrun_worker.proofs.Clients.{one_line_more}
 use Rattle.qrun_worker.proofs.Stands.{stands_of-append}
 use Rattle.qrun_worker.proofs.Working.{no_answers, one_more_called, one_more_held, seen_more}
@@ -86,62 +88,75 @@ module _ {Left : Type 0} (first second third : List Entry) (old mid new : Seated
         (one.goes_on (two.lines ++ more) (two.answers ++ further) left (two.goes_on more further left is));
   }
 
-module _ {A : Type 0} (form : Receipt → A) (line : Line) where
+-- a moment that is given in a store is given to a client whose lines may be given theirs
+given_too : (store client : Bool) (told given : ℕ) → MayBeGiven store client → IsGiven store told given → IsGiven client told given
+given_too true client told given may later = subst (λ c. IsGiven c told given) (sym (may refl)) later
+given_too false true told given may same = omega (arith, same)
+given_too false false told given may same = same
+
+module _ {A : Type 0} (form : Receipt → A) (store : Bool) (asked : Line) where
+  -- an answer of this form, to a line of which that holds
+  abbrev Answers : (Line → Receipt → Type 0) → A → Type 0
+  Answers Is a = IsFormOf form (AtGiven store asked.cred asked.moment asked.call Is) a
+
   -- what is answered has a place that a journal may have
-  pub called_low : (old new : Seated) (a : Result A CallFault) → IfOk a (IsFormOf form (IsCalled line old new)) → IsAnswerIn form a
-  called_low old new (Ok f) called = (Ok called.0, ap (λ x. Ok x) called.1, called.2.few)
+  pub called_low : (old new : Seated) (a : Result A CallFault) → IfOk a (Answers (λ line. IsCalled line old new)) → IsAnswerIn form a
+  called_low old new (Ok f) (receipt, is, (given, later, called)) = (Ok receipt, ap (λ x. Ok x) is, called.few)
   called_low old new (Err fault) called = (Err fault, refl, tt)
 
   pub held_low : (setting : Setting) (old new : Holding) (seat behind : Seated) (a : Result A CallFault)
-      → IfOk a (IsFormOf form (IsHeldCall line old new seat behind)) → StaysHeld setting old new → IsAnswerIn form a
-  held_low setting old new seat behind (Ok f) called stays =
-      let journaled = called.2.journaled in
-      let e = entry_of seat.worker line called.0.reply in
-      let low : called.0.place ≤ MAX_ENTRIES =
+      → IfOk a (Answers (λ line. IsHeldCall line old new seat behind)) → StaysHeld setting old new → IsAnswerIn form a
+  held_low setting old new seat behind (Ok f) (receipt, is, (given, later, called)) stays =
+      let journaled = called.journaled in
+      let e = entry_of seat.worker (line_of asked.cred given asked.call) receipt.reply in
+      let low : receipt.place ≤ MAX_ENTRIES =
       omega (arith, journaled.place, ap length journaled.journal, length-append old.journal (e ∷ []), stays.few) in
-      (Ok called.0, ap (λ x. Ok x) called.1, low)
+      (Ok receipt, ap (λ x. Ok x) is, low)
   held_low setting old new seat behind (Err fault) called stays = (Err fault, refl, tt)
 
-  module _ {Left : Type 0} (setting : Setting) (before after : List (Result ℕ FailedLine)) (from mid to : Talk Left) (owed : Option Line)
-      (is_owed : owed ≡ Some line) (comes : ComesOf from mid) where
+  module _ {Left : Type 0} (client : Bool) (may : MayBeGiven store client) (setting : Setting) (before after : List (Result ℕ FailedLine))
+      (from mid to : Talk Left) (owed : Option Line) (is_owed : owed ≡ Some asked) (comes : ComesOf from mid) where
     -- one line further by a call that waits for the lock
-    pub called_further : (old new : Seated) (a : Result A CallFault) → Takes form owed a before after mid to → HasSeenOn setting old new
-        → IfOk a (IsFormOf form (IsCalled line old new)) → OnErr a (new.tally ≡ old.tally)
+    pub called_further : (old new : Seated) (a : Result A CallFault) → Takes client form owed a before after mid to → HasSeenOn setting old new
+        → IfOk a (Answers (λ line. IsCalled line old new)) → OnErr a (new.tally ≡ old.tally)
         → IfErr a (λ f. (f ≡ JournalFull) ↔ (length new.seen ≡ MAX_ENTRIES)) → HasGone old.seen new.seen old new before after from to
-    called_further old new (Ok f) takes seen called kept full =
-        one_further old.seen new.seen old new line (Ok called.0) before after from mid to seen.worker comes
-        (takes line (Ok called.0) is_owed (ap (λ x. Ok x) called.1))
-        (λ lines answers so_far at. subst (λ w. AreAnswers w lines new.seen new.tally.calls (answers ++ Ok called.0 ∷ [])) seen.worker
-        (one_more_called setting lines old new answers (answers ++ Ok called.0 ∷ []) line (Ok called.0) so_far at seen called.2 tt tt refl))
+    called_further old new (Ok f) takes seen (receipt, is, (given, later, called)) kept full =
+        let line = line_of asked.cred given asked.call in
+        one_further old.seen new.seen old new line (Ok receipt) before after from mid to seen.worker comes
+        (takes asked line (Ok receipt) is_owed (given, given_too store client asked.moment given may later, refl) (ap (λ x. Ok x) is))
+        (λ lines answers so_far at. subst (λ w. AreAnswers w lines new.seen new.tally.calls (answers ++ Ok receipt ∷ [])) seen.worker
+        (one_more_called setting lines old new answers (answers ++ Ok receipt ∷ []) line (Ok receipt) so_far at seen called tt tt refl))
     called_further old new (Err fault) takes seen called kept full =
-        one_further old.seen new.seen old new line (Err fault) before after from mid to seen.worker comes (takes line (Err fault) is_owed refl)
+        one_further old.seen new.seen old new asked (Err fault) before after from mid to seen.worker comes
+        (takes asked asked (Err fault) is_owed refl refl)
         (λ lines answers so_far at. subst (λ w. AreAnswers w lines new.seen new.tally.calls (answers ++ Err fault ∷ [])) seen.worker
-        (one_more_called setting lines old new answers (answers ++ Err fault ∷ []) line (Err fault) so_far at seen tt kept full refl))
+        (one_more_called setting lines old new answers (answers ++ Err fault ∷ []) asked (Err fault) so_far at seen tt kept full refl))
 
     -- and by one under a lock that is held
-    pub held_further : (old new : Holding) (seat behind : Seated) (a : Result A CallFault) → Takes form owed a before after mid to
-        → IfOk a (IsFormOf form (IsHeldCall line old new seat behind)) → StaysHeld setting old new → OnErr a ((new ≡ old) × (behind ≡ seat))
+    pub held_further : (old new : Holding) (seat behind : Seated) (a : Result A CallFault) → Takes client form owed a before after mid to
+        → IfOk a (Answers (λ line. IsHeldCall line old new seat behind)) → StaysHeld setting old new → OnErr a ((new ≡ old) × (behind ≡ seat))
         → ((a ≡ Err JournalFull) ↔ (length old.journal ≡ MAX_ENTRIES)) → HasGone old.journal new.journal seat behind before after from to
-    held_further old new seat behind (Ok f) takes called stays same full =
-        let worker : behind.worker ≡ seat.worker = ap (λ s. s.worker) called.2.seat in
-        one_further old.journal new.journal seat behind line (Ok called.0) before after from mid to worker comes
-        (takes line (Ok called.0) is_owed (ap (λ x. Ok x) called.1))
-        (λ lines answers so_far at. subst (λ w. AreAnswers w lines new.journal behind.tally.calls (answers ++ Ok called.0 ∷ [])) worker
-        (one_more_held setting lines old new seat behind answers (answers ++ Ok called.0 ∷ []) line (Ok called.0) so_far at called.2 stays tt
+    held_further old new seat behind (Ok f) takes (receipt, is, (given, later, called)) stays same full =
+        let line = line_of asked.cred given asked.call in
+        let worker : behind.worker ≡ seat.worker = ap (λ s. s.worker) called.seat in
+        one_further old.journal new.journal seat behind line (Ok receipt) before after from mid to worker comes
+        (takes asked line (Ok receipt) is_owed (given, given_too store client asked.moment given may later, refl) (ap (λ x. Ok x) is))
+        (λ lines answers so_far at. subst (λ w. AreAnswers w lines new.journal behind.tally.calls (answers ++ Ok receipt ∷ [])) worker
+        (one_more_held setting lines old new seat behind answers (answers ++ Ok receipt ∷ []) line (Ok receipt) so_far at called stays tt
         (λ e. absurd (cc e)) refl))
     held_further old new seat behind (Err fault) takes called stays same full =
         let worker : behind.worker ≡ seat.worker = ap (λ s. s.worker) same.1 in
-        one_further old.journal new.journal seat behind line (Err fault) before after from mid to worker comes
-        (takes line (Err fault) is_owed refl)
+        one_further old.journal new.journal seat behind asked (Err fault) before after from mid to worker comes
+        (takes asked asked (Err fault) is_owed refl refl)
         (λ lines answers so_far at. subst (λ w. AreAnswers w lines new.journal behind.tally.calls (answers ++ Err fault ∷ [])) worker
-        (one_more_held setting lines old new seat behind answers (answers ++ Err fault ∷ []) line (Err fault) so_far at tt stays same
+        (one_more_held setting lines old new seat behind answers (answers ++ Err fault ∷ []) asked (Err fault) so_far at tt stays same
         (λ e. full.0 (ap (in_form form) e)) refl))
 
--- the hold has room for all but one call of those before
-pub room_left : {A : Type 0} (form : Receipt → A) (line : Line) (old new : Holding) (seat behind : Seated) (a : Result A CallFault)
-    → IfOk a (IsFormOf form (IsHeldCall line old new seat behind)) → OnErr a ((new ≡ old) × (behind ≡ seat)) → old.room ≤ new.room + 1
-room_left form line old new seat behind (Ok f) called same = omega (arith, called.2.room)
-room_left form line old new seat behind (Err fault) called same = omega (arith, ap (λ h. h.room) same.0)
+  -- the hold has room for all but one call of those before
+  pub room_left : (old new : Holding) (seat behind : Seated) (a : Result A CallFault)
+      → IfOk a (Answers (λ line. IsHeldCall line old new seat behind)) → OnErr a ((new ≡ old) × (behind ≡ seat)) → old.room ≤ new.room + 1
+  room_left old new seat behind (Ok f) (receipt, is, (given, later, called)) same = omega (arith, called.room)
+  room_left old new seat behind (Err fault) called same = omega (arith, ap (λ h. h.room) same.0)
 
 -- a new worker who has gone on to the end of its client has played it
 pub all_played : {Left : Type 0} (old new : Seated) (before after : List (Result ℕ FailedLine)) (from to : Talk Left) (w : Worked Left)

@@ -1,5 +1,5 @@
 -- What workers have done, of whom each plays what a client hands out.
-use Rattle.std.specs.Prelude.{◌≡◌, ℕ, ◌+◌, ◌<◌, ◌≤◌, ◌⊎◌, List, [], ◌∷◌, ◌++◌, length, All, slice_index_or}
+use Rattle.std.specs.Prelude.{◌≡◌, ℕ, Bool, true, ◌+◌, ◌<◌, ◌≤◌, ◌⊎◌, List, [], ◌∷◌, ◌++◌, length, All, slice_index_or}
 use Rattle.std.specs.Prelude.{Option, None, Result, Err}
 use Rattle.qplain.specs.declared.call_fault.CallFault.{CallFault}
 use Rattle.qplain.specs.declared.call_fault.CallFault.TheVariants.{JournalFull}
@@ -25,6 +25,10 @@ pub record Done : Type 0 where
 -- a client that has handed out nothing, and whose answers stand nowhere
 abbrev pub IsNewClient : Option Line → List (Result ℕ FailedLine) → Type 0
 IsNewClient owed stands = (owed ≡ None) × (stands ≡ [])
+
+-- where a clock rules a store, it may give the lines of a client their moments
+abbrev pub MayBeGiven : (store client : Bool) → Type 0
+MayBeGiven store client = store ≡ true → client ≡ true
 
 -- a worker that is ready to start: its number, and its client
 pub record Prepared (C : Type 0) : Type 0 where

@@ -49,12 +49,14 @@ impl ScriptClient {
 }
 
 impl Client for ScriptClient {
-    ghost use Rattle.std.specs.Prelude.{◌≡◌, []};
+    ghost use Rattle.std.specs.Prelude.{◌≡◌, [], false};
     ghost use Rattle.qrun_worker.specs.Scripts.{has_still, owed_of};
 
     type Form = u64;
 
     type Left = ();
+
+    ghost clocked = { false };
 
     ghost owed = { λ c. owed_of c.is_owed c.lines };
 
@@ -87,8 +89,8 @@ impl Client for ScriptClient {
         requires owed { IsSome (owed_of self.old.is_owed self.old.lines) }
         requires answer { IsAnswerIn (λ receipt. receipt.place) answer }
         ensures answered { owed_of self.new.is_owed self.new.lines ≡ None }
-        ensures told { Takes (λ receipt. receipt.place) (owed_of self.old.is_owed self.old.lines) answer self.old.stands
-            self.new.stands (has_still self.old.lines) (has_still self.new.lines) }
+        ensures told { Takes false (λ receipt. receipt.place) (owed_of self.old.is_owed self.old.lines) answer
+            self.old.stands self.new.stands (has_still self.old.lines) (has_still self.new.lines) }
     {
         self.is_owed = false;
         match answer {

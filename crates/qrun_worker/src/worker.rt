@@ -2,7 +2,7 @@
 ghost use Rattle.std.specs.Prelude.{◌≡◌, ◌+◌, ◌<◌, ◌≤◌, None, IsSome};
 ghost use Rattle.qplain.specs.Journal.{no_tally};
 ghost use Rattle.qshare.specs.declared.held.TheConstants.{MAX_BATCH};
-ghost use Rattle.qrun_worker.specs.Work.{HasGone, IsNewClient, IsPlayed, MayMake};
+ghost use Rattle.qrun_worker.specs.Work.{HasGone, IsNewClient, IsPlayed, MayBeGiven, MayMake};
 
 use crate::gate::Gate;
 use qrun_client::Client;
@@ -70,14 +70,14 @@ impl<'a, 'b, 'c, S: StoreId, B: Boards<S>, V: Drop, C: Client + Drop, G: Gate, R
     ghost use Rattle.std.specs.Prelude.{◌≡◌, ◌<◌, ◌≤◌};
     ghost use Rattle.qplain.specs.Journal.{no_tally};
     ghost use Rattle.qshare.specs.declared.held.TheConstants.{MAX_BATCH};
-    ghost use Rattle.qrun_worker.specs.Work.{IsNewClient, Prepared};
+    ghost use Rattle.qrun_worker.specs.Work.{IsNewClient, MayBeGiven, Prepared};
 
     ghost Value = { Prepared C };
 
     ghost view = { λ w. record { worker = w.seat.worker; client = w.client } };
 
     ghost invariant = { λ w. (0 < w.batch) × (w.batch ≤ MAX_BATCH) × (w.seat.tally ≡ no_tally)
-        × IsNewClient (C.owed w.client) (C.stands w.client) };
+        × IsNewClient (C.owed w.client) (C.stands w.client) × MayBeGiven S.id.clocked C.clocked };
 }
 
 impl<'a, 'b, 'c, S: StoreId, B: Boards<S>, V: Drop, C: Client + Drop, G: Gate, R: Wait> Worker<
@@ -104,6 +104,7 @@ impl<'a, 'b, 'c, S: StoreId, B: Boards<S>, V: Drop, C: Client + Drop, G: Gate, R
         requires batch { (0 < batch) × (batch ≤ MAX_BATCH) }
         requires seat { seat.tally ≡ no_tally }
         requires new { IsNewClient (C.owed client) (C.stands client) }
+        requires clock { MayBeGiven S.id.clocked C.clocked }
         ensures { result ≡ record { worker = seat.worker; client = client } }
     {
         Worker {
@@ -136,6 +137,7 @@ fn play_lines<S: StoreId, B: Boards<S>, V: Drop, C: Client, G: Gate, R: Wait>(
     seat: &mut Seat<S, V>,
 )
     requires answered { C.owed client.old ≡ None }
+    requires clock { MayBeGiven S.id.clocked C.clocked }
     ensures gone { HasGone seat.old.seen seat.new.seen seat.old seat.new (C.stands client.old) (C.stands client.new)
         (C.talk client.old) (C.talk client.new) }
     ensures ended { (C.owed client.new ≡ None) × C.has_ended client.new }
@@ -165,6 +167,7 @@ fn play_one<S: StoreId, B: Boards<S>, V: Drop, C: Client>(
 )
     requires owed { IsSome (C.owed client.old) }
     requires held { (0 < held.old.room) × (seat.old.worker ≡ held.old.by) }
+    requires clock { MayBeGiven S.id.clocked C.clocked }
     ensures gone { HasGone held.old.journal held.new.journal seat.old seat.new (C.stands client.old)
         (C.stands client.new) (C.talk client.old) (C.talk client.new) }
     ensures answered { C.owed client.new ≡ None }
@@ -186,6 +189,7 @@ fn play_held<S: StoreId, B: Boards<S>, V: Drop, C: Client, R: Wait>(
 ) -> usize
     requires owed { IsSome (C.owed client.old) }
     requires many { (0 < many) × MayMake many held seat.old }
+    requires clock { MayBeGiven S.id.clocked C.clocked }
     ensures gone { HasGone seat.old.seen seat.new.seen seat.old seat.new (C.stands client.old) (C.stands client.new)
         (C.talk client.old) (C.talk client.new) }
     ensures answered { C.owed client.new ≡ None }
@@ -216,6 +220,7 @@ fn play_batches<S: StoreId, B: Boards<S>, V: Drop, C: Client, G: Gate, R: Wait>(
 )
     requires batch { (0 < batch) × (batch ≤ MAX_BATCH) }
     requires answered { C.owed client.old ≡ None }
+    requires clock { MayBeGiven S.id.clocked C.clocked }
     ensures gone { HasGone seat.old.seen seat.new.seen seat.old seat.new (C.stands client.old) (C.stands client.new)
         (C.talk client.old) (C.talk client.new) }
     ensures ended { (C.owed client.new ≡ None) × C.has_ended client.new }

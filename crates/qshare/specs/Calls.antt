@@ -1,13 +1,17 @@
 -- What a call leaves that was journaled.
-use Rattle.std.specs.Prelude.{◌≡◌, ℕ, ◌+◌, ◌<◌, ◌≤◌, List, [], ◌∷◌, ◌++◌, length}
+use Rattle.std.specs.Prelude.{◌≡◌, Bool, ℕ, ◌+◌, ◌<◌, ◌≤◌, List, [], ◌∷◌, ◌++◌, length}
 use Rattle.qplain.specs.declared.bounds.TheConstants.{MAX_ENTRIES}
+use Rattle.qplain.specs.declared.call.Call.{Call}
 use Rattle.qplain.specs.declared.entry.Entry.{Entry}
 use Rattle.qplain.specs.declared.line.Line.{Line}
 use Rattle.qplain.specs.declared.receipt.Receipt.{Receipt}
 use Rattle.qplain.specs.declared.tallies.Tallies.{Tallies}
+use Rattle.qplain.specs.Caller.{Caller}
 use Rattle.qplain.specs.Journal.{IsLegal, change_of, counted, entry_of}
 use Rattle.qplain.specs.Setups.{Setting}
 use Rattle.qplain.specs.State.{start}
+use Rattle.qshare_history.specs.Moments.{IsGiven}
+use Rattle.qstore_journaled.specs.Lines.{line_of}
 use Rattle.qshare.specs.Holds.{Holding}
 use Rattle.qshare.specs.Seats.{Seated}
 
@@ -37,6 +41,11 @@ pub record IsHeldCall (line : Line) (old new : Holding) (before after : Seated) 
   pub journaled : IsJournaled before.worker line old.journal new.journal before.tally after.tally receipt
   pub seat : after ≡ record before { tally = after.tally }
   pub room : new.room + 1 ≡ old.room
+
+-- it holds of a caller's call with some moment that it is given, and of the receipt
+abbrev pub AtGiven : Bool → Caller → ℕ → Call → (Line → Receipt → Type 0) → Receipt → Type 0
+AtGiven clocked cred told call Is receipt =
+    (given : ℕ) × IsGiven clocked told given × Is (line_of cred given call) receipt
 
 -- the answer is the form of a receipt of which that holds
 abbrev pub IsFormOf : {A : Type 0} → (Receipt → A) → (Receipt → Type 0) → A → Type 0

@@ -2,8 +2,7 @@
 ghost use Rattle.std.specs.Prelude.{◌≡◌, ◌<◌, ◌↔◌, length, Err, IfOk, IfSome, OnErr};
 ghost use Rattle.qplain.specs.declared.bounds.TheConstants.{MAX_ENTRIES};
 ghost use Rattle.qplain.specs.declared.call_fault.CallFault.TheVariants.{JournalFull};
-ghost use Rattle.qstore_journaled.specs.Lines.{line_of};
-ghost use Rattle.qshare.specs.Calls.{IsFormOf, IsHeldCall, StaysHeld};
+ghost use Rattle.qshare.specs.Calls.{AtGiven, IsFormOf, IsHeldCall, StaysHeld};
 ghost use Rattle.qshare.specs.Holds.{IsHeldBy};
 ghost use Rattle.qshare.specs.Seats.{HasSeenOn};
 
@@ -95,7 +94,7 @@ impl<'a, S: StoreId, B: Boards<S>> Held<'a, S, B> {
     ///
     /// Places count on within one hold. Err is JournalFull, reported first, where the journal has its 1,048,576
     /// entries, or OutOfMemory; it changes nothing, the room included. Moments, refusals and costs are those of
-    /// `Store::ready`. It is answered as asked for, as by `Shared::call`.
+    /// `Store::ready`. Its moment is given and it is answered as by `Shared::call`.
     #[inline(always)]
     pub fn apply<A: ReceiptForm, V: Drop>(
         &mut self,
@@ -106,8 +105,8 @@ impl<'a, S: StoreId, B: Boards<S>> Held<'a, S, B> {
     ) -> Result<A, CallFault>
         requires room { 0 < self.old.room }
         requires by { seat.old.worker ≡ self.old.by }
-        ensures ok { IfOk result (IsFormOf A.form
-            (IsHeldCall (line_of cred.now moment call.now) self.old self.new seat.old seat.new)) }
+        ensures ok { IfOk result (IsFormOf A.form (AtGiven S.id.clocked cred.now moment call.now
+            (λ line. IsHeldCall line self.old self.new seat.old seat.new))) }
         ensures stays { StaysHeld S.id.setting self.old self.new }
         ensures err { OnErr result ((self.new ≡ self.old) × (seat.new ≡ seat.old)) }
         ensures full { (result ≡ Err JournalFull) ↔ (length self.old.journal ≡ MAX_ENTRIES) }

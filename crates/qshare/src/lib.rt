@@ -18,6 +18,7 @@ pub use share_fault::ShareFault;
 pub use shared::Shared;
 
 mod boards;
+mod clock;
 mod end_fault;
 mod first_boards;
 mod held;

@@ -8,12 +8,12 @@ ghost use Rattle.qplain.specs.Journal.{IsLegal, no_tally};
 ghost use Rattle.qplain.specs.State.{start};
 ghost use Rattle.qshare_history.specs.Histories.{recorded};
 ghost use Rattle.qstore_journaled.specs.Journaled.{IsStoreOf};
-ghost use Rattle.qstore_journaled.specs.Lines.{line_of};
-ghost use Rattle.qshare.specs.Calls.{IsFormOf, IsJournaled};
+ghost use Rattle.qshare.specs.Calls.{AtGiven, IsFormOf, IsJournaled};
 ghost use Rattle.qshare.specs.Ends.{IsEndOf};
 ghost use Rattle.qshare.specs.Locked.{IsNewStore};
 
 use crate::boards::Boards;
+use crate::clock::given_moment;
 use crate::no_boards::NoBoards;
 use qplain::{Call, CallFault, Cred, ReceiptForm};
 use qshare_history::{History, Prefix, SeatTally, Share, StoreId, TallyPart, TallyTotal, together};
@@ -32,6 +32,8 @@ pub(crate) struct LockedStore<S: StoreId, B: Boards<S>> {
     seats: u64,
     /// No part of the tally.
     rest: TallyPart<S>,
+    /// Whether a clock rules it.
+    clocked: bool,
     boards: B,
 }
 
@@ -42,7 +44,7 @@ impl<S: StoreId, B: Boards<S>> Model for LockedStore<S, B> {
 
     ghost view = { λ d. record { journal = d.store.journal; published = d.history.entries } };
 
-    ghost invariant = { λ d. IsLockedOf S.id d.store d.history d.tally d.rest d.seats
+    ghost invariant = { λ d. IsLockedOf S.id d.store d.history d.tally d.rest d.seats d.clocked
         × B.waits d.boards d.history.entries d.store.journal };
 }
 
@@ -54,11 +56,13 @@ impl<S: StoreId> LockedStore<S, NoBoards> {
         tally: TallyTotal<S>,
         seats: u64,
         rest: TallyPart<S>,
+        clocked: bool,
     ) -> LockedStore<S, NoBoards>
         requires store { IsStoreOf S.id.setting store × (store.journal ≡ []) }
         requires history { history ≡ recorded S.id.history [] }
         requires seats { seats ≡ S.id.counters.parts }
         requires tally { (tally ≡ no_tally) × (rest ≡ record { tally = no_tally; parts = 0 }) }
+        requires clocked { clocked ≡ S.id.clocked }
         ensures { IsNewStore result }
     {
         LockedStore {
@@ -67,6 +71,7 @@ impl<S: StoreId> LockedStore<S, NoBoards> {
             tally,
             seats,
             rest,
+            clocked,
             boards: NoBoards,
         }
     }
@@ -82,6 +87,7 @@ impl<S: StoreId> LockedStore<S, NoBoards> {
             tally: self.tally,
             seats: self.seats,
             rest: self.rest,
+            clocked: self.clocked,
             boards,
         }
     }
@@ -103,7 +109,8 @@ impl<S: StoreId, B: Boards<S>> LockedStore<S, B> {
     }
 
     /// Makes a call and journals it, and answers in the form that is asked for; entry and what the call does to the
-    /// boards wait to be published.
+    /// boards wait to be published. Its moment is the one told, but, where a clock rules the store, not before the last
+    /// entry's.
     ///
     /// Err is JournalFull, reported first, where the journal has its 1,048,576 entries, or OutOfMemory; it changes
     /// nothing.
@@ -117,14 +124,15 @@ impl<S: StoreId, B: Boards<S>> LockedStore<S, B> {
         call: &Call,
     ) -> Result<A, CallFault>
         requires parts { 0 < mine.old.parts }
-        ensures ok { IfOk result (IsFormOf A.form (IsJournaled worker (line_of cred.now moment call.now)
-            self.old.journal self.new.journal mine.old.tally mine.new.tally)) }
+        ensures ok { IfOk result (IsFormOf A.form (AtGiven S.id.clocked cred.now moment call.now
+            (λ line. IsJournaled worker line self.old.journal self.new.journal mine.old.tally mine.new.tally))) }
         ensures stays { (mine.new.parts ≡ mine.old.parts) × (self.new.published ≡ self.old.published) }
         ensures err { OnErr result ((self.new ≡ self.old) × (mine.new ≡ mine.old)) }
         ensures full { (result ≡ Err JournalFull) ↔ (length self.old.journal ≡ MAX_ENTRIES) }
         ensures legal { IsLegal (start S.id.setting) self.new.journal × (length self.new.journal ≤ MAX_ENTRIES) }
     {
-        self.store.ready(worker, cred, moment, call)?;
+        let given = given_moment(self.clocked, &self.store, moment);
+        self.store.ready(worker, cred, given, call)?;
         let reply = &self.store.next().reply;
         let change = reply.change();
         let Ok(answer) = A::of(self.store.entries().len() as u64 + 1, reply) else {
@@ -194,7 +202,7 @@ impl<S: StoreId, B: Boards<S>> LockedStore<S, B> {
     pub(crate) fn close<W: Wait>(self, rt: &W, shares: Vec<Share<S>>) -> JournaledStore
         requires { S.id.counters.parts ≤ length shares.items }
         ensures setting { result.setting ≡ S.id.setting }
-        ensures end { IsEndOf shares.items result }
+        ensures end { IsEndOf S.id.clocked shares.items result }
     {
         self.await_all(rt, &shares);
         let LockedStore {

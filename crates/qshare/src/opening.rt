@@ -1,5 +1,5 @@
 //! How a shared store is made: first a store, then its identity, then its seats.
-ghost use Rattle.std.specs.Prelude.{◌≡◌, ◌<◌, ◌≤◌, ◌⊎◌, ◌-◌, Err, IfOk, IfErr};
+ghost use Rattle.std.specs.Prelude.{◌≡◌, ◌<◌, ◌≤◌, ◌⊎◌, ◌-◌, false, true, Err, IfOk, IfErr};
 ghost use Rattle.qplain.specs.Journal.{no_tally};
 ghost use Rattle.qshare.specs.Locked.{IsNewStore};
 ghost use Rattle.qshare.specs.Seats.{new_seat, seats_of};
@@ -35,6 +35,8 @@ pub struct Opened {
     history: History,
     counters: BlankCounters,
     seats: u64,
+    /// Whether a clock rules it.
+    clocked: bool,
 }
 
 impl Model for Opened {
@@ -47,6 +49,7 @@ impl Model for Opened {
       setting = o.store.setting;
       history = o.history.history;
       counters = o.counters;
+      clocked = o.clocked;
     } };
 
     ghost use Rattle.qstore_journaled.specs.Journaled.{IsPlayed};
@@ -60,6 +63,7 @@ fn open_store(alloc: Global, setup: Setup, seats: u64, seed: u64) -> Result<Open
     requires few { (0 < seats) × (seats ≤ MAX_SEATS) }
     ensures setting { IfOk result (λ o. o.setting ≡ setup) }
     ensures seats { IfOk result (λ o. o.counters.parts ≡ seats) }
+    ensures clock { IfOk result (λ o. o.clocked ≡ false) }
 {
     Ok(Opened {
         alloc,
@@ -67,17 +71,19 @@ fn open_store(alloc: Global, setup: Setup, seats: u64, seed: u64) -> Result<Open
         history: History::new(),
         counters: BlankCounters::new(seats),
         seats,
+        clocked: false,
     })
 }
 
 impl Opened {
-    /// A new store of the setup, for 1 to 16 seats.
+    /// A new store of the setup, for 1 to 16 seats, which no clock rules.
     ///
     /// The hashes of names begin at `seed`, which may be any number. Seats is reported first. After an Err nothing was
     /// made.
     pub fn new(alloc: Global, setup: Setup, seats: u64, seed: u64) -> Result<Opened, ShareFault>
         ensures setting { IfOk result (λ o. o.setting ≡ setup) }
         ensures seats { IfOk result (λ o. o.counters.parts ≡ seats) }
+        ensures clock { IfOk result (λ o. o.clocked ≡ false) }
         ensures refused { (0 < seats) × (seats ≤ MAX_SEATS)
             → IfErr result (λ fault. fault ≡ ShareFault.OutOfMemory) }
         ensures most { (seats ≡ 0) ⊎ (MAX_SEATS < seats) → result ≡ Err ShareFault.Seats }
@@ -88,6 +94,20 @@ impl Opened {
         match open_store(alloc, setup, seats, seed) {
             Ok(opened) => Ok(opened),
             Err(_) => Err(ShareFault::OutOfMemory),
+        }
+    }
+
+    /// The same store, ruled by a clock: the moments of its journal never fall.
+    ///
+    /// A call is journaled with the moment that it tells or, where that is earlier than the last entry's, with that
+    /// one. So a moment that is too late is that of all calls after it, and past 2^40 seconds all are refused: let
+    /// callers tell moments of a clock alone.
+    pub fn with_clock(self) -> Opened
+        ensures { result ≡ record self { clocked = true } }
+    {
+        Opened {
+            clocked: true,
+            ..self
         }
     }
 
@@ -103,11 +123,13 @@ impl Opened {
             history,
             counters,
             seats,
+            clocked,
             ..
         } = self;
         let (tally, mut all) = counters.open::<S>();
         let rest = all.empty();
-        (LockedStore::new(store, history, tally, seats, rest), all)
+        let locked = LockedStore::new(store, history, tally, seats, rest, clocked);
+        (locked, all)
     }
 
     /// The store under its identity, behind its lock, and its seats, which are numbered from 1 and can look at its

@@ -4,8 +4,7 @@ ghost use Rattle.std.specs.Result.{IsOk};
 ghost use Rattle.qplain.specs.declared.bounds.TheConstants.{MAX_ENTRIES};
 ghost use Rattle.qplain.specs.declared.call_fault.CallFault.TheVariants.{JournalFull};
 ghost use Rattle.qshare_history.specs.Shares.{AreThere, IsLeastMissing};
-ghost use Rattle.qstore_journaled.specs.Lines.{line_of};
-ghost use Rattle.qshare.specs.Calls.{IsCalled, IsFormOf};
+ghost use Rattle.qshare.specs.Calls.{AtGiven, IsCalled, IsFormOf};
 ghost use Rattle.qshare.specs.Ends.{IsEndOf};
 ghost use Rattle.qshare.specs.Seats.{HasSeenOn};
 
@@ -41,8 +40,8 @@ fn call_locked<A: ReceiptForm, S: StoreId, B: Boards<S>, V: Drop, W: Wait>(
     call: &Call,
 ) -> Result<A, CallFault>
     ensures seen { HasSeenOn S.id.setting seat.old seat.new }
-    ensures called { IfOk result
-        (IsFormOf A.form (IsCalled (line_of cred.now moment call.now) seat.old seat.new)) }
+    ensures called { IfOk result (IsFormOf A.form (AtGiven S.id.clocked cred.now moment call.now
+        (λ line. IsCalled line seat.old seat.new))) }
     ensures kept { OnErr result (seat.new.tally ≡ seat.old.tally) }
     ensures full { IfErr result (λ f. (f ≡ JournalFull) ↔ (length seat.new.seen ≡ MAX_ENTRIES)) }
     ensures stays_full { MAX_ENTRIES ≤ length seat.old.seen → result ≡ Err JournalFull }
@@ -69,7 +68,8 @@ impl<S: StoreId, B: Boards<S>> Shared<S, B> {
     /// The seat has then seen a legal history that begins with all that it had seen and has this call at the receipt's
     /// place, after all that it had seen; so the call is published. Err is JournalFull, reported first, where the
     /// journal has its 1,048,576 entries, or OutOfMemory; it changes nothing, and the call is in no journal. Moments,
-    /// refusals and costs are those of `Store::ready`.
+    /// refusals and costs are those of `Store::ready`. The call is made and journaled with the moment that it tells;
+    /// where a clock rules the store, with the last entry's, if that is later.
     ///
     /// It is answered as asked for: by the receipt, or by the place alone (`u64`), for which no reply is copied.
     // A worker has a loop around it: in its place it moves no reply from hand to hand.
@@ -83,8 +83,8 @@ impl<S: StoreId, B: Boards<S>> Shared<S, B> {
         call: &Call,
     ) -> Result<A, CallFault>
         ensures seen { HasSeenOn S.id.setting seat.old seat.new }
-        ensures called { IfOk result
-            (IsFormOf A.form (IsCalled (line_of cred.now moment call.now) seat.old seat.new)) }
+        ensures called { IfOk result (IsFormOf A.form (AtGiven S.id.clocked cred.now moment call.now
+            (λ line. IsCalled line seat.old seat.new))) }
         ensures kept { OnErr result (seat.new.tally ≡ seat.old.tally) }
         ensures full { IfErr result (λ f. (f ≡ JournalFull) ↔ (length seat.new.seen ≡ MAX_ENTRIES)) }
         ensures stays_full { MAX_ENTRIES ≤ length seat.old.seen → result ≡ Err JournalFull }
@@ -94,7 +94,7 @@ impl<S: StoreId, B: Boards<S>> Shared<S, B> {
     }
 
     /// Ends the store, where the shares of all its seats are there: what they have seen are prefixes of its journal,
-    /// and what they have counted is the journal's tally.
+    /// and what they have counted is the journal's tally. Where a clock rules the store, moments never fall in it.
     ///
     /// An Err names the least worker whose share is not there, and gives store and shares back. It takes no memory.
     pub fn end<W: Wait>(
@@ -103,7 +103,7 @@ impl<S: StoreId, B: Boards<S>> Shared<S, B> {
         shares: Vec<Share<S>>,
     ) -> Result<JournaledStore, EndFault<S, B>>
         ensures setting { IfOk result (λ j. j.setting ≡ S.id.setting) }
-        ensures end { IfOk result (IsEndOf shares.items) }
+        ensures end { IfOk result (IsEndOf S.id.clocked shares.items) }
         ensures missing { (worker : ℕ) (shared : _) (given : _) → result ≡ Err (EndFault.Missing worker shared given)
             → (given.items ≡ shares.items) × IsLeastMissing shares.items S.id.counters.parts worker }
         ensures all { AreThere shares.items S.id.counters.parts → IsOk result }

@@ -1,5 +1,5 @@
 -- What a store is told from another by.
-use Rattle.std.specs.Prelude.{ℕ, []}
+use Rattle.std.specs.Prelude.{Bool, false, ℕ, []}
 use Rattle.logbook.specs.Pages.{Book}
 use Rattle.qplain.specs.declared.edition.Edition.TheVariants.{One}
 use Rattle.qplain.specs.Setups.{Setting}
@@ -13,11 +13,13 @@ pub record Counters : Type 0 where
   pub calls : ℕ
   pub parts : ℕ
 
--- the setting that it starts from, which history it has, and which counters, of as many parts as it has seats
+-- the setting that it starts from, which history it has, which counters, of as many parts as it has seats, and whether
+-- a clock rules the moments of that history
 pub record Identity : Type 0 where
   pub setting : Setting
   pub history : Book
   pub counters : Counters
+  pub clocked : Bool
 
 -- the identity of no store
 abbrev pub no_identity : Identity
@@ -40,4 +42,5 @@ no_identity = record {
     calls = 0;
     parts = 0;
   };
+  clocked = false;
 }

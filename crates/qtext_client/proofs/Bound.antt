@@ -1,5 +1,5 @@
 -- The lines of a client that is bound are those that it may write.
-use Rattle.std.proofs.Common.{All, ℕ, List, [], ◌∷◌, Option, Result, sym, subst}
+use Rattle.std.proofs.Common.{All, ℕ, Bool, List, [], ◌∷◌, Option, Result, sym, subst}
 use Rattle.std.specs.List.{flat_map}
 use Rattle.std.proofs.lemmas.List.Concat.{flat_map-cons}
 use Rattle.std.proofs.lemmas.List.Elements.{All-append, All-cons, All-head, All-nil, All-tail}
@@ -11,6 +11,7 @@ use Rattle.qtext_client.specs.Conversations.{Exchange, Had, IsTalk, IsToldOf, ha
 use Rattle.qtext_client.specs.Terms.{Binding, MayWrite}
 use Rattle.qtext_client.specs.declared.response.Response.{Response}
 use Rattle.qtext_client.specs.declared.response.Response.TheVariants.{Answer, Fault, NoMemory}
+use Rattle.qtext_client.proofs.Said.{said_may}
 
 -- a line that was handed out is one that the client may write
 handed_bound : (bound : Option Binding) (had : Had) (text : List ℕ) (response : Response) → IsToldOf bound had text response
@@ -30,7 +31,7 @@ all_handed bound had (e ∷ exchanges) each =
     (All-append (MayWrite bound) (handed_out e.text e.response) _ (handed_bound bound had e.text e.response (All-head Told e exchanges each))
     (all_handed bound had exchanges (All-tail Told e exchanges each)))
 
-pub bound_lines : (bound : Option Binding) (had : Had) (hears : Option (List ℕ)) (lines : List Line) (answers : List (Result Receipt CallFault))
-    (end : ClientEnd) → IsTalk bound had hears lines answers end → All (MayWrite bound) lines
-bound_lines bound had hears lines answers end talk =
-    subst (All (MayWrite bound)) (sym talk.lines_are) (all_handed bound had talk.exchanges talk.each)
+pub bound_lines : (clocked : Bool) (bound : Option Binding) (had : Had) (hears : Option (List ℕ)) (lines : List Line)
+    (answers : List (Result Receipt CallFault)) (end : ClientEnd) → IsTalk clocked bound had hears lines answers end → All (MayWrite bound) lines
+bound_lines clocked bound had hears lines answers end talk =
+    said_may clocked bound lines _ talk.lines_are (all_handed bound had talk.exchanges talk.each)

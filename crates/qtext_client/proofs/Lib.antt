@@ -3,6 +3,7 @@ pub mod FirstLines
 pub mod LineParts
 pub mod OneLine
 pub mod Spending
+pub mod Said
 pub mod Talking
 pub mod Talked
 pub mod Bound

@@ -1,18 +1,19 @@
 -- What comes of clients of streams.
-use Rattle.std.proofs.Common.{◌≡◌, ◌⊎◌, inl, inr, ℕ, ◌+◌, ◌≤◌, ◌&&◌, List, [], ◌∷◌, ◌++◌, length, Option, Some, None, IfSome, IsSome, Result, Ok, Err, refl, sym, ap, subst, ◌∙◌, append-nil, length-append, arith}
+use Rattle.std.proofs.Common.{◌≡◌, ◌⊎◌, inl, inr, ℕ, Bool, ◌+◌, ◌≤◌, ◌&&◌, List, [], ◌∷◌, ◌++◌, length, Option, Some, None, IfSome, IsSome, Result, Ok, Err, refl, sym, ap, subst, ◌∙◌, append-nil, length-append, arith}
 use Rattle.std.proofs.lemmas.List.Elements.{All-nil}
 use Rattle.qplain.specs.declared.call_fault.CallFault.{CallFault}
 use Rattle.qplain.specs.declared.line.Line.{Line}
 use Rattle.qplain.specs.declared.receipt.Receipt.{Receipt}
-use Rattle.qrun_client.specs.Clients.{ComesOf, GoesOn, in_form}
+use Rattle.qrun_client.specs.Clients.{ComesOf, GoesOn, IsAnswered, in_form}
 use Rattle.qrun_client.specs.declared.client.ClientEnd.{ClientEnd}
 use Rattle.qrun_client.specs.declared.client.ClientEnd.TheVariants.{Served}
 use Rattle.qrun_replay.specs.declared.failed_line.FailedLine.{FailedLine}
 use Rattle.qtext_files.specs.Scripts.{script_of}
-use Rattle.qtext_client.specs.Conversations.{AreFirstLines, ComesTo, Had, IsToldOf, Progress, StaysThere, TalksOn, comes_to, had_behind, lines_said}
-use Rattle.qtext_client.specs.Hearings.{IsToldAlone}
+use Rattle.qtext_client.proofs.Said.{answered_behind, answered_said}
+use Rattle.qtext_client.specs.Conversations.{AreFirstLines, ComesTo, Had, IsToldOf, Progress, StaysThere, TalksOn, comes_to, had_behind, lines_said, what_is_said}
+use Rattle.qtext_client.specs.Hearings.{IsToldAlone, SaysAlone}
 use Rattle.qtext_client.specs.Responses.{has_failed, response_text}
-use Rattle.qtext_client.specs.Terms.{Binding, IsSpent, MayWrite, StaysWithin, behind, behind_all}
+use Rattle.qtext_client.specs.Terms.{Binding, IsSpent, StaysWithin, behind, behind_all}
 use Rattle.qtext_client.specs.Wires.{HasEnded, HasLetGo, Hears, IsGone, IsToldLast, Stays, TellsNothing, Wire}
 use Rattle.qtext_client.specs.declared.response.BadLine.TheVariants.{Text, Length, OtherCaller, Depth, Share}
 use Rattle.qtext_client.specs.declared.response.Response.{Response}
@@ -50,16 +51,16 @@ unfolding StaysWithin
 within_first share line answer more further lines answers lines_are answers_are some later =
     subst (λ l. StaysWithin share l answers) (sym lines_are) (subst (StaysWithin share (line ∷ more)) (sym answers_are) (some, later))
 
-module _ {S : Type 0} (took : S → Option (List ℕ)) (p q : Progress) where
+module _ {S : Type 0} (clocked : Bool) (took : S → Option (List ℕ)) (p q : Progress) where
   -- a step of a client that is owed nothing, which hands out no line
   step_of : (new : Wire) → p.owed ≡ None → q ≡ record p { wire = new }
       → ((lines : List Line) (answers : List (Result Receipt CallFault)) (wrote : Option (List ℕ)) (end : ClientEnd)
-      → ComesTo (record p { owed = None; wire = new }) lines answers wrote end → ComesTo (record p { owed = None }) lines answers wrote end)
-      → ComesOf (comes_to took p) (comes_to took q)
+      → ComesTo clocked (record p { owed = None; wire = new }) lines answers wrote end → ComesTo clocked (record p { owed = None }) lines answers wrote end)
+      → ComesOf (comes_to clocked took p) (comes_to clocked took q)
   step_of new none stays step lines answers left comes =
-      subst (λ o. comes_to took (record p { owed = o }) lines answers left) (sym none)
+      subst (λ o. comes_to clocked took (record p { owed = o }) lines answers left) (sym none)
       (step lines answers (took left.streams) left.end
-      (subst (λ x. comes_to took x lines answers left) (stays ∙ (λ i. record p { owed = none i; wire = new })) comes))
+      (subst (λ x. comes_to clocked took x lines answers left) (stays ∙ (λ i. record p { owed = none i; wire = new })) comes))
 
   -- what it has had in all, said before its answer was kept and behind that
   had_one_more : (line : Line) (answer : Result Receipt CallFault) (stand : Result ℕ FailedLine) (lines : List Line)
@@ -74,61 +75,68 @@ module _ {S : Type 0} (took : S → Option (List ℕ)) (p q : Progress) where
 
   -- the streams were opened, or were not to be had
   pub begun : (new : Wire) → p.owed ≡ None → q ≡ record p { wire = new } → Stays p.wire new ⊎ HasEnded p.wire new
-      → ComesOf (comes_to took p) (comes_to took q)
+      → ComesOf (comes_to clocked took p) (comes_to clocked took q)
   begun new none stays began = step_of new none stays (λ lines answers wrote end comes. elim began [
-    | inl same ↦ stays_so p.stops p.bound p.share wrote end lines answers _ p.wire new same comes
-    | inr ended ↦ has_ended_so p.stops p.bound p.share wrote end lines answers _ p.wire new ended comes
+    | inl same ↦ stays_so p.stops clocked p.bound p.share wrote end lines answers _ p.wire new same comes
+    | inr ended ↦ has_ended_so p.stops clocked p.bound p.share wrote end lines answers _ p.wire new ended comes
   ])
 
   -- a line was heard, and then this was told of it
   pub told_one : (mid : Progress) (new : Wire) (text : List ℕ) (response : Response) → p.owed ≡ None → mid ≡ record p { wire = new } → StaysThere mid q
       → Hears p.wire new text → IsToldLast (mid.stops && has_failed response) mid.wire q.wire (response_text response)
-      → IsToldAlone p.bound (had_behind p [] []) text response → ComesOf (comes_to took p) (comes_to took q)
+      → IsToldAlone p.bound (had_behind p [] []) text response → ComesOf (comes_to clocked took p) (comes_to clocked took q)
   unfolding behind_all
   told_one mid new text response none before stays hears is_told alone =
       step_of q.wire none (stays ∙ (λ i. record (before i) { wire = q.wire })) (λ lines answers wrote end comes.
-      heard_so p.stops p.bound p.share wrote end lines answers _ p.wire new text response lines answers p.share hears
+      heard_so p.stops clocked p.bound p.share wrote end lines answers _ p.wire new text response lines answers p.share [] hears
       (told_later p.bound (had_behind p [] []) (had_behind p lines answers) text response
       (omega arith, spent_later p.share lines answers) alone.is)
-      (ap (λ l. l ++ lines) (sym alone.nothing)) (ap (λ l. l ++ answers) (sym alone.none)) comes.within
-      (told_so p.stops p.bound p.share wrote end lines answers _ _ new q.wire response refl hears.still.1
+      (ap (what_is_said clocked) (sym alone.nothing)) refl
+      (ap (λ l. l ++ answers) (sym alone.none)) comes.within
+      (told_so p.stops clocked p.bound p.share wrote end lines answers _ _ new q.wire response refl hears.still.1
       (subst (λ m. IsToldLast (m.stops && has_failed response) m.wire q.wire (response_text response)) before is_told) comes))
 
   -- a line was heard and handed out
   pub handed_one : (new : Wire) (text : List ℕ) (line : Line) → p.owed ≡ None → q ≡ record p { owed = Some line; wire = new } → Hears p.wire new text
-      → script_of text ≡ Ok (line ∷ []) → MayWrite p.bound line → (IsSpent p.share → ⊥) → ComesOf (comes_to took p) (comes_to took q)
-  handed_one new text line none is hears says may some lines answers left comes =
-      let (answer, more, further, lines_are, answers_are, goes) = subst (λ x. comes_to took x lines answers left) is comes in
-      subst (λ o. comes_to took (record p { owed = o }) lines answers left) (sym none)
-      (heard_so p.stops p.bound p.share (took left.streams) left.end lines answers _ p.wire new text (Answer answer) more further
-      (behind p.share line answer) hears (line, says, may) (lines_are ∙ ap (λ s. lines_said s ++ more) (sym says)) answers_are
-      (within_first p.share line answer more further lines answers lines_are answers_are some goes.within) goes)
+      → SaysAlone clocked p.bound line (script_of text) → (IsSpent p.share → ⊥) → ComesOf (comes_to clocked took p) (comes_to clocked took q)
+  handed_one new text line none is hears (said, says, may, same) some lines answers left comes =
+      let (first, answer, more, further, lines_are, answers_are, asked, goes) = subst (λ x. comes_to clocked took x lines answers left) is comes in
+      subst (λ o. comes_to clocked took (record p { owed = o }) lines answers left) (sym none)
+      (heard_so p.stops clocked p.bound p.share (took left.streams) left.end lines answers _ p.wire new text (Answer answer) more further
+      (behind p.share first answer) (first ∷ []) hears (said, says, may)
+      (answered_said clocked line first answer asked ∙ same ∙ ap (λ s. what_is_said clocked (lines_said s)) (sym says)) lines_are answers_are
+      (within_first p.share first answer more further lines answers lines_are answers_are some goes.within) goes)
 
   -- it was kept where an answer stands, and then the answer was told
-  pub answered_one : (mid : Progress) (line : Line) (answer : Result Receipt CallFault) (stand : Result ℕ FailedLine) → p.owed ≡ Some line
-      → p.wire.end ≡ None → mid ≡ record p { stands = p.stands ++ stand ∷ []; share = behind p.share line answer; owed = None } → StaysThere mid q
+  pub answered_one : (mid : Progress) (asked line : Line) (answer : Result Receipt CallFault) (stand : Result ℕ FailedLine) → p.owed ≡ Some asked
+      → IsAnswered clocked asked line answer → p.wire.end ≡ None
+      → mid ≡ record p { stands = p.stands ++ stand ∷ []; share = behind p.share asked answer; owed = None } → StaysThere mid q
       → IsToldLast (mid.stops && has_failed (Answer answer)) mid.wire q.wire (response_text (Answer answer))
-      → GoesOn line answer (comes_to took p) (comes_to took q)
-  answered_one mid line answer stand owed still kept stays is_told lines answers left comes =
-      subst (λ o. comes_to took (record p { owed = o }) (line ∷ lines) (answer ∷ answers) left) (sym owed) (
+      → GoesOn line answer (comes_to clocked took p) (comes_to clocked took q)
+  answered_one mid asked line answer stand owed given still kept stays is_told lines answers left comes =
+      let behind_it = answered_behind clocked p.share asked line answer given in
+      let kept_so = kept ∙ (λ i. record p { stands = p.stands ++ stand ∷ []; share = sym behind_it i; owed = None }) in
+      subst (λ o. comes_to clocked took (record p { owed = o }) (line ∷ lines) (answer ∷ answers) left) (sym owed) (
+        line,
         answer,
         lines,
         answers,
         refl,
         refl,
-        told_so p.stops p.bound (behind p.share line answer) (took left.streams) left.end lines answers _ _ p.wire q.wire (Answer answer)
+        given,
+        told_so p.stops clocked p.bound (behind p.share line answer) (took left.streams) left.end lines answers _ _ p.wire q.wire (Answer answer)
             (had_one_more line answer stand lines answers) still
-            (subst (λ m. IsToldLast (m.stops && has_failed (Answer answer)) m.wire q.wire (response_text (Answer answer))) kept is_told)
-            (subst (λ x. comes_to took x lines answers left) (stays ∙ (λ i. record (kept i) { wire = q.wire })) comes),
+            (subst (λ m. IsToldLast (m.stops && has_failed (Answer answer)) m.wire q.wire (response_text (Answer answer))) kept_so is_told)
+            (subst (λ x. comes_to clocked took x lines answers left) (stays ∙ (λ i. record (kept_so i) { wire = q.wire })) comes),
       )
 
 -- of a client that has ended and is owed nothing nothing more comes
-pub taken_apart : (p : Progress) (new : Wire) (wrote : Option (List ℕ)) (end : ClientEnd) → p.owed ≡ None → HasEnded p.wire new
-    → new.hears ≡ Some [] → new.end ≡ Some end → new.wrote ≡ wrote → ComesTo p [] [] wrote end
+pub taken_apart : (clocked : Bool) (p : Progress) (new : Wire) (wrote : Option (List ℕ)) (end : ClientEnd) → p.owed ≡ None → HasEnded p.wire new
+    → new.hears ≡ Some [] → new.end ≡ Some end → new.wrote ≡ wrote → ComesTo clocked p [] [] wrote end
 unfolding AreFirstLines StaysWithin
-taken_apart p new wrote end none ended deaf ends took =
+taken_apart clocked p new wrote end none ended deaf ends took =
     let had = had_behind p [] [] in
-    let nothing : TalksOn p.stops p.bound p.share had new wrote end [] [] [] = record {
+    let nothing : TalksOn p.stops clocked p.bound p.share had new wrote end [] [] [] = record {
       talk = record {
         exchanges = [];
         rest = [];
@@ -143,7 +151,8 @@ taken_apart p new wrote end none ended deaf ends took =
       written = λ other. held wrote took;
       ended = subst (λ e. IfSome e (λ x. x ≡ end)) (sym ends) refl;
     } in
-    subst (λ o. ComesTo (record p { owed = o }) [] [] wrote end) (sym none) (has_ended_so p.stops p.bound p.share wrote end [] [] had p.wire new ended nothing)
+    subst (λ o. ComesTo clocked (record p { owed = o }) [] [] wrote end) (sym none)
+    (has_ended_so p.stops clocked p.bound p.share wrote end [] [] had p.wire new ended nothing)
   where
     held : (known : Option (List ℕ)) → new.wrote ≡ known → IfSome known (λ bytes. (before : List ℕ) × (new.wrote ≡ Some before) × (bytes ≡ before ++ []))
     held None is = tt

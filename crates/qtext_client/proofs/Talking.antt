@@ -8,12 +8,13 @@ use Rattle.qplain.specs.declared.receipt.Receipt.{Receipt}
 use Rattle.qrun_client.specs.declared.client.ClientEnd.{ClientEnd}
 use Rattle.qrun_client.specs.declared.client.ClientEnd.TheVariants.{Output, Served}
 use Rattle.qtext_client.specs.BoundedLines.{Passes}
-use Rattle.qtext_client.specs.Conversations.{AreFirstLines, Exchange, Had, IsToldOf, TalksOn, handed_out}
+use Rattle.qtext_client.specs.Conversations.{AreFirstLines, Exchange, Had, IsToldOf, TalksOn, handed_out, what_is_said}
 use Rattle.qtext_client.specs.Responses.{EndsAtFailure, answers_in, has_failed, response_text}
 use Rattle.qtext_client.specs.Terms.{Binding, StaysWithin}
 use Rattle.qtext_client.specs.Wires.{EndsBy, GrowsBy, HasEnded, Hears, IsGoneIf, IsToldLast, LetsGo, Stays, StaysKnown, TellsNothing, Wire}
 use Rattle.qtext_client.specs.declared.response.Response.{Response}
 use Rattle.qtext_client.specs.declared.terms.Allowance.{Allowance}
+use Rattle.qtext_client.proofs.Said.{said_behind}
 
 pub no_end : IsSome {T = ClientEnd} None → ⊥
 no_end some = absurd cc
@@ -76,11 +77,11 @@ pub none_told : EndsAtFailure []
 unfolding EndsAtFailure
 none_told = tt
 
-module _ (stops : Bool) (bound : Option Binding) (share : Option Allowance) (wrote : Option (List ℕ)) (end : ClientEnd) (lines : List Line)
+module _ (stops clocked : Bool) (bound : Option Binding) (share : Option Allowance) (wrote : Option (List ℕ)) (end : ClientEnd) (lines : List Line)
     (answers : List (Result Receipt CallFault)) where
   -- what comes of a client that is told this first
   abbrev Talks : Had → Wire → List Response → Type 0
-  Talks had wire first = TalksOn stops bound share had wire wrote end first lines answers
+  Talks had wire first = TalksOn stops clocked bound share had wire wrote end first lines answers
 
   not_ended : (e : Option ClientEnd) → e ≡ None → IfSome e (λ x. x ≡ end)
   not_ended e none = subst (λ e. IfSome e (λ x. x ≡ end)) (sym none) tt
@@ -176,18 +177,20 @@ module _ (stops : Bool) (bound : Option Binding) (share : Option Allowance) (wro
 
   -- a line was heard, of which it is told this
   pub heard_so : (given : Had) (old new : Wire) (text : List ℕ) (response : Response) (more : List Line)
-      (further : List (Result Receipt CallFault)) (left : Option Allowance) → Hears old new text → IsToldOf bound given text response
-      → lines ≡ handed_out text response ++ more
+      (further : List (Result Receipt CallFault)) (left : Option Allowance) (front : List Line) → Hears old new text
+      → IsToldOf bound given text response → what_is_said clocked front ≡ what_is_said clocked (handed_out text response)
+      → lines ≡ front ++ more
       → answers ≡ answers_in response ++ further → StaysWithin share lines answers
-      → TalksOn stops bound left given new wrote end (response ∷ []) more further → Talks given old []
-  heard_so given old new text response more further left hears is lines_are answers_are within comes =
+      → TalksOn stops clocked bound left given new wrote end (response ∷ []) more further → Talks given old []
+  heard_so given old new text response more further left front hears is same lines_are answers_are within comes =
       let talk = comes.talk in
       record {
         talk = record {
           exchanges = record { text = text; response = response } ∷ talk.exchanges;
           rest = talk.rest;
           each = All-cons (λ e. IsToldOf bound given e.text e.response) (record { text = text; response = response }) talk.exchanges is talk.each;
-          lines_are = lines_are ∙ ap (λ l. handed_out text response ++ l) talk.lines_are;
+          lines_are = ap (what_is_said clocked) lines_are
+              ∙ said_behind clocked front (handed_out text response) more _ same talk.lines_are;
           answers_are = answers_are ∙ ap (λ l. answers_in response ++ l) talk.answers_are;
           heard = more_heard old.hears new.hears text (map (λ e. e.text) talk.exchanges) talk.rest hears.line talk.heard;
           all_heard = talk.all_heard;

@@ -11,7 +11,7 @@ use Rattle.qtext_client.specs.declared.response.BadLine.TheVariants.{Text, Lengt
 use Rattle.qtext_client.specs.declared.response.Response.{Response}
 use Rattle.qtext_client.specs.declared.response.Response.TheVariants.{Answer, Fault, NoMemory}
 use Rattle.qtext_files.specs.Scripts.{script_of}
-use Rattle.qtext_client.specs.Conversations.{Had, HasOne, IsToldOf, handed_out}
+use Rattle.qtext_client.specs.Conversations.{Had, HasOne, IsToldOf, handed_out, what_is_said}
 use Rattle.qtext_client.specs.Responses.{answers_in}
 use Rattle.qtext_client.specs.Terms.{Binding, IsSpent, MayNotWrite, MayWrite}
 use Rattle.qtext_client.specs.Wires.{HasEnded, Hears, Wire}
@@ -36,11 +36,16 @@ IsSaidIn bound said (Answer answer) = ⊥
 IsSaidIn bound said (Fault fault) = IsFaultIn bound said fault
 IsSaidIn bound said NoMemory = ⊤
 
+-- a script says a line alone, which it may write, and this is the line, but for its moment where a clock tells that
+abbrev pub SaysAlone : Bool → Option Binding → ScriptLine → Result (List ScriptLine) TextFault → Type 0
+SaysAlone clocked bound line script = (said : ScriptLine) × (script ≡ Ok (said ∷ [])) × MayWrite bound said
+    × (what_is_said clocked (line ∷ []) ≡ what_is_said clocked (said ∷ []))
+
 -- the line, or the fault in it, is what the script says that has this line alone, and it may write the line
-abbrev pub HearsText : Option Binding → Heard → Result (List ScriptLine) TextFault → Type 0
-HearsText bound (Line line) said = (said ≡ Ok (line ∷ [])) × MayWrite bound line
-HearsText bound (NoLine response) said = IsSaidIn bound said response
-HearsText bound End said = ⊥
+abbrev pub HearsText : Bool → Option Binding → Heard → Result (List ScriptLine) TextFault → Type 0
+HearsText clocked bound (Line line) script = SaysAlone clocked bound line script
+HearsText clocked bound (NoLine response) script = IsSaidIn bound script response
+HearsText clocked bound End script = ⊥
 
 -- this may be told of a line of this text that is not handed out
 pub record IsToldAlone (bound : Option Binding) (had : Had) (text : List ℕ) (response : Response) : Type 0 where
@@ -49,12 +54,12 @@ pub record IsToldAlone (bound : Option Binding) (had : Had) (text : List ℕ) (r
   pub none : answers_in response ≡ []
 
 -- what came of a line of a client that is bound so, and has had this so far
-abbrev pub HearsLine : Option Binding → Had → Wire → Wire → Heard → Type 0
-HearsLine bound had old new (Line line) = (text : List ℕ) × Hears old new text
-    × (script_of text ≡ Ok (line ∷ [])) × MayWrite bound line × (IsSpent had.left → ⊥)
-HearsLine bound had old new (NoLine response) = (text : List ℕ) × Hears old new text
+abbrev pub HearsLine : Bool → Option Binding → Had → Wire → Wire → Heard → Type 0
+HearsLine clocked bound had old new (Line line) = (text : List ℕ) × Hears old new text
+    × SaysAlone clocked bound line (script_of text) × (IsSpent had.left → ⊥)
+HearsLine clocked bound had old new (NoLine response) = (text : List ℕ) × Hears old new text
     × IsToldAlone bound had text response
-HearsLine bound had old new End = HasEnded old new
+HearsLine clocked bound had old new End = HasEnded old new
 
 -- a line is handed out
 abbrev pub is_handed_out : Step → Bool

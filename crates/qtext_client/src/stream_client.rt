@@ -18,15 +18,18 @@ ghost use Rattle.qtext_files.specs.Scripts.{script_of};
 
 use crate::bounded_line::Got;
 use crate::connection::{Connection, EndedClient};
+use crate::counts::{Counting, count};
+use crate::last_path::{path_after, paths_of};
+use crate::moments::{Moments, timed};
 use crate::response::{BadLine, Response};
 use crate::streams::Streams;
-use crate::terms::{Terms, fault_of};
-use qplain::{Call, CallPaths, Line, NoMemory, Path, Receipt};
+use crate::terms::{Terms, bytes_moved, fault_of};
+use crate::turns::{KIB, Turns, await_turn};
+use qplain::{Line, NoMemory, Path, Receipt};
 use qrun_client::{Answer, Client, ClientEnd, MAX_GIVEN};
 use qrun_replay::Places;
 use qtext::{ReadFault, TextKind};
 use qtext_files::{next_line, read_line};
-use qtext_read::Paths;
 use std::alloc::Global;
 use std::marker::Model;
 use std::sync::atomic::{AtomicBool, Ordering};
@@ -61,10 +64,13 @@ enum Step {
 /// failed. Contracts see whether it was made to stop, to whom it is bound, what is left of its share, where the answers
 /// stand, that one line, and what is known of its streams.
 #[derive(Drop)]
-pub struct StreamClient<'a, S: Streams + Drop> {
+pub struct StreamClient<'a, S: Streams + Drop, M: Moments> {
     alloc: Global,
+    moments: &'a M,
     stop: Option<&'a AtomicBool>,
     terms: Option<Terms<'a>>,
+    turns: Option<Turns>,
+    counting: Option<Counting<'a>>,
     connection: Connection<S>,
     text: Vec<u8>,
     /// The path of the last line that has one.
@@ -73,7 +79,7 @@ pub struct StreamClient<'a, S: Streams + Drop> {
     places: Places,
 }
 
-impl<'a, S: Streams + Drop> Model for StreamClient<'a, S> {
+impl<'a, S: Streams + Drop, M: Moments> Model for StreamClient<'a, S, M> {
     ghost use Rattle.std.specs.Prelude.{is_some, option_map};
     ghost use Rattle.qtext_client.specs.Conversations.{Progress};
     ghost use Rattle.qtext_client.specs.Talks.{IsKept};
@@ -93,31 +99,16 @@ impl<'a, S: Streams + Drop> Model for StreamClient<'a, S> {
     ghost invariant = { λ c. IsKept c.line c.places c.connection.end };
 }
 
-/// The paths of a line of these words, which stands alone: it shares the bytes of this one where it is the first.
-fn paths_of<'a>(path: Option<&'a Path>, words: &[&[u8]]) -> Result<Paths<'a>, NoMemory> {
-    match (path, words) {
-        (Some(path), [_, _, _, word, ..]) if path.bytes() == *word => Paths::beside(path),
-        _ => Ok(Paths::apart()),
-    }
-}
-
-/// The path that is kept after a call: its own, or the one before it, where it has none or two.
-fn path_after(before: Option<Path>, call: &Call) -> Option<Path> {
-    match call.paths() {
-        CallPaths::One(path) => path.copy().ok(),
-        CallPaths::None | CallPaths::Two(..) => before,
-    }
-}
-
 /// What a text of one line comes to, beside the path of the line before it.
-fn heard_in<'x>(
+fn heard_in<'x, M: Moments>(
     alloc: Global,
+    moments: &M,
     terms: Option<Terms<'_>>,
     path: Option<&'x Path>,
     text: &'x [u8],
 ) -> Heard
     requires { IsOneLine text.now }
-    ensures { HearsText (option_map binding_of terms.entry) result (script_of text.now) }
+    ensures { HearsText M.clocked (option_map binding_of terms.entry) result (script_of text.now) }
 {
     let mut room = Vec::new(alloc);
     let Ok(line) = next_line(&mut room, text) else {
@@ -128,7 +119,7 @@ fn heard_in<'x>(
     };
     match read_line(alloc, &mut paths, 1, &line, &room) {
         Ok(line) => match fault_of(terms, &line) {
-            None => Heard::Line(line),
+            None => Heard::Line(timed(moments, line)),
             Some(fault) => Heard::None(Response::Fault(fault)),
         },
         Err(ReadFault::Memory) => Heard::None(Response::NoMemory),
@@ -136,17 +127,21 @@ fn heard_in<'x>(
     }
 }
 
-impl<'a, S: Streams + Drop> StreamClient<'a, S> {
+impl<'a, S: Streams + Drop, M: Moments> StreamClient<'a, S, M> {
     /// A client that has handed out no line, and whose streams are opened when the first is asked for.
     ///
     /// With a flag it stops at its first line that fails, sets the flag, and hands out no line where that is set: so do
     /// all clients that share it, but for lines that were handed out by then. With terms it hands out no line of
-    /// another caller or with a deeper path, and none once its share is used up.
+    /// another caller or with a deeper path, and none once its share is used up; and it takes its turns, for which it
+    /// waits before it hands out a line: one for each line, and one for each KiB of it and of what it writes and reads.
+    /// With a place to count, what it is told is counted there.
     pub fn new(
         alloc: Global,
         streams: S,
+        moments: &'a M,
         stop: Option<&'a AtomicBool>,
         terms: Option<Terms<'a>>,
+        counting: Option<Counting<'a>>,
     ) -> Self
         ensures { result ≡ record {
           stops = is_some stop.entry;
@@ -157,10 +152,17 @@ impl<'a, S: Streams + Drop> StreamClient<'a, S> {
           wire = record { hears = S.says streams; wrote = Some []; end = None };
         } }
     {
+        let turns = match terms {
+            Some(terms) => Some(Turns::new(terms.rate)),
+            None => None,
+        };
         StreamClient {
             alloc,
+            moments,
             stop,
             terms,
+            turns,
+            counting,
             connection: Connection::new(streams),
             text: Vec::new(alloc),
             path: None,
@@ -203,17 +205,26 @@ impl<'a, S: Streams + Drop> StreamClient<'a, S> {
     fn hear(&mut self) -> Heard
         requires answered { self.old.owed ≡ None }
         ensures stays { StaysThere self.old self.new }
-        ensures heard { HearsLine self.old.bound (had_behind self.old [] []) self.old.wire self.new.wire result }
+        ensures heard { HearsLine M.clocked self.old.bound (had_behind self.old [] []) self.old.wire self.new.wire
+            result }
         ensures few { IsLine result → length self.new.stands < MAX_GIVEN }
     {
-        match self.connection.next_line(&mut self.text) {
+        let got = self.connection.next_line(&mut self.text);
+        await_turn(&mut self.turns, self.moments, self.text.len());
+        match got {
             Got::End | Got::Refused => Heard::End,
             _ if self.is_stopped() => self.end_stopped(),
             _ if self.places.len() >= MAX_GIVEN => Heard::None(Response::Fault(BadLine::Text(
                 TextKind::TooMany,
             ))),
             _ if self.is_spent() => Heard::None(Response::Fault(BadLine::Share)),
-            Got::Text => heard_in(self.alloc, self.terms, self.path.as_ref(), &self.text),
+            Got::Text => heard_in(
+                self.alloc,
+                self.moments,
+                self.terms,
+                self.path.as_ref(),
+                &self.text,
+            ),
             Got::TooLong => Heard::None(Response::Fault(BadLine::Length)),
             Got::NoMemory => Heard::None(Response::NoMemory),
         }
@@ -241,6 +252,9 @@ impl<'a, S: Streams + Drop> StreamClient<'a, S> {
             && let Some(line) = &self.line
         {
             terms.share = terms.share.after(&line.call, answer);
+            if let Some(turns) = &mut self.turns {
+                turns.take(bytes_moved(&line.call, answer) / KIB, 0);
+            }
         }
     }
 
@@ -277,6 +291,7 @@ impl<'a, S: Streams + Drop> StreamClient<'a, S> {
             (response_text response.now) }
     {
         self.connection.tell(response);
+        count(self.counting, response);
         if let Some(stop) = self.stop
             && response.has_failed()
         {
@@ -291,7 +306,7 @@ impl<'a, S: Streams + Drop> StreamClient<'a, S> {
         ensures owed { is_some self.new.owed ≡ is_handed_out result }
         ensures stands { self.new.stands ≡ self.old.stands }
         ensures ended { result ≡ Ended → IsSome self.new.wire.end }
-        ensures talk { ComesOf (comes_to S.took self.old) (comes_to S.took self.new) }
+        ensures talk { ComesOf (comes_to M.clocked S.took self.old) (comes_to M.clocked S.took self.new) }
     {
         match self.hear() {
             Heard::Line(line) => match self.keep(line) {
@@ -310,7 +325,7 @@ impl<'a, S: Streams + Drop> StreamClient<'a, S> {
     }
 }
 
-impl<'a, S: Streams + Drop + Send> Client for StreamClient<'a, S> {
+impl<'a, S: Streams + Drop + Send, M: Moments + Sync> Client for StreamClient<'a, S, M> {
     ghost use Rattle.std.specs.Prelude.{IsSome};
     ghost use Rattle.qtext_client.specs.Conversations.{comes_to};
 
@@ -318,13 +333,15 @@ impl<'a, S: Streams + Drop + Send> Client for StreamClient<'a, S> {
 
     type Left = EndedClient<S>;
 
+    ghost clocked = { M.clocked };
+
     ghost owed = { λ c. c.owed };
 
     ghost stands = { λ c. c.stands };
 
     ghost has_ended = { λ c. IsSome c.wire.end };
 
-    ghost talk = { λ c. comes_to S.took c };
+    ghost talk = { λ c. comes_to M.clocked S.took c };
 
     fn next(&mut self) -> bool {
         self.connection.begin();
@@ -356,8 +373,8 @@ impl<'a, S: Streams + Drop + Send> Client for StreamClient<'a, S> {
         requires owed { IsSome self.old.owed }
         requires answer { IsAnswerIn (λ receipt. receipt) answer }
         ensures answered { self.new.owed ≡ None }
-        ensures told { Takes (λ receipt. receipt) self.old.owed answer self.old.stands self.new.stands
-            (comes_to S.took self.old) (comes_to S.took self.new) }
+        ensures told { Takes M.clocked (λ receipt. receipt) self.old.owed answer self.old.stands self.new.stands
+            (comes_to M.clocked S.took self.old) (comes_to M.clocked S.took self.new) }
     {
         self.keep_place(&answer);
         self.tell_of(&Response::Answer(answer));

@@ -25,6 +25,8 @@ pub struct Terms<'a> {
     pub depth: u64,
     /// What it may still take.
     pub share: Allowance,
+    /// How many turns a second it has at least one of.
+    pub rate: u64,
 }
 
 impl Allowance {
@@ -78,6 +80,11 @@ fn bytes_answered(answer: &Answer) -> u64
         ) => bytes.as_slice().len() as u64,
         _ => 0,
     }
+}
+
+/// How many bytes a call writes, and its answer has that were read.
+pub(crate) fn bytes_moved(call: &Call, answer: &Answer) -> u64 {
+    bytes_written(call).saturating_add(bytes_answered(answer))
 }
 
 /// How many components a path has.

@@ -14,7 +14,7 @@ use Rattle.qtext_config.specs.ConfigFields.{optional_tables_at, tables_at}
 abbrev pub document_keys : List (List ℕ)
 document_keys =
     codes "size" ∷ codes "nr_inodes" ∷ codes "block_grace" ∷ codes "inode_grace" ∷ codes "user" ∷ codes "group"
-    ∷ codes "project" ∷ []
+    ∷ codes "project" ∷ codes "client" ∷ []
 
 -- the keys of a user's, a group's or a project's table
 abbrev pub principal_keys : List (List ℕ)

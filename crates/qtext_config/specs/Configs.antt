@@ -13,6 +13,7 @@ use Rattle.qtext_config.specs.declared.config_fault.ConfigFault.{ConfigFault}
 use Rattle.qtext.specs.Reading.{◌>>=◌, each_of}
 use Rattle.qtext_config.specs.ConfigFaults.{Cause, EndsFor, Range, Text, cause_of_setup}
 use Rattle.qtext_config.specs.ConfigFields.{found, integer_at, text_at}
+use Rattle.qtext_config.specs.ConfigClients.{NamedClient, clients_of}
 use Rattle.qtext_config.specs.ConfigKeys.{known_keys}
 use Rattle.qtext_config.specs.ConfigPrincipals.{optional_principals_at, principals_at}
 use Rattle.qtext_config.specs.ConfigSize.{blocks_of_size}
@@ -99,13 +100,22 @@ abbrev pub document_of : Option Members → Result Members Cause
 document_of None = Err Text
 document_of (Some document) = Ok document
 
--- the setting that a text writes, or the first cause for which it writes none: in its TOML, fields, keys or setting
+-- the setting that a text writes, or the first cause for which it writes none: in its TOML, fields, keys, setting or
+-- clients
 unfoldable pub setting_in : List ℕ → Result Setting Cause
 setting_in text = do
   document ← document_of (parse_document text)
   written ← fields_of document
   _ ← known_keys document
-  setting_of written
+  given ← setting_of written
+  _ ← clients_of document
+  Ok given
+
+-- the clients that a text names, where it writes a setting
+unfoldable pub clients_in : List ℕ → Result (List NamedClient) Cause
+clients_in text = do
+  document ← document_of (parse_document text)
+  clients_of document
 
 -- what is read has the setup of the setting that is written; a fault is the cause for which none is, or out of memory
 abbrev pub ReadsSetup : {A : Type 0} → (A → Setting) → Result A ConfigFault → Result Setting Cause → Type 0

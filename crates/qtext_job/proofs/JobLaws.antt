@@ -228,7 +228,7 @@ pub its_service : (rows : List Row) (job : Job) → IsNamedBy (codes "serve") ro
 its_service rows (Run run) h =
     let same : codes "serve" ≡ codes "run" = h.0 in
     absurd cc
-its_service rows (Serve serve) h = ((serve.at, h.2), (serve.shares, h.6))
+its_service rows (Serve serve) h = ((serve.at, h.2), (serve.shares, h.7))
 its_service rows (Replay replay) h =
     let same : codes "serve" ≡ codes "replay" = h.0 in
     absurd cc

@@ -84,6 +84,10 @@ share_kib = record (option (codes "share-kib")) { parser = Some (Unsigned 0 1048
 abbrev pub share_depth : Rule
 share_depth = record (option (codes "share-depth")) { parser = Some (Unsigned 1 2048); defaults = codes "64" ∷ [] }
 
+-- `--share-rate N`, from 1 to 1048576, and 4000 where it is not given
+abbrev pub share_rate : Rule
+share_rate = record (option (codes "share-rate")) { parser = Some (Unsigned 1 1048576); defaults = codes "4000" ∷ [] }
+
 -- one or more scripts
 abbrev pub scripts : Rule
 scripts = record (words (codes "scripts")) { required = true }
@@ -121,13 +125,13 @@ run = with_rule (with_sharing (with_rule (reporting (codes "run")) journal)) scr
 abbrev pub with_files : App → App
 with_files a = with_rule (with_rule a journal) (option (codes "board"))
 
--- a command with what a service does at its end
+-- a command with the moments of a service, and what it does at its end
 abbrev pub with_end : App → App
-with_end a = with_files (with_rule (with_rule a at) (flag (codes "stop-at-failure")))
+with_end a = with_files (with_rule (with_rule (with_rule a at) (flag (codes "clock"))) (flag (codes "stop-at-failure")))
 
 -- a command with the options of what a bound client may take
 abbrev pub with_shares : App → App
-with_shares a = with_rule (with_rule (with_rule a share_calls) share_kib) share_depth
+with_shares a = with_rule (with_rule (with_rule (with_rule a share_calls) share_kib) share_depth) share_rate
 
 -- `serve`, of any number of clients, each a word that has to be a pair
 abbrev pub serve : App

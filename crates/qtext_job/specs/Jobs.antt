@@ -42,6 +42,7 @@ IsNamedBy name rows (Run run) = (name ≡ codes "run")
 IsNamedBy name rows (Serve serve) = (name ≡ codes "serve")
     × (first_of (codes "config") rows ≡ Some (string_bytes serve.config))
     × IsMomentIn rows serve.at
+    × (serve.clock ≡ is_given (codes "clock") rows)
     × (serve.stop_at_failure ≡ is_given (codes "stop-at-failure") rows)
     × (first_of (codes "journal") rows ≡ option_map (λ s. string_bytes s) serve.journal)
     × (first_of (codes "board") rows ≡ option_map (λ s. string_bytes s) serve.board)

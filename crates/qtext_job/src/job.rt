@@ -39,14 +39,16 @@ pub struct RunJob {
     pub scripts: Vec<String>,
 }
 
-/// To answer the clients' lines on a store of the configuration, until all have ended or, where it is to stop at that,
-/// the first line has failed, to report at the moment, in seconds, to write the journal where a file is named for it,
-/// and likewise the board while clients are served. Each client that is bound to a caller may take the shares at most.
-/// Where no client is named there is one, on standard input and output.
+/// To answer the clients' lines on a store of the configuration, at their moments or a clock's, until all have ended
+/// or, where it is to stop at that, the first line has failed, to report at the moment, in seconds, to write the
+/// journal where a file is named for it, and likewise the board while clients are served. Each client that is bound to
+/// a caller may take the shares at most. Where none is named those of the configuration are served, and where it names
+/// none either there is one, on standard input and output.
 #[derive(Debug, Drop)]
 pub struct ServeJob {
     pub config: String,
     pub at: u64,
+    pub clock: bool,
     pub stop_at_failure: bool,
     pub journal: Option<String>,
     pub board: Option<String>,
@@ -178,6 +180,7 @@ fn serve(alloc: Global, matches: &ArgMatches<'_>) -> Result<Job, LineFault>
     Ok(Job::Serve(ServeJob {
         config,
         at: number(alloc, matches, "at", 0, MAX_MOMENT)?,
+        clock: is_set(matches, "clock"),
         stop_at_failure: is_set(matches, "stop-at-failure"),
         journal: optional(alloc, matches, "journal")?,
         board: optional(alloc, matches, "board")?,
@@ -251,8 +254,8 @@ impl Job {
     /// none, and the lines at `--batch`, from 1 to 64, and 1 where there is none. Each client of a service is a pair, a
     /// word cut at its first colon, with a name on both sides; before the pair there may stand `UID:GID[,GROUP..]=`, a
     /// caller to whom it is bound (see `src/pair.rt`). What a bound client may take is the number at `--share-calls`
-    /// and that at `--share-kib`, each from 0 to 1048576, and 0 where there is none, and that at `--share-depth`, from
-    /// 1 to 2048, and 64 where there is none.
+    /// and that at `--share-kib`, each from 0 to 1048576, and 0 where there is none, that at `--share-depth`, from 1 to
+    /// 2048, and 64 where there is none, and that at `--share-rate`, from 1 to 1048576, and 4000 where there is none.
     ///
     /// A request for help or for the version is a fault, too, whose text is for the output. Out of memory may come in
     /// place of any answer.

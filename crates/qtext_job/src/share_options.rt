@@ -19,6 +19,9 @@ const MAX_KIB: u64 = 1_048_576;
 /// As many components may be named at most.
 const MAX_DEPTH: u64 = 2048;
 
+/// As many turns a second may be named at most.
+const MAX_RATE: u64 = 1_048_576;
+
 /// What each client that is bound to a caller may take of a service at most.
 #[derive(Clone, Copy, Debug)]
 pub struct ShareOptions {
@@ -28,6 +31,8 @@ pub struct ShareOptions {
     pub bytes: u64,
     /// The components of a path.
     pub depth: u64,
+    /// The turns of the client in a second.
+    pub rate: u64,
 }
 
 /// What a bound client may take.
@@ -39,9 +44,11 @@ pub(crate) fn shares(alloc: Global, matches: &ArgMatches<'_>) -> Result<ShareOpt
     let calls = number(alloc, matches, "share-calls", 0, MAX_CALLS)?;
     let kib = number(alloc, matches, "share-kib", 0, MAX_KIB)?;
     let depth = number(alloc, matches, "share-depth", 1, MAX_DEPTH)?;
+    let rate = number(alloc, matches, "share-rate", 1, MAX_RATE)?;
     Ok(ShareOptions {
         calls,
         bytes: kib * 1024,
         depth,
+        rate,
     })
 }

@@ -150,8 +150,8 @@ some_of : {X : Type 0} (xs : List X) → 0 < length xs → X
 some_of [] less = absurd (omega arith)
 some_of (x ∷ xs) less = x
 
-module _ {S : Type 0} (took : S → Option (List ℕ)) (clients : List Progress) (left : List (EndedClient S)) (setting : Setting) (o : Outcome)
-    (service : IsServiceOf setting o) (of : IsOfClients (comes_to took) clients left o)
+module _ {S : Type 0} (clocked : Bool) (took : S → Option (List ℕ)) (clients : List Progress) (left : List (EndedClient S)) (setting : Setting) (o : Outcome)
+    (service : IsServiceOf setting o) (of : IsOfClients (comes_to clocked took) clients left o)
     (new : All (λ c. IsNewClient c.owed c.stands) clients) where
   -- the lines of a client are those that it may write, answered within its share
   its_lines : (k : ℕ) (p : ClientTerms) (b : Served clients k p) (t : Transcript) (l : EndedClient S)
@@ -161,14 +161,14 @@ module _ {S : Type 0} (took : S → Option (List ℕ)) (clients : List Progress)
       let p = b.client in
       let told = slice_index_or o.transcripts k t in
       let gone = slice_index_or left k l in
-      let talk = subst (λ c. comes_to took c told.lines told.answers gone) b.at (of.each k p t l b.less) in
+      let talk = subst (λ c. comes_to clocked took c told.lines told.answers gone) b.at (of.each k p t l b.less) in
       let none : p.owed ≡ None = (subst (λ c. IsNewClient c.owed c.stands) b.at (new k p b.less)).0 in
       let had = had_behind p told.lines told.answers in
-      let goes : TalksOn p.stops p.bound p.share had p.wire (took gone.streams) gone.end [] told.lines told.answers =
-      subst (λ o. GoesOnBehindOwed o (λ share. TalksOn p.stops p.bound share had p.wire (took gone.streams) gone.end) p.share told.lines
+      let goes : TalksOn p.stops clocked p.bound p.share had p.wire (took gone.streams) gone.end [] told.lines told.answers =
+      subst (λ o. GoesOnBehindOwed clocked o (λ share. TalksOn p.stops clocked p.bound share had p.wire (took gone.streams) gone.end) p.share told.lines
       told.answers) none talk in (
         subst (λ terms. All (MayWrite terms.bound) told.lines) b.is
-            (bound_lines p.bound had p.wire.hears told.lines told.answers gone.end goes.talk),
+            (bound_lines clocked p.bound had p.wire.hears told.lines told.answers gone.end goes.talk),
         subst (λ terms. StaysWithin terms.share told.lines told.answers) b.is goes.within,
       )
 

@@ -1,9 +1,8 @@
 -- What the program prints, and what it keeps, where it ends well.
-use Rattle.std.specs.Prelude.{◌≡◌, ◌⊎◌, ◌==◌, ◌||◌, ℕ, Bool, true, false, List, [], length, map, All, Option, Some, Ok}
+use Rattle.std.specs.Prelude.{◌≡◌, ◌⊎◌, ℕ, Bool, true, false, List, [], map, All, Option, Some, Ok}
 use Rattle.std.specs.Prelude.{codes, if◌then◌else◌, unwrap_or}
 use Rattle.std.specs.Prelude.{IfSome, option_map, string_bytes}
 use Rattle.std.specs.Io.KnownBytes.{Appends}
-use Rattle.std.specs.List.{list_any}
 use Rattle.std.specs.Str.{bytes_eq}
 use Rattle.clap.specs.Words.{IsAmong, fault_of}
 use Rattle.clap.specs.declared.error.kind.ErrorKind.{ErrorKind}
@@ -11,23 +10,26 @@ use Rattle.qplain.specs.Journals.{Written}
 use Rattle.qplain.specs.Setups.{Setting}
 use Rattle.qplain.specs.declared.transcript.Transcript.{Transcript}
 use Rattle.qrun_replay.specs.declared.outcome.Outcome.{Outcome}
+use Rattle.qrun.specs.Serving.{KeepsTime}
 use Rattle.qtext.specs.declared.telling.Telling.{Telling}
 use Rattle.qtext_outcome.specs.Denials.{IsDone}
 use Rattle.qtext_outcome.specs.Moments.{moment_of}
 use Rattle.qtext_outcome.specs.Outcomes.{outcome_end}
 use Rattle.qtext_rows.specs.Formats.{formatted_text}
 use Rattle.qtext_files.specs.Spelling.{CanBeRead, journal_spelling}
+use Rattle.qtext_config.specs.ConfigClients.{NamedClient}
 use Rattle.qtext_expand.specs.Expansions.{expansion}
 use Rattle.qtext_check.specs.Faults.{faults_of}
 use Rattle.qtext_job.specs.Commands.{quotafs}
 use Rattle.qtext_job.specs.Jobs.{IsAskedBy, is_shown}
 use Rattle.qtext_job.specs.declared.job.Job.{Job}
 use Rattle.qtext_job.specs.declared.job.Job.TheVariants.{Run, Replay, Serve, Expand, Check}
-use Rattle.qtext_job.specs.declared.pair.Pair.{Pair}
+use Rattle.qtext_job.specs.declared.job.ServeJob.{ServeJob}
 use Rattle.qtext_job.specs.declared.line_fault.LineFault.{LineFault}
 use Rattle.qtext_job.specs.declared.line_fault.LineFault.TheVariants.{Line, Memory}
 use Rattle.qtool_files.specs.Held.{Held, StandsUnder, IsUnder}
-use Rattle.qtool.specs.Terms.{AreKept, ClientTerms, terms_told}
+use Rattle.qtool.specs.Served.{clients_of_job, is_taken}
+use Rattle.qtool.specs.Terms.{AreKept, terms_told}
 use Rattle.qtool.specs.Under.{IsConfigUnder, IsReplayUnder, IsRunUnder, IsServiceUnder}
 
 -- an outcome's text as it is asked for, as of the moment that is asked for
@@ -65,14 +67,6 @@ pub record PrintsReplay (config journal : List ℕ) (telling : Telling) (status 
   pub is : IsReplayUnder files config journal outcome
   pub told : IsTold telling outcome status old new
 
--- what a service left was printed, whose clients were served on these terms, with the report as of this moment
-pub record PrintsService (config : List ℕ) (terms : List ClientTerms) (at : ℕ) (files : Held)
-    (old new : Option (List ℕ)) : Type 0 where
-  pub outcome : Outcome
-  pub is : IsServiceUnder files config outcome
-  pub kept : AreKept terms outcome.journal.entries
-  pub prints : Appends old new (outcome_end outcome at)
-
 -- the file that is read for a friendly script of this name: what standard input comes from where it is `-`
 abbrev pub friendly_file : List ℕ → List ℕ
 friendly_file name = if bytes_eq name (codes "-") then codes "/dev/stdin" else name
@@ -107,18 +101,21 @@ pub record Scene : Type 0 where
 abbrev pub seen : Held → Option (List ℕ) → Option (List ℕ) → Scene
 seen files output errors = record { files = files; output = output; errors = errors }
 
--- the client's replies go to standard output
-abbrev pub is_to_standard : Pair → Bool
-is_to_standard pair = bytes_eq (string_bytes pair.output) (codes "-")
-
--- standard output is a client's, as it is of the one client where none is named
-abbrev pub is_taken : List Pair → Bool
-is_taken pairs = (length pairs == 0) || list_any is_to_standard pairs
-
 -- where it is told what a service left: on the error output where standard output is a client's
 abbrev pub told_at : Bool → Scene → Option (List ℕ)
 told_at true scene = scene.errors
 told_at false scene = scene.output
+
+-- what the service of a job left was printed between these scenes, with the report as of its moment: of the clients of
+-- the command line or else of the configuration, on the terms that it tells, and with a clock at its moments
+pub record PrintsService (job : ServeJob) (old new : Scene) : Type 0 where
+  pub configured : List NamedClient
+  pub outcome : Outcome
+  pub is : IsServiceUnder old.files (string_bytes job.config) configured outcome
+  pub moments : KeepsTime job.clock outcome
+  pub kept : AreKept (terms_told job.shares (clients_of_job job configured)) outcome.journal.entries
+  pub prints : Appends (told_at (is_taken (clients_of_job job configured)) old)
+      (told_at (is_taken (clients_of_job job configured)) new) (outcome_end outcome job.at)
 
 -- what the job asks for was printed between these scenes, where it ended with this status
 abbrev pub IsPrinted : Job → ℕ → Scene → Scene → Type 0
@@ -128,9 +125,7 @@ IsPrinted (Run run) status old new =
 IsPrinted (Replay replay) status old new =
     PrintsReplay (string_bytes replay.config) (string_bytes replay.journal) replay.telling status old.files old.output
     new.output
-IsPrinted (Serve serve) status old new = (status ≡ 0)
-    × PrintsService (string_bytes serve.config) (terms_told serve.shares serve.pairs.items) serve.at old.files
-    (told_at (is_taken serve.pairs.items) old) (told_at (is_taken serve.pairs.items) new)
+IsPrinted (Serve serve) status old new = (status ≡ 0) × PrintsService serve old new
 IsPrinted (Expand expand) status old new =
     (status ≡ 0) × PrintsExpansion (string_bytes expand.config)
     (unwrap_or (option_map (λ s. string_bytes s) expand.script) (codes "-")) old.files old.output new.output

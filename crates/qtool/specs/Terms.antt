@@ -6,7 +6,7 @@ use Rattle.qplain.specs.declared.entry.Entry.{Entry}
 use Rattle.qrun_replay.specs.Placed.{line_of_entry}
 use Rattle.qtext_client.specs.Terms.{Binding, MayWrite, bytes_called, bytes_read}
 use Rattle.qtext_client.specs.declared.terms.Allowance.{Allowance}
-use Rattle.qtext_job.specs.declared.pair.Pair.{Pair}
+use Rattle.qtext_config.specs.ConfigClients.{NamedClient}
 use Rattle.qtext_job.specs.declared.share_options.ShareOptions.{ShareOptions}
 
 -- to whom a client is bound, and its share, where it is bound
@@ -25,17 +25,17 @@ share_told told clients = record {
   bytes = or_part told.bytes 536870912 clients;
 }
 
--- the terms of one of so many clients, that of this pair
-abbrev pub terms_for : ShareOptions → ℕ → Pair → ClientTerms
-terms_for told clients pair = record {
-  bound = option_map (λ caller. record { caller = caller; depth = told.depth }) pair.caller;
-  share = option_map (λ caller. share_told told clients) pair.caller;
+-- the terms of this one of so many clients
+abbrev pub terms_for : ShareOptions → ℕ → NamedClient → ClientTerms
+terms_for told clients client = record {
+  bound = option_map (λ caller. record { caller = caller; depth = told.depth }) client.caller;
+  share = option_map (λ caller. share_told told clients) client.caller;
 }
 
--- the terms of the clients of these pairs; where no pair is named there is one client, bound to nobody
-abbrev pub terms_told : ShareOptions → List Pair → List ClientTerms
+-- the terms of these clients; where none is named there is one client, bound to nobody
+abbrev pub terms_told : ShareOptions → List NamedClient → List ClientTerms
 terms_told told [] = record { bound = None; share = None } ∷ []
-terms_told told (pair ∷ pairs) = map (terms_for told (length (pair ∷ pairs))) (pair ∷ pairs)
+terms_told told (client ∷ others) = map (terms_for told (length (client ∷ others))) (client ∷ others)
 
 -- how many bytes an entry holds
 abbrev pub bytes_held : Entry → ℕ

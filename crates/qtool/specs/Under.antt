@@ -5,7 +5,8 @@ use Rattle.std.specs.List.{AllZip}
 use Rattle.qplain.specs.Journals.{Written}
 use Rattle.qplain.specs.Setups.{IsSetupOf, Setting, in_edition}
 use Rattle.qplain.specs.declared.line.Line.{Line}
-use Rattle.qtext_config.specs.Configs.{setting_in}
+use Rattle.qtext_config.specs.ConfigClients.{NamedClient}
+use Rattle.qtext_config.specs.Configs.{clients_in, setting_in}
 use Rattle.qtext_files.specs.Journals.{journal_of}
 use Rattle.qtext_files.specs.Scripts.{script_of}
 use Rattle.qrun_replay.specs.Replays.{IsReplayOf}
@@ -20,6 +21,11 @@ pub record IsConfigUnder (files : Held) (name : List ℕ) (setting : Setting) : 
   pub under : IsUnder files name text
   pub says : setting_in text ≡ Ok given
   pub is : IsSetupOf given setting
+
+-- under the name stands a configuration of this setting, which names these clients
+pub record IsConfigNaming (files : Held) (name : List ℕ) (setting : Setting) (clients : List NamedClient) : Type 0 where
+  pub config_is : IsConfigUnder files name setting
+  pub names : clients_in config_is.text ≡ Ok clients
 
 -- under the name stands a script of these lines
 pub record IsScriptUnder (files : Held) (name : List ℕ) (lines : List Line) : Type 0 where
@@ -55,8 +61,9 @@ pub record IsReplayUnder (files : Held) (config journal : List ℕ) (outcome : O
   pub journal_is : IsJournalUnder files journal outcome.journal
   pub is : IsReplayOf (in_edition outcome.journal.edition setting) outcome.journal outcome
 
--- the outcome is what a service left under the configuration of this name
-pub record IsServiceUnder (files : Held) (config : List ℕ) (outcome : Outcome) : Type 0 where
+-- the outcome is what a service left under the configuration of this name, which names these clients
+pub record IsServiceUnder (files : Held) (config : List ℕ) (clients : List NamedClient) (outcome : Outcome)
+    : Type 0 where
   pub setting : Setting
-  pub config_is : IsConfigUnder files config setting
+  pub config_is : IsConfigNaming files config setting clients
   pub is : IsServiceOf setting outcome

@@ -5,6 +5,7 @@ use crate::Files;
 use crate::client_names::ClientNames;
 use crate::standard::STANDARD;
 use qplain::NoMemory;
+use qtext_client::Counts;
 use std::alloc::Global;
 
 /// What a job has a name for. Scripts and clients count from 1.
@@ -117,13 +118,26 @@ fn clash_with<F: Files>(files: &mut F, before: &[Named<'_>], named: &Named<'_>) 
     None
 }
 
-/// What a service reads and writes, by name.
+/// What a service reads and writes, by name, and where it counts.
 #[derive(Clone, Copy)]
 pub(crate) struct ServiceNames<'a> {
     pub(crate) config: &'a str,
     pub(crate) clients: &'a [ClientNames<'a>],
     pub(crate) journal: Option<&'a str>,
     pub(crate) board: Option<&'a str>,
+    /// Where what its clients are told is counted, for the board.
+    pub(crate) counts: &'a Counts,
+}
+
+impl<'a> ServiceNames<'a> {
+    /// Where the clients' lines are counted, where anybody is to see it.
+    pub(crate) fn counted(&self) -> Option<&'a Counts> {
+        if self.board.is_some() {
+            Some(self.counts)
+        } else {
+            None
+        }
+    }
 }
 
 /// All names of a service, each with what it is of.

@@ -3,7 +3,7 @@ ghost use Rattle.std.specs.Prelude.{◌≡◌, ◌<◌, IfOk, length, map, optio
 ghost use Rattle.std.specs.List.{list_any};
 ghost use Rattle.qtext_client.specs.Terms.{binding_of};
 ghost use Rattle.qtool.specs.ClientNames.{terms_in};
-ghost use Rattle.qtool.specs.Printed.{is_taken, is_to_standard};
+ghost use Rattle.qtool.specs.Served.{client_of_pair, is_taken, is_to_standard};
 ghost use Rattle.qtool.specs.Terms.{or_part, share_told, terms_for, terms_told};
 
 use crate::standard::STANDARD;
@@ -28,21 +28,21 @@ pub(crate) struct ClientNames<'a> {
 
 /// Whether the client's replies go to standard output.
 fn is_to_standard(pair: &Pair) -> bool
-    ensures { result ≡ is_to_standard pair.now }
+    ensures { result ≡ is_to_standard (client_of_pair pair.now) }
 {
     pair.output.as_str() == STANDARD
 }
 
 /// Whether the replies of one of these clients do.
 fn is_any_to_standard(pairs: &[Pair]) -> bool
-    ensures { result ≡ list_any is_to_standard pairs.now }
+    ensures { result ≡ list_any (λ pair. is_to_standard (client_of_pair pair)) pairs.now }
 {
     pairs.iter().any(|pair| is_to_standard(pair))
 }
 
 /// Whether standard output is a client's, as it is of the one client where none is named.
 pub(crate) fn is_output_taken(pairs: &[Pair]) -> bool
-    ensures { result ≡ is_taken pairs.now }
+    ensures { result ≡ is_taken (map client_of_pair pairs.now) }
 {
     pairs.is_empty() || is_any_to_standard(pairs)
 }
@@ -67,16 +67,17 @@ fn share_of(told: ShareOptions, clients: u64) -> Allowance
 }
 
 /// On which terms the client of a pair is served, where it is bound.
-fn terms_of(pair: &Pair, depth: u64, share: Allowance) -> Option<Terms<'_>>
+fn terms_of(pair: &Pair, told: ShareOptions, share: Allowance) -> Option<Terms<'_>>
     ensures bound { option_map binding_of result
-        ≡ option_map (λ caller. record { caller = caller; depth = depth }) pair.now.caller }
+        ≡ option_map (λ caller. record { caller = caller; depth = told.depth }) pair.now.caller }
     ensures share { option_map (λ t. t.share) result ≡ option_map (λ caller. share) pair.now.caller }
 {
     match &pair.caller {
         Some(caller) => Some(Terms {
             caller,
-            depth,
+            depth: told.depth,
             share,
+            rate: told.rate,
         }),
         None => None,
     }
@@ -90,13 +91,13 @@ fn named<'a>(
 ) -> Result<Vec<ClientNames<'a>>, NoMemory>
     requires { 0 < length pairs.now }
     ensures { IfOk result (λ names. map terms_in names.items
-        ≡ map (terms_for told (length pairs.now)) pairs.now) }
+        ≡ map (λ pair. terms_for told (length pairs.now) (client_of_pair pair)) pairs.now) }
 {
     let share = share_of(told, pairs.len() as u64);
     let mut names = Vec::new(alloc);
     for pair in pairs {
         names.push(ClientNames {
-            terms: terms_of(pair, told.depth, share),
+            terms: terms_of(pair, told, share),
             input: pair.input.as_str(),
             output: pair.output.as_str(),
         })?;
@@ -112,7 +113,8 @@ pub(crate) fn names_of<'a>(
     told: ShareOptions,
 ) -> Result<Vec<ClientNames<'a>>, NoMemory>
     ensures some { IfOk result (λ names. 0 < length names.items) }
-    ensures terms { IfOk result (λ names. map terms_in names.items ≡ terms_told told pairs.now) }
+    ensures terms { IfOk result
+        (λ names. map terms_in names.items ≡ terms_told told (map client_of_pair pairs.now)) }
 {
     if !pairs.is_empty() {
         return named(alloc, pairs, told);

@@ -33,6 +33,7 @@ mod program;
 mod reading;
 mod replaying;
 mod running;
+mod served;
 mod services;
 mod standard;
 mod told_streams;

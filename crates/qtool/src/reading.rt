@@ -1,7 +1,8 @@
 //! What the program reads: files, the configuration and scripts.
 ghost use Rattle.std.specs.Prelude.{◌≡◌, map, string_bytes, length, IfOk};
 ghost use Rattle.qtool_files.specs.Held.{IsUnder};
-ghost use Rattle.qtool.specs.Under.{AreScriptsUnder, IsConfigUnder};
+ghost use Rattle.qtext_config.specs.ConfigClients.{named_client};
+ghost use Rattle.qtool.specs.Under.{AreScriptsUnder, IsConfigNaming, IsConfigUnder};
 
 use crate::ending::Ending;
 use crate::{Config, ConfigFault, FileFault, Files, Script, TextKind};
@@ -49,6 +50,8 @@ pub(crate) fn configuration<F: Files>(
     name: &str,
 ) -> Result<Config, Ending>
     ensures config { IfOk result (λ config. IsConfigUnder (F.held files.old) name.now config.setup) }
+    ensures clients { IfOk result (λ config.
+        IsConfigNaming (F.held files.old) name.now config.setup (map named_client config.clients)) }
     ensures same { F.held files.new ≡ F.held files.old }
 {
     let bytes = load(alloc, files, name)?;

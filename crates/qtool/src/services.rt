@@ -1,28 +1,31 @@
 //! Services: clients by the names of their streams, from the command line to what is left of them.
-ghost use Rattle.std.specs.Prelude.{◌≡◌, ◌<◌, ◌≤◌, All, IfOk, OnOk, length, map, string_bytes};
+ghost use Rattle.std.specs.Prelude.{◌≡◌, ◌<◌, ◌≤◌, All, IfOk, IfSome, IsOkAnd, OnOk, length, map, true};
 ghost use Rattle.std.specs.Io.KnownBytes.{Appends};
+ghost use Rattle.qplain.specs.declared.edition.Edition.TheVariants.{Two};
 ghost use Rattle.qtext_outcome.specs.Outcomes.{outcome_end};
 ghost use Rattle.qshare.specs.declared.opening.TheConstants.{MAX_SEATS};
-ghost use Rattle.qrun.specs.Serving.{monitors_in};
+ghost use Rattle.qrun.specs.Serving.{KeepsTime, monitors_in};
 ghost use Rattle.qrun.specs.Watching.{seats_for};
+ghost use Rattle.qrun_replay.specs.Runs.{IsServiceOf};
 ghost use Rattle.qrun_worker.specs.Work.{IsNewClient};
 ghost use Rattle.qtool.specs.ClientNames.{terms_in, terms_of_client};
-ghost use Rattle.qtool.specs.Printed.{PrintsService, is_taken, seen, told_at};
-ghost use Rattle.qtool.specs.Terms.{AreKept, terms_told};
-ghost use Rattle.qtool.specs.Under.{IsServiceUnder};
+ghost use Rattle.qtool.specs.Printed.{PrintsService, seen};
+ghost use Rattle.qtool.specs.Terms.{AreKept};
 
 use crate::clashes::{ServiceNames, find_clash};
 use crate::client_names::{ClientNames, is_output_taken, names_of};
 use crate::ending::Ending;
-use crate::reading::configuration;
 use crate::running::ending_of_run;
+use crate::served::{ServiceConfig, served, service_config};
 use crate::standard::optional;
 use crate::told_streams::ToldStreams;
 use crate::{Files, Machine, NamedStreams, Outcome, OutcomeText, Setup, finish_outcome, serve};
 use qplain::{MAX_WORKERS, NoMemory};
 use qrun::Service;
 use qrun_client::ClientEnd;
-use qtext_client::{EndedClient, StreamClient};
+use qtext_client::{
+    ClockMoments, Counting, Counts, EndedClient, Moments, OwnMoments, StreamClient,
+};
 use qtext_job::ServeJob;
 use qtool_files::{BoardFile, ShownBoards};
 use std::alloc::Global;
@@ -50,7 +53,7 @@ fn test_seats(clients: u64, board: Option<&str>) -> Result<(), Ending>
 type ToldBy<F> = ToldStreams<<F as NamedStreams>::Streams, <F as NamedStreams>::Faults>;
 
 /// A client over such streams.
-type NamedClient<'a, F> = StreamClient<'a, ToldBy<F>>;
+type NamedClient<'a, F, M> = StreamClient<'a, ToldBy<F>, M>;
 
 /// What is left of a service over such streams: its outcome, its clients, and whether the file for boards has refused.
 struct Left<F: NamedStreams> {
@@ -59,15 +62,27 @@ struct Left<F: NamedStreams> {
     refused: bool,
 }
 
-/// The client of this number, none of whose streams is opened yet, on the terms of its names, and which stops at a
-/// failed line where it has a flag.
-fn client_of<'a, F: NamedStreams>(
+/// Where the lines of the client of this number are counted, where anybody counts.
+fn counting_of(counts: Option<&Counts>, client: u64) -> Option<Counting<'_>>
+    ensures { IfSome result (λ counting. counting.client ≡ client) }
+{
+    match counts {
+        Some(counts) => Some(Counting { counts, client }),
+        None => None,
+    }
+}
+
+/// The client of this number, none of whose streams is opened yet, on the terms of its names, which stops at a failed
+/// line where it has a flag, and is counted where anybody counts.
+fn client_of<'a, F: NamedStreams, M: Moments>(
     alloc: Global,
     files: &F,
     client: u64,
     names: &ClientNames<'a>,
+    moments: &'a M,
     stop: Option<&'a AtomicBool>,
-) -> Result<NamedClient<'a, F>, NoMemory>
+    counts: Option<&'a Counts>,
+) -> Result<NamedClient<'a, F, M>, NoMemory>
     ensures new { IfOk result (λ c. IsNewClient c.owed c.stands) }
     ensures terms { IfOk result (λ c. terms_of_client c ≡ terms_in names.now) }
 {
@@ -78,35 +93,40 @@ fn client_of<'a, F: NamedStreams>(
         input: String::from_str(alloc, names.input)?,
         output: String::from_str(alloc, names.output)?,
     };
-    Ok(StreamClient::new(alloc, streams, stop, names.terms))
+    let counting = counting_of(counts, client);
+    Ok(StreamClient::new(alloc, streams, moments, stop, names.terms, counting))
 }
 
 /// A client for each pair of names.
-fn clients_of<'a, F: NamedStreams>(
+fn clients_of<'a, F: NamedStreams, M: Moments>(
     alloc: Global,
     files: &F,
     names: &[ClientNames<'a>],
+    moments: &'a M,
     stop: Option<&'a AtomicBool>,
-) -> Result<Vec<NamedClient<'a, F>>, NoMemory>
+    counts: Option<&'a Counts>,
+) -> Result<Vec<NamedClient<'a, F, M>>, NoMemory>
     ensures many { IfOk result (λ clients. length clients.items ≡ length names.now) }
     ensures new { IfOk result (λ clients. All (λ c. IsNewClient c.owed c.stands) clients.items) }
     ensures terms { IfOk result (λ clients. map terms_of_client clients.items ≡ map terms_in names.now) }
 {
     let mut clients = Vec::new(alloc);
     for names in names {
-        let client = client_of(alloc, files, clients.len() as u64 + 1, names, stop)?;
+        let number = clients.len() as u64 + 1;
+        let client = client_of(alloc, files, number, names, moments, stop, counts)?;
         clients.push(client)?;
     }
     Ok(clients)
 }
 
-/// Who shows the boards of a service in a file of this name, where there is one.
+/// Who shows the boards of a service, and what it counts, in a file of this name, where there is one.
 fn monitor_of<'a, F: Files, R: Clock>(
     rt: &'a R,
     alloc: Global,
     files: &'a mut F,
     board: Option<&'a str>,
     setup: &Setup,
+    counts: &'a Counts,
 ) -> Result<Option<BoardFile<'a, F, R>>, NoMemory>
     ensures { IfOk result (λ monitor. monitors_in monitor ≡ monitors_in board.entry) }
 {
@@ -114,7 +134,7 @@ fn monitor_of<'a, F: Files, R: Clock>(
         return Ok(None);
     };
     let setup = setup.copy(alloc)?;
-    Ok(Some(BoardFile::new(rt, files, name, setup)))
+    Ok(Some(BoardFile::new(alloc, rt, files, name, setup, counts)))
 }
 
 /// What is wrong with the names of a service, or with how many clients there are, where anything is.
@@ -138,29 +158,28 @@ fn has_refused<F: Files>(boards: &Option<ShownBoards<'_, F>>) -> bool {
     }
 }
 
-/// Serves the clients of these names until all have ended, or a line has failed where it is to stop at that. Too many
-/// clients are reported first, before any file is touched, then names that clash, then the configuration.
-fn serve_of<F: Files + NamedStreams + Send, R: Threads + Wait + Clock + Sync>(
+/// Serves the clients of these names, whose lines are made at the moments that they tell, on a store of the setup.
+fn serve_as_told<F: Files + NamedStreams + Send, R: Threads + Wait + Clock + Sync>(
     machine: &Machine<'_, R>,
     names: ServiceNames<'_>,
+    setup: Setup,
     stop_at_failure: bool,
     files: &mut F,
 ) -> Result<Left<F>, Ending>
-    requires { 0 < length names.clients.now }
-    ensures under { IfOk result (λ left. IsServiceUnder (F.held files.old) names.entry.config.now left.outcome) }
+    requires some { (0 < length names.clients.now) × (setup.edition ≡ Two)
+        × (seats_for (length names.clients.now) (monitors_in names.board) ≤ MAX_SEATS) }
+    ensures outcome { IfOk result (λ left. IsServiceOf setup left.outcome) }
     ensures kept { IfOk result
         (λ left. AreKept (map terms_in names.entry.clients.now) left.outcome.journal.entries) }
 {
     let Machine { rt, alloc, .. } = *machine;
-    test_names(alloc, files, names)?;
-    let config = configuration(alloc, files, names.config).map_err(|ending| ending.explained(
-        false,
-    ))?;
     let failed = AtomicBool::new(false);
     let stop = if stop_at_failure { Some(&failed) } else { None };
-    let clients = clients_of(alloc, files, names.clients, stop)?;
-    let monitor = monitor_of(rt, alloc, files, names.board, &config.setup)?;
-    match serve(machine, config.setup, clients, monitor) {
+    let counts = names.counted();
+    let moments = OwnMoments { clock: rt };
+    let clients = clients_of(alloc, files, names.clients, &moments, stop, counts)?;
+    let monitor = monitor_of(rt, alloc, files, names.board, &setup, names.counts)?;
+    match serve(machine, setup, clients, false, monitor) {
         Ok(
             Service {
                 outcome,
@@ -174,6 +193,68 @@ fn serve_of<F: Files + NamedStreams + Send, R: Threads + Wait + Clock + Sync>(
         }),
         Err(fault) => Err(ending_of_run(fault)),
     }
+}
+
+/// Serves the clients of these names, whose lines are made at the moments of a clock, on a store that it rules.
+fn serve_by_clock<F: Files + NamedStreams + Send, R: Threads + Wait + Clock + Sync>(
+    machine: &Machine<'_, R>,
+    names: ServiceNames<'_>,
+    setup: Setup,
+    stop_at_failure: bool,
+    files: &mut F,
+) -> Result<Left<F>, Ending>
+    requires some { (0 < length names.clients.now) × (setup.edition ≡ Two)
+        × (seats_for (length names.clients.now) (monitors_in names.board) ≤ MAX_SEATS) }
+    ensures outcome { IfOk result (λ left. IsServiceOf setup left.outcome × KeepsTime true left.outcome) }
+    ensures kept { IfOk result
+        (λ left. AreKept (map terms_in names.entry.clients.now) left.outcome.journal.entries) }
+{
+    let Machine { rt, alloc, .. } = *machine;
+    let failed = AtomicBool::new(false);
+    let stop = if stop_at_failure { Some(&failed) } else { None };
+    let counts = names.counted();
+    let moments = ClockMoments { clock: rt };
+    let clients = clients_of(alloc, files, names.clients, &moments, stop, counts)?;
+    let monitor = monitor_of(rt, alloc, files, names.board, &setup, names.counts)?;
+    match serve(machine, setup, clients, true, monitor) {
+        Ok(
+            Service {
+                outcome,
+                left,
+                monitor,
+            },
+        ) => Ok(Left {
+            outcome,
+            clients: left,
+            refused: has_refused(&monitor),
+        }),
+        Err(fault) => Err(ending_of_run(fault)),
+    }
+}
+
+/// Serves the clients of these names until all have ended, or a line has failed where it is to stop at that, at their
+/// moments or the clock's. Too many clients are reported first, then names that clash, then what is wrong with the
+/// configuration that was read.
+fn serve_of<F: Files + NamedStreams + Send, R: Threads + Wait + Clock + Sync>(
+    machine: &Machine<'_, R>,
+    names: ServiceNames<'_>,
+    setup: Result<Setup, Ending>,
+    job: &ServeJob,
+    files: &mut F,
+) -> Result<Left<F>, Ending>
+    requires some { 0 < length names.clients.now }
+    requires newest { IfOk setup (λ setup. setup.edition ≡ Two) }
+    ensures of { IfOk result (λ left. IsOkAnd setup (λ setup. IsServiceOf setup left.outcome)) }
+    ensures moments { IfOk result (λ left. KeepsTime job.now.clock left.outcome) }
+    ensures kept { IfOk result
+        (λ left. AreKept (map terms_in names.entry.clients.now) left.outcome.journal.entries) }
+{
+    test_names(machine.alloc, files, names)?;
+    let setup = setup?;
+    if job.clock {
+        return serve_by_clock(machine, names, setup, job.stop_at_failure, files);
+    }
+    serve_as_told(machine, names, setup, job.stop_at_failure, files)
 }
 
 /// Whether a client has ended since a line failed, its own or another's.
@@ -235,24 +316,30 @@ where
     O: Write,
     E: Write,
     R: Threads + Wait + Clock + Sync,
-    ensures { IfOk result (λ _. PrintsService (string_bytes job.now.config)
-        (terms_told job.now.shares job.now.pairs.items) job.now.at (F.held files.old)
-        (told_at (is_taken job.now.pairs.items) (seen (F.held files.old) (O.contents out.old) (E.contents err.old)))
-        (told_at (is_taken job.now.pairs.items) (seen (F.held files.new) (O.contents out.new) (E.contents err.new)))) }
+    ensures { IfOk result (λ _. PrintsService job.now
+        (seen (F.held files.old) (O.contents out.old) (E.contents err.old))
+        (seen (F.held files.new) (O.contents out.new) (E.contents err.new))) }
 {
-    let pairs = job.pairs.as_slice();
+    let config = service_config(machine.alloc, files, job.config.as_str())?;
+    let ServiceConfig {
+        setup,
+        pairs: configured,
+    } = config;
+    let pairs = served(job.pairs.as_slice(), &configured);
     let named = names_of(machine.alloc, pairs, job.shares)?;
+    let counts = Counts::new(named.len() as u64);
     let names = ServiceNames {
         config: job.config.as_str(),
         clients: &named,
         journal: optional(&job.journal),
         board: optional(&job.board),
+        counts: &counts,
     };
     let Left {
         outcome,
         clients,
         refused,
-    } = serve_of(machine, names, job.stop_at_failure, files)?;
+    } = serve_of(machine, names, setup, job, files)?;
     if is_output_taken(pairs) {
         finish_service(machine.alloc, outcome, job, files, err)?;
         return end_of(&clients, refused);

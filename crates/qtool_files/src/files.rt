@@ -1,10 +1,14 @@
 //! Files and streams of clients by name, as the program asks for them.
-ghost use Rattle.std.specs.Prelude.{◌≡◌, ℕ, List, [], Option, None, Some, IfOk, IsSome, OnErr, OnOk};
+ghost use Rattle.std.specs.Prelude.{◌≡◌, ◌++◌, ℕ, List, [], Option, None, Some, IfOk, IsSome, OnErr, OnOk};
+ghost use Rattle.qtext_metrics.specs.Services.{service_text};
 ghost use Rattle.qtool_files.specs.Held.{StandsUnder, IsUnder};
 
+use crate::counted_board::finish_board;
 use qplain::{NoMemory, Script};
 use qrun::Gate;
+use qtext::{RefusedWrite, Written};
 use qtext_client::Streams;
+use qtext_metrics::ServiceCounts;
 use std::io::Write;
 
 /// Why a file is not to be had.
@@ -68,6 +72,26 @@ pub trait Files {
         ensures shown { (text : List ℕ) → Self.Draft.contents draft ≡ Some text
             → OnOk result (StandsUnder (held self.old) (held self.new) name.now text) }
         ensures err { OnErr result (held self.new ≡ held self.old) };
+
+    /// Puts a board's text under a name, and behind it what was counted, in the place of what stands there. An Err
+    /// leaves that.
+    fn show_board(&mut self, name: &str, text: &[u8], counts: &ServiceCounts) -> Written
+        ensures ok { OnOk result (StandsUnder (held self.old) (held self.new) name.now
+            (text.now ++ service_text counts.now)) }
+        ensures err { OnErr result (held self.new ≡ held self.old) }
+    {
+        let Ok(mut draft) = self.draft(name) else {
+            return Err(RefusedWrite);
+        };
+        if finish_board(text, counts, &mut draft).is_err() {
+            self.give_up(draft);
+            return Err(RefusedWrite);
+        }
+        match self.show(draft, name) {
+            Ok(()) => Ok(()),
+            Err(_) => Err(RefusedWrite),
+        }
+    }
 
     /// Takes a draft away.
     fn give_up(&mut self, draft: Self::Draft)

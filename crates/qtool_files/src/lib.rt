@@ -7,6 +7,8 @@ pub use finishing::{OutcomeText, Refuser, finish_outcome};
 pub use overwriting::{Overwritten, test_journal};
 
 mod board_file;
+mod counted_board;
 mod files;
 mod finishing;
 mod overwriting;
+mod seen_counts;

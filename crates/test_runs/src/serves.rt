@@ -59,7 +59,7 @@ fn the_last_board_of_a_service_is_shown(rt: HostRuntime) -> Result<(), Fail> {
         alloc,
         seed: 0,
     };
-    let Ok(service) = serve(&machine, setup, clients, Some(monitor)) else {
+    let Ok(service) = serve(&machine, setup, clients, false, Some(monitor)) else {
         return Err(Fail::from("an outcome"));
     };
     let entries = service.outcome.journal.get().entries().len();

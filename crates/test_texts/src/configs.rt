@@ -35,7 +35,7 @@ fn is_refused(alloc: Global, text: &str, fault: &ConfigFault) -> bool {
 /// What a configuration comes to that was read from this text.
 fn answer_of_read(alloc: Global, text: &str, config: &Config) -> Result<Answer, AllocError> {
     let longer = with_comment(alloc, text)?;
-    let spelled = text_of(alloc, &config.setup)?;
+    let spelled = text_of(alloc, config)?;
     if reads_as(alloc, &longer, config) && reads_as(alloc, &spelled, config) {
         return Ok(Answer::Read);
     }

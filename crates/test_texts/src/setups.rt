@@ -1,6 +1,7 @@
-//! Setups, spelled as configurations.
+//! Setups and clients, spelled as configurations.
 
 use qplain::{Principal, Setup};
+use qtext_config::{Config, ConfigClient};
 use std::alloc::{AllocError, Global};
 
 /// Writes the table of a principal.
@@ -24,9 +25,34 @@ fn put_head(out: &mut String, setup: &Setup) -> Result<(), AllocError> {
     writeln!(out, "inode_grace = {}", graces.inode)
 }
 
-/// A configuration of this setup, with each limit.
-pub(crate) fn text_of(alloc: Global, setup: &Setup) -> Result<String, AllocError> {
+/// Writes a key and its text, each character by its number.
+fn put_text(out: &mut String, key: &str, text: &str) -> Result<(), AllocError> {
+    write!(out, "{key} = \"")?;
+    for letter in text.chars() {
+        write!(out, "\\U{:08x}", u32::from(letter))?;
+    }
+    writeln!(out, "\"")
+}
+
+/// Writes the table of a client.
+fn put_client(out: &mut String, client: &ConfigClient) -> Result<(), AllocError> {
+    writeln!(out, "[[client]]")?;
+    put_text(out, "lines", client.lines.as_str())?;
+    put_text(out, "replies", client.replies.as_str())?;
+    let Some(caller) = &client.caller else {
+        return Ok(());
+    };
+    write!(out, "caller = \"{}:{}", caller.uid(), caller.gid())?;
+    for group in caller.more() {
+        write!(out, ",{group}")?;
+    }
+    writeln!(out, "\"")
+}
+
+/// A configuration of this setup, with each limit, and of these clients.
+pub(crate) fn text_of(alloc: Global, config: &Config) -> Result<String, AllocError> {
     let mut out = String::new(alloc);
+    let setup = &config.setup;
     put_head(&mut out, setup)?;
     for user in setup.users() {
         put_principal(&mut out, "user", user)?;
@@ -36,6 +62,9 @@ pub(crate) fn text_of(alloc: Global, setup: &Setup) -> Result<String, AllocError
     }
     for project in setup.projects() {
         put_principal(&mut out, "project", project)?;
+    }
+    for client in config.clients.as_slice() {
+        put_client(&mut out, client)?;
     }
     Ok(out)
 }

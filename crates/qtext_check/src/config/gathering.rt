@@ -1,17 +1,17 @@
 //! All that is wrong in a document, in the order in which reading tests it.
 
-use super::rules::{Form, is_in_range, rule_of};
+use super::rules::{CLIENTS, Form, is_in_range, keys_in, rule_of};
 use super::telling::Said;
 use super::{Check, Done, Site};
 use crate::MOST_TOLD;
 use qplain::MAX_PRINCIPALS;
-use qtext_config::{ConfigFault, DOCUMENT_KEYS, PRINCIPAL_KEYS};
+use qtext_config::{ConfigFault, DOCUMENT_KEYS};
 use toml::{Table, Value};
 
-/// The elements of the list of principals at a key, where there is one.
+/// The elements of the list at a key, where there is one.
 fn elements_of<'a>(document: &'a Table, key: &str) -> &'a [Value] {
     match (rule_of(key).1, document.get(key)) {
-        (Form::List, Some(Value::Array(list))) => list.as_slice(),
+        (Form::List(_), Some(Value::Array(list))) => list.as_slice(),
         _ => &[],
     }
 }
@@ -36,7 +36,11 @@ impl Check<'_> {
         let (is_needed, form) = rule_of(at.1);
         let field = ConfigFault::Field(String::from_str(self.alloc, at.1)?);
         let range = ConfigFault::Range;
-        match (value, value.and_then(|value| is_in_range(form, value))) {
+        let good = match value {
+            Some(value) => is_in_range(self.alloc, form, value)?,
+            None => None,
+        };
+        match (value, good) {
             (None, _) if is_needed => self.tell(field, at, Said::Missing(form)),
             (None, _) | (_, Some(true)) => Ok(()),
             (_, None) => self.tell(field, at, Said::Value(form)),
@@ -47,7 +51,7 @@ impl Check<'_> {
 
     /// Finds what is wrong in a list: elements that are no tables, then the values of the others, and that none is 0.
     fn list(&mut self, list: &'static str, elements: &[Value]) -> Done {
-        let mut lacks_zero = !elements.is_empty();
+        let mut lacks_zero = !elements.is_empty() && list != CLIENTS;
         for (index, element) in elements.iter().enumerate() {
             lacks_zero &= matches!(element.get("id"), Some(Value::Integer(id)) if *id != 0);
             if !element.is_table() {
@@ -57,7 +61,7 @@ impl Check<'_> {
         }
         for (index, element) in elements.iter().enumerate() {
             let site = Site::Of(list, index);
-            for key in &PRINCIPAL_KEYS {
+            for key in keys_in(list) {
                 if element.is_table() {
                     self.value((site, key), element.get(*key))?;
                 }
@@ -83,10 +87,12 @@ impl Check<'_> {
         self.tell(field, (site, shown), Said::Unknown(known, key))
     }
 
-    /// Finds the keys that tables of lists may not have, the least by bytes first.
-    fn strays(&mut self, document: &Table) -> Done {
+    /// Finds the keys that tables of lists may not have, the least by bytes first: of the list of clients, or of all
+    /// others.
+    fn strays(&mut self, document: &Table, of_clients: bool) -> Done {
         let mut keys = Vec::new(self.alloc);
-        for list in &DOCUMENT_KEYS {
+        let lists = DOCUMENT_KEYS.into_iter();
+        for list in lists.filter(|list| (*list == CLIENTS) == of_clients) {
             for (index, element) in elements_of(document, list).iter().enumerate() {
                 for key in element.as_table().into_iter().flat_map(|t| t.keys()) {
                     keys.push((key.as_str(), Site::Of(list, index)))?;
@@ -95,24 +101,40 @@ impl Check<'_> {
         }
         keys.sort_by_key(|(key, _)| *key)?;
         for (key, site) in keys {
-            self.stray(site, key, &PRINCIPAL_KEYS)?;
+            let list = if of_clients { CLIENTS } else { "" };
+            self.stray(site, key, keys_in(list))?;
         }
         Ok(())
     }
 
-    /// Finds all that is wrong in a document, and where, in the order of the numbers of faults.
-    pub(super) fn document(&mut self, document: &Table) -> Done {
-        self.put_keys(Site::Document, self.text.trim_start_matches('\u{feff}'))?;
-        for key in &DOCUMENT_KEYS {
-            self.put_elements(key)?;
-            self.value((Site::Document, key), document.get(*key))?;
+    /// Finds what is wrong with the setup of a document, and where, in the order of the numbers of faults.
+    fn setup(&mut self, document: &Table) -> Done {
+        for key in DOCUMENT_KEYS.into_iter().filter(|key| *key != CLIENTS) {
+            self.value((Site::Document, key), document.get(key))?;
             self.list(key, elements_of(document, key))?;
         }
         for key in document.keys() {
             self.stray(Site::Document, key.as_str(), &DOCUMENT_KEYS)?;
         }
-        self.strays(document)?;
-        self.findings.sort_by_key(|finding| finding.fault.number())?;
+        self.strays(document, false)?;
+        Ok(self.findings.sort_by_key(|finding| finding.fault.number())?)
+    }
+
+    /// Finds what is wrong with the clients of a document, and how many there are at last, unless they are no list.
+    fn clients(&mut self, document: &Table) -> Done {
+        self.list(CLIENTS, elements_of(document, CLIENTS))?;
+        self.strays(document, true)?;
+        self.value((Site::Document, CLIENTS), document.get(CLIENTS))
+    }
+
+    /// Finds all that is wrong in a document, and where, in the order in which reading tests it.
+    pub(super) fn document(&mut self, document: &Table) -> Done {
+        self.put_keys(Site::Document, self.text.trim_start_matches('\u{feff}'))?;
+        for key in DOCUMENT_KEYS {
+            self.put_elements(key)?;
+        }
+        self.setup(document)?;
+        self.clients(document)?;
         let left_out = self.findings.len().saturating_sub(MOST_TOLD);
         self.findings.truncate(MOST_TOLD);
         self.more = self.more.saturating_add(left_out as u64);

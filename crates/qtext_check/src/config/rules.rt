@@ -1,8 +1,11 @@
 //! What may stand at the keys of a configuration.
 
-use qplain::{MAX_BLOCKS, MAX_INODES, MAX_PRINCIPALS, is_principal_name};
+use qplain::{MAX_BLOCKS, MAX_INODES, MAX_PRINCIPALS, MAX_WORKERS, is_principal_name};
 use qrules::{MAX_GRACE, MAX_LIMIT};
-use qtext_config::blocks_of_size;
+use qtext::ReadFault;
+use qtext_config::{CLIENT_KEYS, PRINCIPAL_KEYS, blocks_of_size};
+use qtext_read::caller_of;
+use std::alloc::{AllocError, Global};
 use std::fmt;
 use toml::Value;
 
@@ -13,7 +16,22 @@ pub(super) enum Form {
     Name,
     /// A whole number of what the words say, at least the first and at most the second.
     Number(&'static str, u64, u64),
-    List,
+    Stream,
+    Caller,
+    /// A list of tables, at most so many.
+    List(u64),
+}
+
+/// The list of the clients of a service, of which all is tested behind the rest.
+pub(super) const CLIENTS: &str = "client";
+
+/// The keys of the tables of a list.
+pub(super) fn keys_in(list: &str) -> &'static [&'static str] {
+    if list == CLIENTS {
+        &CLIENT_KEYS
+    } else {
+        &PRINCIPAL_KEYS
+    }
 }
 
 /// Whether a key that is known has to be there, and what may stand at it.
@@ -26,23 +44,44 @@ pub(super) fn rule_of(key: &str) -> (bool, Form) {
         "name" => (true, Form::Name),
         "block_soft" | "block_hard" => (false, Form::Number(" of KiB", 0, MAX_LIMIT)),
         "inode_soft" | "inode_hard" => (false, Form::Number(" of inodes", 0, MAX_LIMIT)),
-        _ => (key != "project", Form::List),
+        "lines" | "replies" => (true, Form::Stream),
+        "caller" => (false, Form::Caller),
+        CLIENTS => (false, Form::List(MAX_WORKERS)),
+        _ => (key != "project", Form::List(MAX_PRINCIPALS as u64)),
+    }
+}
+
+/// Whether a text is a caller.
+fn is_caller(alloc: Global, text: &str) -> Result<bool, AllocError> {
+    match caller_of(alloc, text.as_bytes()) {
+        Ok(_) => Ok(true),
+        Err(ReadFault::Fault(_)) => Ok(false),
+        Err(ReadFault::Memory) => Err(AllocError),
     }
 }
 
 /// Whether a value is in the range of a form, and None where it is of another kind or form.
-pub(super) fn is_in_range(form: Form, value: &Value) -> Option<bool> {
-    match (form, value) {
+pub(super) fn is_in_range(
+    alloc: Global,
+    form: Form,
+    value: &Value,
+) -> Result<Option<bool>, AllocError> {
+    Ok(match (form, value) {
         (Form::Size, Value::String(text)) => {
-            Some(matches!(blocks_of_size(text.as_bytes())?, 1..=MAX_BLOCKS))
+            blocks_of_size(text.as_bytes()).map(|blocks| matches!(blocks, 1..=MAX_BLOCKS))
         }
         (Form::Name, Value::String(text)) => is_principal_name(text.as_bytes()).then_some(true),
         (Form::Number(_, least, most), Value::Integer(integer)) => {
             Some(matches!(u64::try_from(*integer), Ok(number) if least <= number && number <= most))
         }
-        (Form::List, Value::Array(list)) => Some(matches!(list.len(), 1..=MAX_PRINCIPALS)),
+        (Form::Stream, Value::String(text)) => (!text.is_empty()).then_some(true),
+        (Form::Caller, Value::String(text)) => is_caller(alloc, text.as_str())?.then_some(true),
+        (Form::List(most), Value::Array(list)) => {
+            let count = list.len() as u64;
+            Some(1 <= count && count <= most)
+        }
         _ => None,
-    }
+    })
 }
 
 impl fmt::Display for Form {
@@ -51,7 +90,9 @@ impl fmt::Display for Form {
             Form::Size =>
                 "a text: bytes in 1 to 10 digits, the first not 0, then k, m, g or nothing; at most 4g",
             Form::Name => "a text of 1 to 16 bytes, a to z, 0 to 9, _ and -, the first a letter",
-            Form::List => "a list of 1 to 64 tables",
+            Form::Stream => "a text of a byte or more, a file's name or -",
+            Form::Caller => "a text UID:GID, then at most 16 times ,GROUP",
+            Form::List(most) => return write!(f, "a list of 1 to {most} tables"),
             Form::Number(of, min, max) => return write!(f, "a whole number{of}, {min} to {max}"),
         })
     }

@@ -14,7 +14,7 @@ use std::alloc::Global;
 use toml::Table;
 
 /// The keys of a document.
-pub const DOCUMENT_KEYS: [&str; 7] = [
+pub const DOCUMENT_KEYS: [&str; 8] = [
     "size",
     "nr_inodes",
     "block_grace",
@@ -22,6 +22,7 @@ pub const DOCUMENT_KEYS: [&str; 7] = [
     "user",
     "group",
     "project",
+    "client",
 ];
 
 /// The keys of a user's, a group's or a project's table.
@@ -46,7 +47,7 @@ pub(super) fn known_keys(alloc: Global, document: &Table) -> Result<(), ConfigFa
     no_unknown(alloc, unknown_of_tables(&users, &groups, &projects))
 }
 
-fn no_unknown(alloc: Global, key: Option<&str>) -> Result<(), ConfigFault>
+pub(super) fn no_unknown(alloc: Global, key: Option<&str>) -> Result<(), ConfigFault>
     ensures { GivesBy (λ unit. unit) result (no_unknown (option_map (λ key. key.now) key.entry)) }
 {
     match key {
@@ -71,18 +72,24 @@ fn unknown_of_tables<'a>(
         (flat_map keys_of (map (λ t. table_view t.now) users.now ++ map (λ t. table_view t.now) groups.now
         ++ map (λ t. table_view t.now) projects.now)) }
 {
-    let least = unknown_after(unknown_after(None, users), groups);
-    unknown_after(least, projects)
+    let least = unknown_after(None, users, &PRINCIPAL_KEYS);
+    let least = unknown_after(least, groups, &PRINCIPAL_KEYS);
+    unknown_after(least, projects, &PRINCIPAL_KEYS)
 }
 
 /// The least unknown key of these tables, or the least so far.
-fn unknown_after<'a>(so_far: Option<&'a str>, tables: &[&'a Table]) -> Option<&'a str>
+pub(super) fn unknown_after<'a>(
+    so_far: Option<&'a str>,
+    tables: &[&'a Table],
+    known: &[&str],
+) -> Option<&'a str>
     ensures { option_map (λ key. key.now) result ≡ fold lesser_of (option_map (λ key. key.now) so_far.entry)
-        (filter (is_unknown principal_keys) (flat_map keys_of (map (λ t. table_view t.now) tables.now))) }
+        (filter (is_unknown (map (λ key. key.now) known.now))
+        (flat_map keys_of (map (λ t. table_view t.now) tables.now))) }
 {
     let mut least = so_far;
     for table in tables {
-        least = least_unknown(least, table, &PRINCIPAL_KEYS);
+        least = least_unknown(least, table, known);
     }
     least
 }

@@ -2,6 +2,7 @@ use Rattle.std.proofs.Common.{◌≡◌, true, false, length, option_map, ap, su
 use Rattle.std.proofs.lemmas.List.{length-map}
 use Rattle.qplain.specs.State.{start}
 use Rattle.qaudit_checks.specs.LawfulBoards.{AreLawful, boards_in}
+use Rattle.qshare_history.specs.Moments.{NeverFalls}
 use Rattle.qrun_replay.specs.Runs.{IsServiceOf}
 use Rattle.qrun.specs.Observers.{seat_in}
 use Rattle.qrun.proofs.Ended.{all_shares_there, handed_in_by, has_ended, looks_lawful, staff_fits, works_placed}
@@ -68,3 +69,6 @@ returns-clause-shown g c =
     monitor_shown g.M.Monitor.sees (start g.S.StoreId.id.setting) c.in-Ok.store.journal _ _ _ _ c.args.observer _ _ c.in_ok-works.ensures.1
     c.part_observed-watch.ensures.watch c.part_observed-watch.ensures.left c.in_ok-shares.ensures.shares c.in-Ok.ensures.end.seen
     c.in_ok-outcome-in-Ok.ensures.told.2
+
+pub returns-clause-moments : goal.returns-clause-moments
+returns-clause-moments g c = λ rules. subst NeverFalls (sym c.in_ok-outcome-in-Ok.ensures.told.2) (c.in-Ok.ensures.end.moments rules)

@@ -9,13 +9,13 @@ returns-in_default-clause-clients g c =
     let talk = g.C.Client.talk in
     let left = c.in_ok-outcome.field-0.left.items in
     let outcome = c.in_ok-outcome.field-0.outcome in
-    of_clients talk c.in-Ok.opened.setting c.args.clients.items left outcome
-    (subst (λ cs. HasEnded talk c.in-Ok.opened.setting cs 0 left outcome) c.new-crew.ensures c.in_ok-outcome.ensures.ended)
+    of_clients talk c.ruled-opened.result.setting c.args.clients.items left outcome
+    (subst (λ cs. HasEnded talk c.ruled-opened.result.setting cs 0 left outcome) c.new-crew.ensures c.in_ok-outcome.ensures.ended)
 
 pub returns-clause-clients : goal.returns-clause-clients
 returns-clause-clients g c =
     let talk = g.C.Client.talk in
-    let setting = c.in-Ok.opened.setting in
+    let setting = c.ruled-opened.result.setting in
     if_ok c.play_shown.result
     (λ s ended. of_clients talk setting c.args.clients.items s.left.items s.outcome
     (subst (λ cs. HasEnded talk setting cs 0 s.left.items s.outcome) c.new-crew.ensures ended))

@@ -10,7 +10,8 @@ loop-init g c =
 
 pub tell-requires-clause-answer : goal.tell-requires-clause-answer
 tell-requires-clause-answer g c =
-    called_low g.C.Form.ReceiptForm.form c.line-line.result.now c.loop.seat c.call-answer.new.seat c.call-answer.result c.call-answer.ensures.called
+    called_low g.C.Form.ReceiptForm.form g.S.StoreId.id.clocked c.line-line.result.now c.loop.seat c.call-answer.new.seat
+    c.call-answer.result c.call-answer.ensures.called
 
 pub loop-preserved : goal.loop-preserved
 loop-preserved g c =
@@ -24,7 +25,8 @@ loop-preserved g c =
     let new = c.call-answer.new.seat in
     let called = c.call-answer.ensures in
     let one : HasGone old.seen new.seen old new (stands asked) (stands after) (talk before) (talk after) =
-    called_further g.C.Form.ReceiptForm.form c.line-line.result.now g.S.StoreId.id.setting (stands asked) (stands after) (talk before) (talk asked)
+    called_further g.C.Form.ReceiptForm.form g.S.StoreId.id.clocked c.line-line.result.now g.C.Client.clocked
+    c.requires.clock g.S.StoreId.id.setting (stands asked) (stands after) (talk before) (talk asked)
     (talk after) (g.C.Client.owed asked) c.line-line.ensures c.if-not-next.ensures.talk old new c.call-answer.result c.tell.ensures.told
     called.seen called.called called.kept called.full in (
       further c.args.seat.now.seen old.seen new.seen c.args.seat.now old new (stands begun) (stands before) (stands after) (talk begun)

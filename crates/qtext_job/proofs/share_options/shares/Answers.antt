@@ -18,3 +18,8 @@ pub returns-in_err-depth-clause-err : goal.returns-in_err-depth-clause-err
 returns-in_err-depth-clause-err c =
     passed_on c.from_residual-in_err-depth.result _ ((shares : ShareOptions) × AreSharesIn (rows_of (found_of c.args.matches.now)) shares)
     c.in_err-depth.field-0.0 c.from_residual-in_err-depth.ensures.1 c.in_err-depth.ensures.err (λ p. (p.0.depth, p.1.depth))
+
+pub returns-in_err-rate-clause-err : goal.returns-in_err-rate-clause-err
+returns-in_err-rate-clause-err c =
+    passed_on c.from_residual-in_err-rate.result _ ((shares : ShareOptions) × AreSharesIn (rows_of (found_of c.args.matches.now)) shares)
+    c.in_err-rate.field-0.0 c.from_residual-in_err-rate.ensures.1 c.in_err-rate.ensures.err (λ p. (p.0.rate, p.1.rate))

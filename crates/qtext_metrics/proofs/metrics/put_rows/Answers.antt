@@ -1,5 +1,5 @@
 use Rattle.std.proofs.Common.{refl}
-use Rattle.qtext.proofs.Fronts.{rows_end, rows_go_on, rows_refused}
+use Rattle.qtext.proofs.Fronts.{rows_go_on, rows_refused}
 use Rattle.qtext_metrics.specs.Metrics.{family_row}
 use Rattle.qtext_metrics.proofs.metrics.put_rows.Goals as goal
 

@@ -17,4 +17,5 @@ returns-clause-end g c =
       balanced = end_balances c.self.inside.store (tally_of_shares c.args.shares.items) locked.of.played tally;
       seen = subst (λ (v : Locked). All (λ s. IsPrefix s.seen v.journal) c.args.shares.items) (sym c.self.view_is)
           (subst (All (λ s. IsPrefix s.seen c.args.self.journal)) c.deref.ensures.value c.await_all.ensures);
+      moments = locked.moments;
     }

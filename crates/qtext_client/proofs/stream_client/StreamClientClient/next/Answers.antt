@@ -10,7 +10,7 @@ loop-init g c =
     record {
       owed = ap (λ p. p.owed) c.self.view_is ∙ c.requires.answered;
       stands = ap (λ p. p.stands) c.self.view_is;
-      talk = begun g.S.Streams.took _ _ new c.requires.answered (λ i. record (c.self.view_is i) { wire = new })
+      talk = begun g.M.Moments.clocked g.S.Streams.took _ _ new c.requires.answered (λ i. record (c.self.view_is i) { wire = new })
           (subst (λ p. Stays p.wire new ⊎ HasEnded p.wire new) c.self.view_is c.begin.ensures);
     }
 
@@ -18,5 +18,5 @@ pub returns-clause-talk : goal.returns-clause-talk
 returns-clause-talk g c =
     let new = c.end.new.self in
     λ lines answers left comes. c.loop.invariant.talk lines answers left
-    (begun g.S.Streams.took _ _ new c.loop.invariant.owed (λ i. record (c.self-2.view_is i) { wire = new })
+    (begun g.M.Moments.clocked g.S.Streams.took _ _ new c.loop.invariant.owed (λ i. record (c.self-2.view_is i) { wire = new })
     (inr (subst (λ p. HasEnded p.wire new) c.self-2.view_is (let_go Input _ new (λ is. absurd cc) c.end.ensures))) lines answers left comes)

@@ -8,5 +8,6 @@ abbrev pub invariant-loop : goal.invariant-loop
 invariant-loop g l = record {
   owed : l.self.owed ≡ None;
   stands : l.self.stands ≡ l.fn.self.stands;
-  talk : ComesOf (comes_to g.S.Streams.took l.fn.self) (comes_to g.S.Streams.took l.self);
+  talk : ComesOf (comes_to g.M.Moments.clocked g.S.Streams.took l.fn.self)
+      (comes_to g.M.Moments.clocked g.S.Streams.took l.self);
 }

@@ -1,0 +1,2 @@
+-- How the samples of clients are written one after the other.
+pub mod Clients
