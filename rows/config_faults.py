@@ -12,6 +12,7 @@ MOST_TOLD, MOST_TABLES, MOST_CLIENTS = 100, 64, 16
 BOUNDS = {"size": None, "nr_inodes": (1, 2**16), "block_grace": (1, 2**32 - 1), "inode_grace": (1, 2**32 - 1)}
 LIMITS = dict.fromkeys(["block_soft", "block_hard", "inode_soft", "inode_hard"], (0, 2**40))
 OF_PRINCIPAL = {"id": (0, 2**32 - 1), "name": None, **LIMITS}
+SHARES = dict.fromkeys(["share_calls", "share_kib"], (0, 2**20)) | {"share_depth": (1, 2**11), "share_rate": (1, 2**20)}
 OF_CLIENT = "lines", "replies", "caller"
 ID = "(0|[1-9][0-9]{0,9})"
 CALLER = re.compile(f"{ID}:{ID}((?:,{ID}){{0,16}})")
@@ -217,9 +218,16 @@ def clients(document):
                 yield f"field: {name}: {key} is missing"
             elif value is not None and not (isinstance(value, str) and value and (key != "caller" or is_caller(value))):
                 yield f"field: {name}: {key}"
+        yield from (f"field: {name}: {key}" for key in SHARES if key in element and type(element[key]) is not int)
+        if "caller" not in element and element.keys() & SHARES.keys():
+            yield f"field: {name}: caller is missing"
     strays = [(key.encode(), at, name, key) for at, (name, element) in enumerate(mine)
-              for key in element.keys() - set(OF_CLIENT)]
+              for key in element.keys() - {*OF_CLIENT, *SHARES}]
     yield from (f"field: {name}: {shown(key)} is no key" for _, _, name, key in sorted(strays))
+    for name, element in mine:
+        numbers = [(key, bounds, element.get(key)) for key, bounds in SHARES.items()]
+        yield from (f"range: {name}: {key}" for key, (least, most), value in numbers
+                    if type(value) is int and not least <= value <= most)
     if not 1 <= len(found) <= MOST_CLIENTS:
         yield f"range: client has {len(found)} tables"
 

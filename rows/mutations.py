@@ -52,6 +52,7 @@ CONFIG_WORDS = [
     *b'"seventeen_letters" size nr_inodes block_grace inode_grace user group project id name block_soft "a.b"'.split(),
     *b"x block_hard inode_soft inode_hard [user] [[user]] [[group]] [[project]] [[client]]".split(),
     *b'client lines replies caller "-" "a.in" "0:0" "1000:100,0" "0:0,"'.split(),
+    *b"share_calls share_kib share_depth share_rate".split(),
     *b"[] {} [{}] [1] [ ] { } = , . # true inf".split(),
     *b'nan 2026-01-01 07:32:00 """ \'\'\' " \' \\ "\\u0000" "\\ud800" "\\e" "\\q" "a\\tb" a.b.c user.id "\\n"'.split(),
     *(b"[" * depth + b"]" * depth for depth in (80, 81, 300)),

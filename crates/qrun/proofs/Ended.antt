@@ -22,10 +22,10 @@ use Rattle.qrun_replay.specs.Runs.{IsLeftByWorkers, IsNeverFull, IsOutcomeOf, Is
 use Rattle.qrun_client.specs.Clients.{Talk}
 use Rattle.qrun_worker.specs.Scripts.{Playing, has_still, owed_of}
 use Rattle.qrun_worker.specs.Work.{ArePlayed, IsNewClient, IsPlayed, Prepared, Worked}
-use Rattle.qrun.specs.Crews.{ArePlaying, HasEnded, HasSeatIn, IsStaff, new_client}
+use Rattle.qrun.specs.Crews.{ArePlaying, HasEnded, IsStaff, new_client}
 use Rattle.qrun.specs.declared.observer.Observer.{Observer}
 use Rattle.qrun.specs.Monitors.{Sight}
-use Rattle.qrun.specs.Observers.{IsObservedBy, Observed, looks_wanted, seat_in}
+use Rattle.qrun.specs.Observers.{HasSeatIn, IsObservedBy, Observed, looks_wanted, seat_in}
 use Rattle.qrun.specs.Serving.{CanServe, IsOfClients, IsTranscriptOf}
 use Rattle.qrun.specs.Told.{AreAllPlaced, AreAllTold, AreShort, AreTold, AreToldFrom, answered_of, placed_of}
 use Rattle.qrun.specs.Watching.{IsWatchOf, Watched, looks_in, seats_for, shares_in, watcher_for}
@@ -257,10 +257,10 @@ scripts_ended setting scripts these looks left o are ended =
       never_full = ended.never (subst AreShort (sym lines) are.short);
     }
 
--- so it is told of a run of this setup, whose crew they are
-pub run_ended : (setting setup : Setting) (scripts : List (List Line)) (these crew : List Playing) (looks : ℕ) (left : List (Unit {0}))
-    (o : Outcome) → ArePlaying scripts these → crew ≡ these → setting ≡ setup
-    → HasEnded (λ (c : Playing). has_still c.lines) setting crew looks left o → IsOutcomeOf setup scripts o
-run_ended setting setup scripts these crew looks left o are same is ended =
-    subst (λ s. IsOutcomeOf s scripts o) is (scripts_ended setting scripts these looks left o are
-    (subst (λ cs. HasEnded (λ (c : Playing). has_still c.lines) setting cs looks left o) same ended))
+-- so it is told of a run whose crew they are
+pub run_ended : (setup : Setting) (scripts : List (List Line)) (these crew : List Playing) (looks : ℕ) (left : List (Unit {0}))
+    (o : Outcome) → ArePlaying scripts these → crew ≡ these
+    → HasEnded (λ (c : Playing). has_still c.lines) setup crew looks left o → IsOutcomeOf setup scripts o
+run_ended setup scripts these crew looks left o are same ended =
+    scripts_ended setup scripts these looks left o are
+    (subst (λ cs. HasEnded (λ (c : Playing). has_still c.lines) setup cs looks left o) same ended)

@@ -1,11 +1,16 @@
 -- The threads that faults name.
-use Rattle.std.proofs.Common.{◌≡◌, ◌<◌, ◌≤◌, ℕ, ◌+◌, ◌==◌, if◌then◌else◌, Bool, true, false, Result, Ok, Err, IfErr, IfOk, IfSome, None, Some, ap, refl, sym, subst, arith, tests}
+use Rattle.std.proofs.Common.{◌≡◌, ◌<◌, ◌≤◌, ℕ, ◌+◌, ◌-◌, ◌==◌, ◌∙◌, List, if◌then◌else◌, Bool, true, false, Result, Ok, Err, IfErr, IfOk, IfSome, None, Some, ap, refl, sym, subst, arith}
 use Rattle.std.specs.Result.{IsErrAnd}
-use Rattle.qplain.specs.Journal.{no_tally}
-use Rattle.qshare.specs.Seats.{new_seat}
+use Rattle.qplain.specs.Setups.{Setting}
+use Rattle.qshare.specs.Seats.{Seated, new_seat, seats_of}
 use Rattle.qrun.specs.declared.run_fault.RunFault.{RunFault}
 use Rattle.qrun.specs.declared.run_fault.RunFault.TheVariants.{Memory, Mismatch, NoReader, NotStarted}
+use Rattle.qrun.specs.Crews.{IsStaff}
+use Rattle.qrun.specs.declared.looking.Looking.{Looking}
+use Rattle.qrun.specs.declared.looking.Looking.TheVariants.{Nobody, Showing, Watching}
+use Rattle.qrun.specs.Looking.{lookers_in}
 use Rattle.qrun.specs.RunFaults.{IsFaultOf}
+use Rattle.qrun.specs.Serving.{CanServe}
 use Rattle.qrun.specs.Watching.{seats_for, watcher_for}
 
 fits_by : (n : ℕ) (b : Bool) → n ≤ (if b then n else n + 1)
@@ -45,19 +50,25 @@ pub names_none : {T : Type 0} (n : ℕ) (r : Result T RunFault) → IfErr r (IsF
 names_none n (Ok x) none = tt
 names_none n (Err e) none = fault_of_any n e none
 
--- the watcher's seat is new
-idle_last : (n : ℕ) (b : Bool) → IfSome (if b then None else Some (new_seat (n + 1))) (λ s. s.tally ≡ no_tally)
-idle_last n true = tt
-idle_last n false = refl
+-- there are seats for the crew and for who looks
+pub parts_for : {M : Type 0} (n : ℕ) (looking : Looking M) (parts crew lookers : ℕ) → parts ≡ crew + lookers → crew ≡ n
+    → lookers ≡ lookers_in looking → parts ≡ seats_for n (lookers_in looking)
+parts_for n Nobody parts crew lookers sum own others = omega (arith, sum, own, others)
+parts_for n (Watching calls boards) parts crew lookers sum own others = omega (arith, sum, own, others)
+parts_for n (Showing monitor) parts crew lookers sum own others = omega (arith, sum, own, others)
 
-pub watcher_idle : (n boards : ℕ) → IfSome (watcher_for n boards) (λ s. s.tally ≡ no_tally)
-watcher_idle n boards = idle_last n (boards == 0)
-
--- there is a seat for who watches, where somebody does
-pub watched_seats : (n boards : ℕ) → 0 < boards → (seats_for n boards ≡ n + 1) × (watcher_for n boards ≡ Some (new_seat (n + 1)))
-watched_seats n boards some =
-    let none : (boards == 0) ≡ false = grind (arith, tests, some) in
-    (ap (λ b. if b then n else n + 1) none, ap (λ b. if b then None else Some (new_seat (n + 1))) none)
+-- a crew beside one who looks from the last seat
+pub staff_beside : (setting : Setting) (clients parts : ℕ) (free : List Seated) (last : Seated) → CanServe setting clients 1
+    → parts ≡ clients + 1 → free ≡ seats_of (parts - 1) → last ≡ new_seat parts → IsStaff setting clients parts free (Some last)
+staff_beside setting clients parts free last can parts_is free_is last_is =
+    let workers : parts - 1 ≡ clients = omega (arith, parts_is) in
+    record {
+      monitors = 1;
+      can = can;
+      parts_are = parts_is;
+      seats_are = free_is ∙ ap seats_of workers;
+      observer_is = ap (λ s. Some s) (last_is ∙ ap new_seat parts_is);
+    }
 
 -- what holds of what comes at Ok holds of what follows of it
 pub if_ok : {T E : Type 0} {P Q : T → Type 0} (r : Result T E) → ((x : T) → P x → Q x) → IfOk r P → IfOk r Q

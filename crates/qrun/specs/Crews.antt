@@ -1,8 +1,9 @@
 -- What a run owes its caller, who plays on a store, and what they leave together. Public clauses cite `CanRun` alone.
-use Rattle.std.specs.Prelude.{◌≡◌, ℕ, ◌+◌, ◌<◌, ◌≤◌, List, [], length, map, slice_index_or, All, Option, IfSome, false}
+use Rattle.std.specs.Prelude.{◌≡◌, ℕ, Bool, ◌+◌, ◌<◌, ◌≤◌, List, [], length, map, slice_index_or, All, Option, false}
 use Rattle.qplain.specs.declared.line.Line.{Line}
 use Rattle.qplain.specs.declared.transcript.Transcript.{Transcript}
 use Rattle.qplain.specs.Setups.{Setting}
+use Rattle.qplain.specs.State.{start}
 use Rattle.qshare.specs.declared.held.TheConstants.{MAX_BATCH}
 use Rattle.qshare.specs.declared.opening.TheConstants.{MAX_SEATS}
 use Rattle.qshare.specs.Seats.{Seated, seats_of}
@@ -10,7 +11,8 @@ use Rattle.qrun_client.specs.Clients.{Talk}
 use Rattle.qrun_replay.specs.declared.outcome.Outcome.{Outcome}
 use Rattle.qrun_replay.specs.Runs.{IsNeverFull, IsServiceOf, lines_of}
 use Rattle.qrun.specs.declared.options.Options.{Options}
-use Rattle.qrun.specs.Serving.{CanServe, IsTranscriptOf}
+use Rattle.qrun.specs.Monitors.{IsShownTo, Sight}
+use Rattle.qrun.specs.Serving.{CanServe, IsTranscriptOf, KeepsTime}
 use Rattle.qrun.specs.Told.{AreShort}
 use Rattle.qrun.specs.Watching.{seats_for, watcher_for}
 use Rattle.qrun_worker.specs.Scripts.{Playing}
@@ -52,10 +54,6 @@ pub record IsStaff (setting : Setting) (clients parts : ℕ) (seats : List Seate
   pub seats_are : seats ≡ seats_of clients
   pub observer_is : observer ≡ watcher_for clients monitors
 
--- who has a seat has one of the first N
-abbrev pub HasSeatIn : ℕ → Option Seated → Type 0
-HasSeatIn n seat = IfSome seat (λ s. (0 < s.worker) × (s.worker ≤ n))
-
 -- what a crew leaves, of which N looks were kept: each client's transcript tells what came of it, in their order, and
 -- where they are no longer than scripts may be no line failed because the journal was full
 pub record HasEnded {C Left : Type 0} (talk : C → Talk Left) (setting : Setting) (clients : List C) (looks : ℕ)
@@ -67,3 +65,10 @@ pub record HasEnded {C Left : Type 0} (talk : C → Talk Left) (setting : Settin
   pub each : (k : ℕ) (c : C) (t : Transcript) (l : Left) → k < length clients
       → IsTranscriptOf (talk (slice_index_or clients k c)) (slice_index_or o.transcripts k t) (slice_index_or left k l)
   pub looks_are : length o.boards ≡ looks
+
+-- so it is of a store that a clock rules, or none does, and of which a monitor, or none, was shown the boards
+pub record HasPlayed {C Left M W : Type 0} (talk : C → Talk Left) (sees : M → Sight W) (setting : Setting) (clocked : Bool)
+    (clients : List C) (looks : ℕ) (monitor : Option M) (left : List Left) (o : Outcome) (w : Option W) : Type 0 where
+  pub ended : HasEnded talk setting clients looks left o
+  pub shown : IsShownTo sees (start setting) o.journal.entries monitor w
+  pub moments : KeepsTime clocked o

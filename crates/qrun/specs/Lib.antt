@@ -1,11 +1,12 @@
 -- In reading order: the numbers of faults, what the ends of workers make of a run, what who looks has done, what a
--- monitor is shown, who looks at boards, what a service is, the workers' transcripts, and who plays and what they
--- leave.
+-- monitor is shown, who looks at boards, what a service is, who is to look, the workers' transcripts, and who plays
+-- and what they leave.
 pub mod RunFaults
 pub mod WorkerEnds
 pub mod Watching
 pub mod Monitors
 pub mod Observers
 pub mod Serving
+pub mod Looking
 pub mod Told
 pub mod Crews

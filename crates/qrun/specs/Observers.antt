@@ -1,10 +1,14 @@
 -- Who looks at boards beside workers, and what it has done. No public clause cites this module.
-use Rattle.std.specs.Prelude.{◌≡◌, ℕ, Option, None, Some}
+use Rattle.std.specs.Prelude.{◌≡◌, ◌<◌, ◌≤◌, ℕ, List, length, Option, None, Some, IfSome, option_map}
 use Rattle.qplain.specs.State.{State}
+use Rattle.qrun_client.specs.Clients.{Talk}
+use Rattle.qrun_worker.specs.Work.{ArePlayed, Prepared, Worked}
 use Rattle.qshare.specs.Seats.{Seated}
 use Rattle.qrun.specs.declared.observer.Observer.{Observer}
 use Rattle.qrun.specs.declared.observer.Observer.TheVariants.{Watcher, Showing}
+use Rattle.qrun.specs.declared.run_fault.RunFault.{RunFault}
 use Rattle.qrun.specs.Monitors.{IsShownTo, Sight}
+use Rattle.qrun.specs.RunFaults.{IsFaultOf}
 use Rattle.qrun.specs.Watching.{IsWatch, Watched}
 
 -- an observer's seat
@@ -55,3 +59,18 @@ shown_to (Some o) = monitor_in o
 abbrev pub observer_left : {Left : Type 0} → Option (Observed Left) → Option Left
 observer_left None = None
 observer_left (Some o) = o.left
+
+-- who has a seat has one of the first N
+abbrev pub HasSeatIn : ℕ → Option Seated → Type 0
+HasSeatIn n seat = IfSome seat (λ s. (0 < s.worker) × (s.worker ≤ n))
+
+-- all workers have played what their clients hand out, and who looks has looked
+abbrev pub HavePlayed : {C Left T M W : Type 0} → (C → Talk Left) → (M → Sight W) → State → List (Prepared C)
+    → Option (Observer T M W) → List (Worked Left) → Option (Observed W) → Type 0
+HavePlayed talk sees S workers observer works observed =
+    ArePlayed (λ w. talk w.client) workers works × IsObservedBy sees S observer observed
+
+-- the fault is one of them and of who looks, however many there are besides
+abbrev pub IsFaultAmong : {C T M W : Type 0} → List (Prepared C) → Option (Observer T M W) → RunFault → Type 0
+IsFaultAmong workers observer fault = (n : ℕ) → length workers ≤ n → HasSeatIn n (option_map seat_in observer)
+    → IsFaultOf n fault

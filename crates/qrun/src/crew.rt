@@ -50,6 +50,13 @@ impl<'a, C: Client + Drop, G: Gate> Crew<'a, C, G> {
             batch,
         }
     }
+
+    /// How many clients there are.
+    pub(crate) fn len(&self) -> u64
+        ensures { result ≡ length self.now }
+    {
+        self.clients.len() as u64
+    }
 }
 
 /// A worker for each client, each with its seat.

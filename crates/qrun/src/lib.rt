@@ -10,9 +10,11 @@ pub use runs::run_scripts;
 pub use service::{Service, serve};
 pub use worker_end::{WorkerEnd, conclude};
 
+mod beginning;
 mod concluding;
 mod crew;
 mod ending;
+mod looking;
 mod machine;
 mod monitor;
 mod observer;

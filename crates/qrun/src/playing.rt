@@ -1,11 +1,9 @@
 //! All threads of a store: one for each worker, and one for who looks at the boards.
-ghost use Rattle.std.specs.Prelude.{◌≡◌, ◌≤◌, ℕ, length, MatchResult, option_map};
+ghost use Rattle.std.specs.Prelude.{MatchResult};
 ghost use denote.Param.Send.{IsSend, IsSync};
 ghost use Rattle.qplain.specs.State.{start};
-ghost use Rattle.qrun.specs.Crews.{AreNumbered, HasSeatIn};
-ghost use Rattle.qrun.specs.RunFaults.{IsFaultOf};
-ghost use Rattle.qrun.specs.Observers.{IsObservedBy, seat_in};
-ghost use Rattle.qrun_worker.specs.Work.{ArePlayed};
+ghost use Rattle.qrun.specs.Crews.{AreNumbered};
+ghost use Rattle.qrun.specs.Observers.{HavePlayed, IsFaultAmong};
 
 use crate::machine::Machine;
 use crate::monitor::Monitor;
@@ -46,10 +44,8 @@ where
     R: Threads + Wait + Sync,
     requires { AreNumbered workers.items }
     ensures { MatchResult result
-        (λ r. ArePlayed (λ w. C.talk w.client) workers.entry.items r.0.items
-        × IsObservedBy M.sees (start S.id.setting) observer.entry r.1)
-        (λ fault. (n : ℕ) → length workers.entry.items ≤ n → HasSeatIn n (option_map seat_in observer.entry)
-        → IsFaultOf n fault) }
+        (λ r. HavePlayed C.talk M.sees (start S.id.setting) workers.entry.items observer.entry r.0.items r.1)
+        (IsFaultAmong workers.entry.items observer.entry) }
 {
     let Machine { rt, alloc, .. } = *machine;
     thread::scope(
@@ -59,11 +55,8 @@ where
             requires marks { IsSync R.row × IsSync G.row × IsSend S.row × IsSync S.row × IsSend B.row × IsSend V.row
                 × IsSend C.row × IsSend C.Form.row × IsSend C.Left.row × IsSend M.row × IsSend M.Left.row }
             requires numbered { AreNumbered workers.items }
-            ensures { MatchResult result
-                (λ r. ArePlayed (λ w. C.talk w.client) workers.entry.items r.0.items
-                × IsObservedBy M.sees (start S.id.setting) observer.entry r.1)
-                (λ fault. (n : ℕ) → length workers.entry.items ≤ n
-                → HasSeatIn n (option_map seat_in observer.entry) → IsFaultOf n fault) }
+            ensures { MatchResult result (λ r. HavePlayed C.talk M.sees (start S.id.setting) workers.entry.items
+                observer.entry r.0.items r.1) (IsFaultAmong workers.entry.items observer.entry) }
         {
             let mut running = Vec::with_capacity(alloc, workers.len())?;
             for worker in workers {

@@ -1,9 +1,10 @@
 //! Why a run has no outcome.
 ghost use Rattle.std.specs.Prelude.{◌≡◌};
-ghost use Rattle.qrun.specs.RunFaults.{run_fault_number};
+ghost use Rattle.qrun.specs.RunFaults.{IsFaultOf, run_fault_number};
 ghost use Rattle.qrun.specs.declared.run_fault.RunFault.TheVariants.{Memory};
 
 use qplain::NoMemory;
+use qshare::ShareFault;
 
 /// Why a run has no outcome. All workers that were started have been joined, and the store is given up.
 #[derive(Clone, Copy, Debug, PartialEq, Eq)]
@@ -37,5 +38,16 @@ impl From<NoMemory> for RunFault {
 
     fn from(_refused: NoMemory) -> RunFault {
         RunFault::Memory
+    }
+}
+
+impl From<ShareFault> for RunFault {
+    ghost from_gives = { λ _ fault. IsFaultOf 0 fault };
+
+    fn from(refused: ShareFault) -> RunFault {
+        match refused {
+            ShareFault::NoReader => RunFault::NoReader,
+            ShareFault::Seats | ShareFault::OutOfMemory => RunFault::Memory,
+        }
     }
 }

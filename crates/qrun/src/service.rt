@@ -1,29 +1,24 @@
 //! Services: living clients, each served by a worker, on a shared store of their own.
-ghost use Rattle.std.specs.Prelude.{◌≡◌, ◌+◌, All, Some, false, length, IfErr, IfOk};
+ghost use Rattle.std.specs.Prelude.{All, length, IfErr, IfOk};
 ghost use Rattle.qplain.specs.State.{start};
 ghost use Rattle.qrun_replay.specs.Runs.{IsServiceOf};
-ghost use Rattle.qrun.specs.Crews.{HasEnded};
 ghost use Rattle.qrun.specs.Monitors.{IsShownTo};
 ghost use Rattle.qrun.specs.RunFaults.{IsFaultOf};
 ghost use Rattle.qrun.specs.Serving.{CanServe, IsOfClients, KeepsTime, monitors_in};
 ghost use Rattle.qrun.specs.Watching.{seats_for};
 ghost use Rattle.qrun_worker.specs.Work.{IsNewClient, MayBeGiven};
 
+use crate::beginning::play_on;
 use crate::crew::Crew;
-use crate::ending::{fault_of, play_and_end, play_unwatched};
+use crate::looking::Looking;
 use crate::machine::Machine;
-use crate::monitor::{Monitor, Showing};
-use crate::observer::Observer;
+use crate::monitor::Monitor;
 use crate::run_fault::RunFault;
 use qplain::Setup;
 use qrun_client::Client;
 use qrun_replay::Outcome;
-use qrun_worker::{Gate, NoGate};
-use qshare::Opened;
-use qshare_history::StoreId;
-use std::marker::Brand;
+use qrun_worker::NoGate;
 use std::sync::Wait;
-use std::sync::atomic::AtomicBool;
 use std::thread::Threads;
 
 /// What a service leaves, and what is left of each client, in their order, and of the monitor, where there was one.
@@ -32,45 +27,6 @@ pub struct Service<L: Drop, W: Drop> {
     pub outcome: Outcome,
     pub left: Vec<L>,
     pub monitor: Option<W>,
-}
-
-/// A new store, ruled by a clock where that is so.
-fn ruled(opened: Opened, clock: bool) -> Opened
-    requires { opened.clocked ≡ false }
-    ensures { result ≡ record opened { clocked = clock } }
-{
-    if clock { opened.with_clock() } else { opened }
-}
-
-/// Has a crew play on a store of this identity, whose boards are shown to a monitor.
-fn play_shown<S, C, G, M, R>(
-    machine: &Machine<'_, R>,
-    opened: Opened,
-    crew: Crew<'_, C, G>,
-    monitor: M,
-) -> Result<Service<C::Left, M::Left>, RunFault>
-where
-    S: StoreId + Send + Sync + 'static,
-    C: Client + Drop + Send,
-    G: Gate + Sync,
-    M: Monitor + Drop + Send,
-    R: Threads + Wait + Sync,
-    requires id { (opened ≡ S.id) × MayBeGiven S.id.clocked C.clocked }
-    requires can { CanServe S.id.setting (length crew) 1 × (S.id.counters.parts ≡ length crew + 1) }
-    ensures ended { IfOk result (λ s. HasEnded C.talk S.id.setting crew.entry 0 s.left.items s.outcome) }
-    ensures shown { IfOk result (λ s. IsShownTo M.sees (start S.id.setting) s.outcome.journal.entries (Some monitor)
-        s.monitor) }
-    ensures moments { IfOk result (λ s. KeepsTime S.id.clocked s.outcome) }
-    ensures fault { IfErr result (IsFaultOf S.id.counters.parts) }
-{
-    let wanted = AtomicBool::new(false);
-    let (shared, seats, last) = match opened.on_demand::<S, &R>(machine.rt, &wanted) {
-        Ok(made) => made,
-        Err(fault) => return Err(fault_of(fault)),
-    };
-    let ended = AtomicBool::new(false);
-    let observer = Observer::Showing(Showing::new(last, &wanted, monitor, &ended));
-    play_and_end(machine, shared, seats, crew, Some(observer), &ended)
 }
 
 /// Serves 1 to 16 clients on one new store of the setup, which is of edition 2: each by a worker in a thread of its
@@ -107,23 +63,6 @@ where
     ensures shown { IfOk result (λ s. IsShownTo M.sees (start setup) s.outcome.journal.entries monitor s.monitor) }
     ensures fault { IfErr result (IsFaultOf (seats_for (length clients.items) (monitors_in monitor))) }
 {
-    let Machine { alloc, seed, .. } = *machine;
-    let many = clients.len() as u64 + monitor.is_some() as u64;
-    let opened = match Opened::new(alloc, setup, many, seed) {
-        Ok(opened) => opened,
-        Err(fault) => return Err(fault_of(fault)),
-    };
-    let opened = ruled(opened, clock);
     let crew = Crew::new(clients, &NoGate, 1);
-    let Some(monitor) = monitor else {
-        let Service { outcome, left, .. } = play_unwatched::<Brand, C, NoGate, R>(
-            machine, opened, crew,
-        )?;
-        return Ok(Service {
-            outcome,
-            left,
-            monitor: None,
-        });
-    };
-    play_shown::<Brand, C, NoGate, M, R>(machine, opened, crew, monitor)
+    play_on(machine, setup, clock, crew, Looking::of_monitor(monitor))
 }

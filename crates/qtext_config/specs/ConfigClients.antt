@@ -9,15 +9,21 @@ use Rattle.qtext.specs.Reading.{◌>>=◌, each_of}
 use Rattle.qtext.specs.declared.text_fault.TextKind.{TextKind}
 use Rattle.qtext_read.specs.Callers.{caller_of}
 use Rattle.qtext_config.specs.declared.config.client.ConfigClient.{ConfigClient}
+use Rattle.qtext_config.specs.declared.config.client.WrittenClient.{WrittenClient}
+use Rattle.qtext_config.specs.declared.config.share.ClientShare.{ClientShare}
+use Rattle.qtext_config.specs.declared.config.share.WrittenShare.{WrittenShare}
 use Rattle.qtext_config.specs.ConfigFaults.{Cause, Field, Range}
 use Rattle.qtext_config.specs.ConfigFields.{found, tables_at, text_at}
 use Rattle.qtext_config.specs.ConfigKeys.{keys_of, least_unknown, no_unknown}
+use Rattle.qtext_config.specs.ConfigShares.{is_written, share_at, share_of}
 
--- a client: to whom it is bound, where it is bound, and the names of what its lines come from and its replies go to
+-- a client: to whom it is bound, where it is bound, the names of what its lines come from and its replies go to, and what
+-- it may take
 pub record NamedClient : Type 0 where
   pub caller : Option Caller
   pub lines : List ℕ
   pub replies : List ℕ
+  pub share : ClientShare
 
 -- the client that was read
 abbrev pub named_client : ConfigClient → NamedClient
@@ -25,11 +31,30 @@ named_client client = record {
   caller = client.caller;
   lines = string_bytes client.lines;
   replies = string_bytes client.replies;
+  share = client.share;
+}
+
+-- a client of which the numbers of its share may still be out of range
+pub record Written : Type 0 where
+  pub caller : Option Caller
+  pub lines : List ℕ
+  pub replies : List ℕ
+  pub share : WrittenShare
+
+-- that client, of which the fields were read
+abbrev pub written_client : WrittenClient → Written
+written_client client = record {
+  caller = client.caller;
+  lines = string_bytes client.lines;
+  replies = string_bytes client.replies;
+  share = client.share;
 }
 
 -- the keys of a client's table
 abbrev pub client_keys : List (List ℕ)
-client_keys = codes "lines" ∷ codes "replies" ∷ codes "caller" ∷ []
+client_keys =
+    codes "lines" ∷ codes "replies" ∷ codes "caller" ∷ codes "share_calls" ∷ codes "share_kib" ∷ codes "share_depth"
+    ∷ codes "share_rate" ∷ []
 
 -- the text, where it has a byte
 abbrev pub some_text : List ℕ → Option (List ℕ)
@@ -59,23 +84,37 @@ caller_if_any key table (Some value) = do
 unfoldable pub caller_at : List ℕ → Members → Result (Option Caller) Cause
 caller_at key table = caller_if_any key table (get_member key table)
 
+-- a client of which a share is written is bound: else the key of its caller is at fault
+abbrev pub bound_for : Option Caller → WrittenShare → Result (Unit {0}) Cause
+bound_for (Some caller) share = Ok tt
+bound_for None share = if is_written share then Err (Field (codes "caller")) else Ok tt
+
 -- the client that a table writes
-unfoldable pub client_of : Members → Result NamedClient Cause
+unfoldable pub client_of : Members → Result Written Cause
 client_of table = do
   lines ← stream_at (codes "lines") table
   replies ← stream_at (codes "replies") table
   caller ← caller_at (codes "caller") table
-  Ok (record { caller = caller; lines = lines; replies = replies })
+  share ← share_at table
+  _ ← bound_for caller share
+  Ok (record { caller = caller; lines = lines; replies = replies; share = share })
+
+-- the client of these fields
+unfoldable pub named_of : Written → Result NamedClient Cause
+named_of written = do
+  share ← share_of written.share
+  Ok (record { caller = written.caller; lines = written.lines; replies = written.replies; share = share })
 
 -- the clients, where there are some and a service has a worker for each
 abbrev pub served : List NamedClient → Result (List NamedClient) Cause
 served clients = if nat_le 1 (length clients) && nat_le (length clients) MAX_WORKERS then Ok clients else Err Range
 
--- the clients that the tables of a list write: their fields, their keys, and then how many there are
+-- the clients that the tables of a list write: their fields, their keys, and then their numbers and how many there are
 unfoldable pub clients_of_tables : List Members → Result (List NamedClient) Cause
 clients_of_tables tables = do
-  clients ← each_of client_of tables
+  written ← each_of client_of tables
   _ ← no_unknown (least_unknown client_keys (flat_map keys_of tables))
+  clients ← each_of named_of written
   served clients
 
 -- the clients of the list of a document, if one stands there

@@ -1,9 +1,9 @@
 -- The fields of a table of a configuration.
-use Rattle.std.specs.Prelude.{ℕ, ℤ, pos, List, [], ◌∷◌, Option, Some, None, option_and_then, option_map, Result, Ok}
+use Rattle.std.specs.Prelude.{ℕ, ℤ, pos, negsuc, List, [], ◌∷◌, Option, Some, None, option_and_then, option_map, Result, Ok}
 use Rattle.std.specs.Prelude.{Err}
 use Rattle.toml.specs.Data.{Data, Items, Members, no_items, item, as_str, as_integer, as_array, as_table, get_member}
 use Rattle.qtext.specs.Reading.{◌>>=◌, each_of}
-use Rattle.qtext_config.specs.ConfigFaults.{Cause, Field}
+use Rattle.qtext_config.specs.ConfigFaults.{Cause, Field, Range}
 
 -- what is there, or else the key is at fault
 abbrev pub found : {A : Type 0} → List ℕ → Option A → Result A Cause
@@ -17,6 +17,22 @@ text_at key table = found key (option_and_then as_str (get_member key table))
 -- the integer that stands at the key
 unfoldable pub integer_at : List ℕ → Members → Result ℤ Cause
 integer_at key table = found key (option_and_then as_integer (get_member key table))
+
+-- the integer at the key, if anything stands there
+abbrev pub integer_if_any : List ℕ → Members → Option Data → Result (Option ℤ) Cause
+integer_if_any key table None = Ok None
+integer_if_any key table (Some value) = do
+  integer ← integer_at key table
+  Ok (Some integer)
+
+-- the integer at a key that may be absent
+unfoldable pub optional_integer_at : List ℕ → Members → Result (Option ℤ) Cause
+optional_integer_at key table = integer_if_any key table (get_member key table)
+
+-- the number that an integer is; a negative one is out of range
+abbrev pub number_of : ℤ → Result ℕ Cause
+number_of (pos n) = Ok n
+number_of (negsuc n) = Err Range
 
 -- the integer of a limit: 0 where nothing stands
 abbrev pub limit_of : List ℕ → Option Data → Result ℤ Cause

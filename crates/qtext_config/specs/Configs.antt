@@ -12,7 +12,7 @@ use Rattle.qtext_config.specs.declared.config.written.WrittenConfig.{WrittenConf
 use Rattle.qtext_config.specs.declared.config_fault.ConfigFault.{ConfigFault}
 use Rattle.qtext.specs.Reading.{◌>>=◌, each_of}
 use Rattle.qtext_config.specs.ConfigFaults.{Cause, EndsFor, Range, Text, cause_of_setup}
-use Rattle.qtext_config.specs.ConfigFields.{found, integer_at, text_at}
+use Rattle.qtext_config.specs.ConfigFields.{found, integer_at, number_of, text_at}
 use Rattle.qtext_config.specs.ConfigClients.{NamedClient, clients_of}
 use Rattle.qtext_config.specs.ConfigKeys.{known_keys}
 use Rattle.qtext_config.specs.ConfigPrincipals.{optional_principals_at, principals_at}
@@ -43,11 +43,6 @@ fields_of document = do
     groups = groups;
     projects = projects;
   })
-
--- the number that an integer is; a negative one is out of range
-abbrev pub number_of : ℤ → Result ℕ Cause
-number_of (pos n) = Ok n
-number_of (negsuc n) = Err Range
 
 -- the id that an integer is: 0 to 2^32 - 1
 abbrev pub id_of : ℤ → Result ℕ Cause

@@ -15,6 +15,7 @@ pub use keys::{DOCUMENT_KEYS, PRINCIPAL_KEYS};
 use qplain::Setup;
 use qrules::Items;
 use setting::setup_of;
+pub use share::{ClientShare, MAX_CALLS, MAX_DEPTH, MAX_KIB, MAX_RATE};
 pub use size::blocks_of_size;
 use std::alloc::Global;
 use toml::Table;
@@ -25,6 +26,7 @@ mod field;
 mod keys;
 mod principal;
 mod setting;
+mod share;
 mod size;
 mod tables;
 mod written;
@@ -50,11 +52,13 @@ impl Config {
     /// declared, are lists of tables, each with `id`, `name` and optionally `block_soft` and `block_hard`, in KiB, and
     /// `inode_soft` and `inode_hard`, 0 where absent, which is no limit. Without the key `project` there are none.
     /// `client` may be a list of tables, each with the names `lines` and `replies`, of a byte or more, and optionally
-    /// `caller`, to whom it is bound, as `UID:GID,GROUP`.
+    /// `caller`, to whom it is bound, as `UID:GID,GROUP`, and what it may take then: the integers `share_calls`,
+    /// `share_kib`, `share_depth` and `share_rate`.
     ///
     /// In range are a size of 1 to 2^20 blocks, 1 to 65,536 inodes, graces of 1 to 2^32 - 1, limits of 0 to 2^40, ids
     /// of 0 to 2^32 - 1, and 1 to 64 of each kind that has its list, id 0 among them. A name is 1 to 16 bytes of `a` to
-    /// `z`, `0` to `9`, `_` and `-`, the first a letter. A list of clients has 1 to 16.
+    /// `z`, `0` to `9`, `_` and `-`, the first a letter. A list of clients has 1 to 16, with shares of 0 to 1,048,576 calls and KiB, 1 to 2048
+    /// components and 1 to 1,048,576 turns.
     ///
     /// The first fault counts: that of the text; the first field that is missing, of another kind or of
     /// another form, in the order above; the least unknown key, of the document and then of all its

@@ -2,7 +2,8 @@
 #![tactic(auto)]
 
 pub use config::{
-    CLIENT_KEYS, Config, ConfigClient, DOCUMENT_KEYS, PRINCIPAL_KEYS, blocks_of_size,
+    CLIENT_KEYS, ClientShare, Config, ConfigClient, DOCUMENT_KEYS, MAX_CALLS, MAX_DEPTH, MAX_KIB,
+    MAX_RATE, PRINCIPAL_KEYS, blocks_of_size,
 };
 pub use config_fault::ConfigFault;
 

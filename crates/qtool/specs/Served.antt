@@ -1,17 +1,18 @@
 -- Which clients a service has, and whether standard output is one's.
-use Rattle.std.specs.Prelude.{◌==◌, ◌||◌, Bool, List, [], ◌∷◌, codes, length, map, string_bytes}
+use Rattle.std.specs.Prelude.{◌==◌, ◌||◌, Bool, List, [], ◌∷◌, None, codes, length, map, string_bytes}
 use Rattle.std.specs.List.{list_any}
 use Rattle.std.specs.Str.{bytes_eq}
 use Rattle.qtext_config.specs.ConfigClients.{NamedClient}
 use Rattle.qtext_job.specs.declared.job.ServeJob.{ServeJob}
 use Rattle.qtext_job.specs.declared.pair.Pair.{Pair}
 
--- the client of a pair
+-- the client of a pair, of whose share nothing is said
 abbrev pub client_of_pair : Pair → NamedClient
 client_of_pair pair = record {
   caller = pair.caller;
   lines = string_bytes pair.input;
   replies = string_bytes pair.output;
+  share = record { calls = None; bytes = None; depth = None; rate = None };
 }
 
 -- those of the command line, or where it names none those of the configuration

@@ -1,12 +1,13 @@
 -- On which terms the clients of a service are served, and what its journal then has of each.
 use Rattle.std.specs.Prelude.{◌≡◌, ◌+◌, ◌/◌, ◌<◌, ◌≤◌, ◌==◌, if◌then◌else◌, ℕ, List, [], ◌∷◌, length, map, slice_get}
-use Rattle.std.specs.Prelude.{take, sum_by, All, Option, Some, None, option_map, ⊤}
+use Rattle.std.specs.Prelude.{take, sum_by, unwrap_or, All, Option, Some, None, option_map, ⊤}
 use Rattle.qplain.specs.Journal.{entries_of}
 use Rattle.qplain.specs.declared.entry.Entry.{Entry}
 use Rattle.qrun_replay.specs.Placed.{line_of_entry}
 use Rattle.qtext_client.specs.Terms.{Binding, MayWrite, bytes_called, bytes_read}
 use Rattle.qtext_client.specs.declared.terms.Allowance.{Allowance}
 use Rattle.qtext_config.specs.ConfigClients.{NamedClient}
+use Rattle.qtext_config.specs.declared.config.share.ClientShare.{ClientShare}
 use Rattle.qtext_job.specs.declared.share_options.ShareOptions.{ShareOptions}
 
 -- to whom a client is bound, and its share, where it is bound
@@ -18,6 +19,15 @@ pub record ClientTerms : Type 0 where
 abbrev pub or_part : ℕ → ℕ → ℕ → ℕ
 or_part told all clients = if told == 0 then all / clients else told
 
+-- what a bound client may take: as its own share says, and else as all are told
+abbrev pub told_for : ShareOptions → ClientShare → ShareOptions
+told_for told share = record {
+  calls = unwrap_or share.calls told.calls;
+  bytes = unwrap_or share.bytes told.bytes;
+  depth = unwrap_or share.depth told.depth;
+  rate = unwrap_or share.rate told.rate;
+}
+
 -- the share of each of so many clients: its part of 1,048,576 calls, and of 512 MiB
 abbrev pub share_told : ShareOptions → ℕ → Allowance
 share_told told clients = record {
@@ -28,8 +38,8 @@ share_told told clients = record {
 -- the terms of this one of so many clients
 abbrev pub terms_for : ShareOptions → ℕ → NamedClient → ClientTerms
 terms_for told clients client = record {
-  bound = option_map (λ caller. record { caller = caller; depth = told.depth }) client.caller;
-  share = option_map (λ caller. share_told told clients) client.caller;
+  bound = option_map (λ caller. record { caller = caller; depth = (told_for told client.share).depth }) client.caller;
+  share = option_map (λ caller. share_told (told_for told client.share) clients) client.caller;
 }
 
 -- the terms of these clients; where none is named there is one client, bound to nobody

@@ -2,14 +2,16 @@
 ghost use Rattle.std.specs.Prelude.{◌≡◌, ◌<◌, IfOk, length, map, option_map};
 ghost use Rattle.std.specs.List.{list_any};
 ghost use Rattle.qtext_client.specs.Terms.{binding_of};
+ghost use Rattle.qtext_config.specs.ConfigClients.{named_client};
 ghost use Rattle.qtool.specs.ClientNames.{terms_in};
-ghost use Rattle.qtool.specs.Served.{client_of_pair, is_taken, is_to_standard};
-ghost use Rattle.qtool.specs.Terms.{or_part, share_told, terms_for, terms_told};
+ghost use Rattle.qtool.specs.Served.{is_taken, is_to_standard};
+ghost use Rattle.qtool.specs.Terms.{or_part, share_told, terms_for, terms_told, told_for};
 
 use crate::standard::STANDARD;
 use qplain::NoMemory;
 use qtext_client::{Allowance, Terms};
-use qtext_job::{Pair, ShareOptions};
+use qtext_config::{ClientShare, ConfigClient};
+use qtext_job::ShareOptions;
 use std::alloc::Global;
 
 /// All calls of a journal, of which bound clients have equal parts.
@@ -27,24 +29,36 @@ pub(crate) struct ClientNames<'a> {
 }
 
 /// Whether the client's replies go to standard output.
-fn is_to_standard(pair: &Pair) -> bool
-    ensures { result ≡ is_to_standard (client_of_pair pair.now) }
+fn is_to_standard(client: &ConfigClient) -> bool
+    ensures { result ≡ is_to_standard (named_client client.now) }
 {
-    pair.output.as_str() == STANDARD
+    client.replies.as_str() == STANDARD
 }
 
 /// Whether the replies of one of these clients do.
-fn is_any_to_standard(pairs: &[Pair]) -> bool
-    ensures { result ≡ list_any (λ pair. is_to_standard (client_of_pair pair)) pairs.now }
+fn is_any_to_standard(clients: &[ConfigClient]) -> bool
+    ensures { result ≡ list_any (λ client. is_to_standard (named_client client)) clients.now }
 {
-    pairs.iter().any(|pair| is_to_standard(pair))
+    clients.iter().any(|client| is_to_standard(client))
 }
 
 /// Whether standard output is a client's, as it is of the one client where none is named.
-pub(crate) fn is_output_taken(pairs: &[Pair]) -> bool
-    ensures { result ≡ is_taken (map client_of_pair pairs.now) }
+pub(crate) fn is_output_taken(clients: &[ConfigClient]) -> bool
+    ensures { result ≡ is_taken (map named_client clients.now) }
 {
-    pairs.is_empty() || is_any_to_standard(pairs)
+    clients.is_empty() || is_any_to_standard(clients)
+}
+
+/// What a bound client may take: as its own share says, and else as all are told.
+fn told_for(told: ShareOptions, share: ClientShare) -> ShareOptions
+    ensures { result ≡ told_for told share }
+{
+    ShareOptions {
+        calls: share.calls.unwrap_or(told.calls),
+        bytes: share.bytes.unwrap_or(told.bytes),
+        depth: share.depth.unwrap_or(told.depth),
+        rate: share.rate.unwrap_or(told.rate),
+    }
 }
 
 /// What was told, or where that is 0 an equal part for each of so many clients.
@@ -66,17 +80,18 @@ fn share_of(told: ShareOptions, clients: u64) -> Allowance
     }
 }
 
-/// On which terms the client of a pair is served, where it is bound.
-fn terms_of(pair: &Pair, told: ShareOptions, share: Allowance) -> Option<Terms<'_>>
-    ensures bound { option_map binding_of result
-        ≡ option_map (λ caller. record { caller = caller; depth = told.depth }) pair.now.caller }
-    ensures share { option_map (λ t. t.share) result ≡ option_map (λ caller. share) pair.now.caller }
+/// On which terms a client of so many is served, where it is bound.
+fn terms_of(client: &ConfigClient, told: ShareOptions, clients: u64) -> Option<Terms<'_>>
+    requires { 0 < clients }
+    ensures bound { option_map binding_of result ≡ (terms_for told clients (named_client client.now)).bound }
+    ensures share { option_map (λ t. t.share) result ≡ (terms_for told clients (named_client client.now)).share }
 {
-    match &pair.caller {
+    let told = told_for(told, client.share);
+    match &client.caller {
         Some(caller) => Some(Terms {
             caller,
             depth: told.depth,
-            share,
+            share: share_of(told, clients),
             rate: told.rate,
         }),
         None => None,
@@ -86,20 +101,19 @@ fn terms_of(pair: &Pair, told: ShareOptions, share: Allowance) -> Option<Terms<'
 /// The names of clients of which some are named.
 fn named<'a>(
     alloc: Global,
-    pairs: &'a [Pair],
+    clients: &'a [ConfigClient],
     told: ShareOptions,
 ) -> Result<Vec<ClientNames<'a>>, NoMemory>
-    requires { 0 < length pairs.now }
+    requires { 0 < length clients.now }
     ensures { IfOk result (λ names. map terms_in names.items
-        ≡ map (λ pair. terms_for told (length pairs.now) (client_of_pair pair)) pairs.now) }
+        ≡ map (λ client. terms_for told (length clients.now) (named_client client)) clients.now) }
 {
-    let share = share_of(told, pairs.len() as u64);
     let mut names = Vec::new(alloc);
-    for pair in pairs {
+    for client in clients {
         names.push(ClientNames {
-            terms: terms_of(pair, told, share),
-            input: pair.input.as_str(),
-            output: pair.output.as_str(),
+            terms: terms_of(client, told, clients.len() as u64),
+            input: client.lines.as_str(),
+            output: client.replies.as_str(),
         })?;
     }
     Ok(names)
@@ -109,15 +123,15 @@ fn named<'a>(
 /// bound to nobody, where none is named.
 pub(crate) fn names_of<'a>(
     alloc: Global,
-    pairs: &'a [Pair],
+    clients: &'a [ConfigClient],
     told: ShareOptions,
 ) -> Result<Vec<ClientNames<'a>>, NoMemory>
     ensures some { IfOk result (λ names. 0 < length names.items) }
     ensures terms { IfOk result
-        (λ names. map terms_in names.items ≡ terms_told told (map client_of_pair pairs.now)) }
+        (λ names. map terms_in names.items ≡ terms_told told (map named_client clients.now)) }
 {
-    if !pairs.is_empty() {
-        return named(alloc, pairs, told);
+    if !clients.is_empty() {
+        return named(alloc, clients, told);
     }
     let mut names = Vec::new(alloc);
     names.push(ClientNames {

@@ -9,28 +9,14 @@ use crate::ending::Ending;
 use crate::reading::configuration;
 use crate::{Files, Setup};
 use qplain::NoMemory;
-use qtext_config::ConfigClient;
+use qtext_config::{ClientShare, ConfigClient};
 use qtext_job::Pair;
 use std::alloc::Global;
 
 /// What a service has of its configuration: the setup, or why there is none, and the clients that are named.
 pub(crate) struct ServiceConfig {
     pub(crate) setup: Result<Setup, Ending>,
-    pub(crate) pairs: Vec<Pair>,
-}
-
-fn pairs_of(alloc: Global, clients: Vec<ConfigClient>) -> Result<Vec<Pair>, NoMemory>
-    ensures { IfOk result (λ pairs. map client_of_pair pairs.items ≡ map named_client clients.items) }
-{
-    let mut pairs = Vec::new(alloc);
-    for client in clients {
-        pairs.push(Pair {
-            caller: client.caller,
-            input: client.lines,
-            output: client.replies,
-        })?;
-    }
-    Ok(pairs)
+    pub(crate) clients: Vec<ConfigClient>,
 }
 
 /// Reads the configuration of a service. What is wrong with it is told behind what is wrong with names, some of which
@@ -41,29 +27,53 @@ pub(crate) fn service_config<F: Files>(
     name: &str,
 ) -> Result<ServiceConfig, NoMemory>
     ensures config { IfOk result (λ read. IfOk read.setup (λ setup.
-        IsConfigNaming (F.held files.old) name.now setup (map client_of_pair read.pairs.items))) }
+        IsConfigNaming (F.held files.old) name.now setup (map named_client read.clients.items))) }
     ensures newest { IfOk result (λ read. IfOk read.setup (λ setup. setup.edition ≡ Two)) }
     ensures same { F.held files.new ≡ F.held files.old }
 {
     match configuration(alloc, files, name) {
-        Ok(config) => {
-            let pairs = pairs_of(alloc, config.clients.into_vec())?;
-            Ok(ServiceConfig {
-                setup: Ok(config.setup),
-                pairs,
-            })
-        }
+        Ok(config) => Ok(ServiceConfig {
+            setup: Ok(config.setup),
+            clients: config.clients.into_vec(),
+        }),
         Err(ending) => Ok(ServiceConfig {
             setup: Err(ending.explained(false)),
-            pairs: Vec::new(alloc),
+            clients: Vec::new(alloc),
         }),
     }
 }
 
-/// The clients that are served, of those of the command line and of the configuration.
-pub(crate) fn served<'a>(given: &'a [Pair], configured: &'a [Pair]) -> &'a [Pair]
-    ensures { map client_of_pair result.now
-        ≡ clients_served (map client_of_pair given.now) (map client_of_pair configured.now) }
+/// The client of a pair, of whose share nothing is said.
+fn client_of(alloc: Global, pair: &Pair) -> Result<ConfigClient, NoMemory>
+    ensures { IfOk result (λ client. named_client client ≡ client_of_pair pair.now) }
 {
-    if given.is_empty() { configured } else { given }
+    let caller = match &pair.caller {
+        Some(caller) => Some(caller.copy()?),
+        None => None,
+    };
+    Ok(ConfigClient {
+        caller,
+        lines: String::from_str(alloc, pair.input.as_str())?,
+        replies: String::from_str(alloc, pair.output.as_str())?,
+        share: ClientShare::UNSAID,
+    })
+}
+
+/// The clients that are served, of those of the command line and of the configuration.
+pub(crate) fn served(
+    alloc: Global,
+    pairs: &[Pair],
+    configured: Vec<ConfigClient>,
+) -> Result<Vec<ConfigClient>, NoMemory>
+    ensures { IfOk result (λ clients. map named_client clients.items
+        ≡ clients_served (map client_of_pair pairs.now) (map named_client configured.items)) }
+{
+    if pairs.is_empty() {
+        return Ok(configured);
+    }
+    let mut clients = Vec::new(alloc);
+    for pair in pairs {
+        clients.push(client_of(alloc, pair)?)?;
+    }
+    Ok(clients)
 }

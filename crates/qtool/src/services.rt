@@ -320,13 +320,10 @@ where
         (seen (F.held files.old) (O.contents out.old) (E.contents err.old))
         (seen (F.held files.new) (O.contents out.new) (E.contents err.new))) }
 {
-    let config = service_config(machine.alloc, files, job.config.as_str())?;
-    let ServiceConfig {
-        setup,
-        pairs: configured,
-    } = config;
-    let pairs = served(job.pairs.as_slice(), &configured);
-    let named = names_of(machine.alloc, pairs, job.shares)?;
+    let alloc = machine.alloc;
+    let ServiceConfig { setup, clients } = service_config(alloc, files, job.config.as_str())?;
+    let clients = served(alloc, job.pairs.as_slice(), clients)?;
+    let named = names_of(alloc, &clients, job.shares)?;
     let counts = Counts::new(named.len() as u64);
     let names = ServiceNames {
         config: job.config.as_str(),
@@ -337,13 +334,13 @@ where
     };
     let Left {
         outcome,
-        clients,
+        clients: ended,
         refused,
     } = serve_of(machine, names, setup, job, files)?;
-    if is_output_taken(pairs) {
-        finish_service(machine.alloc, outcome, job, files, err)?;
-        return end_of(&clients, refused);
+    if is_output_taken(&clients) {
+        finish_service(alloc, outcome, job, files, err)?;
+        return end_of(&ended, refused);
     }
-    finish_service(machine.alloc, outcome, job, files, out)?;
-    end_of(&clients, refused)
+    finish_service(alloc, outcome, job, files, out)?;
+    end_of(&ended, refused)
 }

@@ -1,7 +1,7 @@
 //! Setups and clients, spelled as configurations.
 
 use qplain::{Principal, Setup};
-use qtext_config::{Config, ConfigClient};
+use qtext_config::{ClientShare, Config, ConfigClient};
 use std::alloc::{AllocError, Global};
 
 /// Writes the table of a principal.
@@ -34,6 +34,23 @@ fn put_text(out: &mut String, key: &str, text: &str) -> Result<(), AllocError> {
     writeln!(out, "\"")
 }
 
+/// Writes what a client may take, as far as it is said.
+fn put_share(out: &mut String, share: &ClientShare) -> Result<(), AllocError> {
+    if let Some(calls) = share.calls {
+        writeln!(out, "share_calls = {calls}")?;
+    }
+    if let Some(bytes) = share.bytes {
+        writeln!(out, "share_kib = {}", bytes / 1024)?;
+    }
+    if let Some(depth) = share.depth {
+        writeln!(out, "share_depth = {depth}")?;
+    }
+    match share.rate {
+        Some(rate) => writeln!(out, "share_rate = {rate}"),
+        None => Ok(()),
+    }
+}
+
 /// Writes the table of a client.
 fn put_client(out: &mut String, client: &ConfigClient) -> Result<(), AllocError> {
     writeln!(out, "[[client]]")?;
@@ -46,7 +63,8 @@ fn put_client(out: &mut String, client: &ConfigClient) -> Result<(), AllocError>
     for group in caller.more() {
         write!(out, ",{group}")?;
     }
-    writeln!(out, "\"")
+    writeln!(out, "\"")?;
+    put_share(out, &client.share)
 }
 
 /// A configuration of this setup, with each limit, and of these clients.

@@ -1,6 +1,6 @@
 //! All that is wrong in a document, in the order in which reading tests it.
 
-use super::rules::{CLIENTS, Form, is_in_range, keys_in, rule_of};
+use super::rules::{CLIENTS, Form, is_in_range, keys_in, lacks_caller, rule_of};
 use super::telling::Said;
 use super::{Check, Done, Site};
 use crate::MOST_TOLD;
@@ -70,6 +70,10 @@ impl Check<'_> {
                     self.tell(ConfigFault::Duplicate, (site, key), Said::Same(other))?;
                 }
             }
+            if lacks_caller(element) {
+                let field = ConfigFault::Field(String::from_str(self.alloc, "caller")?);
+                self.tell(field, (site, "caller"), Said::Missing(Form::Caller))?;
+            }
         }
         if lacks_zero {
             self.tell(ConfigFault::NoZero, (Site::Document, list), Said::NoZero)?;
@@ -120,11 +124,17 @@ impl Check<'_> {
         Ok(self.findings.sort_by_key(|finding| finding.fault.number())?)
     }
 
-    /// Finds what is wrong with the clients of a document, and how many there are at last, unless they are no list.
+    /// Finds what is wrong with the clients of a document, their numbers and how many there are at last, unless they
+    /// are no list.
     fn clients(&mut self, document: &Table) -> Done {
+        let before = self.findings.len();
         self.list(CLIENTS, elements_of(document, CLIENTS))?;
         self.strays(document, true)?;
-        self.value((Site::Document, CLIENTS), document.get(CLIENTS))
+        self.value((Site::Document, CLIENTS), document.get(CLIENTS))?;
+        match self.findings.as_mut_slice().get_mut(before..) {
+            Some(own) => Ok(own.sort_by_key(self.alloc, |finding| finding.fault.number())?),
+            None => Ok(()),
+        }
     }
 
     /// Finds all that is wrong in a document, and where, in the order in which reading tests it.

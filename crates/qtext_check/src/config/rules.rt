@@ -3,7 +3,9 @@
 use qplain::{MAX_BLOCKS, MAX_INODES, MAX_PRINCIPALS, MAX_WORKERS, is_principal_name};
 use qrules::{MAX_GRACE, MAX_LIMIT};
 use qtext::ReadFault;
-use qtext_config::{CLIENT_KEYS, PRINCIPAL_KEYS, blocks_of_size};
+use qtext_config::{
+    CLIENT_KEYS, MAX_CALLS, MAX_DEPTH, MAX_KIB, MAX_RATE, PRINCIPAL_KEYS, blocks_of_size,
+};
 use qtext_read::caller_of;
 use std::alloc::{AllocError, Global};
 use std::fmt;
@@ -46,9 +48,20 @@ pub(super) fn rule_of(key: &str) -> (bool, Form) {
         "inode_soft" | "inode_hard" => (false, Form::Number(" of inodes", 0, MAX_LIMIT)),
         "lines" | "replies" => (true, Form::Stream),
         "caller" => (false, Form::Caller),
+        "share_calls" => (false, Form::Number(" of calls", 0, MAX_CALLS)),
+        "share_kib" => (false, Form::Number(" of KiB", 0, MAX_KIB)),
+        "share_depth" => (false, Form::Number(" of components", 1, MAX_DEPTH)),
+        "share_rate" => (false, Form::Number(" of turns", 1, MAX_RATE)),
         CLIENTS => (false, Form::List(MAX_WORKERS)),
         _ => (key != "project", Form::List(MAX_PRINCIPALS as u64)),
     }
+}
+
+/// Whether a table has a client's share and no caller, to whom it would have to be bound.
+pub(super) fn lacks_caller(client: &Value) -> bool {
+    let mut shares = CLIENT_KEYS.into_iter();
+    let is_shared = shares.any(|key| key.starts_with("share_") && client.get(key).is_some());
+    is_shared && client.get("caller").is_none()
 }
 
 /// Whether a text is a caller.

@@ -4,12 +4,13 @@ ghost use Rattle.std.specs.Prelude.{◌≡◌, map, string_bytes};
 ghost use Rattle.toml.specs.View.{table_view};
 ghost use Rattle.qtext.specs.Reading.{each_of};
 ghost use Rattle.qtext_read.specs.Callers.{caller_of};
-ghost use Rattle.qtext_config.specs.ConfigClients.{caller_at, client_of, clients_of, clients_of_tables, named_client};
-ghost use Rattle.qtext_config.specs.ConfigClients.{spelt, stream_at};
+ghost use Rattle.qtext_config.specs.ConfigClients.{bound_for, caller_at, client_of, clients_of, clients_of_tables};
+ghost use Rattle.qtext_config.specs.ConfigClients.{named_client, named_of, spelt, stream_at, written_client};
 ghost use Rattle.qtext_config.specs.ConfigFaults.{GivesBy};
 
 use super::field::{field, text_at, value_at};
 use super::keys::{no_unknown, unknown_after};
+use super::share::{ClientShare, WrittenShare, share_at, share_of};
 use super::tables::tables_at;
 use crate::ConfigFault;
 use qplain::{Cred, MAX_WORKERS};
@@ -20,15 +21,33 @@ use std::alloc::Global;
 use toml::Table;
 
 /// The keys of a client's table.
-pub const CLIENT_KEYS: [&str; 3] = ["lines", "replies", "caller"];
+pub const CLIENT_KEYS: [&str; 7] = [
+    "lines",
+    "replies",
+    "caller",
+    "share_calls",
+    "share_kib",
+    "share_depth",
+    "share_rate",
+];
 
 /// A client of a service: who calls in all its lines, where it is bound, where these come from, and where its replies
-/// go, each a file's name or `-`.
+/// go, each a file's name or `-`; and what it may take.
 #[derive(Debug, PartialEq, Eq, Drop)]
 pub struct ConfigClient {
     pub caller: Option<Cred>,
     pub lines: String,
     pub replies: String,
+    pub share: ClientShare,
+}
+
+/// A client of which the numbers of its share may still be out of range.
+#[derive(Debug, Drop)]
+struct WrittenClient {
+    caller: Option<Cred>,
+    lines: String,
+    replies: String,
+    share: WrittenShare,
 }
 
 /// The clients that a document names, none where it has no list of them.
@@ -48,22 +67,24 @@ pub(super) fn clients_of(
     }
 }
 
-/// The clients that these tables write, whose keys are tested behind their fields, and how many there are at last.
+/// The clients that these tables write, whose keys are tested behind their fields, and at last their numbers and how
+/// many there are.
 #[tactic(auto, unfolding(crate::specs::ConfigClients::clients_of_tables))]
 fn clients_of_tables(alloc: Global, tables: &[&Table]) -> Result<Items<ConfigClient>, ConfigFault>
     ensures { GivesBy (λ clients. map named_client clients) result
         (clients_of_tables (map (λ t. table_view t.now) tables.now)) }
 {
-    let clients = each_client(alloc, tables)?;
+    let written = each_client(alloc, tables)?;
     no_unknown(alloc, unknown_after(None, tables, &CLIENT_KEYS))?;
+    let clients = each_named(alloc, written)?;
     if !matches!(clients.len() as u64, 1..=MAX_WORKERS) {
         return Err(ConfigFault::Range);
     }
     Ok(Items::new(clients))
 }
 
-fn each_client(alloc: Global, tables: &[&Table]) -> Result<Vec<ConfigClient>, ConfigFault>
-    ensures { GivesBy (λ clients. map named_client clients.items) result
+fn each_client(alloc: Global, tables: &[&Table]) -> Result<Vec<WrittenClient>, ConfigFault>
+    ensures { GivesBy (λ clients. map written_client clients.items) result
         (each_of client_of (map (λ t. table_view t.now) tables.now)) }
 {
     let mut clients = Vec::new(alloc);
@@ -74,16 +95,53 @@ fn each_client(alloc: Global, tables: &[&Table]) -> Result<Vec<ConfigClient>, Co
 }
 
 #[tactic(auto, unfolding(crate::specs::ConfigClients::client_of))]
-fn client_of(alloc: Global, table: &Table) -> Result<ConfigClient, ConfigFault>
-    ensures { GivesBy named_client result (client_of (table_view table.now)) }
+fn client_of(alloc: Global, table: &Table) -> Result<WrittenClient, ConfigFault>
+    ensures { GivesBy written_client result (client_of (table_view table.now)) }
 {
     let lines = stream_at(alloc, table, "lines")?;
     let replies = stream_at(alloc, table, "replies")?;
     let caller = caller_at(alloc, table, "caller")?;
-    Ok(ConfigClient {
+    let share = share_at(alloc, table)?;
+    test_bound(alloc, &caller, share)?;
+    Ok(WrittenClient {
         caller,
         lines,
         replies,
+        share,
+    })
+}
+
+/// Tests that a client of which a share is written is bound.
+fn test_bound(alloc: Global, caller: &Option<Cred>, share: WrittenShare) -> Result<(), ConfigFault>
+    ensures { GivesBy (λ unit. unit) result (bound_for caller.now share) }
+{
+    if caller.is_none() && share.is_written() {
+        return Err(field(alloc, "caller"));
+    }
+    Ok(())
+}
+
+fn each_named(alloc: Global, all: Vec<WrittenClient>) -> Result<Vec<ConfigClient>, ConfigFault>
+    ensures { GivesBy (λ clients. map named_client clients.items) result
+        (each_of named_of (map written_client all.items)) }
+{
+    let mut clients = Vec::new(alloc);
+    for written in all {
+        clients.push(named_of(written)?)?;
+    }
+    Ok(clients)
+}
+
+#[tactic(auto, unfolding(crate::specs::ConfigClients::named_of))]
+fn named_of(written: WrittenClient) -> Result<ConfigClient, ConfigFault>
+    ensures { GivesBy named_client result (named_of (written_client written)) }
+{
+    let share = share_of(written.share)?;
+    Ok(ConfigClient {
+        caller: written.caller,
+        lines: written.lines,
+        replies: written.replies,
+        share,
     })
 }
 

@@ -5,6 +5,7 @@ ghost use Rattle.toml.specs.Data.{get_member, as_str, as_integer};
 ghost use Rattle.toml.specs.View.{view, table_view};
 ghost use Rattle.qtext_config.specs.ConfigFaults.{Field, GivesBy, NamesCause};
 ghost use Rattle.qtext_config.specs.ConfigFields.{found, text_at, integer_at, limit_of, limit_at};
+ghost use Rattle.qtext_config.specs.ConfigFields.{number_of, optional_integer_at};
 
 use crate::ConfigFault;
 use std::alloc::Global;
@@ -64,6 +65,31 @@ pub(super) fn integer_at(alloc: Global, table: &Table, key: &str) -> Result<i64,
     ensures { GivesBy (λ n. n) result (integer_at key.now (table_view table.now)) }
 {
     integer_of(alloc, value_at(table, key), key)
+}
+
+/// The integer at a key, and None where the key is absent.
+#[tactic(auto, unfolding(crate::specs::ConfigFields::optional_integer_at))]
+pub(super) fn optional_integer_at(
+    alloc: Global,
+    table: &Table,
+    key: &str,
+) -> Result<Option<i64>, ConfigFault>
+    ensures { GivesBy (λ n. n) result (optional_integer_at key.now (table_view table.now)) }
+{
+    match value_at(table, key) {
+        Some(_) => Ok(Some(integer_at(alloc, table, key)?)),
+        None => Ok(None),
+    }
+}
+
+/// The number that an integer is.
+pub(super) fn number_of(integer: i64) -> Result<u64, ConfigFault>
+    ensures { GivesBy (λ n. n) result (number_of integer) }
+{
+    match u64::try_from(integer) {
+        Ok(number) => Ok(number),
+        Err(_) => Err(ConfigFault::Range),
+    }
 }
 
 fn limit_of(alloc: Global, value: Option<&Value>, key: &str) -> Result<i64, ConfigFault>

@@ -4,9 +4,10 @@ ghost use Rattle.std.specs.Prelude.{◌≡◌, IfOk};
 ghost use Rattle.qplain.specs.declared.edition.Edition.TheVariants.{Two};
 ghost use Rattle.qtext.specs.Reading.{each_of};
 ghost use Rattle.qtext_config.specs.ConfigFaults.{GivesBy};
-ghost use Rattle.qtext_config.specs.Configs.{ReadsSetup, declared_of, id_of, limits_of, number_of, projects_of};
+ghost use Rattle.qtext_config.specs.Configs.{ReadsSetup, declared_of, id_of, limits_of, projects_of};
 ghost use Rattle.qtext_config.specs.Configs.{setting_of};
 
+use super::field::number_of;
 use super::principal::WrittenPrincipal;
 use super::written::WrittenConfig;
 use crate::ConfigFault;
@@ -90,15 +91,6 @@ fn limits_of(written: &WrittenPrincipal) -> Result<Limits, ConfigFault>
         inode_soft,
         inode_hard,
     })
-}
-
-fn number_of(integer: i64) -> Result<u64, ConfigFault>
-    ensures { GivesBy (λ n. n) result (number_of integer) }
-{
-    match u64::try_from(integer) {
-        Ok(number) => Ok(number),
-        Err(_) => Err(ConfigFault::Range),
-    }
 }
 
 fn id_of(integer: i64) -> Result<u32, ConfigFault>

@@ -49,8 +49,8 @@ unreachable-requires g c =
     let wrong : false ≡ true = c.in-Err.ensures.all (all_shares_there _ _ _ _ _ _ _ _ _ at) in
     absurd cc
 
-pub returns-clause-ended : goal.returns-clause-ended
-returns-clause-ended g c =
+pub returns-clause-played : goal.returns-clause-played
+returns-clause-played g c =
     let at = handed_in_by g.C.Client.talk g.M.Monitor.sees _ _ _ _ _ _ _ _ _ _ _ c.requires.staff c.in_ok-workers.ensures.clients_are
     c.in_ok-works.ensures c.in_ok-own.ensures.shares c.part_observed-watch.ensures.watch c.in_ok-shares.ensures.shares in
     let journal = c.in-Ok.store.journal in
@@ -59,16 +59,12 @@ returns-clause-ended g c =
     let few = c.in-Ok.ensures.end.played.few in
     let outcome = c.in_ok-outcome-in-Ok.outcome in
     let told = c.in_ok-outcome-in-Ok.ensures.told in
-    has_ended _ _ _ _ _ _ _ _ _ at journal seen counted few c.in_ok-own.left.items c.in_ok-shares.looks.items outcome
-    (subst (λ s. IsServiceOf s outcome) c.in-Ok.ensures.setting c.in_ok-outcome-in-Ok.ensures.outcome)
-    (told.0 ∙ (works_placed _ _ _ _ _ _ _ _ _ at journal seen counted few c.in_ok-own.answered.items c.in_ok-own.ensures.answered).1)
-    c.in_ok-own.ensures.left c.in_ok-shares.ensures.looks told.1
-
-pub returns-clause-shown : goal.returns-clause-shown
-returns-clause-shown g c =
-    monitor_shown g.M.Monitor.sees (start g.S.StoreId.id.setting) c.in-Ok.store.journal _ _ _ _ c.args.observer _ _ c.in_ok-works.ensures.1
-    c.part_observed-watch.ensures.watch c.part_observed-watch.ensures.left c.in_ok-shares.ensures.shares c.in-Ok.ensures.end.seen
-    c.in_ok-outcome-in-Ok.ensures.told.2
-
-pub returns-clause-moments : goal.returns-clause-moments
-returns-clause-moments g c = λ rules. subst NeverFalls (sym c.in_ok-outcome-in-Ok.ensures.told.2) (c.in-Ok.ensures.end.moments rules)
+    record {
+      ended = has_ended _ _ _ _ _ _ _ _ _ at journal seen counted few c.in_ok-own.left.items c.in_ok-shares.looks.items outcome
+          (subst (λ s. IsServiceOf s outcome) c.in-Ok.ensures.setting c.in_ok-outcome-in-Ok.ensures.outcome)
+          (told.0 ∙ (works_placed _ _ _ _ _ _ _ _ _ at journal seen counted few c.in_ok-own.answered.items c.in_ok-own.ensures.answered).1)
+          c.in_ok-own.ensures.left c.in_ok-shares.ensures.looks told.1;
+      shown = monitor_shown g.M.Monitor.sees (start g.S.StoreId.id.setting) journal _ _ _ _ c.args.observer _ _ c.in_ok-works.ensures.1
+          c.part_observed-watch.ensures.watch c.part_observed-watch.ensures.left c.in_ok-shares.ensures.shares seen told.2;
+      moments = λ rules. subst NeverFalls (sym told.2) (c.in-Ok.ensures.end.moments rules);
+    }
