@@ -10,6 +10,7 @@ pub mod Tables
 pub mod Orders
 pub mod Filtering
 pub mod RightSized
+pub mod Hollow
 pub mod Sound
 pub mod FewLinks
 pub mod Fitting

@@ -1,4 +1,5 @@
 -- The laws, and worked examples. A module that no public clause cites says so.
+pub mod Holes
 pub mod Laws
 pub mod ProjectLaws
 pub mod Changes
