@@ -65,3 +65,6 @@ pub mod Overwriting
 pub mod NamesApart
 pub mod OtherNames
 pub mod Tallying
+pub mod Ranging
+pub mod PathNaming
+pub mod Beginning

@@ -6,7 +6,10 @@ pub mod Changes
 pub mod Done
 pub mod Told
 pub mod Sizes
+pub mod SettingRanges
+pub mod PathNames
 pub mod Bytes
+pub mod Beginnings
 pub mod Refusals
 pub mod Order
 pub mod Journals
