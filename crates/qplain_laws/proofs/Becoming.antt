@@ -1,7 +1,7 @@
 -- What a step may become, call by call: the cases that a fact about every plain result has to be shown for.
 use Rattle.std.proofs.Common.{◌≡◌, ℕ, ◌+◌, ◌==◌, Bool, true, false, not, ◌&&◌, ◌||◌, nat_lt, cond, List, length, Option, Some, None, is_some, Ok, refl, tests, arith}
 use Rattle.std.specs.List.{find, list_all, list_any}
-use Rattle.std.proofs.lemmas.Bool.{and_left, and_right}
+use Rattle.std.proofs.lemmas.Bool.{and_left, and_right, or_parts}
 use Rattle.qrules.specs.declared.kind.Kind.{Kind}
 use Rattle.qrules.specs.declared.kind.Kind.TheVariants.{User, Group, Project}
 use Rattle.qrules.specs.declared.limits.Limits.{Limits}
@@ -19,7 +19,7 @@ use Rattle.qplain.specs.State.{Holder, Inode, State, inode_at, is_directory, nam
 use Rattle.qplain.specs.Use.{has_too_many_links, is_empty}
 use Rattle.qplain.specs.Walk.{components, is_well_formed, is_too_long, parent}
 use Rattle.qplain.specs.Decision.{ends_after, refusal_between}
-use Rattle.qplain.specs.Calls.{attempt, attempt_of, has_bad_number, paths_of, refusal_of_arguments}
+use Rattle.qplain.specs.Calls.{attempt, attempt_of, has_bad_number, is_invalid, paths_of, refusal_of_arguments}
 use Rattle.qplain.specs.Known.{is_declared, is_holder, is_known, is_undeclared}
 use Rattle.qplain.specs.Attempt.{Attempt, Refuse, Answer, Becomes, no_change}
 use Rattle.qplain.specs.Rights.{is_member, is_own, is_owner, is_same_id, may_give, may_remove, may_write}
@@ -80,18 +80,37 @@ owners-kept cred inode may =
     by false true false d e f may user group project = cc
     by false false c d e f may user group project = cc
 
--- a caller whose arguments are not refused is known, and names what it may
-known-lawful : (late known formed numbers long : Bool)
-    → cond (late || not known || not formed || numbers) (Some EINVAL) (cond long (Some ENAMETOOLONG) None) ≡ None → (known ≡ true) × (numbers ≡ false)
-known-lawful false true true false long h = (refl, refl)
-known-lawful true known formed numbers long h = cc
-known-lawful false false formed numbers long h = cc
-known-lawful false true false numbers long h = cc
-known-lawful false true true true long h = cc
+-- what a call has passed that is not refused for its arguments
+pub record HasGoodArguments (S : State) (cred : Caller) (moment : ℕ) (call : Call) : Type 0 where
+  pub early : nat_lt MAX_MOMENT moment ≡ false
+  pub known : is_known S cred ≡ true
+  pub formed : list_all is_well_formed (paths_of call) ≡ true
+  pub numbers : has_bad_number S call ≡ false
+  pub short : list_any is_too_long (paths_of call) ≡ false
 
-neither : (a b : Bool) → (a || b) ≡ false → (a ≡ false) × (b ≡ false)
-neither true b h = cc
-neither false b h = (refl, h)
+-- which it has passed indeed
+pub good-arguments : (S : State) (cred : Caller) (moment : ℕ) (call : Call) → refusal_of_arguments S cred moment call ≡ None
+    → HasGoodArguments S cred moment call
+good-arguments S cred moment call granted =
+    let both = by (is_invalid S cred moment call) (list_any is_too_long (paths_of call)) granted in
+    let late : Bool = nat_lt MAX_MOMENT moment in
+    let unknown : Bool = not (is_known S cred) in
+    let ill_formed : Bool = not (list_all is_well_formed (paths_of call)) in
+    let numbers = or_parts (late || unknown || ill_formed) (has_bad_number S call) both.0 in
+    let formed = or_parts (late || unknown) ill_formed numbers.0 in
+    let known = or_parts late unknown formed.0 in
+    record {
+      early = known.0;
+      known = true-from_not (is_known S cred) known.1;
+      formed = true-from_not (list_all is_well_formed (paths_of call)) formed.1;
+      numbers = numbers.1;
+      short = both.1;
+    }
+  where
+    by : (bad long : Bool) → cond bad (Some EINVAL) (cond long (Some ENAMETOOLONG) None) ≡ None → (bad ≡ false) × (long ≡ false)
+    by false false h = (refl, refl)
+    by false true h = cc
+    by true long h = cc
 
 module _ (P : State → Type 0) (S : State) (cred : Caller) (holds : HoldsOfResults P S cred) where
   create_as-becomes : (dir : ℕ) (name : List ℕ) → is_known S cred ≡ true → is_directory S dir ≡ true → OnBecomes P (create_as S cred dir name)
@@ -199,8 +218,8 @@ module _ (P : State → Type 0) (S : State) (cred : Caller) (holds : HoldsOfResu
       → inode_at S number ≡ Some inode → OnBecomes P (chown_at S cred uid gid project number inode)
   chown_at-becomes uid gid project number inode declared there =
       let owners : Owners = renewed uid gid project inode.owners in
-      let ids = neither (is_undeclared S User uid || is_undeclared S Group gid) (is_undeclared S Project project) declared in
-      let others = neither (is_undeclared S User uid) (is_undeclared S Group gid) ids.0 in
+      let ids = or_parts (is_undeclared S User uid || is_undeclared S Group gid) (is_undeclared S Project project) declared in
+      let others = or_parts (is_undeclared S User uid) (is_undeclared S Group gid) ids.0 in
       choice P (not (may_give cred inode owners)) (Refuse EPERM) (Becomes (with_inode S number (with_owners inode owners)) number) tt
       (λ may. holds.changed number inode (with_owners inode owners) there (owned-follows S inode uid gid project others.0 others.1 ids.1)
       (true-from_not (may_give cred inode owners) may))
@@ -261,10 +280,7 @@ module _ (P : State → Type 0) (S : State) (cred : Caller) (holds : HoldsOfResu
   pub attempt-becomes : (moment : ℕ) (call : Call) → OnBecomes P (attempt S cred moment call)
   attempt-becomes moment call =
       unless-becomes P (refusal_of_arguments S cred moment call) (attempt_of S cred call)
-      (λ lawful.
-      let parts = known-lawful (nat_lt MAX_MOMENT moment) (is_known S cred) (list_all is_well_formed (paths_of call)) (has_bad_number S call)
-      (list_any is_too_long (paths_of call)) lawful in
-      attempt_of-becomes call parts.0 parts.1)
+      (λ granted. let good = good-arguments S cred moment call granted in attempt_of-becomes call good.known good.numbers)
 
   settled-becomes : (Q : State → Type 0) (new : State) (number moment : ℕ) (o : Option Refusal) → Q S → (o ≡ None → Q (ends_after new moment))
       → Q (settled S new number moment o).0

@@ -10,6 +10,7 @@ pub mod Tables
 pub mod Orders
 pub mod Filtering
 pub mod RightSized
+pub mod Hollow
 pub mod Sound
 pub mod FewLinks
 pub mod Fitting
@@ -64,3 +65,6 @@ pub mod Overwriting
 pub mod NamesApart
 pub mod OtherNames
 pub mod Tallying
+pub mod Ranging
+pub mod PathNaming
+pub mod Beginning

@@ -27,7 +27,7 @@ use Rattle.qplain_laws.proofs.Trying.{none-from_not_some}
 use Rattle.qplain_laws.proofs.Unnaming.{remove-itself}
 
 -- keys that are at each other have the same name
-key-name : (d dir : ℕ) (nm name : List ℕ) → is_at (name_key_cmp (d, nm)) (dir, name) ≡ true → nm ≡ name
+pub key-name : (d dir : ℕ) (nm name : List ℕ) → is_at (name_key_cmp (d, nm)) (dir, name) ≡ true → nm ≡ name
 key-name d dir nm name h =
     same_text nm name (sym (lists_ties nat_cmp unsigned_ties nm name ∙ second (nat_cmp d dir) (slice_cmp nat_cmp nm name) h))
   where

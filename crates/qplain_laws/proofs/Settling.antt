@@ -1,5 +1,5 @@
 -- What an attempt and a step of the plain machine come to, and what every step keeps.
-use Rattle.std.proofs.Common.{◌≡◌, ℕ, ◌+◌, ◌-◌, ◌≤◌, Bool, true, false, ◌||◌, nat_le, nat_lt, cond, List, [], ◌∷◌, Option, Some, None, refl, ap, subst, ◌∙◌, tests, arith}
+use Rattle.std.proofs.Common.{◌≡◌, ℕ, ◌+◌, ◌-◌, ◌≤◌, Bool, true, false, ◌||◌, nat_le, nat_lt, cond, List, [], ◌∷◌, Option, Some, None, refl, sym, ap, subst, ◌∙◌, tests, arith}
 use Rattle.std.specs.Option.{option_or, option_map}
 use Rattle.qrules.specs.declared.kind.Kind.{Kind}
 use Rattle.qrules.specs.declared.limits.Limits.{Limits}
@@ -22,6 +22,7 @@ use Rattle.qplain.specs.Attempt.{Becomes, no_change}
 use Rattle.qplain.specs.Quotas.{with_limits_of}
 use Rattle.qplain.specs.Step.{change_between, settle, settled, step}
 use Rattle.qplain_laws.specs.Laws.{IsLawful, KeepsSetup}
+use Rattle.qplain_laws.proofs.Becoming.{HasGoodArguments, good-arguments}
 use Rattle.qplain_laws.proofs.Tables.{absent-fresh}
 use Rattle.qplain_laws.proofs.Results.{fits-graced}
 use Rattle.qplain_laws.proofs.Lawful.{steps_stay_lawful}
@@ -49,6 +50,15 @@ step-refused S cred moment call r e = ap (λ o. settle S cred moment (unless o (
 pub step-attempted : (S : State) (cred : Caller) (moment : ℕ) (call : Call) → refusal_of_arguments S cred moment call ≡ None
     → step S cred moment call ≡ settle S cred moment (attempt_of S cred call)
 step-attempted S cred moment call e = ap (λ o. settle S cred moment (unless o (attempt_of S cred call))) e
+
+-- what holds of a state holds after each call, where it does after one that is not refused for its arguments
+pub step-passed : (P : State → Type 0) (S : State) (cred : Caller) (moment : ℕ) (call : Call) → P S
+    → (HasGoodArguments S cred moment call → P (step S cred moment call).0) → P (step S cred moment call).0
+step-passed P S cred moment call stays passed = by (refusal_of_arguments S cred moment call) refl
+  where
+    by : (o : Option Refusal) → refusal_of_arguments S cred moment call ≡ o → P (step S cred moment call).0
+    by (Some r) e = subst (λ (after : State × Reply). P after.0) (sym (step-refused S cred moment call r e)) stays
+    by None e = passed (good-arguments S cred moment call e)
 
 -- ---- other limits and other graces
 

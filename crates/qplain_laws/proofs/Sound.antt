@@ -1,4 +1,5 @@
--- What each change of an inode leaves of it: a directory that holds nothing, allocated indexes in order, a right size.
+-- What each change of an inode leaves of it: a directory that holds nothing, allocated indexes in order, empty holes, a
+-- right size.
 use Rattle.std.proofs.Common.{◌≡◌, ℕ, zero, suc, ◌+◌, nat_lt, Bool, true, false, not, ◌&&◌, nat_le, cond, List, [], ◌∷◌, length, filter, Option, Some, None, refl, subst, sym, arith}
 use Rattle.std.specs.Ordering.{nat_cmp}
 use Rattle.std.specs.List.Sorted.{IsStrictlySortedBy}
@@ -17,8 +18,10 @@ use Rattle.std.specs.List.{list_all}
 use Rattle.qplain.specs.Names.{owners_by, project_of}
 use Rattle.qplain.specs.Owners.{renewed, with_owners}
 use Rattle.qplain.specs.Use.{owner}
+use Rattle.qplain_laws.specs.Holes.{HolesAreEmpty}
 use Rattle.qplain_laws.specs.Laws.{AreKnown, IsSound, is_known_owner}
 use Rattle.qplain_laws.specs.Sizes.{IsRightSized}
+use Rattle.qplain_laws.proofs.Hollow.{hollow-truncated, hollow-written}
 use Rattle.qplain_laws.proofs.Orders.{above-zero, rises-sorted, sorted-rises}
 use Rattle.qplain_laws.proofs.RightSized.{right_sized-truncated, right_sized-written}
 
@@ -53,14 +56,15 @@ in_order-after_truncate file size sorted =
       | false ↦ IsStrictlySortedBy-filter nat_cmp (begins_below size) file.allocated sorted
     ]
 
--- a file may follow with other bytes and blocks in order
+-- a file may follow with other bytes and blocks in order, where its holes are empty
 file-follows : (S : State) (inode : Inode) (file : File) → inode.dir ≡ false
     → (IsStrictlySortedBy nat_cmp inode.file.allocated → IsStrictlySortedBy nat_cmp file.allocated)
+    → (HolesAreEmpty inode.file → HolesAreEmpty file)
     → (IsRightSized S.file_limit inode.file → IsRightSized S.file_limit file) → MayFollow S inode (record inode { file = file })
-file-follows S inode file is_file keeps sized = record {
+file-follows S inode file is_file keeps hollow sized = record {
   dir = refl;
   owners = λ known. known;
-  sound = λ sound. record { holds_nothing = λ is_dir. cc; in_order = keeps sound.in_order };
+  sound = λ sound. record { holds_nothing = λ is_dir. cc; in_order = keeps sound.in_order; holes = hollow sound.holes };
   size = sized;
 }
 
@@ -69,14 +73,14 @@ pub written-follows : (S : State) (inode : Inode) (off : ℕ) (bytes : List ℕ)
     → MayFollow S inode (record inode { file = after_write inode.file off bytes })
 written-follows S inode off bytes is_file below =
     file-follows S inode (after_write inode.file off bytes) is_file (in_order-after_write inode.file off bytes)
-    (right_sized-written S.file_limit inode.file off bytes below)
+    (hollow-written inode.file off bytes) (right_sized-written S.file_limit inode.file off bytes below)
 
 -- and after a truncation
 pub truncated-follows : (S : State) (inode : Inode) (size : ℕ) → inode.dir ≡ false → nat_lt S.file_limit size ≡ false
     → MayFollow S inode (record inode { file = after_truncate inode.file size })
 truncated-follows S inode size is_file below =
     file-follows S inode (after_truncate inode.file size) is_file (in_order-after_truncate inode.file size)
-    (right_sized-truncated S.file_limit inode.file size below)
+    (hollow-truncated inode.file size) (right_sized-truncated S.file_limit inode.file size below)
 
 true-from_not : (b : Bool) → not b ≡ false → b ≡ true
 true-from_not true h = refl
@@ -103,7 +107,7 @@ owned-follows S inode uid gid project user group of_project = record {
   owners = λ known. each_kind (λ kind. is_known_owner S kind (owner kind (renewed uid gid project inode.owners)) ≡ true)
       (declared-known S User uid inode.owners.uid user (known User)) (declared-known S Group gid inode.owners.gid group (known Group))
       (declared-known_if_any S Project project inode.owners.project of_project (known Project));
-  sound = λ sound. record { holds_nothing = sound.holds_nothing; in_order = sound.in_order };
+  sound = λ sound. record { holds_nothing = sound.holds_nothing; in_order = sound.in_order; holes = sound.holes };
   size = λ right. record { size = right.size; blocks = right.blocks };
 }
 
@@ -113,6 +117,7 @@ unfolding IsStrictlySortedBy
 empty-sound inode empty = record {
   holds_nothing = λ is_dir. empty;
   in_order = subst (λ (file : File). IsStrictlySortedBy nat_cmp file.allocated) (sym empty) tt;
+  holes = subst HolesAreEmpty (sym empty) (λ offset none. refl);
 }
 
 -- what a caller who is known makes in a directory has known owners, where the directory has

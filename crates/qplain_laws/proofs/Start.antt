@@ -1,6 +1,6 @@
 -- A new store of a setup that is not refused is lawful.
 use Rattle.std.proofs.Common.{◌≡◌, ℕ, suc, ◌+◌, ◌*◌, ◌<◌, ◌≤◌, ◌==◌, Bool, true, false, not, ◌&&◌, ◌||◌, nat_le, nat_lt, cond, List, [], ◌∷◌, All, ◌++◌, map, slice_index_or, Some, None, refl, sym, ap, ◌∙◌, tests, arith}
-use Rattle.std.specs.List.{AllByRecursion, list_any}
+use Rattle.std.specs.List.{AllByRecursion, list_all, list_any}
 use Rattle.std.specs.List.Sorted.{IsNonDecreasingBy, IsStrictlySortedBy}
 use Rattle.std.specs.declared.cmp.Ordering.TheVariants.{Less}
 use Rattle.std.specs.Ordering.{nat_cmp, ordering_then}
@@ -19,7 +19,7 @@ use Rattle.qplain.specs.declared.setup.SetupFault.TheVariants.{Range, Duplicate,
 use Rattle.qrules.specs.Range.{are_graces_in_range}
 use Rattle.qplain.specs.declared.setup.TheConstants.{MAX_BLOCKS, MAX_INODES}
 use Rattle.qplain.specs.declared.bounds.TheConstants.{ROOT}
-use Rattle.qplain.specs.Principals.{are_in_range, collide, has_duplicate, has_zero, if_any}
+use Rattle.qplain.specs.Principals.{are_in_range, collide, has_duplicate, has_zero, if_any, is_principal_in_range}
 use Rattle.qplain.specs.Setups.{IsLawfulSetup, Setting, is_in_range, principals_in, setup_fault}
 use Rattle.qplain.specs.State.{Holder, declared_in, holder_cmp, holder_of, root, root_project, start}
 use Rattle.qplain.specs.Use.{account_of, belongs_to, owner}
@@ -60,11 +60,44 @@ passed s granted =
     by true true z h = cc
     by false d z h = cc
 
-third : (a b c d e f g h : Bool) → (a && b && c && d && e && f && g && h) ≡ true → c ≡ true
-third a b true d e f g h i = refl
-third true true false d e f g h i = cc
-third true false false d e f g h i = cc
-third false b false d e f g h i = cc
+-- what a setting in range has passed
+pub record IsRanged (s : Setting) : Type 0 where
+  pub blocks : nat_le s.blocks MAX_BLOCKS ≡ true
+  pub some_inodes : nat_le 1 s.inodes ≡ true
+  pub inodes : nat_le s.inodes MAX_INODES ≡ true
+  pub graces : are_graces_in_range s.graces ≡ true
+  pub users : are_in_range s.users ≡ true
+  pub groups : are_in_range s.groups ≡ true
+  pub projects : if_any are_in_range s.projects ≡ true
+
+-- and so it has
+ranged_by : (s : Setting) → is_in_range s ≡ true → IsRanged s
+ranged_by s ranges =
+    let projects = and_parts _ (if_any are_in_range s.projects) ranges in
+    let groups = and_parts _ (are_in_range s.groups) projects.0 in
+    let users = and_parts _ (are_in_range s.users) groups.0 in
+    let graces = and_parts _ (are_graces_in_range s.graces) users.0 in
+    let inodes = and_parts _ (nat_le s.inodes MAX_INODES) graces.0 in
+    let some = and_parts _ (nat_le 1 s.inodes) inodes.0 in
+    let blocks = and_parts _ (nat_le s.blocks MAX_BLOCKS) some.0 in
+    record {
+      blocks = blocks.1;
+      some_inodes = some.1;
+      inodes = inodes.1;
+      graces = graces.1;
+      users = users.1;
+      groups = groups.1;
+      projects = projects.1;
+    }
+
+-- the limits of principals in range are
+principals-by : (ps : List Principal) → are_in_range ps ≡ true → list_all is_principal_in_range ps ≡ true
+principals-by ps are = (and_parts _ (list_all is_principal_in_range ps) are).1
+
+-- also where there may be none
+principals-if_any : (ps : List Principal) → if_any are_in_range ps ≡ true → list_all is_principal_in_range ps ≡ true
+principals-if_any [] are = refl
+principals-if_any (p ∷ ps) are = principals-by (p ∷ ps) are
 
 -- one inode or none is over no limit
 not_over-inodes : (b : Bool) (soft : ℕ) → is_over (0 + cond b 1 0) soft ≡ false
@@ -143,8 +176,13 @@ module _ (s : Setting) (setup : IsLawfulSetup s) where
   passes = passed s setup.granted
 
   -- every number of the setup is in its range
-  pub ranges : is_in_range s ≡ true
-  ranges = passes.range
+  pub ranged : IsRanged s
+  ranged = ranged_by s passes.range
+
+  -- and each principal is
+  pub principals-ranged : (kind : Kind) → list_all is_principal_in_range (principals_in kind s) ≡ true
+  principals-ranged = each_kind (λ kind. list_all is_principal_in_range (principals_in kind s) ≡ true)
+      (principals-by s.users ranged.users) (principals-by s.groups ranged.groups) (principals-if_any s.projects ranged.projects)
 
   -- no two principals of a kind collide
   pub single : (kind : Kind) → has_duplicate (principals_in kind s) ≡ false
@@ -161,15 +199,16 @@ module _ (s : Setting) (setup : IsLawfulSetup s) where
       (λ p. above-append (holder_of User p) (declared_in Group s) (declared_in Project s)
       (before-kind User Group refl p s.groups) (before-kind User Project refl p s.projects))
 
+  -- what holds of the holders of each kind holds of all
+  pub all-declared : (P : Holder → Type 0) → ((kind : Kind) → All P (declared_in kind s)) → All P (start s).holders
+  all-declared P each =
+      All-append P (declared_in User s) (declared_in Group s ++ declared_in Project s) (each User)
+      (All-append P (declared_in Group s) (declared_in Project s) (each Group) (each Project))
+
   ends-kind : (kind : Kind) → All (λ h. HasEnds (account_of (start s) h)) (declared_in kind s)
   ends-kind kind =
       All-map (λ h. HasEnds (account_of (start s) h)) (holder_of kind) (principals_in kind s)
       (λ k d below. ends-start s kind (slice_index_or (principals_in kind s) k d))
-
-  ends-all : All (λ h. HasEnds (account_of (start s) h)) (start s).holders
-  ends-all =
-      All-append (λ h. HasEnds (account_of (start s) h)) (declared_in User s) (declared_in Group s ++ declared_in Project s) (ends-kind User)
-      (All-append (λ h. HasEnds (account_of (start s) h)) (declared_in Group s) (declared_in Project s) (ends-kind Group) (ends-kind Project))
 
   -- what some holder of a kind passes, some holder passes
   among : (test : Holder → Bool) (kind : Kind) → list_any test (declared_in kind s) ≡ true → list_any test (start s).holders ≡ true
@@ -213,13 +252,11 @@ module _ (s : Setting) (setup : IsLawfulSetup s) where
 pub start_is_lawful : StartIsLawful
 unfolding IsStrictlySortedBy
 start_is_lawful s setup =
-    let one : nat_le 1 s.inodes ≡ true =
-    third (nat_le 1 s.blocks) (nat_le s.blocks MAX_BLOCKS) (nat_le 1 s.inodes) (nat_le s.inodes MAX_INODES) (are_graces_in_range s.graces)
-    (are_in_range s.users) (are_in_range s.groups) (if_any are_in_range s.projects) (passes s setup).range in
+    let one = (ranged s setup).some_inodes in
     record {
       blocks_fit = omega arith;
       inodes_fit = grind (arith, tests, one);
-      ends_stand = ends-all s setup;
+      ends_stand = all-declared s setup (λ h. HasEnds (account_of (start s) h)) (ends-kind s setup);
       next_fits = omega arith;
       parts = record {
         links = refl;

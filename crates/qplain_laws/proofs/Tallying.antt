@@ -1,22 +1,18 @@
 -- What journals leave, what their entries tell, and their tallies.
-use Rattle.std.proofs.Common.{◌≡◌, ℕ, ◌+◌, ◌-◌, ◌*◌, ◌≤◌, Bool, true, false, ◌&&◌, not, nat_le, cond, List, [], ◌∷◌, ◌++◌, length, length-append, All, Option, Some, None, refl, sym, ap, subst, ◌∙◌, tests, arith}
+use Rattle.std.proofs.Common.{◌≡◌, ℕ, ◌+◌, ◌-◌, ◌*◌, ◌≤◌, List, [], ◌∷◌, ◌++◌, length, length-append, All, Option, Some, None, refl, sym, ap, subst, ◌∙◌, tests, arith}
 use Rattle.std.proofs.Math.Nat.{mul_comm}
 use Rattle.std.proofs.lemmas.List.Elements.{All-nil, All-cons}
 use Rattle.std.proofs.lemmas.List.Sums.{sum_by-cons, sum_by-le, sum_by_push}
 use Rattle.qrules.specs.Sort.{Inodes, Blocks}
-use Rattle.qrules.specs.Range.{are_graces_in_range}
 use Rattle.qplain.specs.declared.bounds.TheConstants.{MAX_ENTRIES}
 use Rattle.qplain.specs.declared.call.Call.{Call}
 use Rattle.qplain.specs.declared.change.Change.{Change}
 use Rattle.qplain.specs.declared.entry.Entry.{Entry}
 use Rattle.qplain.specs.declared.refusal.Refusal.{Refusal}
-use Rattle.qplain.specs.declared.setup.SetupFault.{SetupFault}
-use Rattle.qplain.specs.declared.setup.SetupFault.TheVariants.{Range}
 use Rattle.qplain.specs.declared.setup.TheConstants.{MAX_BLOCKS, MAX_INODES}
 use Rattle.qplain.specs.declared.tallies.Tallies.{Tallies}
 use Rattle.qplain.specs.Caller.{Caller}
-use Rattle.qplain.specs.Principals.{are_in_range, if_any}
-use Rattle.qplain.specs.Setups.{IsLawfulSetup, Setting, is_in_range}
+use Rattle.qplain.specs.Setups.{IsLawfulSetup, Setting}
 use Rattle.qplain.specs.State.{State, start}
 use Rattle.qplain.specs.Use.{total_of}
 use Rattle.qplain.specs.Decision.{refusal_between}
@@ -25,12 +21,12 @@ use Rattle.qplain.specs.Journal.{CanCount, IsLegal, change_of, counted, play, pl
 use Rattle.qplain.specs.Calls.{attempt}
 use Rattle.qplain.specs.Step.{change_between, settle, settled, step}
 use Rattle.qplain_laws.specs.Laws.{IsLawful, KeepsSetup}
-use Rattle.qplain_laws.specs.Journals.{ChangesAreSmall, ChangesAreTold, IsTallyOf, IsWithin, JournalsStayLawful, StepsAreSmall, TalliesAreSmall, TalliesBalance}
+use Rattle.qplain_laws.specs.Journals.{ChangesAreSmall, ChangesAreTold, IsBalancedFrom, IsTallyOf, IsWithin, JournalsBalance, JournalsStayLawful, StepsAreSmall, TalliesAreSmall, TalliesBalance}
 use Rattle.qplain_laws.proofs.Answering.{MayBecome, TellsNone, attempt-none}
 use Rattle.qplain_laws.proofs.Kept.{setups_stay}
 use Rattle.qplain_laws.proofs.Lawful.{steps_stay_lawful}
 use Rattle.qplain_laws.proofs.Settling.{change-none}
-use Rattle.qplain_laws.proofs.Start.{start_is_lawful}
+use Rattle.qplain_laws.proofs.Start.{ranged, start_is_lawful}
 
 -- ---- the states that journals leave
 
@@ -113,26 +109,11 @@ changes-within S (e ∷ rest) lawful legal =
     (subst (λ n. All (λ x. IsWithin n S.most_inodes (change_of x.reply)) rest) kept.size
     (subst (λ n. All (λ x. IsWithin (played S e).0.size n (change_of x.reply)) rest) kept.most_inodes later))
 
--- a setting with no fault is in range
-in_range : (b : Bool) (later : Option SetupFault) → cond (not b) (Some Range) later ≡ None → b ≡ true
-in_range true later h = refl
-in_range false later h = cc
-
--- the second and the fourth of eight tests
-two_of : (a b c d e f g h : Bool) → (a && b && c && d && e && f && g && h) ≡ true → (b ≡ true) × (d ≡ true)
-two_of true true true true e f g h i = (refl, refl)
-two_of false b c d e f g h i = cc
-two_of true false c d e f g h i = cc
-two_of true true false d e f g h i = cc
-two_of true true true false e f g h i = cc
-
 -- the bounds of a lawful setup are bounds that a setup may have
 pub setup-small : (s : Setting) → IsLawfulSetup s → (s.blocks ≤ MAX_BLOCKS) × (s.inodes ≤ MAX_INODES)
 setup-small s setup =
-    let ranges : is_in_range s ≡ true = in_range (is_in_range s) _ setup.granted in
-    let tests_of = two_of (nat_le 1 s.blocks) (nat_le s.blocks MAX_BLOCKS) (nat_le 1 s.inodes) (nat_le s.inodes MAX_INODES)
-    (are_graces_in_range s.graces) (are_in_range s.users) (are_in_range s.groups) (if_any are_in_range s.projects) ranges in
-    (grind (arith, tests, tests_of.0), grind (arith, tests, tests_of.1))
+    let are = ranged s setup in
+    (grind (arith, tests, are.blocks), grind (arith, tests, are.inodes))
 
 pub changes_are_small : ChangesAreSmall
 changes_are_small s journal setup legal =
@@ -213,11 +194,6 @@ tallies_have_room s journal cred moment call setup legal few =
 
 -- ---- what was charged is what was released and what is there
 
--- what a journal charges and releases of the totals, from any state
-record Moves (S after : State) (t : Tallies) : Type 0 where
-  pub blocks : t.blocks_charged + total_of S Blocks ≡ t.blocks_released + total_of after Blocks
-  pub inodes : t.inodes_charged + total_of S Inodes ≡ t.inodes_released + total_of after Inodes
-
 -- the tally of a journal by its first entry
 tally-first : (e : Entry) (rest : List Entry) → tally_of (e ∷ rest) ≡ record {
   blocks_charged = (change_of e.reply).blocks_charged + (tally_of rest).blocks_charged;
@@ -234,12 +210,12 @@ tally-first e rest = λ i. record {
   calls = length (e ∷ rest);
 }
 
-journal-moves : (S : State) (journal : List Entry) → IsLegal S journal → Moves S (play S journal) (tally_of journal)
-journal-moves S [] legal = record { blocks = refl; inodes = refl }
-journal-moves S (e ∷ rest) legal =
+pub journals_balance : JournalsBalance
+journals_balance S [] legal = record { blocks = refl; inodes = refl }
+journals_balance S (e ∷ rest) legal =
     let told : change_of e.reply ≡ change_between S (played S e).0 = ap change_of legal.0 ∙ changes_are_told S e.cred e.moment e.call in
-    let later : Moves (played S e).0 (play S (e ∷ rest)) (tally_of rest) = journal-moves (played S e).0 rest legal.1 in
-    subst (Moves S (play S (e ∷ rest))) (sym (tally-first e rest)) (record {
+    let later : IsBalancedFrom (played S e).0 (play S (e ∷ rest)) (tally_of rest) = journals_balance (played S e).0 rest legal.1 in
+    subst (IsBalancedFrom S (play S (e ∷ rest))) (sym (tally-first e rest)) (record {
       blocks = turned _ _ _ _ _ _ _ (ap (λ (c : Change). c.blocks_charged) told) (ap (λ (c : Change). c.blocks_released) told) later.blocks;
       inodes = turned _ _ _ _ _ _ _ (ap (λ (c : Change). c.inodes_charged) told) (ap (λ (c : Change). c.inodes_released) told) later.inodes;
     })
@@ -249,5 +225,5 @@ journal-moves S (e ∷ rest) legal =
 
 pub tallies_balance : TalliesBalance
 tallies_balance s journal legal =
-    let moves = journal-moves (start s) journal legal in
+    let moves = journals_balance (start s) journal legal in
     record { blocks = omega (arith, moves.blocks); inodes = moves.inodes }

@@ -58,6 +58,16 @@ abbrev pub TalliesAreSmall : Type 0
 TalliesAreSmall = (s : Setting) (journal : List Entry) → IsLawfulSetup s → IsLegal (start s) journal
     → IsTallyOf MAX_BLOCKS MAX_INODES (length journal) (tally_of journal)
 
+-- what was charged and what was there is what was released and what is left
+pub record IsBalancedFrom (begun left : State) (t : Tallies) : Type 0 where
+  pub blocks : t.blocks_charged + total_of begun Blocks ≡ t.blocks_released + total_of left Blocks
+  pub inodes : t.inodes_charged + total_of begun Inodes ≡ t.inodes_released + total_of left Inodes
+
+-- so it is after each legal journal, from any state
+abbrev pub JournalsBalance : Type 0
+JournalsBalance = (S : State) (journal : List Entry) → IsLegal S journal
+    → IsBalancedFrom S (play S journal) (tally_of journal)
+
 -- what was charged is what was released and what is there; a new store has its root, which nothing was charged for
 pub record IsBalanced (S : State) (t : Tallies) : Type 0 where
   pub blocks : t.blocks_charged ≡ t.blocks_released + total_of S Blocks

@@ -32,6 +32,7 @@ use Rattle.qplain.specs.Known.{is_declared}
 use Rattle.qplain.specs.Decision.{ends_after, with_ends_of}
 use Rattle.qplain.specs.Quotas.{relimited}
 use Rattle.qplain.specs.Step.{step}
+use Rattle.qplain_laws.specs.Holes.{HolesAreEmpty}
 
 -- some principal of the kind is declared
 abbrev pub has_kind : State → Kind → Bool
@@ -57,11 +58,12 @@ has_right_names S e =
     else if e.1.dir then names_to S e.0 == 1
     else nat_lt 0 (names_to S e.0)
 
--- what an inode is by itself: a directory holds no bytes and no block, and a file's allocated indexes stand once and in
--- order
+-- what an inode is by itself: a directory holds no bytes and no block, a file's allocated indexes stand once and in
+-- order, and its bytes of no block are 0
 pub record IsSound (inode : Inode) : Type 0 where
   pub holds_nothing : inode.dir ≡ true → inode.file ≡ empty_file
   pub in_order : IsStrictlySortedBy nat_cmp inode.file.allocated
+  pub holes : HolesAreEmpty inode.file
 
 -- inodes stand once and in order, below the next number; each is sound and belongs to declared principals; the root
 -- is a directory

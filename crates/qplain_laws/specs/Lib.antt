@@ -1,11 +1,15 @@
 -- The laws, and worked examples. A module that no public clause cites says so.
+pub mod Holes
 pub mod Laws
 pub mod ProjectLaws
 pub mod Changes
 pub mod Done
 pub mod Told
 pub mod Sizes
+pub mod SettingRanges
+pub mod PathNames
 pub mod Bytes
+pub mod Beginnings
 pub mod Refusals
 pub mod Order
 pub mod Journals

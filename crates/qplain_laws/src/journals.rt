@@ -1,6 +1,6 @@
 //! The laws of whole journals, each the contract of a function that does nothing when it runs.
-ghost use Rattle.qplain_laws.specs.Journals.{ChangesAreSmall, ChangesAreTold, JournalsStayLawful, StepsAreSmall};
-ghost use Rattle.qplain_laws.specs.Journals.{TalliesAreSmall, TalliesBalance};
+ghost use Rattle.qplain_laws.specs.Journals.{ChangesAreSmall, ChangesAreTold, JournalsBalance, JournalsStayLawful};
+ghost use Rattle.qplain_laws.specs.Journals.{StepsAreSmall, TalliesAreSmall, TalliesBalance};
 
 /// Whatever entries are played from a new store of a lawful setup, legal or not, a lawful state is left.
 pub fn journals_stay_lawful()
@@ -16,8 +16,10 @@ pub fn changes_are_small()
 {}
 
 /// No number of a legal journal's tally is larger than the bound of a setup for each of its calls, which it counts.
-/// What it says was charged is what it says was released and what is there; a new store has its root already.
+/// From any state, what it says was charged and what was there is what it says was released and what is left; and a new
+/// store has its root alone.
 pub fn tallies_add_up()
     ensures small { TalliesAreSmall }
+    ensures from_any { JournalsBalance }
     ensures balance { TalliesBalance }
 {}

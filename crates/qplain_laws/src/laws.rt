@@ -10,8 +10,9 @@ ghost use Rattle.qplain_laws.specs.Laws.{StepsStayLawful, UsersAndGroupsStand, U
 
 /// Totals and inode numbers stay within the bounds, and a grace end stands exactly where use is over its soft limit.
 /// Principals, inodes and names stand once and in order. Every inode has declared owners and as many names as it may, a
-/// directory holds no bytes and no block, no inode has more than 65,000 links, and each name stands in a directory and
-/// leads to an inode. So it is in a new store of a lawful setup, and after every step of a lawful state.
+/// directory holds no bytes and no block, a byte of no block is 0, no inode has more than 65,000 links, and each name
+/// stands in a directory and leads to an inode. So it is in a new store of a lawful setup, and after every step of a
+/// lawful state.
 pub fn stores_stay_lawful()
     ensures start { StartIsLawful }
     ensures steps { StepsStayLawful }

@@ -1,6 +1,7 @@
 //! The laws of the plain machine, proved over every call, and worked examples of it, over `qplain`.
 #![tactic(auto)]
 
+pub use beginnings::{beginnings_stay, names_stay_names, settings_stay_in_range};
 pub use changes::{
     answers_are_true, asking_changes_nothing, bytes_are_kept, done_is_done, files_stay_right_sized,
     graces_run_on, names_cost_nothing, one_inode_is_touched, other_names_stay, settings_stay,
@@ -18,6 +19,7 @@ pub use laws::{
     undeclared_kinds_do_nothing, uses_add_up,
 };
 
+mod beginnings;
 mod changes;
 mod examples;
 mod journals;

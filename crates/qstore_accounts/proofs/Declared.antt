@@ -9,12 +9,10 @@ use Rattle.qrules.specs.declared.kind.Kind.{Kind}
 use Rattle.qplain.specs.declared.principal.Principal.{Principal}
 use Rattle.qplain.specs.Principals.{are_in_range, collide, has_duplicate, if_any, is_principal_in_range}
 use Rattle.qplain.specs.declared.principal.TheConstants.{MAX_PRINCIPALS}
-use Rattle.qplain.specs.declared.setup.TheConstants.{MAX_BLOCKS, MAX_INODES}
-use Rattle.qrules.specs.Range.{are_graces_in_range}
 use Rattle.qrules.proofs.Ranks.{each_kind}
 use Rattle.std.proofs.lemmas.Bool.{and_parts}
 use Rattle.qplain.specs.Setups.{IsLawfulSetup, Setting, principals_in}
-use Rattle.qplain_laws.proofs.Start.{ranges, single}
+use Rattle.qplain_laws.proofs.Start.{ranged, single}
 
 -- of two that do not hold, the first does not
 pub or-first : (a b : Bool) → (a || b) ≡ false → a ≡ false
@@ -76,10 +74,6 @@ few-if_any (p ∷ ps) fits = few-of (p ∷ ps) fits
 -- of any kind
 pub kind-few : (s : Setting) → IsLawfulSetup s → (kind : Kind) → length (principals_in kind s) ≤ MAX_PRINCIPALS
 kind-few s lawful =
-    let numbers : Bool =
-    nat_le 1 s.blocks && nat_le s.blocks MAX_BLOCKS && nat_le 1 s.inodes && nat_le s.inodes MAX_INODES && are_graces_in_range s.graces in
-    let projects = and_parts (numbers && are_in_range s.users && are_in_range s.groups) (if_any are_in_range s.projects) (ranges s lawful) in
-    let groups = and_parts (numbers && are_in_range s.users) (are_in_range s.groups) projects.0 in
-    let users = and_parts numbers (are_in_range s.users) groups.0 in
+    let are = ranged s lawful in
     each_kind (λ kind. length (principals_in kind s) ≤ MAX_PRINCIPALS)
-    (few-of s.users users.1) (few-of s.groups groups.1) (few-if_any s.projects projects.1)
+    (few-of s.users are.users) (few-of s.groups are.groups) (few-if_any s.projects are.projects)
