@@ -1,4 +1,4 @@
--- What holds of every state that a store of a setup can be in, so that a store may begin with any such state.
+-- What holds of every state that a store of a setup can be in; that bytes are below 256 is said by the types of code.
 use Rattle.std.specs.Prelude.{ℕ, List}
 use Rattle.std.specs.List.{AllByRecursion}
 use Rattle.qplain.specs.declared.call.Call.{Call}

@@ -1,4 +1,4 @@
--- Who is to look at the boards of a store while a crew plays on it.
+-- Who is to look at the boards of a store while a crew plays on it. No public clause cites this module.
 use Rattle.std.specs.Prelude.{ℕ, Option, None, Some}
 use Rattle.qrun.specs.declared.looking.Looking.{Looking}
 use Rattle.qrun.specs.declared.looking.Looking.TheVariants.{Nobody, Watching, Showing}
@@ -10,10 +10,10 @@ lookers_in (Watching calls boards) = 1
 lookers_in (Showing monitor) = 1
 
 -- of how many looks is kept what they were given
-abbrev pub looks_in_all : {M : Type 0} → Looking M → ℕ
-looks_in_all Nobody = 0
-looks_in_all (Watching calls boards) = boards
-looks_in_all (Showing monitor) = 0
+abbrev pub looks_to_keep : {M : Type 0} → Looking M → ℕ
+looks_to_keep Nobody = 0
+looks_to_keep (Watching calls boards) = boards
+looks_to_keep (Showing monitor) = 0
 
 -- the monitor that is shown the boards, where there is one
 abbrev pub monitor_of : {M : Type 0} → Looking M → Option M

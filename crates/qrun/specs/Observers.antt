@@ -65,9 +65,9 @@ abbrev pub HasSeatIn : ℕ → Option Seated → Type 0
 HasSeatIn n seat = IfSome seat (λ s. (0 < s.worker) × (s.worker ≤ n))
 
 -- all workers have played what their clients hand out, and who looks has looked
-abbrev pub HavePlayed : {C Left T M W : Type 0} → (C → Talk Left) → (M → Sight W) → State → List (Prepared C)
+abbrev pub HavePlayedAndLooked : {C Left T M W : Type 0} → (C → Talk Left) → (M → Sight W) → State → List (Prepared C)
     → Option (Observer T M W) → List (Worked Left) → Option (Observed W) → Type 0
-HavePlayed talk sees S workers observer works observed =
+HavePlayedAndLooked talk sees S workers observer works observed =
     ArePlayed (λ w. talk w.client) workers works × IsObservedBy sees S observer observed
 
 -- the fault is one of them and of who looks, however many there are besides

@@ -1,7 +1,7 @@
 //! From a setup and a crew to what is left: the store is made, and played on.
 ghost use Rattle.std.specs.Prelude.{◌≡◌, false, length, IfErr, IfOk};
 ghost use Rattle.qrun.specs.Crews.{HasPlayed};
-ghost use Rattle.qrun.specs.Looking.{lookers_in, looks_in_all, monitor_of};
+ghost use Rattle.qrun.specs.Looking.{lookers_in, looks_to_keep, monitor_of};
 ghost use Rattle.qrun.specs.RunFaults.{IsFaultOf};
 ghost use Rattle.qrun.specs.Serving.{CanServe};
 ghost use Rattle.qrun.specs.Watching.{seats_for};
@@ -51,7 +51,7 @@ where
     requires can { CanServe S.id.setting (length crew) (lookers_in looking)
         × (S.id.counters.parts ≡ seats_for (length crew) (lookers_in looking)) }
     ensures played { IfOk result (λ s. HasPlayed C.talk M.sees S.id.setting S.id.clocked crew.entry
-        (looks_in_all looking) (monitor_of looking) s.left.items s.outcome s.monitor) }
+        (looks_to_keep looking) (monitor_of looking) s.left.items s.outcome s.monitor) }
     ensures fault { IfErr result (IsFaultOf S.id.counters.parts) }
 {
     let Machine { rt, alloc, .. } = *machine;
@@ -93,7 +93,7 @@ where
     R: Threads + Wait + Sync,
     requires can { CanServe setup (length crew) (lookers_in looking) × MayBeGiven clock C.clocked }
     ensures played { IfOk result (λ s. HasPlayed C.talk M.sees setup clock crew.entry
-        (looks_in_all looking) (monitor_of looking) s.left.items s.outcome s.monitor) }
+        (looks_to_keep looking) (monitor_of looking) s.left.items s.outcome s.monitor) }
     ensures fault { IfErr result (IsFaultOf (seats_for (length crew.entry) (lookers_in looking))) }
 {
     let seats = crew.len() + looking.lookers();

@@ -1,6 +1,6 @@
 //! Who is to look at the boards of a store while a crew plays on it.
 ghost use Rattle.std.specs.Prelude.{◌≡◌, ℕ};
-ghost use Rattle.qrun.specs.Looking.{lookers_in, looks_in_all, monitor_of};
+ghost use Rattle.qrun.specs.Looking.{lookers_in, looks_to_keep, monitor_of};
 ghost use Rattle.qrun.specs.Serving.{monitors_in};
 ghost use Rattle.qrun.specs.Watching.{seats_for};
 
@@ -17,9 +17,9 @@ pub(crate) enum Looking<M: Drop> {
 
 impl<M: Drop> Looking<M> {
     /// Who looks so many times, spread over so many calls: nobody, where that is no time.
-    pub(crate) fn times(boards: u64, calls: u64) -> Looking<M>
+    pub(crate) fn times(calls: u64, boards: u64) -> Looking<M>
         ensures seats { (n : ℕ) → seats_for n (lookers_in result) ≡ seats_for n boards }
-        ensures looks { looks_in_all result ≡ boards }
+        ensures looks { looks_to_keep result ≡ boards }
     {
         if boards == 0 {
             Looking::Nobody
@@ -31,7 +31,7 @@ impl<M: Drop> Looking<M> {
     /// This monitor, or nobody, where there is none.
     pub(crate) fn of_monitor(monitor: Option<M>) -> Looking<M>
         ensures lookers { lookers_in result ≡ monitors_in monitor }
-        ensures looks { looks_in_all result ≡ 0 }
+        ensures looks { looks_to_keep result ≡ 0 }
         ensures monitor { monitor_of result ≡ monitor }
     {
         match monitor {

@@ -3,7 +3,7 @@ ghost use Rattle.std.specs.Prelude.{MatchResult};
 ghost use denote.Param.Send.{IsSend, IsSync};
 ghost use Rattle.qplain.specs.State.{start};
 ghost use Rattle.qrun.specs.Crews.{AreNumbered};
-ghost use Rattle.qrun.specs.Observers.{HavePlayed, IsFaultAmong};
+ghost use Rattle.qrun.specs.Observers.{HavePlayedAndLooked, IsFaultAmong};
 
 use crate::machine::Machine;
 use crate::monitor::Monitor;
@@ -44,7 +44,7 @@ where
     R: Threads + Wait + Sync,
     requires { AreNumbered workers.items }
     ensures { MatchResult result
-        (λ r. HavePlayed C.talk M.sees (start S.id.setting) workers.entry.items observer.entry r.0.items r.1)
+        (λ r. HavePlayedAndLooked C.talk M.sees (start S.id.setting) workers.entry.items observer.entry r.0.items r.1)
         (IsFaultAmong workers.entry.items observer.entry) }
 {
     let Machine { rt, alloc, .. } = *machine;
@@ -55,7 +55,7 @@ where
             requires marks { IsSync R.row × IsSync G.row × IsSend S.row × IsSync S.row × IsSend B.row × IsSend V.row
                 × IsSend C.row × IsSend C.Form.row × IsSend C.Left.row × IsSend M.row × IsSend M.Left.row }
             requires numbered { AreNumbered workers.items }
-            ensures { MatchResult result (λ r. HavePlayed C.talk M.sees (start S.id.setting) workers.entry.items
+            ensures { MatchResult result (λ r. HavePlayedAndLooked C.talk M.sees (start S.id.setting) workers.entry.items
                 observer.entry r.0.items r.1) (IsFaultAmong workers.entry.items observer.entry) }
         {
             let mut running = Vec::with_capacity(alloc, workers.len())?;

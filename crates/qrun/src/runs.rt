@@ -55,7 +55,7 @@ pub fn run_scripts<G: Gate + Sync, R: Threads + Wait + Sync>(
     ensures fault { IfErr result (IsFaultOf (seats_for (length scripts.items) options.boards)) }
 {
     let Options { boards, batch } = options;
-    let looking: Looking<NoMonitor> = Looking::times(boards, lines_in(&scripts));
+    let looking: Looking<NoMonitor> = Looking::times(lines_in(&scripts), boards);
     let crew = Crew::new(clients_of(machine.alloc, scripts)?, gate, batch);
     let played = play_on(machine, setup, false, crew, looking)?;
     Ok(played.outcome)

@@ -17,8 +17,8 @@ use Rattle.qtext_config.specs.ConfigFields.{found, tables_at, text_at}
 use Rattle.qtext_config.specs.ConfigKeys.{keys_of, least_unknown, no_unknown}
 use Rattle.qtext_config.specs.ConfigShares.{is_written, share_at, share_of}
 
--- a client: to whom it is bound, where it is bound, the names of what its lines come from and its replies go to, and what
--- it may take
+-- a client: to whom it is bound, where it is bound, the names of what its lines come from and its replies go to, and
+-- what it may take
 pub record NamedClient : Type 0 where
   pub caller : Option Caller
   pub lines : List ℕ
@@ -35,15 +35,15 @@ named_client client = record {
 }
 
 -- a client of which the numbers of its share may still be out of range
-pub record Written : Type 0 where
+pub record ClientFields : Type 0 where
   pub caller : Option Caller
   pub lines : List ℕ
   pub replies : List ℕ
   pub share : WrittenShare
 
--- that client, of which the fields were read
-abbrev pub written_client : WrittenClient → Written
-written_client client = record {
+-- the fields of that client that were read
+abbrev pub client_fields : WrittenClient → ClientFields
+client_fields client = record {
   caller = client.caller;
   lines = string_bytes client.lines;
   replies = string_bytes client.replies;
@@ -90,7 +90,7 @@ bound_for (Some caller) share = Ok tt
 bound_for None share = if is_written share then Err (Field (codes "caller")) else Ok tt
 
 -- the client that a table writes
-unfoldable pub client_of : Members → Result Written Cause
+unfoldable pub client_of : Members → Result ClientFields Cause
 client_of table = do
   lines ← stream_at (codes "lines") table
   replies ← stream_at (codes "replies") table
@@ -99,9 +99,9 @@ client_of table = do
   _ ← bound_for caller share
   Ok (record { caller = caller; lines = lines; replies = replies; share = share })
 
--- the client of these fields
-unfoldable pub named_of : Written → Result NamedClient Cause
-named_of written = do
+-- the client of these fields, whose numbers are in their ranges
+unfoldable pub client_in_range : ClientFields → Result NamedClient Cause
+client_in_range written = do
   share ← share_of written.share
   Ok (record { caller = written.caller; lines = written.lines; replies = written.replies; share = share })
 
@@ -114,7 +114,7 @@ unfoldable pub clients_of_tables : List Members → Result (List NamedClient) Ca
 clients_of_tables tables = do
   written ← each_of client_of tables
   _ ← no_unknown (least_unknown client_keys (flat_map keys_of tables))
-  clients ← each_of named_of written
+  clients ← each_of client_in_range written
   served clients
 
 -- the clients of the list of a document, if one stands there

@@ -57,8 +57,8 @@ impl Config {
     ///
     /// In range are a size of 1 to 2^20 blocks, 1 to 65,536 inodes, graces of 1 to 2^32 - 1, limits of 0 to 2^40, ids
     /// of 0 to 2^32 - 1, and 1 to 64 of each kind that has its list, id 0 among them. A name is 1 to 16 bytes of `a` to
-    /// `z`, `0` to `9`, `_` and `-`, the first a letter. A list of clients has 1 to 16, with shares of 0 to 1,048,576 calls and KiB, 1 to 2048
-    /// components and 1 to 1,048,576 turns.
+    /// `z`, `0` to `9`, `_` and `-`, the first a letter. A list of clients has 1 to 16, with shares of 0 to 1,048,576
+    /// calls and KiB, 1 to 2048 components and 1 to 1,048,576 turns.
     ///
     /// The first fault counts: that of the text; the first field that is missing, of another kind or of
     /// another form, in the order above; the least unknown key, of the document and then of all its

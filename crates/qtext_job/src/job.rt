@@ -253,9 +253,10 @@ impl Job {
     /// where it does not, the flags that are given, the boards at `--boards`, from 0 to 1000, and 0 where there is
     /// none, and the lines at `--batch`, from 1 to 64, and 1 where there is none. Each client of a service is a pair, a
     /// word cut at its first colon, with a name on both sides; before the pair there may stand `UID:GID[,GROUP..]=`, a
-    /// caller to whom it is bound (see `src/pair.rt`). What a bound client may take is the number at `--share-calls`
-    /// and that at `--share-kib`, each from 0 to 1048576, and 0 where there is none, that at `--share-depth`, from 1 to
-    /// 2048, and 64 where there is none, and that at `--share-rate`, from 1 to 1048576, and 4000 where there is none.
+    /// caller to whom it is bound (see `src/pair.rt`). What a bound client may take, of which a configuration says
+    /// nothing else, is the number at `--share-calls` and that at `--share-kib`, each from 0 to 1048576, and 0 where
+    /// there is none, that at `--share-depth`, from 1 to 2048, and 64 where there is none, and that at `--share-rate`,
+    /// from 1 to 1048576, and 4000 where there is none.
     ///
     /// A request for help or for the version is a fault, too, whose text is for the output. Out of memory may come in
     /// place of any answer.

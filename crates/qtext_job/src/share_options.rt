@@ -22,7 +22,8 @@ const MAX_DEPTH: u64 = 2048;
 /// As many turns a second may be named at most.
 const MAX_RATE: u64 = 1_048_576;
 
-/// What each client that is bound to a caller may take of a service at most.
+/// What a client that is bound to a caller may take of a service at most, unless its table in the configuration says
+/// otherwise.
 #[derive(Clone, Copy, Debug)]
 pub struct ShareOptions {
     /// The lines of the client that are answered; 0 stands for an equal part.

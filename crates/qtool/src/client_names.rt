@@ -85,6 +85,8 @@ fn terms_of(client: &ConfigClient, told: ShareOptions, clients: u64) -> Option<T
     requires { 0 < clients }
     ensures bound { option_map binding_of result ≡ (terms_for told clients (named_client client.now)).bound }
     ensures share { option_map (λ t. t.share) result ≡ (terms_for told clients (named_client client.now)).share }
+    ensures rate { option_map (λ t. t.rate) result
+        ≡ option_map (λ caller. (told_for told client.now.share).rate) client.now.caller }
 {
     let told = told_for(told, client.share);
     match &client.caller {

@@ -21,25 +21,21 @@ pub(crate) struct ServiceConfig {
 
 /// Reads the configuration of a service. What is wrong with it is told behind what is wrong with names, some of which
 /// it may have, so here it is only kept.
-pub(crate) fn service_config<F: Files>(
-    alloc: Global,
-    files: &mut F,
-    name: &str,
-) -> Result<ServiceConfig, NoMemory>
-    ensures config { IfOk result (λ read. IfOk read.setup (λ setup.
-        IsConfigNaming (F.held files.old) name.now setup (map named_client read.clients.items))) }
-    ensures newest { IfOk result (λ read. IfOk read.setup (λ setup. setup.edition ≡ Two)) }
+pub(crate) fn service_config<F: Files>(alloc: Global, files: &mut F, name: &str) -> ServiceConfig
+    ensures config { IfOk result.setup (λ setup.
+        IsConfigNaming (F.held files.old) name.now setup (map named_client result.clients.items)) }
+    ensures newest { IfOk result.setup (λ setup. setup.edition ≡ Two) }
     ensures same { F.held files.new ≡ F.held files.old }
 {
     match configuration(alloc, files, name) {
-        Ok(config) => Ok(ServiceConfig {
+        Ok(config) => ServiceConfig {
             setup: Ok(config.setup),
             clients: config.clients.into_vec(),
-        }),
-        Err(ending) => Ok(ServiceConfig {
+        },
+        Err(ending) => ServiceConfig {
             setup: Err(ending.explained(false)),
             clients: Vec::new(alloc),
-        }),
+        },
     }
 }
 

@@ -321,7 +321,7 @@ where
         (seen (F.held files.new) (O.contents out.new) (E.contents err.new))) }
 {
     let alloc = machine.alloc;
-    let ServiceConfig { setup, clients } = service_config(alloc, files, job.config.as_str())?;
+    let ServiceConfig { setup, clients } = service_config(alloc, files, job.config.as_str());
     let clients = served(alloc, job.pairs.as_slice(), clients)?;
     let named = names_of(alloc, &clients, job.shares)?;
     let counts = Counts::new(named.len() as u64);

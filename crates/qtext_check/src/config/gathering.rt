@@ -70,7 +70,7 @@ impl Check<'_> {
                     self.tell(ConfigFault::Duplicate, (site, key), Said::Same(other))?;
                 }
             }
-            if lacks_caller(element) {
+            if list == CLIENTS && lacks_caller(element) {
                 let field = ConfigFault::Field(String::from_str(self.alloc, "caller")?);
                 self.tell(field, (site, "caller"), Said::Missing(Form::Caller))?;
             }

@@ -16,6 +16,11 @@ fn next(s: &str) -> &str {
     skip_blank(skip_blank(s, true).trim_start_matches(','), true)
 }
 
+/// At which place a key stands among these.
+fn place_of(key: &str, keys: &[&str]) -> Option<usize> {
+    keys.iter().position(|known| key == *known)
+}
+
 /// What follows the value with which a text begins: the one fault of such a text is that it does not end there.
 fn behind_value(alloc: Global, s: &str) -> Result<&str, AllocError> {
     match Value::from_str(alloc, s) {
@@ -37,7 +42,7 @@ impl<'a> Check<'a> {
 
     /// How many tables the list at a key has had, where it is a key of the document.
     fn tables_of(&mut self, key: &str) -> Option<&mut usize> {
-        let at = DOCUMENT_KEYS.iter().position(|list| key == *list)?;
+        let at = place_of(key, &DOCUMENT_KEYS)?;
         self.tables.get_mut(at)
     }
 

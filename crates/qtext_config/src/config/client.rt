@@ -5,7 +5,7 @@ ghost use Rattle.toml.specs.View.{table_view};
 ghost use Rattle.qtext.specs.Reading.{each_of};
 ghost use Rattle.qtext_read.specs.Callers.{caller_of};
 ghost use Rattle.qtext_config.specs.ConfigClients.{bound_for, caller_at, client_of, clients_of, clients_of_tables};
-ghost use Rattle.qtext_config.specs.ConfigClients.{named_client, named_of, spelt, stream_at, written_client};
+ghost use Rattle.qtext_config.specs.ConfigClients.{named_client, client_in_range, spelt, stream_at, client_fields};
 ghost use Rattle.qtext_config.specs.ConfigFaults.{GivesBy};
 
 use super::field::{field, text_at, value_at};
@@ -76,7 +76,7 @@ fn clients_of_tables(alloc: Global, tables: &[&Table]) -> Result<Items<ConfigCli
 {
     let written = each_client(alloc, tables)?;
     no_unknown(alloc, unknown_after(None, tables, &CLIENT_KEYS))?;
-    let clients = each_named(alloc, written)?;
+    let clients = clients_in_range(alloc, written)?;
     if !matches!(clients.len() as u64, 1..=MAX_WORKERS) {
         return Err(ConfigFault::Range);
     }
@@ -84,7 +84,7 @@ fn clients_of_tables(alloc: Global, tables: &[&Table]) -> Result<Items<ConfigCli
 }
 
 fn each_client(alloc: Global, tables: &[&Table]) -> Result<Vec<WrittenClient>, ConfigFault>
-    ensures { GivesBy (λ clients. map written_client clients.items) result
+    ensures { GivesBy (λ clients. map client_fields clients.items) result
         (each_of client_of (map (λ t. table_view t.now) tables.now)) }
 {
     let mut clients = Vec::new(alloc);
@@ -96,7 +96,7 @@ fn each_client(alloc: Global, tables: &[&Table]) -> Result<Vec<WrittenClient>, C
 
 #[tactic(auto, unfolding(crate::specs::ConfigClients::client_of))]
 fn client_of(alloc: Global, table: &Table) -> Result<WrittenClient, ConfigFault>
-    ensures { GivesBy written_client result (client_of (table_view table.now)) }
+    ensures { GivesBy client_fields result (client_of (table_view table.now)) }
 {
     let lines = stream_at(alloc, table, "lines")?;
     let replies = stream_at(alloc, table, "replies")?;
@@ -121,20 +121,23 @@ fn test_bound(alloc: Global, caller: &Option<Cred>, share: WrittenShare) -> Resu
     Ok(())
 }
 
-fn each_named(alloc: Global, all: Vec<WrittenClient>) -> Result<Vec<ConfigClient>, ConfigFault>
+fn clients_in_range(
+    alloc: Global,
+    all: Vec<WrittenClient>,
+) -> Result<Vec<ConfigClient>, ConfigFault>
     ensures { GivesBy (λ clients. map named_client clients.items) result
-        (each_of named_of (map written_client all.items)) }
+        (each_of client_in_range (map client_fields all.items)) }
 {
     let mut clients = Vec::new(alloc);
     for written in all {
-        clients.push(named_of(written)?)?;
+        clients.push(client_in_range(written)?)?;
     }
     Ok(clients)
 }
 
-#[tactic(auto, unfolding(crate::specs::ConfigClients::named_of))]
-fn named_of(written: WrittenClient) -> Result<ConfigClient, ConfigFault>
-    ensures { GivesBy named_client result (named_of (written_client written)) }
+#[tactic(auto, unfolding(crate::specs::ConfigClients::client_in_range))]
+fn client_in_range(written: WrittenClient) -> Result<ConfigClient, ConfigFault>
+    ensures { GivesBy named_client result (client_in_range (client_fields written)) }
 {
     let share = share_of(written.share)?;
     Ok(ConfigClient {

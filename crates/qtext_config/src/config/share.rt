@@ -10,16 +10,16 @@ use crate::ConfigFault;
 use std::alloc::Global;
 use toml::Table;
 
-/// As many lines a client may have at most.
+/// So many calls may be named as a client's share at most, as by the options of `serve`, whose ranges these are.
 pub const MAX_CALLS: u64 = 1_048_576;
 
-/// As many KiB a client may have at most.
+/// So many KiB may be named at most.
 pub const MAX_KIB: u64 = 1_048_576;
 
-/// As many components a client's path may have at most.
+/// So many components of a path may be named at most.
 pub const MAX_DEPTH: u64 = 2048;
 
-/// As many turns a second a client may have at most.
+/// So many turns a second may be named at most.
 pub const MAX_RATE: u64 = 1_048_576;
 
 /// What a bound client may take of a service at most, as far as its table says.
