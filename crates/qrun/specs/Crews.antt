@@ -67,8 +67,9 @@ pub record HasEnded {C Left : Type 0} (talk : C → Talk Left) (setting : Settin
   pub looks_are : length o.boards ≡ looks
 
 -- so it is of a store that a clock rules, or none does, and of which a monitor, or none, was shown the boards
-pub record HasPlayed {C Left M W : Type 0} (talk : C → Talk Left) (sees : M → Sight W) (setting : Setting) (clocked : Bool)
-    (clients : List C) (looks : ℕ) (monitor : Option M) (left : List Left) (o : Outcome) (w : Option W) : Type 0 where
+pub record HasPlayed {C Left M W : Type 0} (talk : C → Talk Left) (sees : M → Sight W) (setting : Setting)
+    (clocked : Bool) (clients : List C) (looks : ℕ) (monitor : Option M) (left : List Left) (o : Outcome) (w : Option W)
+    : Type 0 where
   pub ended : HasEnded talk setting clients looks left o
   pub shown : IsShownTo sees (start setting) o.journal.entries monitor w
   pub moments : KeepsTime clocked o

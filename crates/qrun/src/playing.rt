@@ -55,8 +55,9 @@ where
             requires marks { IsSync R.row × IsSync G.row × IsSend S.row × IsSync S.row × IsSend B.row × IsSend V.row
                 × IsSend C.row × IsSend C.Form.row × IsSend C.Left.row × IsSend M.row × IsSend M.Left.row }
             requires numbered { AreNumbered workers.items }
-            ensures { MatchResult result (λ r. HavePlayedAndLooked C.talk M.sees (start S.id.setting) workers.entry.items
-                observer.entry r.0.items r.1) (IsFaultAmong workers.entry.items observer.entry) }
+            ensures { MatchResult result
+                (λ r. HavePlayedAndLooked C.talk M.sees (start S.id.setting) workers.entry.items observer.entry
+                r.0.items r.1) (IsFaultAmong workers.entry.items observer.entry) }
         {
             let mut running = Vec::with_capacity(alloc, workers.len())?;
             for worker in workers {
