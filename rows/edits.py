@@ -6,22 +6,49 @@ import re
 import tempfile
 
 import prover
-from functions import functions_of, standing_on
+from functions import functions_of_all, standing_on
 
-# What a function's line says where its proof fails for another's alone.
-OF_ANOTHER = re.compile(r"(not proved; |no proof: )it (calls|passes) .*, which (is|are) not proved")
+# What a function's line says where its proof fails for another's alone, and where it fails for declarations that it names.
+OF_ANOTHER = re.compile(
+    r"(not proved; |no proof: )it (calls|passes) .*, which (is|are) not proved|no proof: .*, which has no proof.*")
+STANDS_ON = re.compile(r"it stands on (.*), which antt refuses")
 # The place of a text that the check could not read.
 UNREAD = re.compile(r"(?:\./)?((?:src|specs)/\S+?):(\d+):\d+: error")
 LIMIT = re.compile(r"antt ran out of|outgrew the memory limit|stopped at the step limit")
 # What a round comes to for an edit: refused, waiting for a round without the others, or open.
 REFUSED, WAITING, OPEN = "refused", "waiting", "open"
+# What a function's line ends with where the check of a round knows others by their contracts alone.
+OF_CONTRACTS = re.compile(r"; it (calls|passes) [^;]*, which (is|are) not proved$")
 # What is said of an edit that shows little of a contract.
 OF_NAMES = "only since a proof file names what it took away"
+# The proof of a function that is known by its contract alone.
+HOLE = """use {module}.Statement.{{statement}}
+
+pub {name}_spec : {{M : Type 1}} → statement M
+{name}_spec = ?
+"""
 
 
 def reason(function, verdict, is_of_names):
     """Why an edit is refused, in words."""
     return f"refused at {function}, {OF_NAMES}" if is_of_names else f"refused at {function}: {verdict}"
+
+
+def is_of_another(function, verdict):
+    """Whether the line says that a proof fails for another's alone."""
+    refused = STANDS_ON.search(verdict)
+    is_own = refused and any(function.stands_on(it) for it in re.findall(r"`(\S+)`", refused[1]))
+    return OF_ANOTHER.fullmatch(verdict) or refused and not is_own
+
+
+def is_unread_in(function, said):
+    found = [UNREAD.match(line) for line in said.lines]
+    return any(function.holds((it[1], int(it[2]))) for it in found if it)
+
+
+def lacks_its_body(function, said):
+    """Whether a check has no use for a function without a body."""
+    return is_unread_in(function, said) or any(map(function.is_called, said.refused))
 
 
 class Unusable(Exception):
@@ -88,17 +115,16 @@ class Edit:
         for name, verdict in said.refused.items():
             judge = next((it for it in self.judges if it.is_called(name)), None)
             is_bare = verdict == "not proved" and not self.is_apart_from(tried)
-            if judge and (OF_ANOTHER.fullmatch(verdict) or is_bare) and not said.errors_of(name):
+            if judge and (is_of_another(judge, verdict) or is_bare) and not said.errors_of(name):
                 outcome = WAITING, None
             elif judge and verdict.startswith(("not proved", "no proof")):
-                return REFUSED, reason(judge.path, verdict, said.lacks_names_alone(name))
+                return REFUSED, reason(judge.path, OF_CONTRACTS.sub("", verdict), said.lacks_names_alone(name))
         return outcome
 
     def is_unread(self, said):
         """Whether the check could not read a text of a function that it changes, or knows no function of such a name."""
-        found = [UNREAD.match(line) for line in said.lines]
         is_unknown = any(f"has no function `{it.path}`" in line for it in self.judges for line in said.lines)
-        return is_unknown or any(function.holds((it[1], int(it[2]))) for function in self.changed for it in found if it)
+        return is_unknown or any(is_unread_in(it, said) for it in self.changed)
 
 
 class Crate:
@@ -107,8 +133,9 @@ class Crate:
     def __init__(self, name):
         self.name, self.seconds = name, 0.0
         self.texts = prover.texts_of(name)
-        sources = [(path, text) for path, text in self.texts.items() if path.startswith("src/")]
-        self.functions = [it for path, text in sources for it in functions_of(path, text)]
+        # functions that are not read, or have no proof, without a body
+        self.with_bodies = set()
+        self.functions = functions_of_all({path: text for path, text in self.texts.items() if path.startswith("src/")})
 
     def is_import(self, file, line):
         return re.match(r"(ghost |pub )?use ", self.texts[file].split("\n")[line - 1])
@@ -129,21 +156,25 @@ class Crate:
                 yield place.stem, False, f"not applied: {why}"
         with tempfile.TemporaryDirectory(prefix=f"quotafs-kept-{self.name}-") as kept:
             while left:
-                tried, texts, left = self.next_round(left)
-                said = self.check(texts, kept, sorted({it.path for edit in tried for it in edit.judges}))
+                tried, left = self.next_round(left)
+                judges = {it for edit in tried for it in edit.judges}
+                said = self.check(self.round_of(tried, judges), kept, sorted(it.path for it in judges))
                 outcomes = {edit: edit.outcome(said, tried) for edit in tried}
                 yield from ((it.name, True, why) for it, (kind, why) in outcomes.items() if kind == REFUSED)
                 spoilt = [it for it in tried if it.is_unread(said)]
-                # it may be refused in a later round, without those of this one
-                waits = [it for it, (kind, _) in outcomes.items() if kind == WAITING or kind == OPEN and spoilt]
+                lacking = {it for it in self.bodiless(judges) if lacks_its_body(it, said)}
+                self.with_bodies |= lacking
+                # it may be refused in a later round, without those of this one, or with more bodies
+                is_spoilt = spoilt or lacking
+                waits = [it for it, (kind, _) in outcomes.items() if kind == WAITING or kind == OPEN and is_spoilt]
                 waits = [it for it in waits if it not in spoilt]
-                left += waits if len(waits) < len(tried) else []
+                left += waits if lacking or len(waits) < len(tried) else []
                 alone += [it for it in tried if outcomes[it][0] != REFUSED and it not in left]
             for edit in alone:
                 yield edit.name, *self.try_alone(edit, kept)
 
     def next_round(self, left):
-        """The edits that can be tried at once, the texts that they make, and those that wait."""
+        """The edits that can be tried at once, and those that wait."""
         tried, texts, waiting = [], self.texts, []
         for edit in left:
             try:
@@ -152,7 +183,28 @@ class Crate:
                 (tried if agrees else waiting).append(edit)
             except Unusable:
                 waiting.append(edit)
-        return tried, texts, waiting
+        return tried, waiting
+
+    def bodiless(self, judges):
+        """The functions by which none is judged. Each is known by its contract alone: neither its body nor its proof has a
+        part in a goal of those that call it."""
+        return [it for it in self.functions if it.may_lose_its_body and it not in judges | self.with_bodies]
+
+    def round_of(self, tried, judges):
+        """The texts that these edits make, where the others have a loop of as many lines, and a hole for their proof."""
+        texts = dict(self.texts)
+        for it in self.bodiless(judges):
+            lines = texts[it.file].split("\n")
+            lines[it.begins : it.last - 1] = ["loop {}", *[""] * (it.last - it.begins - 2)]
+            texts[it.file] = "\n".join(lines)
+            # also those of closures in it, as `proofs/module/fn/name/closure`
+            of_proof = tuple(f"{folder}/" for folder in it.proof_folders)
+            texts = {path: text for path, text in texts.items() if not path.replace("/fn/", "/").startswith(of_proof)}
+            module = f"Rattle.{self.name}.{it.folder.replace('/', '.')}"
+            texts[f"{it.folder}/Proof.antt"] = HOLE.format(module=module, name=it.name)
+        for edit in tried:
+            texts, _ = edit.apply(texts)
+        return texts
 
     def try_alone(self, edit, kept):
         """What a check of the whole crate says of one edit: whether it is refused, and why."""

@@ -5,18 +5,22 @@ from pathlib import Path
 
 FUNCTION = re.compile(r"( *)(?:pub(?:\([\w ]+\))? )?(?:const |unsafe |extern \S+ )*fn (\w+)")
 OWNER = re.compile(r"(?:unsafe )?(?:impl\b|(?:pub(?:\([\w ]+\))? )?(?:unsafe )?trait (\w+))")
+TYPE = re.compile(r"^(?:pub(?:\([\w ]+\))? )?(?:struct|enum) (\w+)", re.M)
 
 
 @dataclass(frozen=True)
 class Function:
-    """A function: its file, its first and its last line from 1, that behind which its body stands where it has clauses, its
-    name below the crate, and the words of its text."""
+    """A function: its file, its first and its last line from 1, that with which its body begins, before its first where no
+    lines are its body's alone, its name below the crate, the folder of its proof, whether it is of a trait, whether that
+    or a clause says what it ensures, and the words of its text."""
 
     file: str
     first: int
     begins: int
     last: int
     path: str
+    folder: str
+    is_of_trait: bool
     has_contract: bool
     words: frozenset
 
@@ -24,12 +28,26 @@ class Function:
     def name(self):
         return self.path.rpartition("::")[2]
 
+    @property
+    def proof_folders(self):
+        """Where files of its proof may stand: in its folder, or in that of a function that calls itself."""
+        above, _, name = self.folder.rpartition("/")
+        return self.folder, f"{above}/+{name}"
+
+    def stands_on(self, declaration):
+        """Whether a declaration, as `Rattle.crate.proofs.module.name.Answers.goal`, is of its proof or of a closure's."""
+        return any(f".{it.replace('/', '.')}." in declaration.replace(".fn.", ".") for it in self.proof_folders)
+
+    @property
+    def may_lose_its_body(self):
+        return not self.is_of_trait and self.first <= self.begins
+
     def holds(self, place):
         file, line = place
         return file == self.file and self.first <= line <= self.last
 
     def has_body_at(self, place):
-        return self.holds(place) and place[1] > self.begins
+        return self.holds(place) and place[1] >= self.begins
 
     def is_called(self, name):
         """Whether the prover calls it so, or a closure in it: `crate::module::fn::name::closure`."""
@@ -77,10 +95,20 @@ def owner_of(header):
     return (name + name_of(of.strip(), parameters, ""), True) if of else (name, False)
 
 
-def functions_of(file, text):
+def modules_of(file):
+    return () if file in ("src/lib.rt", "src/main.rt") else Path(file).with_suffix("").parts[1:]
+
+
+def functions_of_all(sources):
+    """The functions of all files of a crate, by their paths. The proofs of methods stand with their type."""
+    homes = {name: modules_of(file) for file, text in sources.items() for name in TYPE.findall(text)}
+    return [it for file, text in sources.items() for it in functions_of(file, text, homes)]
+
+
+def functions_of(file, text, homes):
     """The functions of a file that `rt fmt` has laid out, by which what is begun is ended in the same column."""
     lines = text.split("\n")
-    module = "" if file in ("src/lib.rt", "src/main.rt") else Path(file).stem
+    modules = modules_of(file)
     owner, is_of_trait = "", False
     for at, line in enumerate(lines):
         if OWNER.match(line):
@@ -93,11 +121,14 @@ def functions_of(file, text):
             ending = re.compile(re.escape(found[1]) + r"(\S.*)?[};]")
             last = next((it for it in range(at, len(lines)) if ending.fullmatch(lines[it])), at)
             body = lines[at : last + 1]
-            begins = next((it for it in range(at, last) if lines[it] == found[1] + "{"), at - 1)
-            path = "::".join(part for part in (owner or module, found[2]) if part)
+            opening = [it for it in range(at, last) if lines[it].endswith("{") and lines[last] == found[1] + "}"]
+            begins = next((it for it in opening if lines[it] == found[1] + "{"), next(iter(opening), at - 1))
+            path = "::".join((*([owner] if owner else modules[-1:]), found[2]))
+            home = homes.get(owner.partition("+")[0], modules)
+            folder = "/".join(("proofs", *home, *([owner] if owner else []), found[2]))
             has_contract = is_of_trait or any(re.match(r" *ensures\b", it) for it in body)
-            words = re.findall(r"\w+", re.sub(r"//.*", "", "\n".join(body)))
-            yield Function(file, at + 1, begins + 1, last + 1, path, has_contract, frozenset(words))
+            words = frozenset(re.findall(r"\w+", re.sub(r"//.*", "", "\n".join(body))))
+            yield Function(file, at + 1, begins + 1, last + 1, path, folder, is_of_trait, has_contract, words)
 
 
 def standing_on(function, functions):

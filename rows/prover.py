@@ -63,14 +63,15 @@ class Said:
     """What a check ended with, what it said, what it said of each function that is not proved, and the seconds that it took."""
 
     VERDICT = re.compile(r"^fn (\S+): (.*)", re.M)
+    UNREFUSED = "proved", "no holes", "depends on a hole"
     # an error in a proof file that names what a text does not have, and one that only follows from another
     LACKING = re.compile(r"has no field|is not in scope|has no `")
     FOLLOWING = re.compile(r"was not admitted")
 
     def __init__(self, status, text, seconds):
         self.status, self.seconds, self.lines = status, seconds, text.rstrip("\n").split("\n")
-        # as `proved, may wait` of a function that waits for others
-        self.refused = {name: it for name, it in self.VERDICT.findall(text) if not it.startswith("proved")}
+        # as `proved, may wait` of a function that waits for others, or past holes `depends on a hole in ..`
+        self.refused = {name: it for name, it in self.VERDICT.findall(text) if not it.startswith(self.UNREFUSED)}
         self.errors = [line.removeprefix("./") for line in self.lines if re.match(r"\S+:\d+:\d+: error", line)]
 
     def errors_of(self, function):
@@ -85,8 +86,8 @@ class Said:
 
 
 def check(name, texts, kept, functions=()):
-    """Checks the crate with these texts, over what checks kept in a folder: all of it, or these functions alone."""
-    only = [word for it in functions for word in ("--only", it)]
+    """Checks the crate with these texts, over what checks kept in a folder: all of it, or these functions, past holes."""
+    only = [word for it in functions for word in ("--only", it)] + ["--allow-holes"] * (functions != ())
     with tempfile.TemporaryDirectory(prefix=f"quotafs-edits-{name}-") as room:
         for path, text in texts.items():
             file = Path(room, path)
