@@ -1,5 +1,5 @@
 -- The turns of a client.
-use Rattle.std.specs.Prelude.{◌+◌, ◌*◌, ◌-◌, ◌/◌, ◌^◌, ℕ, max, min}
+use Rattle.std.specs.Prelude.{◌≡◌, ◌<◌, ◌≤◌, ◌+◌, ◌*◌, ◌-◌, ◌/◌, ◌^◌, ℕ, max, min, Option, Some, None}
 use Rattle.qtext_client.specs.declared.turns.Turns.{Turns}
 
 -- the longest time that is counted, in nanoseconds
@@ -15,3 +15,13 @@ abbrev pub after_turns : Turns → ℕ → ℕ → Turns
 after_turns turns many now = record turns {
   until = min longest (max turns.until now + min longest (turns.each * many));
 }
+
+-- so many turns were taken, whenever that was: behind those before, each of them lasts
+pub record HasTaken (many : ℕ) (old new : Turns) : Type 0 where
+  pub each : new.each ≡ old.each
+  pub until : new.until < longest → old.until + old.each * many ≤ new.until
+
+-- a client that has turns has taken so many; one that has none takes none
+abbrev pub HaveTaken : ℕ → Option Turns → Option Turns → Type 0
+HaveTaken many None new = new ≡ None
+HaveTaken many (Some old) new = (turns : Turns) × (new ≡ Some turns) × HasTaken many old turns

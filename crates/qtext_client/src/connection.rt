@@ -3,14 +3,16 @@ ghost use Rattle.std.specs.Prelude.{◌≡◌, ◌≢◌, ◌⊎◌, [], None, S
 ghost use Rattle.std.specs.Io.Buffered.{reader_remaining, writer_contents};
 ghost use Rattle.std.specs.Io.KnownBytes.{Keeps};
 ghost use Rattle.qrun_client.specs.declared.client.ClientEnd.TheVariants.{Served};
-ghost use Rattle.qtext_client.specs.BoundedLines.{Gets};
+ghost use Rattle.qtext_client.specs.BoundedLines.{Gets, TakesTurns};
 ghost use Rattle.qtext_client.specs.declared.bounded_line.Got.TheVariants.{End};
 ghost use Rattle.qtext_client.specs.Responses.{response_text};
 ghost use Rattle.qtext_client.specs.Wires.{HasEnded, HasLetGo, HearsSome, IsClosed, IsGone, IsSent, Stays};
 
 use crate::bounded_line::{Got, next_line};
+use crate::moments::Moments;
 use crate::response::{Response, put_response};
 use crate::streams::{OpenStreams, Streams};
+use crate::turns::Turns;
 use qrun_client::ClientEnd;
 use qtext::{RefusedWrite, TextLine};
 use std::io::{Read, Write};
@@ -58,18 +60,22 @@ fn let_out<I: Read + Drop, O: Write + Drop>(both: &mut OpenStreams<I, O>) -> boo
 }
 
 /// Reads the next line into the text. What was told goes out before it is waited for.
-fn line_from<I: Read + Drop, O: Write + Drop>(
+fn line_from<I: Read + Drop, O: Write + Drop, M: Moments>(
     both: &mut OpenStreams<I, O>,
     text: &mut Vec<u8>,
+    turns: &mut Option<Turns>,
+    moments: &M,
 ) -> Result<Got, RefusedWrite>
     ensures output { Keeps (writer_contents O.contents both.old.output) (writer_contents O.contents both.new.output) }
     ensures gets { IfOk result (Gets (reader_remaining I.remaining both.old.input)
         (reader_remaining I.remaining both.new.input) text.new.items) }
+    ensures turns { IfOk result (λ got.
+        TakesTurns (reader_remaining I.remaining both.old.input) got turns.old turns.new) }
 {
     if !let_out(both) {
         return Err(RefusedWrite);
     }
-    Ok(next_line(&mut both.input, text))
+    Ok(next_line(&mut both.input, text, turns, moments))
 }
 
 impl<S: Streams + Drop> Connection<S> {
@@ -158,13 +164,19 @@ impl<S: Streams + Drop> Connection<S> {
     }
 
     /// Reads the next line into the text. What was told goes out before it is waited for.
-    pub(crate) fn next_line(&mut self, text: &mut Vec<u8>) -> Got
-        ensures { HearsSome self.old self.new text.new.items result }
+    pub(crate) fn next_line<M: Moments>(
+        &mut self,
+        text: &mut Vec<u8>,
+        turns: &mut Option<Turns>,
+        moments: &M,
+    ) -> Got
+        ensures hears { HearsSome self.old self.new text.new.items result }
+        ensures turns { TakesTurns self.old.hears result turns.old turns.new }
     {
         let Stage::Open(both) = &mut self.stage else {
             return self.end_of_lines(ClientEnd::Input);
         };
-        match line_from(both, text) {
+        match line_from(both, text, turns, moments) {
             Ok(Got::End) => self.end_of_lines(ClientEnd::Served),
             Ok(Got::Refused) => self.end_of_lines(ClientEnd::Input),
             Ok(got) => got,

@@ -24,7 +24,7 @@ use crate::moments::{Moments, timed};
 use crate::response::{BadLine, Response};
 use crate::streams::Streams;
 use crate::terms::{Terms, bytes_moved, fault_of};
-use crate::turns::{KIB, Turns, await_turn};
+use crate::turns::{KIB, Turns, await_turns};
 use qplain::{Line, NoMemory, Path, Receipt};
 use qrun_client::{Answer, Client, ClientEnd, MAX_GIVEN};
 use qrun_replay::Places;
@@ -134,7 +134,8 @@ impl<'a, S: Streams + Drop, M: Moments> StreamClient<'a, S, M> {
     /// all clients that share it, but for lines that were handed out by then. With terms it hands out no line of
     /// another caller or with a deeper path, and none once its share is used up; and it takes its turns, for which it
     /// waits before it hands out a line: one for each line, and one for each KiB of it and of what it writes and reads.
-    /// With a place to count, what it is told is counted there.
+    /// Those for a line that is passed over it takes as that is read. With a place to count, what it is told is counted
+    /// there.
     pub fn new(
         alloc: Global,
         streams: S,
@@ -209,8 +210,11 @@ impl<'a, S: Streams + Drop, M: Moments> StreamClient<'a, S, M> {
             result }
         ensures few { IsLine result → length self.new.stands < MAX_GIVEN }
     {
-        let got = self.connection.next_line(&mut self.text);
-        await_turn(&mut self.turns, self.moments, self.text.len());
+        let got = self
+            .connection
+            .next_line(&mut self.text, &mut self.turns, self.moments);
+        let many = 1 + self.text.len() as u64 / KIB;
+        await_turns(&mut self.turns, self.moments, many);
         match got {
             Got::End | Got::Refused => Heard::End,
             _ if self.is_stopped() => self.end_stopped(),

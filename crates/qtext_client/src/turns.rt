@@ -1,6 +1,6 @@
 //! The turns of a client: so many a second, of which each of its lines takes one and more.
 ghost use Rattle.std.specs.Prelude.{◌≡◌, ◌+◌, ◌*◌, ◌-◌};
-ghost use Rattle.qtext_client.specs.Turns.{after_turns, new_turns};
+ghost use Rattle.qtext_client.specs.Turns.{HaveTaken, after_turns, new_turns};
 ghost use Rattle.qtext_client.specs.declared.turns.TheConstants.{AT_ONCE};
 
 use crate::moments::Moments;
@@ -68,12 +68,14 @@ fn pause<T: Clock>(clock: &T, nanoseconds: u64) {
     }
 }
 
-/// Waits for the turn of a line of so many bytes, where the client has turns, and takes it.
-pub(crate) fn await_turn<M: Moments>(turns: &mut Option<Turns>, moments: &M, bytes: usize) {
+/// Waits for a client's turn, where it has turns, and takes so many.
+pub(crate) fn await_turns<M: Moments>(turns: &mut Option<Turns>, moments: &M, many: u64)
+    ensures { HaveTaken many turns.old turns.new }
+{
     if let Some(turns) = turns {
         let now = passed(moments.clock());
         let wait = turns.wait(now);
         pause(moments.clock(), wait);
-        turns.take(1 + bytes as u64 / KIB, now.saturating_add(wait));
+        turns.take(many, now.saturating_add(wait));
     }
 }

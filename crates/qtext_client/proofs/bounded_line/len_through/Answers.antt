@@ -10,7 +10,3 @@ returns-then-at-shown-clause-line c =
 pub returns-else-at-shown-clause-line : goal.returns-else-at-shown-clause-line
 returns-else-at-shown-clause-line c =
     omega (arith, through_len c.args.shown.now, prefix_len-le-length (λ b. not (eqb b 10)) c.args.shown.now, c.first_place-at.ensures, c.if-at-shown.false)
-
-pub returns-else-at-shown-clause-bound : goal.returns-else-at-shown-clause-bound
-returns-else-at-shown-clause-bound c =
-    omega (arith, prefix_len-le-length (λ b. not (eqb b 10)) c.args.shown.now, c.first_place-at.ensures)
