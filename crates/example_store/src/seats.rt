@@ -18,7 +18,7 @@ pub(crate) fn create<S: StoreId, B: Boards<S>, V: Drop, W: Wait>(
     cred: &Cred,
     path: Path,
 ) -> Result<Receipt, CallFault>
-    ensures seen { HasSeenOn S.id.setting seat.old seat.new }
+    ensures seen { HasSeenOn S.id.begun seat.old seat.new }
     ensures called { IfOk result (IsFormOf (λ receipt. receipt) (AtGiven S.id.clocked cred.now 0 (Create path)
         (λ line. IsCalled line seat.old seat.new))) }
     ensures err { OnErr result (seat.new.tally ≡ seat.old.tally) }

@@ -40,7 +40,8 @@ pub extern "C" fn qfs_open_journaled(
 }
 
 /// Writes the journal at the front of the buffer, as `quotafs replay` reads it, and tells how long it is. The store is
-/// exactly what it leaves when it is played on the plain machine, and each journaled reply is that machine's.
+/// exactly what it leaves when it is played on the plain machine from what the session began with, a new store at
+/// `qfs_open_journaled`, and each journaled reply is that machine's.
 ///
 /// Returns 0; 64 where the session is closed, 65 for want of memory, 69 where the buffer has too few bytes, 73 where no
 /// journal is kept.

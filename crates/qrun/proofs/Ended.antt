@@ -11,7 +11,7 @@ use Rattle.qplain.specs.declared.line.Line.{Line}
 use Rattle.qplain.specs.declared.look_fault.LookFault.{LookFault}
 use Rattle.qplain.specs.declared.transcript.Transcript.{Transcript}
 use Rattle.qplain.specs.Setups.{Setting}
-use Rattle.qplain.specs.State.{State, start}
+use Rattle.qplain.specs.State.{State}
 use Rattle.qaudit_checks.specs.LawfulBoards.{AreLawful, boards_in}
 use Rattle.qshare_history.specs.Shares.{AreThere, HandedIn}
 use Rattle.qshare.specs.Seats.{Seated}
@@ -107,27 +107,26 @@ all_done {C} talk clients workers works is played =
 
 -- what the threads of a store have handed in: who has played, and the shares of all seats, of which the last is of who
 -- looks, from whom N looks were kept
-pub record IsHandedIn {C Left : Type 0} (talk : C → Talk Left) (setting : Setting) (seats looks : ℕ) (clients : List C)
-    (works : List (Worked Left)) (own shares : List HandedIn) (watch : Option Watched) : Type 0 where
+pub record IsHandedIn {C Left : Type 0} (talk : C → Talk Left) (setting : Setting) (begun : State) (seats looks : ℕ)
+    (clients : List C) (works : List (Worked Left)) (own shares : List HandedIn) (watch : Option Watched) : Type 0 where
   pub monitors : ℕ
   pub can : CanServe setting (length clients) monitors
   pub seats_are : seats ≡ seats_for (length clients) monitors
   pub done : AreDoneFrom talk 1 clients works
   pub own_is : own ≡ map (λ w. w.share) works
-  pub looked : IsWatchOf (start setting) looks (watcher_for (length clients) monitors) watch
+  pub looked : IsWatchOf begun looks (watcher_for (length clients) monitors) watch
   pub kept : length (looks_in watch) ≡ looks
   pub parts : shares ≡ own ++ shares_in watch
 
 -- so it is where these clients were played, and the boards shown to this observer
-pub handed_in_by : {C Left T M W : Type 0} (talk : C → Talk Left) (sees : M → Sight W) (setting : Setting)
+pub handed_in_by : {C Left T M W : Type 0} (talk : C → Talk Left) (sees : M → Sight W) (setting : Setting) (S : State)
     (clients : List C) (seats : ℕ) (free : List Seated) (observer : Option (Observer T M W)) (workers : List (Prepared C)) (works : List (Worked Left))
     (own shares : List HandedIn) (observed : Option (Observed W)) (watch : Option Watched)
     → IsStaff setting (length clients) seats free (option_map seat_in observer) → clients_in workers ≡ clients
-    → ArePlayed (λ (p : Prepared C). talk p.client) workers works × IsObservedBy sees (start setting) observer observed
+    → ArePlayed (λ (p : Prepared C). talk p.client) workers works × IsObservedBy sees S observer observed
     → own ≡ map (λ w. w.share) works → watch ≡ option_map (λ o. o.watch) observed → shares ≡ own ++ shares_in watch
-    → IsHandedIn talk setting seats (looks_wanted observer) clients works own shares watch
-handed_in_by talk sees setting clients seats free observer workers works own shares observed watch staff is threads own_is watch_is parts =
-    let S = start setting in
+    → IsHandedIn talk setting S seats (looks_wanted observer) clients works own shares watch
+handed_in_by talk sees setting S clients seats free observer workers works own shares observed watch staff is threads own_is watch_is parts =
     let many = looks_wanted observer in
     record {
       monitors = staff.monitors;
@@ -142,11 +141,8 @@ handed_in_by talk sees setting clients seats free observer workers works own sha
       parts = parts;
     }
 
-module _ {C Left : Type 0} (talk : C → Talk Left) (setting : Setting) (seats looks : ℕ) (all_clients : List C) (works : List (Worked Left))
-    (own shares : List HandedIn) (watch : Option Watched) (at : IsHandedIn talk setting seats looks all_clients works own shares watch) where
-  abbrev S : State
-  S = start setting
-
+module _ {C Left : Type 0} (talk : C → Talk Left) (setting : Setting) (S : State) (seats looks : ℕ) (all_clients : List C) (works : List (Worked Left))
+    (own shares : List HandedIn) (watch : Option Watched) (at : IsHandedIn talk setting S seats looks all_clients works own shares watch) where
   abbrev clients : ℕ
   clients = length all_clients
 
@@ -196,8 +192,8 @@ module _ {C Left : Type 0} (talk : C → Talk Left) (setting : Setting) (seats l
           all_placed (lines_of ts) own answered ts journal (is ∙ at.done.placed) told own_seen whole
 
       -- this is what they leave
-      pub has_ended : (left : List Left) (given : List (Result Board LookFault)) (o : Outcome) → IsServiceOf setting o → o.transcripts ≡ ts
-          → left ≡ map (λ w. w.left) works → given ≡ looks_in watch → o.boards ≡ given → HasEnded talk setting all_clients looks left o
+      pub has_ended : (left : List Left) (given : List (Result Board LookFault)) (o : Outcome) → IsServiceOf setting S o → o.transcripts ≡ ts
+          → left ≡ map (λ w. w.left) works → given ≡ looks_in watch → o.boards ≡ given → HasEnded talk setting S all_clients looks left o
       has_ended left given o service transcripts left_is given_is boards = record {
         outcome = service;
         never = λ short. subst (All IsNeverFull) (sym transcripts)
@@ -209,9 +205,9 @@ module _ {C Left : Type 0} (talk : C → Talk Left) (setting : Setting) (seats l
       }
 
 -- where no look was kept the outcome is of these clients
-pub of_clients : {C Left : Type 0} (talk : C → Talk Left) (setting : Setting) (clients : List C) (left : List Left) (o : Outcome)
-    → HasEnded talk setting clients 0 left o → IsOfClients talk clients left o
-of_clients talk setting these left o ended = record {
+pub of_clients : {C Left : Type 0} (talk : C → Talk Left) (setting : Setting) (S : State) (clients : List C) (left : List Left) (o : Outcome)
+    → HasEnded talk setting S clients 0 left o → IsOfClients talk clients left o
+of_clients talk setting S these left o ended = record {
   many = ended.many;
   left_are = ended.left_are;
   each = ended.each;
@@ -244,23 +240,23 @@ all_new scripts these are =
     from (lines ∷ ls) = All-cons New (new_client lines) (map new_client ls) (refl, refl) (from ls)
 
 -- what the clients of scripts leave is the outcome of the run of these
-scripts_ended : (setting : Setting) (scripts : List (List Line)) (clients : List Playing) (looks : ℕ) (left : List (Unit {0})) (o : Outcome)
-    → ArePlaying scripts clients → HasEnded (λ (c : Playing). has_still c.lines) setting clients looks left o → IsOutcomeOf setting scripts o
-scripts_ended setting scripts these looks left o are ended =
+scripts_ended : (setting : Setting) (S : State) (scripts : List (List Line)) (clients : List Playing) (looks : ℕ) (left : List (Unit {0})) (o : Outcome)
+    → ArePlaying scripts clients → HasEnded (λ (c : Playing). has_still c.lines) setting S clients looks left o → IsOutcomeOf setting S scripts o
+scripts_ended setting S scripts these looks left o are ended =
     let as_many : length these ≡ length scripts = ap length are.clients_are ∙ length-map scripts new_client in
     let lines : lines_of o.transcripts ≡ scripts = same_lines scripts o.transcripts (ended.many ∙ as_many)
     (λ k t ls less. ended.each k (new_client ls) t tt (omega (arith, less, as_many))
     ∙ ap (λ cs. (slice_index_or cs k (new_client ls)).lines) are.clients_are
     ∙ ap (λ c. c.lines) (get_or-map new_client scripts k ls (new_client ls) less)) in
     record {
-      left = subst (λ ls. IsLeftByWorkers setting ls o) lines ended.outcome.left;
+      left = subst (λ ls. IsLeftByWorkers setting S ls o) lines ended.outcome.left;
       never_full = ended.never (subst AreShort (sym lines) are.short);
     }
 
 -- so it is told of a run whose crew they are
-pub run_ended : (setup : Setting) (scripts : List (List Line)) (these crew : List Playing) (looks : ℕ) (left : List (Unit {0}))
+pub run_ended : (setup : Setting) (S : State) (scripts : List (List Line)) (these crew : List Playing) (looks : ℕ) (left : List (Unit {0}))
     (o : Outcome) → ArePlaying scripts these → crew ≡ these
-    → HasEnded (λ (c : Playing). has_still c.lines) setup crew looks left o → IsOutcomeOf setup scripts o
-run_ended setup scripts these crew looks left o are same ended =
-    scripts_ended setup scripts these looks left o are
-    (subst (λ cs. HasEnded (λ (c : Playing). has_still c.lines) setup cs looks left o) same ended)
+    → HasEnded (λ (c : Playing). has_still c.lines) setup S crew looks left o → IsOutcomeOf setup S scripts o
+run_ended setup S scripts these crew looks left o are same ended =
+    scripts_ended setup S scripts these looks left o are
+    (subst (λ cs. HasEnded (λ (c : Playing). has_still c.lines) setup S cs looks left o) same ended)

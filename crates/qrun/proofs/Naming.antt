@@ -1,5 +1,5 @@
 -- The threads that faults name.
-use Rattle.std.proofs.Common.{◌≡◌, ◌<◌, ◌≤◌, ℕ, ◌+◌, ◌-◌, ◌==◌, ◌∙◌, List, if◌then◌else◌, Bool, true, false, Result, Ok, Err, IfErr, IfOk, IfSome, None, Some, ap, refl, sym, subst, arith}
+use Rattle.std.proofs.Common.{◌≡◌, ◌<◌, ◌≤◌, ℕ, ◌+◌, ◌-◌, ◌==◌, ◌∙◌, List, if◌then◌else◌, Bool, true, false, Result, Ok, Err, IfErr, IfOk, IfSome, None, Some, ap, sym, subst, arith}
 use Rattle.std.specs.Result.{IsErrAnd}
 use Rattle.qplain.specs.Setups.{Setting}
 use Rattle.qshare.specs.Seats.{Seated, new_seat, seats_of}

@@ -14,7 +14,7 @@ use Rattle.qplain.specs.declared.edition.Edition.TheVariants.{Two}
 use Rattle.qshare_history.specs.Shares.{AreThere, HandedIn}
 use Rattle.qrun_replay.specs.Runs.{AreTranscriptsOf, FailsOnlyAtFull, IsLeftByWorkers, IsServiceOf, lines_of}
 use Rattle.qplain.specs.Setups.{Setting}
-use Rattle.qplain.specs.State.{start}
+use Rattle.qplain.specs.State.{State}
 use Rattle.qaudit_checks.specs.LawfulBoards.{AreLawful, boards_in}
 use Rattle.qrun_replay.specs.declared.outcome.Outcome.{Outcome}
 use Rattle.qrun_replay.specs.Left.{IsLeftOf, IsOneOf}
@@ -183,15 +183,15 @@ all_told scripts own ts journal some told seen counted few = record {
 }
 
 -- what is left of a store whose journal was checked against what was told, and against what looks were given
-pub gathered_told : (setting : Setting) (journal : List Entry) (ts : List Transcript) (looks : List (Result Board LookFault))
-    (workers : ℕ) (o : Outcome) → setting.edition ≡ Two → AreAllTold journal ts → AreLawful (start setting) journal (boards_in looks)
-    → workers ≡ length ts → IsLeftOf setting journal workers ts looks o → IsServiceOf setting o
-gathered_told setting journal ts looks workers o edition all lawful many left =
+pub gathered_told : (setting : Setting) (S : State) (journal : List Entry) (ts : List Transcript) (looks : List (Result Board LookFault))
+    (workers : ℕ) (o : Outcome) → setting.edition ≡ Two → AreAllTold journal ts → AreLawful S journal (boards_in looks)
+    → workers ≡ length ts → IsLeftOf setting S journal workers ts looks o → IsServiceOf setting S o
+gathered_told setting S journal ts looks workers o edition all lawful many left =
     let shares = all.told.shares in
     let journal_is : o.journal.entries ≡ journal = ap (λ j. j.entries) left.journal_is in
     record {
-      left = subst (λ xs. IsLeftByWorkers setting (lines_of xs) o) (sym left.transcripts_are)
-          (left_by_workers setting (lines_of ts) journal workers ts looks o edition left
+      left = subst (λ xs. IsLeftByWorkers setting S (lines_of xs) o) (sym left.transcripts_are)
+          (left_by_workers setting S (lines_of ts) journal workers ts looks o edition left
           (many ∙ (as_many 1 (lines_of ts) shares ts all.told.told).1)
           (transcripts_from 1 (lines_of ts) shares ts journal all.told.told all.gathered.own) all.gathered.belong lawful);
       full = subst (λ xs. All (FailsOnlyAtFull o.journal.entries) xs) (sym left.transcripts_are)

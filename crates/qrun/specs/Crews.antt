@@ -3,7 +3,7 @@ use Rattle.std.specs.Prelude.{◌≡◌, ℕ, Bool, ◌+◌, ◌<◌, ◌≤◌,
 use Rattle.qplain.specs.declared.line.Line.{Line}
 use Rattle.qplain.specs.declared.transcript.Transcript.{Transcript}
 use Rattle.qplain.specs.Setups.{Setting}
-use Rattle.qplain.specs.State.{start}
+use Rattle.qplain.specs.State.{State}
 use Rattle.qshare.specs.declared.held.TheConstants.{MAX_BATCH}
 use Rattle.qshare.specs.declared.opening.TheConstants.{MAX_SEATS}
 use Rattle.qshare.specs.Seats.{Seated, seats_of}
@@ -56,9 +56,9 @@ pub record IsStaff (setting : Setting) (clients parts : ℕ) (seats : List Seate
 
 -- what a crew leaves, of which N looks were kept: each client's transcript tells what came of it, in their order, and
 -- where they are no longer than scripts may be no line failed because the journal was full
-pub record HasEnded {C Left : Type 0} (talk : C → Talk Left) (setting : Setting) (clients : List C) (looks : ℕ)
-    (left : List Left) (o : Outcome) : Type 0 where
-  pub outcome : IsServiceOf setting o
+pub record HasEnded {C Left : Type 0} (talk : C → Talk Left) (setting : Setting) (begun : State) (clients : List C)
+    (looks : ℕ) (left : List Left) (o : Outcome) : Type 0 where
+  pub outcome : IsServiceOf setting begun o
   pub never : AreShort (lines_of o.transcripts) → All IsNeverFull o.transcripts
   pub many : length o.transcripts ≡ length clients
   pub left_are : length left ≡ length clients
@@ -68,8 +68,8 @@ pub record HasEnded {C Left : Type 0} (talk : C → Talk Left) (setting : Settin
 
 -- so it is of a store that a clock rules, or none does, and of which a monitor, or none, was shown the boards
 pub record HasPlayed {C Left M W : Type 0} (talk : C → Talk Left) (sees : M → Sight W) (setting : Setting)
-    (clocked : Bool) (clients : List C) (looks : ℕ) (monitor : Option M) (left : List Left) (o : Outcome) (w : Option W)
-    : Type 0 where
-  pub ended : HasEnded talk setting clients looks left o
-  pub shown : IsShownTo sees (start setting) o.journal.entries monitor w
+    (begun : State) (clocked : Bool) (clients : List C) (looks : ℕ) (monitor : Option M) (left : List Left)
+    (o : Outcome) (w : Option W) : Type 0 where
+  pub ended : HasEnded talk setting begun clients looks left o
+  pub shown : IsShownTo sees begun o.journal.entries monitor w
   pub moments : KeepsTime clocked o

@@ -1,5 +1,6 @@
 //! From a setup and a crew to what is left: the store is made, and played on.
 ghost use Rattle.std.specs.Prelude.{◌≡◌, false, length, IfErr, IfOk};
+ghost use Rattle.qplain.specs.State.{start};
 ghost use Rattle.qrun.specs.Crews.{HasPlayed};
 ghost use Rattle.qrun.specs.Looking.{lookers_in, looks_to_keep, monitor_of};
 ghost use Rattle.qrun.specs.RunFaults.{IsFaultOf};
@@ -48,9 +49,10 @@ where
     M: Monitor + Drop + Send,
     R: Threads + Wait + Sync,
     requires id { (opened ≡ S.id) × MayBeGiven S.id.clocked C.clocked }
+    requires new { S.id.begun ≡ start S.id.setting }
     requires can { CanServe S.id.setting (length crew) (lookers_in looking)
         × (S.id.counters.parts ≡ seats_for (length crew) (lookers_in looking)) }
-    ensures played { IfOk result (λ s. HasPlayed C.talk M.sees S.id.setting S.id.clocked crew.entry
+    ensures played { IfOk result (λ s. HasPlayed C.talk M.sees S.id.setting S.id.begun S.id.clocked crew.entry
         (looks_to_keep looking) (monitor_of looking) s.left.items s.outcome s.monitor) }
     ensures fault { IfErr result (IsFaultOf S.id.counters.parts) }
 {
@@ -92,7 +94,7 @@ where
     M: Monitor + Drop + Send,
     R: Threads + Wait + Sync,
     requires can { CanServe setup (length crew) (lookers_in looking) × MayBeGiven clock C.clocked }
-    ensures played { IfOk result (λ s. HasPlayed C.talk M.sees setup clock crew.entry
+    ensures played { IfOk result (λ s. HasPlayed C.talk M.sees setup (start setup) clock crew.entry
         (looks_to_keep looking) (monitor_of looking) s.left.items s.outcome s.monitor) }
     ensures fault { IfErr result (IsFaultOf (seats_for (length crew.entry) (lookers_in looking))) }
 {

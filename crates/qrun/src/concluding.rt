@@ -16,15 +16,16 @@ use qrun_replay::{Answered, Outcome, outcome_of};
 use qshare::JournaledStore;
 use std::alloc::Global;
 
-/// Checks what looks were given against the journal, whose own boards they are. Where there was none, nothing is played
-/// again.
+/// Checks what looks were given against the journal of a store that began new, whose own boards they are. Where there
+/// was none, nothing is played again.
 fn check_own(
     alloc: Global,
     store: &JournaledStore,
     looks: &[Look],
     seed: u64,
 ) -> Result<(), RunFault>
-    requires lawful { AreLawful (start store.now.setting) store.now.journal (boards_in looks.now) }
+    requires new { store.now.begun ≡ start store.now.setting }
+    requires lawful { AreLawful store.now.begun store.now.journal (boards_in looks.now) }
     ensures fault { IfErr result (IsFaultOf 0) }
 {
     if looks.is_empty() {
@@ -45,10 +46,11 @@ pub(crate) fn make_outcome(
     looks: Vec<Look>,
     seed: u64,
 ) -> Result<Outcome, RunFault>
+    requires new { store.begun ≡ start store.setting }
     requires edition { store.setting.edition ≡ Two }
     requires told { AreAllPlaced store.journal answered.items }
-    requires lawful { AreLawful (start store.setting) store.journal (boards_in looks.items) }
-    ensures outcome { IfOk result (IsServiceOf store.setting) }
+    requires lawful { AreLawful store.begun store.journal (boards_in looks.items) }
+    ensures outcome { IfOk result (IsServiceOf store.setting store.begun) }
     ensures told { IfOk result (λ o. (o.transcripts ≡ map (transcript_from store.journal) answered.items)
         × (o.boards ≡ looks.items) × (o.journal.entries ≡ store.journal)) }
     ensures fault { IfErr result (IsFaultOf 0) }

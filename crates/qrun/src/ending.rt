@@ -1,5 +1,6 @@
 //! From the seats of a store to what its workers leave.
-ghost use Rattle.std.specs.Prelude.{length, IfErr, IfOk, option_map};
+ghost use Rattle.std.specs.Prelude.{◌≡◌, length, IfErr, IfOk, option_map};
+ghost use Rattle.qplain.specs.State.{start};
 ghost use Rattle.qrun.specs.Crews.{HasPlayed, IsStaff};
 ghost use Rattle.qrun.specs.Observers.{looks_wanted, seat_in, shown_to};
 ghost use Rattle.qrun.specs.RunFaults.{IsFaultOf};
@@ -42,7 +43,8 @@ where
     requires staff { IsStaff S.id.setting (length crew) S.id.counters.parts seats.items
         (option_map seat_in observer) }
     requires clock { MayBeGiven S.id.clocked C.clocked }
-    ensures played { IfOk result (λ s. HasPlayed C.talk M.sees S.id.setting S.id.clocked crew.entry
+    requires new { S.id.begun ≡ start S.id.setting }
+    ensures played { IfOk result (λ s. HasPlayed C.talk M.sees S.id.setting S.id.begun S.id.clocked crew.entry
         (looks_wanted observer.entry) (shown_to observer.entry) s.left.items s.outcome s.monitor) }
     ensures fault { IfErr result (IsFaultOf S.id.counters.parts) }
 {

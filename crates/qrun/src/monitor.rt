@@ -2,7 +2,6 @@
 ghost use Rattle.std.specs.Prelude.{◌≡◌, ◌∷◌, [], List};
 ghost use Rattle.qplain.specs.declared.board.Board.{Board};
 ghost use Rattle.qplain.specs.Journal.{no_tally};
-ghost use Rattle.qplain.specs.State.{start};
 ghost use Rattle.qrun.specs.Monitors.{HasSeen, IsShown, ShowsNext};
 ghost use Rattle.qrun.specs.Watching.{HasWaited, IsWatch};
 
@@ -138,7 +137,7 @@ fn show_next<S: StoreId, M: Monitor>(
     shown: &mut Option<u64>,
 ) -> bool
     ensures seat { HasWaited seat.old seat.new }
-    ensures shows { ShowsNext (start S.id.setting) seat.new.seen shown.old shown.new (M.sees monitor.old)
+    ensures shows { ShowsNext S.id.begun seat.new.seen shown.old shown.new (M.sees monitor.old)
         (M.sees monitor.new) }
 {
     if let Ok((version, _)) = seat.record(Kind::User, 0)
@@ -175,8 +174,8 @@ pub(crate) fn show_boards<S: StoreId, B: Boards<S>, M: Monitor + Drop, R: Wait>(
     shared: &Shared<S, B>,
     showing: Showing<'_, S, M>,
 ) -> (Watch<S>, M::Left)
-    ensures watch { IsWatch (start S.id.setting) showing.entry.seat.worker 0 result.0 }
-    ensures shown { IsShown (start S.id.setting) result.0.share.seen (M.sees showing.entry.monitor) result.1 }
+    ensures watch { IsWatch S.id.begun showing.entry.seat.worker 0 result.0 }
+    ensures shown { IsShown S.id.begun result.0.share.seen (M.sees showing.entry.monitor) result.1 }
 {
     let Showing {
         mut seat,

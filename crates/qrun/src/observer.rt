@@ -1,6 +1,5 @@
 //! Who looks at the boards of a store beside its workers, and the thread in which that is done.
 ghost use Rattle.std.specs.Prelude.{◌≡◌, option_map};
-ghost use Rattle.qplain.specs.State.{start};
 ghost use Rattle.qrun.specs.Observers.{IsObserved, observer_left, seat_in};
 
 use crate::monitor::{Monitor, Showing, show_boards};
@@ -88,7 +87,7 @@ pub(crate) fn observe<S: StoreId, B: Boards<S>, M: Monitor + Drop, R: Wait>(
     shared: &Shared<S, B>,
     observer: Observer<'_, S, M>,
 ) -> Observed<S, M::Left>
-    ensures { IsObserved M.sees (start S.id.setting) observer.entry result }
+    ensures { IsObserved M.sees S.id.begun observer.entry result }
 {
     match observer {
         Observer::Watcher(watcher) => Observed {
@@ -112,8 +111,7 @@ pub(crate) struct Observes<'a, S: StoreId, M: Monitor + Drop> {
 }
 
 impl<'a, S: StoreId, M: Monitor + Drop> Promise<Observed<S, M::Left>> for Observes<'a, S, M> {
-    ghost use Rattle.qplain.specs.State.{start};
     ghost use Rattle.qrun.specs.Observers.{IsObserved};
 
-    ghost kept_by = { λ p o. IsObserved M.sees (start S.id.setting) p.observer.value o };
+    ghost kept_by = { λ p o. IsObserved M.sees S.id.begun p.observer.value o };
 }

@@ -1,7 +1,6 @@
 //! All threads of a store: one for each worker, and one for who looks at the boards.
 ghost use Rattle.std.specs.Prelude.{MatchResult};
 ghost use denote.Param.Send.{IsSend, IsSync};
-ghost use Rattle.qplain.specs.State.{start};
 ghost use Rattle.qrun.specs.Crews.{AreNumbered};
 ghost use Rattle.qrun.specs.Observers.{HavePlayedAndLooked, IsFaultAmong};
 
@@ -44,7 +43,7 @@ where
     R: Threads + Wait + Sync,
     requires { AreNumbered workers.items }
     ensures { MatchResult result
-        (λ r. HavePlayedAndLooked C.talk M.sees (start S.id.setting) workers.entry.items observer.entry r.0.items r.1)
+        (λ r. HavePlayedAndLooked C.talk M.sees S.id.begun workers.entry.items observer.entry r.0.items r.1)
         (IsFaultAmong workers.entry.items observer.entry) }
 {
     let Machine { rt, alloc, .. } = *machine;
@@ -56,7 +55,7 @@ where
                 × IsSend C.row × IsSend C.Form.row × IsSend C.Left.row × IsSend M.row × IsSend M.Left.row }
             requires numbered { AreNumbered workers.items }
             ensures { MatchResult result
-                (λ r. HavePlayedAndLooked C.talk M.sees (start S.id.setting) workers.entry.items observer.entry
+                (λ r. HavePlayedAndLooked C.talk M.sees S.id.begun workers.entry.items observer.entry
                 r.0.items r.1) (IsFaultAmong workers.entry.items observer.entry) }
         {
             let mut running = Vec::with_capacity(alloc, workers.len())?;

@@ -1,6 +1,7 @@
 //! Runs: scripts played by workers on a shared store of their own.
 ghost use Rattle.std.specs.Prelude.{◌≡◌, length, IfErr, IfOk};
 ghost use Rattle.qplain.specs.declared.edition.Edition.TheVariants.{Two};
+ghost use Rattle.qplain.specs.State.{start};
 ghost use Rattle.qrun_replay.specs.Runs.{IsOutcomeOf};
 ghost use Rattle.qrun.specs.Crews.{CanRun};
 ghost use Rattle.qrun.specs.RunFaults.{IsFaultOf};
@@ -50,7 +51,7 @@ pub fn run_scripts<G: Gate + Sync, R: Threads + Wait + Sync>(
 ) -> Result<Outcome, RunFault>
     requires edition { setup.edition ≡ Two }
     requires can { CanRun (length scripts.items) options }
-    ensures outcome { IfOk result (IsOutcomeOf setup scripts.items) }
+    ensures outcome { IfOk result (IsOutcomeOf setup (start setup) scripts.items) }
     ensures looks { IfOk result (λ o. length o.boards ≡ options.boards) }
     ensures fault { IfErr result (IsFaultOf (seats_for (length scripts.items) options.boards)) }
 {

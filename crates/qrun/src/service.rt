@@ -58,7 +58,7 @@ where
     R: Threads + Wait + Sync,
     requires can { CanServe setup (length clients.items) (monitors_in monitor) }
     requires new { All (λ c. IsNewClient (C.owed c) (C.stands c)) clients.items × MayBeGiven clock C.clocked }
-    ensures outcome { IfOk result (λ s. IsServiceOf setup s.outcome × KeepsTime clock s.outcome) }
+    ensures outcome { IfOk result (λ s. IsServiceOf setup (start setup) s.outcome × KeepsTime clock s.outcome) }
     ensures clients { IfOk result (λ s. IsOfClients C.talk clients.items s.left.items s.outcome) }
     ensures shown { IfOk result (λ s. IsShownTo M.sees (start setup) s.outcome.journal.entries monitor s.monitor) }
     ensures fault { IfErr result (IsFaultOf (seats_for (length clients.items) (monitors_in monitor))) }

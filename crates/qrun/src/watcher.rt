@@ -1,7 +1,6 @@
 //! Who looks at the boards of a run, so many times.
 ghost use Rattle.std.specs.Prelude.{◌≡◌, IfOk};
 ghost use Rattle.qplain.specs.Journal.{no_tally};
-ghost use Rattle.qplain.specs.State.{start};
 ghost use Rattle.qrun.specs.Watching.{IsWatch};
 
 use crate::observer::{Look, Watch};
@@ -64,7 +63,7 @@ impl<S: StoreId> Watcher<S> {
 
 /// Looks N times. No look waits for anybody.
 pub(crate) fn look_on<S: StoreId>(watcher: Watcher<S>) -> Watch<S>
-    ensures { IsWatch (start S.id.setting) watcher.seat.worker watcher.boards result }
+    ensures { IsWatch S.id.begun watcher.seat.worker watcher.boards result }
 {
     let Watcher {
         mut seat,

@@ -74,9 +74,9 @@ transcripts_again worker [] journal (t ∷ ts) are = absurd are
 transcripts_again worker (lines ∷ rest) journal [] are = absurd are
 
 -- what a replay of their journal leaves is what they have left, but for its failed lines
-as_before : (setting : Setting) (lines : List (List Line)) (old new : Outcome) → IsLeftByWorkers setting lines old
-    → IsReplayOf setting old.journal new → IsAsBefore old new
-as_before setting lines old new run replay =
+as_before : (setting : Setting) (begun : State) (lines : List (List Line)) (old new : Outcome) → IsLeftByWorkers setting begun lines old
+    → IsReplayOf setting begun old.journal new → IsAsBefore old new
+as_before setting begun lines old new run replay =
     let store : new.store.state ≡ old.store.state = replay.store ∙ sym run.store in
     record {
       tallies = replay.tallies ∙ ap (λ journal. tally_of journal.entries) replay.journal ∙ sym run.tallies;
@@ -89,25 +89,26 @@ as_before setting lines old new run replay =
     }
 
 -- their setup is in the edition of their journal
-own_edition : (setting : Setting) (lines : List (List Line)) (run : Outcome) → IsLeftByWorkers setting lines run
+own_edition : (setting : Setting) (begun : State) (lines : List (List Line)) (run : Outcome) → IsLeftByWorkers setting begun lines run
     → in_edition run.journal.edition setting ≡ setting
-own_edition setting lines run is = ap (λ (e : Edition). in_edition e setting) (is.edition.1 ∙ sym is.edition.0)
+own_edition setting begun lines run is = ap (λ (e : Edition). in_edition e setting) (is.edition.1 ∙ sym is.edition.0)
 
 -- and it meets no mismatch
-gives_back : (setting : Setting) (lines : List (List Line)) (old : Outcome) (r : Result Outcome ReplayFault)
-    → IsLeftByWorkers setting lines old → IfOk r (IsReplayOf setting old.journal)
-    → ((place : ℕ) → r ≡ Err (Mismatch place) → IsFirstMismatch (start setting) old.journal.entries place) → GivesBack old r
-gives_back setting lines old (Ok new) run replay mismatch = as_before setting lines old new run replay
-gives_back setting lines old (Err Memory) run replay mismatch = tt
-gives_back setting lines old (Err (Mismatch place)) run replay mismatch =
-    no_mismatch (start setting) old.journal.entries place run.legal (mismatch place refl)
+gives_back : (setting : Setting) (begun : State) (lines : List (List Line)) (old : Outcome) (r : Result Outcome ReplayFault)
+    → IsLeftByWorkers setting begun lines old → IfOk r (IsReplayOf setting begun old.journal)
+    → ((place : ℕ) → r ≡ Err (Mismatch place) → IsFirstMismatch begun old.journal.entries place) → GivesBack old r
+gives_back setting begun lines old (Ok new) run replay mismatch = as_before setting begun lines old new run replay
+gives_back setting begun lines old (Err Memory) run replay mismatch = tt
+gives_back setting begun lines old (Err (Mismatch place)) run replay mismatch =
+    no_mismatch begun old.journal.entries place run.legal (mismatch place refl)
 
 -- so it does in the edition of their journal, which is their setup's
 pub gives_back_in : (setting : Setting) (lines : List (List Line)) (old : Outcome) (r : Result Outcome ReplayFault)
-    → IsLeftByWorkers setting lines old → IfOk r (IsReplayOf (in_edition old.journal.edition setting) old.journal)
+    → IsLeftByWorkers setting (start setting) lines old
+    → IfOk r (IsReplayOf (in_edition old.journal.edition setting) (start (in_edition old.journal.edition setting)) old.journal)
     → ((place : ℕ) → r ≡ Err (Mismatch place)
     → IsFirstMismatch (start (in_edition old.journal.edition setting)) old.journal.entries place) → GivesBack old r
 gives_back_in setting lines old r run replay mismatch =
-    let own = own_edition setting lines old run in
-    gives_back setting lines old r run (subst (λ (s : Setting). IfOk r (IsReplayOf s old.journal)) own replay)
+    let own = own_edition setting (start setting) lines old run in
+    gives_back setting (start setting) lines old r run (subst (λ (s : Setting). IfOk r (IsReplayOf s (start s) old.journal)) own replay)
     (λ place told. subst (λ (s : Setting). IsFirstMismatch (start s) old.journal.entries place) own (mismatch place told))

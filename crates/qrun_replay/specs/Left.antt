@@ -8,7 +8,7 @@ use Rattle.qplain.specs.declared.edition.Edition.{Edition}
 use Rattle.qplain.specs.Editions.{max_entries_of}
 use Rattle.qplain.specs.Projects.{is_of_edition}
 use Rattle.qplain.specs.Setups.{Setting}
-use Rattle.qplain.specs.State.{start}
+use Rattle.qplain.specs.State.{State}
 use Rattle.qplain.specs.Journal.{IsLegal, play, tally_of}
 use Rattle.qstore.specs.Rows.{record_row_of}
 use Rattle.qaudit_checks.specs.OwnRows.{differences_in}
@@ -24,14 +24,14 @@ AreOfEdition edition journal = All (λ e. is_of_edition edition e ≡ true) jour
 
 -- the store that this legal journal leaves, with its tally, its own records and differences, of which there are none,
 -- beside N workers, these transcripts and what these looks at the boards were given
-pub record IsLeftOf (setting : Setting) (journal : List Entry) (workers : ℕ) (transcripts : List Transcript)
-    (boards : List (Result Board LookFault)) (o : Outcome) : Type 0 where
+pub record IsLeftOf (setting : Setting) (begun : State) (journal : List Entry) (workers : ℕ)
+    (transcripts : List Transcript) (boards : List (Result Board LookFault)) (o : Outcome) : Type 0 where
   pub setup : o.setup ≡ setting
-  pub legal : IsLegal (start setting) journal
+  pub legal : IsLegal begun journal
   pub few : length journal ≤ max_entries_of setting.edition
   pub journal_is : o.journal ≡ record { edition = setting.edition; workers = workers; entries = journal }
   pub tallies : o.tallies ≡ tally_of journal
-  pub store : o.store.state ≡ play (start setting) journal
+  pub store : o.store.state ≡ play begun journal
   pub transcripts_are : o.transcripts ≡ transcripts
   pub boards_are : o.boards ≡ boards
   pub records : o.records ≡ map (record_row_of o.store.state) o.store.state.holders

@@ -8,7 +8,7 @@ use Rattle.qplain.specs.declared.line.Line.{Line}
 use Rattle.qplain.specs.declared.receipt.Receipt.{Receipt}
 use Rattle.qplain.specs.declared.transcript.Transcript.{Transcript}
 use Rattle.qplain.specs.Setups.{Setting}
-use Rattle.qplain.specs.State.{State, start}
+use Rattle.qplain.specs.State.{State}
 use Rattle.qplain.specs.Journal.{IsLegal, entries_of, play, played, tally_of}
 use Rattle.qstore.specs.Rows.{record_row_of}
 use Rattle.qaudit_checks.specs.OwnRows.{differences_in}
@@ -56,15 +56,15 @@ pub record IsFirstMismatch (S : State) (journal : List Entry) (place : ℕ) : Ty
   pub parts : journal ≡ before ++ entry ∷ after
   pub here : IsMismatchAfter S before entry place
 
--- what playing this journal again leaves, from this setup on: the journal is legal and stays as it is, the tallies are
--- its own, each worker has its own entries for a transcript, no look was taken at the boards, and the differences are
--- those of the store's own rows, of which there are none
-pub record IsReplayOf (setting : Setting) (written : Written) (o : Outcome) : Type 0 where
+-- what playing this journal again leaves, from this beginning on, under this setup: the journal is legal and stays as
+-- it is, the tallies are its own, each worker has its own entries for a transcript, no look was taken at the boards,
+-- and the differences are those of the store's own rows, of which there are none
+pub record IsReplayOf (setting : Setting) (begun : State) (written : Written) (o : Outcome) : Type 0 where
   pub setup : o.setup ≡ setting
-  pub legal : IsLegal (start setting) written.entries
+  pub legal : IsLegal begun written.entries
   pub journal : o.journal ≡ written
   pub tallies : o.tallies ≡ tally_of o.journal.entries
-  pub store : o.store.state ≡ play (start setting) written.entries
+  pub store : o.store.state ≡ play begun written.entries
   pub transcripts : o.transcripts ≡ transcripts_in written
   pub boards : o.boards ≡ []
   pub records : o.records ≡ map (record_row_of o.store.state) o.store.state.holders

@@ -60,7 +60,7 @@ pub fn outcome_of(
     requires each { All (IsOneOf workers) store.journal }
     requires of_edition { AreOfEdition store.setting.edition store.journal }
     requires places { All (HoldsPlaces store.journal) answered.items }
-    ensures { IfOk result (IsLeftOf store.setting store.journal workers
+    ensures { IfOk result (IsLeftOf store.setting store.begun store.journal workers
         (map (transcript_from store.journal) answered.items) boards) }
 {
     let kept = store.store();

@@ -29,10 +29,10 @@ fn are_same(one: &Reply, other: &Reply) -> bool
 /// reported by its place, and nothing is done.
 fn replay_entry(store: &mut JournaledStore, entry: &Entry) -> Result<(), ReplayFault>
     requires few { length store.old.journal < MAX_ENTRIES }
-    ensures setting { store.new.setting ≡ store.old.setting }
+    ensures stays { (store.new.setting ≡ store.old.setting) × (store.new.begun ≡ store.old.begun) }
     ensures ok { OnOk result (store.new.journal ≡ store.old.journal ++ entry.now ∷ []) }
     ensures mismatch { (place : ℕ) → result ≡ Err (Mismatch place)
-        → IsMismatchAfter (start store.old.setting) store.old.journal entry.now place }
+        → IsMismatchAfter store.old.begun store.old.journal entry.now place }
 {
     let Ok(()) = store.ready(entry.worker, &entry.cred, entry.moment, &entry.call) else {
         return Err(ReplayFault::Memory);
@@ -49,10 +49,10 @@ fn replay_entry(store: &mut JournaledStore, entry: &Entry) -> Result<(), ReplayF
 fn replay_all(store: &mut JournaledStore, entries: &[Entry]) -> Result<(), ReplayFault>
     requires fresh { store.old.journal ≡ [] }
     requires few { length entries.now ≤ MAX_ENTRIES }
-    ensures setting { store.new.setting ≡ store.old.setting }
+    ensures stays { (store.new.setting ≡ store.old.setting) × (store.new.begun ≡ store.old.begun) }
     ensures ok { OnOk result (store.new.journal ≡ entries.now) }
     ensures mismatch { (place : ℕ) → result ≡ Err (Mismatch place)
-        → IsFirstMismatch (start store.old.setting) entries.now place }
+        → IsFirstMismatch store.old.begun entries.now place }
 {
     for entry in entries {
         replay_entry(store, entry)?;
@@ -93,19 +93,18 @@ fn all_answered(alloc: Global, journal: &Journal) -> Result<Vec<Answered>, NoMem
     Ok(all)
 }
 
-/// Plays a journal again on a new store of the setup, which is of its edition.
+/// Plays a journal again on a store that has just begun, whose setup is of its edition.
 fn play_again(
     alloc: Global,
-    setup: Setup,
+    mut store: JournaledStore,
     journal: &Journal,
-    seed: u64,
 ) -> Result<Outcome, ReplayFault>
-    requires edition { setup.edition ≡ journal.now.edition }
-    ensures replay { IfOk result (IsReplayOf setup journal.now) }
+    requires fresh { store.journal ≡ [] }
+    requires edition { store.setting.edition ≡ journal.now.edition }
+    ensures replay { IfOk result (IsReplayOf store.setting store.begun journal.now) }
     ensures mismatch { (place : ℕ) → result ≡ Err (Mismatch place)
-        → IsFirstMismatch (start setup) journal.now.entries place }
+        → IsFirstMismatch store.begun journal.now.entries place }
 {
-    let mut store = JournaledStore::new(alloc, setup, seed)?;
     replay_all(&mut store, journal.entries())?;
     let answered = all_answered(alloc, journal)?;
     let no_boards = Items::new(Vec::new(alloc));
@@ -125,14 +124,16 @@ pub fn replay(
     journal: &Journal,
     seed: u64,
 ) -> Result<Outcome, ReplayFault>
-    ensures replay { IfOk result (IsReplayOf (in_edition journal.now.edition setup) journal.now) }
+    ensures replay { IfOk result (IsReplayOf (in_edition journal.now.edition setup)
+        (start (in_edition journal.now.edition setup)) journal.now) }
     ensures mismatch { (place : ℕ) → result ≡ Err (Mismatch place)
         → IsFirstMismatch (start (in_edition journal.now.edition setup)) journal.now.entries place }
 
     // The journal that workers have left under this setup gives back what they have left, but for the lines that
     // failed.
-    ensures of_a_run { (lines : List (List Line)) (run : Outcome) → IsLeftByWorkers setup lines run
+    ensures of_a_run { (lines : List (List Line)) (run : Outcome) → IsLeftByWorkers setup (start setup) lines run
         → journal.now ≡ run.journal → GivesBack run result }
 {
-    play_again(alloc, setup.edition(journal.edition()), journal, seed)
+    let store = JournaledStore::new(alloc, setup.edition(journal.edition()), seed)?;
+    play_again(alloc, store, journal)
 }

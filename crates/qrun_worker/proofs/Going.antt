@@ -8,7 +8,7 @@ use Rattle.qplain.specs.declared.entry.Entry.{Entry}
 use Rattle.qplain.specs.declared.line.Line.{Line}
 use Rattle.qplain.specs.declared.receipt.Receipt.{Receipt}
 use Rattle.qplain.specs.Journal.{entry_of, no_tally}
-use Rattle.qplain.specs.Setups.{Setting}
+use Rattle.qplain.specs.State.{State}
 use Rattle.qshare_history.specs.Moments.{IsGiven}
 use Rattle.qstore_journaled.specs.Lines.{line_of}
 use Rattle.qshare.specs.Calls.{AtGiven, IsCalled, IsFormOf, IsHeldCall, StaysHeld}
@@ -104,20 +104,20 @@ module _ {A : Type 0} (form : Receipt → A) (store : Bool) (asked : Line) where
   called_low old new (Ok f) (receipt, is, (given, later, called)) = (Ok receipt, ap (λ x. Ok x) is, called.few)
   called_low old new (Err fault) called = (Err fault, refl, tt)
 
-  pub held_low : (setting : Setting) (old new : Holding) (seat behind : Seated) (a : Result A CallFault)
-      → IfOk a (Answers (λ line. IsHeldCall line old new seat behind)) → StaysHeld setting old new → IsAnswerIn form a
-  held_low setting old new seat behind (Ok f) (receipt, is, (given, later, called)) stays =
+  pub held_low : (begun : State) (old new : Holding) (seat behind : Seated) (a : Result A CallFault)
+      → IfOk a (Answers (λ line. IsHeldCall line old new seat behind)) → StaysHeld begun old new → IsAnswerIn form a
+  held_low begun old new seat behind (Ok f) (receipt, is, (given, later, called)) stays =
       let journaled = called.journaled in
       let e = entry_of seat.worker (line_of asked.cred given asked.call) receipt.reply in
       let low : receipt.place ≤ MAX_ENTRIES =
       omega (arith, journaled.place, ap length journaled.journal, length-append old.journal (e ∷ []), stays.few) in
       (Ok receipt, ap (λ x. Ok x) is, low)
-  held_low setting old new seat behind (Err fault) called stays = (Err fault, refl, tt)
+  held_low begun old new seat behind (Err fault) called stays = (Err fault, refl, tt)
 
-  module _ {Left : Type 0} (client : Bool) (may : MayBeGiven store client) (setting : Setting) (before after : List (Result ℕ FailedLine))
+  module _ {Left : Type 0} (client : Bool) (may : MayBeGiven store client) (begun : State) (before after : List (Result ℕ FailedLine))
       (from mid to : Talk Left) (owed : Option Line) (is_owed : owed ≡ Some asked) (comes : ComesOf from mid) where
     -- one line further by a call that waits for the lock
-    pub called_further : (old new : Seated) (a : Result A CallFault) → Takes client form owed a before after mid to → HasSeenOn setting old new
+    pub called_further : (old new : Seated) (a : Result A CallFault) → Takes client form owed a before after mid to → HasSeenOn begun old new
         → IfOk a (Answers (λ line. IsCalled line old new)) → OnErr a (new.tally ≡ old.tally)
         → IfErr a (λ f. (f ≡ JournalFull) ↔ (length new.seen ≡ MAX_ENTRIES)) → HasGone old.seen new.seen old new before after from to
     called_further old new (Ok f) takes seen (receipt, is, (given, later, called)) kept full =
@@ -125,16 +125,16 @@ module _ {A : Type 0} (form : Receipt → A) (store : Bool) (asked : Line) where
         one_further old.seen new.seen old new line (Ok receipt) before after from mid to seen.worker comes
         (takes asked line (Ok receipt) is_owed (given, given_too store client asked.moment given may later, refl) (ap (λ x. Ok x) is))
         (λ lines answers so_far at. subst (λ w. AreAnswers w lines new.seen new.tally.calls (answers ++ Ok receipt ∷ [])) seen.worker
-        (one_more_called setting lines old new answers (answers ++ Ok receipt ∷ []) line (Ok receipt) so_far at seen called tt tt refl))
+        (one_more_called begun lines old new answers (answers ++ Ok receipt ∷ []) line (Ok receipt) so_far at seen called tt tt refl))
     called_further old new (Err fault) takes seen called kept full =
         one_further old.seen new.seen old new asked (Err fault) before after from mid to seen.worker comes
         (takes asked asked (Err fault) is_owed refl refl)
         (λ lines answers so_far at. subst (λ w. AreAnswers w lines new.seen new.tally.calls (answers ++ Err fault ∷ [])) seen.worker
-        (one_more_called setting lines old new answers (answers ++ Err fault ∷ []) asked (Err fault) so_far at seen tt kept full refl))
+        (one_more_called begun lines old new answers (answers ++ Err fault ∷ []) asked (Err fault) so_far at seen tt kept full refl))
 
     -- and by one under a lock that is held
     pub held_further : (old new : Holding) (seat behind : Seated) (a : Result A CallFault) → Takes client form owed a before after mid to
-        → IfOk a (Answers (λ line. IsHeldCall line old new seat behind)) → StaysHeld setting old new → OnErr a ((new ≡ old) × (behind ≡ seat))
+        → IfOk a (Answers (λ line. IsHeldCall line old new seat behind)) → StaysHeld begun old new → OnErr a ((new ≡ old) × (behind ≡ seat))
         → ((a ≡ Err JournalFull) ↔ (length old.journal ≡ MAX_ENTRIES)) → HasGone old.journal new.journal seat behind before after from to
     held_further old new seat behind (Ok f) takes (receipt, is, (given, later, called)) stays same full =
         let line = line_of asked.cred given asked.call in
@@ -142,14 +142,14 @@ module _ {A : Type 0} (form : Receipt → A) (store : Bool) (asked : Line) where
         one_further old.journal new.journal seat behind line (Ok receipt) before after from mid to worker comes
         (takes asked line (Ok receipt) is_owed (given, given_too store client asked.moment given may later, refl) (ap (λ x. Ok x) is))
         (λ lines answers so_far at. subst (λ w. AreAnswers w lines new.journal behind.tally.calls (answers ++ Ok receipt ∷ [])) worker
-        (one_more_held setting lines old new seat behind answers (answers ++ Ok receipt ∷ []) line (Ok receipt) so_far at called stays tt
+        (one_more_held begun lines old new seat behind answers (answers ++ Ok receipt ∷ []) line (Ok receipt) so_far at called stays tt
         (λ e. absurd (cc e)) refl))
     held_further old new seat behind (Err fault) takes called stays same full =
         let worker : behind.worker ≡ seat.worker = ap (λ s. s.worker) same.1 in
         one_further old.journal new.journal seat behind asked (Err fault) before after from mid to worker comes
         (takes asked asked (Err fault) is_owed refl refl)
         (λ lines answers so_far at. subst (λ w. AreAnswers w lines new.journal behind.tally.calls (answers ++ Err fault ∷ [])) worker
-        (one_more_held setting lines old new seat behind answers (answers ++ Err fault ∷ []) asked (Err fault) so_far at tt stays same
+        (one_more_held begun lines old new seat behind answers (answers ++ Err fault ∷ []) asked (Err fault) so_far at tt stays same
         (λ e. full.0 (ap (in_form form) e)) refl))
 
   -- the hold has room for all but one call of those before

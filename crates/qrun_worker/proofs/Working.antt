@@ -12,7 +12,7 @@ use Rattle.qplain.specs.Journal.{entries_of, entry_of}
 use Rattle.qplain.specs.Transcripts.{journaled_line, journaled_lines}
 use Rattle.qplain.specs.declared.bounds.TheConstants.{MAX_ENTRIES}
 use Rattle.qshare_history.proofs.Prefixes.{prefix_length}
-use Rattle.qplain.specs.Setups.{Setting}
+use Rattle.qplain.specs.State.{State}
 use Rattle.qshare.specs.Calls.{IsAt, IsCalled, IsHeldCall, StaysHeld}
 use Rattle.qshare.specs.Holds.{Holding}
 use Rattle.qshare.specs.Seats.{HasSeenOn, Seated}
@@ -95,29 +95,29 @@ one_more worker lines old new calls later answers after line answer so_far there
     })
 
 -- one more answer to a call that waits for the lock
-pub one_more_called : (setting : Setting) (lines : List Line) (old new : Seated) (answers after : List (Result Receipt CallFault))
+pub one_more_called : (begun : State) (lines : List Line) (old new : Seated) (answers after : List (Result Receipt CallFault))
     (line : Line) (answer : Result Receipt CallFault) → HasAnswers lines old answers → slice_get lines (length answers) ≡ Some line
-    → HasSeenOn setting old new → IfOk answer (IsCalled line old new) → OnErr answer (new.tally ≡ old.tally)
+    → HasSeenOn begun old new → IfOk answer (IsCalled line old new) → OnErr answer (new.tally ≡ old.tally)
     → IfErr answer (λ f. (f ≡ JournalFull) ↔ (length new.seen ≡ MAX_ENTRIES)) → after ≡ answers ++ answer ∷ []
     → HasAnswers lines new after
-one_more_called setting lines old new answers after line (Ok r) so_far there seen called kept full is =
+one_more_called begun lines old new answers after line (Ok r) so_far there seen called kept full is =
     subst (λ w. AreAnswers w lines new.seen new.tally.calls after) (sym seen.worker)
     (one_more old.worker lines old.seen new.seen old.tally.calls new.tally.calls answers after line (Ok r) so_far there seen.begins
     called.stands called.later (ap (λ t. t.calls) called.tally) tt tt called.few is)
-one_more_called setting lines old new answers after line (Err fault) so_far there seen called kept full is =
+one_more_called begun lines old new answers after line (Err fault) so_far there seen called kept full is =
     subst (λ w. AreAnswers w lines new.seen new.tally.calls after) (sym seen.worker)
     (one_more old.worker lines old.seen new.seen old.tally.calls new.tally.calls answers after line (Err fault) so_far there seen.begins
     tt tt tt (ap (λ t. t.calls) kept) full.0 tt is)
 
 -- one more answer under a lock that is held, where this much is journaled
-pub one_more_held : (setting : Setting) (lines : List Line) (old new : Holding) (before behind : Seated)
+pub one_more_held : (begun : State) (lines : List Line) (old new : Holding) (before behind : Seated)
     (answers after : List (Result Receipt CallFault)) (line : Line) (answer : Result Receipt CallFault)
     → AreAnswers before.worker lines old.journal before.tally.calls answers → slice_get lines (length answers) ≡ Some line
-    → IfOk answer (IsHeldCall line old new before behind) → StaysHeld setting old new
+    → IfOk answer (IsHeldCall line old new before behind) → StaysHeld begun old new
     → OnErr answer ((new ≡ old) × (behind ≡ before)) → (answer ≡ Err JournalFull → length old.journal ≡ MAX_ENTRIES)
     → after ≡ answers ++ answer ∷ []
     → AreAnswers behind.worker lines new.journal behind.tally.calls after
-one_more_held setting lines old new before behind answers after line (Ok r) so_far there called held same full is =
+one_more_held begun lines old new before behind answers after line (Ok r) so_far there called held same full is =
     let journal = called.journaled.journal in
     let e = entry_of before.worker line r.reply in
     subst (λ w. AreAnswers w lines new.journal behind.tally.calls after) (sym (ap (λ s. s.worker) called.seat))
@@ -125,7 +125,7 @@ one_more_held setting lines old new before behind answers after line (Ok r) so_f
     (entry_of before.worker line r.reply ∷ [], sym journal) (old.journal, [], journal, called.journaled.place)
     (omega (arith, called.journaled.place)) (ap (λ t. t.calls) called.journaled.tally) tt tt
     (omega (arith, called.journaled.place, ap length journal, length-append old.journal (e ∷ []), held.few)) is)
-one_more_held setting lines old new before behind answers after line (Err fault) so_far there called held same full is =
+one_more_held begun lines old new before behind answers after line (Err fault) so_far there called held same full is =
     let as_was : new.journal ≡ old.journal = ap (λ h. h.journal) same.0 in
     subst (λ s. AreAnswers s.worker lines new.journal s.tally.calls after) (sym same.1)
     (one_more before.worker lines old.journal new.journal before.tally.calls before.tally.calls answers after line (Err fault) so_far there

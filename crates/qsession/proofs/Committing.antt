@@ -3,7 +3,7 @@ use Rattle.std.proofs.Common.{◌≡◌, [], ◌∷◌, ◌++◌, None, Some, sy
 use Rattle.qplain.specs.declared.entry.Entry.{Entry}
 use Rattle.qplain.specs.declared.line.Line.{Line}
 use Rattle.qplain.specs.declared.reply.Reply.{Reply}
-use Rattle.qplain.specs.State.{State, start}
+use Rattle.qplain.specs.State.{State}
 use Rattle.qplain.specs.Journal.{play, played}
 use Rattle.qplain_laws.proofs.Playing.{play-one_more}
 use Rattle.qstore.specs.Ready.{committed}
@@ -17,11 +17,10 @@ use Rattle.qsession.specs.Recorded.{CanRecord}
 use Rattle.qsession.specs.Steps.{CanCommit, IsReadyFor, IsStep, Leaves, holding_after, stepped}
 
 -- the state is what the call that was ready leaves
-state_left : (old new : JournaledValue) (e : Entry) → IsPlayed old → IsNext old e → IsPlayed new → new.setting ≡ old.setting
+state_left : (old new : JournaledValue) (e : Entry) → IsPlayed old → IsNext old e → IsPlayed new → new.begun ≡ old.begun
     → new.journal ≡ old.journal ++ e ∷ [] → new.stored.state ≡ committed old.stored
-state_left old new e before next after setting journal =
-    let S : State = start old.setting in
-    let begun : start new.setting ≡ S = ap start setting in
+state_left old new e before next after begun journal =
+    let S : State = old.begun in
     let played_on : new.stored.state ≡ play S (old.journal ++ e ∷ []) =
     after.state ∙ ap (λ T. play T new.journal) begun ∙ ap (play S) journal in
     let last : play S (old.journal ++ e ∷ []) ≡ (played old.stored.state e).0 =
@@ -47,16 +46,16 @@ made_plain kept old new is_kept is line reply ready = record {
 
 -- and of what is kept with one
 pub made_journaled : (kept : Kept) (old new : JournaledValue) → kept ≡ Journaled old → CanCommit kept → new.setting ≡ old.setting
-    → ((e : Entry) → old.next ≡ Some e → new.journal ≡ old.journal ++ e ∷ []) → IsPlayed new → (line : Line) (reply : Reply)
+    → new.begun ≡ old.begun → ((e : Entry) → old.next ≡ Some e → new.journal ≡ old.journal ++ e ∷ []) → IsPlayed new → (line : Line) (reply : Reply)
     → IsReadyFor kept line reply → IsStep (holding_of kept) (holding_of (Journaled new)) line reply
-made_journaled kept old new is_kept can_kept setting journal after line reply ready =
+made_journaled kept old new is_kept can_kept setting begun journal after line reply ready =
     let can : CanRecord old = subst CanCommit is_kept can_kept in
     let entries = journal can.entry can.next.is in
-    let state = state_left old new can.entry can.played can.next after setting entries in
+    let state = state_left old new can.entry can.played can.next after begun entries in
     let leaves = subst (λ (k : Kept). Leaves k (holding_after (holding_of kept) line)) is_kept ready.leaves in
     record {
       held =
-          (λ i. record { state = state i; journal = Some (record { setting = setting i; entries = entries i }) })
+          (λ i. record { state = state i; journal = Some (record { setting = setting i; begun = begun i; entries = entries i }) })
           ∙ sym (leaves can.entry can.next.is);
       reply_is = ready.reply_is;
     }

@@ -5,13 +5,15 @@ use Rattle.qplain.specs.declared.entry.Entry.{Entry}
 use Rattle.qplain.specs.Setups.{Setting}
 use Rattle.qplain.specs.State.{State, start}
 use Rattle.qplain.specs.Journal.{IsLegal, play}
+use Rattle.qplain_laws.specs.Beginnings.{IsStateOf}
 use Rattle.qplain_laws.specs.Laws.{IsLawful}
 use Rattle.qsession.specs.declared.kept.Kept.{Kept}
 use Rattle.qsession.specs.declared.kept.Kept.TheVariants.{Plain, Journaled}
 
--- the entries of a journal, and the setup from whose start they are played
+-- the entries of a journal, and the setup and the state that it begins with
 pub record KeptJournal : Type 0 where
   pub setting : Setting
+  pub begun : State
   pub entries : List Entry
 
 -- the state of a store, and its journal where it keeps one
@@ -22,8 +24,10 @@ pub record Holding : Type 0 where
 -- what is held in what is kept
 abbrev pub holding_of : Kept → Holding
 holding_of (Plain s) = record { state = s.state; journal = None }
-holding_of (Journaled j) =
-    record { state = j.stored.state; journal = Some (record { setting = j.setting; entries = j.journal }) }
+holding_of (Journaled j) = record {
+  state = j.stored.state;
+  journal = Some (record { setting = j.setting; begun = j.begun; entries = j.journal });
+}
 
 -- what a session holds: nothing where it is closed
 abbrev pub held_in : Option Kept → Option Holding
@@ -35,14 +39,17 @@ new_plain setting = record { state = start setting; journal = None }
 
 -- what a new store of a setup that keeps a journal holds
 abbrev pub new_journaled : Setting → Holding
-new_journaled setting =
-    record { state = start setting; journal = Some (record { setting = setting; entries = [] }) }
+new_journaled setting = record {
+  state = start setting;
+  journal = Some (record { setting = setting; begun = start setting; entries = [] });
+}
 
--- the journal is legal from the setup's start, and the state is exactly what it leaves when it is played on the plain
--- machine
+-- the journal begins with a state that a store of its setup can be in and is legal from there, and the state is exactly
+-- what it leaves when it is played on the plain machine
 pub record IsPlayedTo (journal : KeptJournal) (S : State) : Type 0 where
-  pub legal : IsLegal (start journal.setting) journal.entries
-  pub left : S ≡ play (start journal.setting) journal.entries
+  pub beginning : IsStateOf journal.setting journal.begun
+  pub legal : IsLegal journal.begun journal.entries
+  pub left : S ≡ play journal.begun journal.entries
 
 -- the headline, for one thread: where a journal is kept, the store is exactly what it leaves, and each journaled reply
 -- is the plain machine's

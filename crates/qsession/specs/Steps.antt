@@ -20,7 +20,7 @@ use Rattle.qsession.specs.Recorded.{CanRecord}
 abbrev pub stepped : State → Line → State × Reply
 stepped S line = step S line.cred line.moment line.call
 
--- a journal with the entry of one line more, where one is kept
+-- a journal with the entry of one line more, where one is kept: its setup and its beginning stay
 abbrev pub journal_with : Line → Reply → Option KeptJournal → Option KeptJournal
 journal_with line reply None = None
 journal_with line reply (Some j) = Some (record j { entries = j.entries ++ entry_of WORKER line reply ∷ [] })
@@ -69,7 +69,7 @@ Leaves (Journaled j) h =
     (e : Entry) → j.next ≡ Some e
     → h ≡ record {
       state = committed j.stored;
-      journal = Some (record { setting = j.setting; entries = j.journal ++ e ∷ [] });
+      journal = Some (record { setting = j.setting; begun = j.begun; entries = j.journal ++ e ∷ [] });
     }
 
 -- the call of the line is ready, will leave what it does, and is answered so

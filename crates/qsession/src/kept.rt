@@ -77,7 +77,7 @@ impl Kept {
     }
 
     /// A law, the headline for one thread: where a journal is kept, the store is exactly what it leaves when it is
-    /// played on the plain machine, and each journaled reply is that machine's.
+    /// played from its beginning on the plain machine, and each journaled reply is that machine's.
     pub fn always_holds_true(&self)
         ensures { HoldsTrue (Some (holding_of self.now)) }
     {

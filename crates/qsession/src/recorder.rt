@@ -5,6 +5,8 @@ ghost use Rattle.qplain.specs.declared.call_fault.CallFault.TheVariants.{Journal
 ghost use Rattle.qplain.specs.declared.edition.Edition.TheVariants.{Two};
 ghost use Rattle.qplain.specs.declared.entry.Entry.{Entry as EntryValue};
 ghost use Rattle.qplain.specs.Journal.{entry_of, tally_of};
+ghost use Rattle.qplain.specs.State.{start};
+ghost use Rattle.qplain_laws.specs.Beginnings.{IsStateOf};
 ghost use Rattle.qstore_journaled.specs.Journaled.{IsPlayed, IsSameJournaled};
 ghost use Rattle.qstore_journaled.specs.Lines.{line_of};
 ghost use Rattle.qstore_journaled.specs.Next.{IsNext};
@@ -44,12 +46,31 @@ impl Recorder {
     pub fn new(alloc: Global, setup: Setup, seed: u64) -> Result<Recorder, NoMemory>
         requires newest { setup.edition ≡ Two }
         ensures setting { IfOk result (λ r. r.setting ≡ setup) }
+        ensures begun { IfOk result (λ r. r.begun ≡ start setup) }
         ensures journal { IfOk result (λ r. r.journal ≡ []) }
         ensures played { IfOk result IsPlayed }
     {
         Ok(Recorder {
             store: JournaledStore::new(alloc, setup, seed)?,
         })
+    }
+
+    /// A store that stands already, of a setup of edition 2, with an empty journal: it begins with what it is. It takes
+    /// no memory.
+    ///
+    /// The caller owes that a store of the setup can be in that state.
+    pub fn over(alloc: Global, setup: Setup, store: Store) -> Recorder
+        requires newest { setup.edition ≡ Two }
+        requires state { IsStateOf setup store.state }
+        ensures setting { result.setting ≡ setup }
+        ensures begun { result.begun ≡ store.state }
+        ensures store { result.stored.state ≡ store.state }
+        ensures journal { result.journal ≡ [] }
+        ensures played { IsPlayed result }
+    {
+        Recorder {
+            store: JournaledStore::over(alloc, setup, store),
+        }
     }
 
     /// The store.
@@ -76,7 +97,7 @@ impl Recorder {
     }
 
     /// Decides a call, makes every growth that it needs, keeps it as the journal's next entry, and gives its reply;
-    /// setup, state and journal stay as they were. Err is JournalFull, reported first, or OutOfMemory.
+    /// setup, beginning, state and journal stay as they were. Err is JournalFull, reported first, or OutOfMemory.
     #[inline(always)]
     pub fn ready(&mut self, cred: &Cred, moment: u64, call: &Call) -> Result<Reply, CallFault>
         ensures same { IsSameJournaled self.old self.new }
@@ -97,6 +118,7 @@ impl Recorder {
     pub fn commit(&mut self)
         requires { CanRecord self.old }
         ensures setting { self.new.setting ≡ self.old.setting }
+        ensures begun { self.new.begun ≡ self.old.begun }
         ensures journal { (e : EntryValue) → self.old.next ≡ Some e
             → self.new.journal ≡ self.old.journal ++ e ∷ [] }
         ensures played { IsPlayed self.new }

@@ -87,7 +87,7 @@ impl Session {
     }
 
     /// A law, the headline for one thread: where the session keeps a journal, its store is exactly what that leaves
-    /// when it is played on the plain machine, and each journaled reply is that machine's.
+    /// when it is played from its beginning on the plain machine, and each journaled reply is that machine's.
     pub fn always_holds_true(&mut self, alloc: Global)
         ensures law { HoldsTrue (held_in self.old.slot.kept) }
         ensures same { self.new.slot.kept ≡ self.old.slot.kept }

@@ -1,5 +1,5 @@
 -- The journal of a session is one that can be written.
-use Rattle.std.proofs.Common.{◌≡◌, ◌≤◌, ◌<◌, length, All, sym, subst, refl, true, arith, rules}
+use Rattle.std.proofs.Common.{◌≤◌, length, All, sym, subst, refl, arith, rules}
 use Rattle.qplain.specs.declared.edition.Edition.{Edition}
 use Rattle.qplain.specs.declared.edition.Edition.TheVariants.{Two}
 use Rattle.qplain.specs.Editions.{max_entries_of}
@@ -19,4 +19,4 @@ journal_of_session j played session =
     let newest : AreOfEdition Two j.journal = λ k d less. refl in
     let of_edition : AreOfEdition j.setting.edition j.journal = subst (λ (e : Edition). AreOfEdition e j.journal) (sym session.newest) newest in
     subst (λ (e : Edition). IsJournal (record { edition = e; workers = 1; entries = j.journal })) session.newest
-    (journal_left j.setting j.journal 1 played.lawful played.legal few workers each of_edition)
+    (journal_left j.setting j.begun j.journal 1 played.beginning.lawful played.legal few workers each of_edition)

@@ -8,8 +8,7 @@ use Rattle.qplain.specs.declared.receipt.Receipt.{Receipt}
 use Rattle.qplain.specs.declared.tallies.Tallies.{Tallies}
 use Rattle.qplain.specs.Caller.{Caller}
 use Rattle.qplain.specs.Journal.{IsLegal, change_of, counted, entry_of}
-use Rattle.qplain.specs.Setups.{Setting}
-use Rattle.qplain.specs.State.{start}
+use Rattle.qplain.specs.State.{State}
 use Rattle.qshare_history.specs.Moments.{IsGiven}
 use Rattle.qstore_journaled.specs.Lines.{line_of}
 use Rattle.qshare.specs.Holds.{Holding}
@@ -51,9 +50,10 @@ AtGiven clocked cred told call Is receipt =
 abbrev pub IsFormOf : {A : Type 0} → (Receipt → A) → (Receipt → Type 0) → A → Type 0
 IsFormOf form is a = (receipt : Receipt) × (a ≡ form receipt) × is receipt
 
--- the same worker holds the lock, nothing more is published, and the journal is legal and no longer than it may be
-pub record StaysHeld (setting : Setting) (old new : Holding) : Type 0 where
+-- the same worker holds the lock, nothing more is published, and the journal is legal from this beginning and no longer
+-- than it may be
+pub record StaysHeld (begun : State) (old new : Holding) : Type 0 where
   pub by : new.by ≡ old.by
   pub published : new.published ≡ old.published
-  pub legal : IsLegal (start setting) new.journal
+  pub legal : IsLegal begun new.journal
   pub few : length new.journal ≤ MAX_ENTRIES

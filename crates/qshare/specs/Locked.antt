@@ -23,7 +23,7 @@ IsNewStore l = (l.journal ≡ []) × (l.published ≡ [])
 -- is counted but by its seats; where a clock rules the store, the journal's moments never fall
 pub record IsLockedOf (id : Identity) (j : Journaled) (published : Recorded) (tally : Tallies) (rest : Counted)
     (seats : ℕ) (clocked : Bool) : Type 0 where
-  pub of : IsStoreOf id.setting j
+  pub of : IsStoreOf id.setting id.begun j
   pub published_of : published.history ≡ id.history
   pub begins : IsPrefix published.entries j.journal
   pub tally_is : tally ≡ tally_of j.journal

@@ -4,8 +4,7 @@ use Rattle.qrules.specs.declared.board_row.BoardRow.{BoardRow}
 use Rattle.qplain.specs.declared.placed_row.PlacedRow.{PlacedRow}
 use Rattle.qplain.specs.declared.entry.Entry.{Entry}
 use Rattle.qplain.specs.Boards.{rows_of, with_rows}
-use Rattle.qplain.specs.Setups.{Setting}
-use Rattle.qplain.specs.State.{State, start}
+use Rattle.qplain.specs.State.{State}
 use Rattle.qshare_boards.specs.Boards.{shown_of}
 
 -- from whatever rows the first list leads to those of the state before, the other leads to those of the state after
@@ -15,10 +14,10 @@ pub record LeadsOn (waiting : List PlacedRow) (before : State) (with_call : List
       → with_rows rows with_call ≡ rows_of after
 
 -- the board of the first history is published, and the rows that wait lead from its rows to those of the journal's
-pub record Waits (setting : Setting) (shown : List Entry) (waiting : List PlacedRow) (published journal : List Entry)
+pub record Waits (begun : State) (shown : List Entry) (waiting : List PlacedRow) (published journal : List Entry)
     : Type 0 where
   pub shown_is : shown ≡ published
-  pub leads : with_rows (shown_of (start setting) published).rows waiting ≡ (shown_of (start setting) journal).rows
+  pub leads : with_rows (shown_of begun published).rows waiting ≡ (shown_of begun journal).rows
 
 -- these rows lead to the given ones from any others of which there are as many
 abbrev pub Replaces : List PlacedRow → List BoardRow → Type 0

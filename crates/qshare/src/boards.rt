@@ -17,7 +17,7 @@ pub trait Boards<S: StoreId>: Drop {
 
     /// Lets what the call that is ready will change on the board wait to be published. An Err is out of memory.
     fn note(&mut self, store: &JournaledStore) -> Result<(), NoMemory>
-        requires store { IsStoreOf S.id.setting store.now }
+        requires store { IsStoreOf S.id.setting S.id.begun store.now }
         requires next { HasNext store.now }
         ensures ok { (published : List Entry) (e : Entry) → store.now.next ≡ Some e
             → waits self.old published store.now.journal
@@ -27,7 +27,7 @@ pub trait Boards<S: StoreId>: Drop {
 
     /// Publishes the board of the store's whole journal, which is all of its history.
     fn publish(&mut self, store: &JournaledStore, published: &Prefix, history: Prefix)
-        requires store { IsStoreOf S.id.setting store.now }
+        requires store { IsStoreOf S.id.setting S.id.begun store.now }
         requires waits { waits self.old published.now.entries store.now.journal }
         requires begins { IsPrefix published.now.entries store.now.journal }
         requires history { history ≡ recorded S.id.history store.now.journal }

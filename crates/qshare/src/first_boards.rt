@@ -1,7 +1,7 @@
 //! The boards of a new store, and the seats of which the last can look at them.
 ghost use Rattle.std.specs.Prelude.{◌≡◌, ◌<◌, ◌≤◌, ◌-◌, [], Err, IfOk};
 ghost use Rattle.qplain.specs.Journal.{board_of, no_tally};
-ghost use Rattle.qplain.specs.Setups.{IsLawfulSetup};
+ghost use Rattle.qplain_laws.specs.Beginnings.{IsStateOf};
 ghost use Rattle.qshare.specs.Locked.{IsNewStore};
 ghost use Rattle.qshare.specs.Seats.{new_seat, seats_of};
 ghost use Rattle.qshare.specs.declared.opening.TheConstants.{MAX_SEATS};
@@ -43,7 +43,7 @@ pub(crate) fn first_publisher<S: StoreId, R: Wait + Drop>(
     requires new { IsNewStore locked.now }
     requires seats { (0 < seats) × (seats ≤ MAX_SEATS) }
     ensures published { IfOk result (λ p. p ≡ []) }
-    ensures setup { IsLawfulSetup S.id.setting }
+    ensures beginning { IsStateOf S.id.setting S.id.begun }
 {
     let board = first_board(locked.store().store())?;
     Publisher::new(alloc, rt, &board, &locked.published(), seats as usize)

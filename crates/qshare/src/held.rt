@@ -107,7 +107,7 @@ impl<'a, S: StoreId, B: Boards<S>> Held<'a, S, B> {
         requires by { seat.old.worker ≡ self.old.by }
         ensures ok { IfOk result (IsFormOf A.form (AtGiven S.id.clocked cred.now moment call.now
             (λ line. IsHeldCall line self.old self.new seat.old seat.new))) }
-        ensures stays { StaysHeld S.id.setting self.old self.new }
+        ensures stays { StaysHeld S.id.begun self.old self.new }
         ensures err { OnErr result ((self.new ≡ self.old) × (seat.new ≡ seat.old)) }
         ensures full { (result ≡ Err JournalFull) ↔ (length self.old.journal ≡ MAX_ENTRIES) }
     {
@@ -125,7 +125,7 @@ impl<'a, S: StoreId, B: Boards<S>> Held<'a, S, B> {
     pub fn release<V: Drop, W: Wait>(self, rt: &W, seat: &mut Seat<S, V>)
         requires by { seat.old.worker ≡ self.by }
         ensures seat { seat.new ≡ record seat.old { seen = self.entry.journal } }
-        ensures seen { HasSeenOn S.id.setting seat.old seat.new }
+        ensures seen { HasSeenOn S.id.begun seat.old seat.new }
     {
         let Held {
             mut store,

@@ -5,7 +5,6 @@ ghost use mathlib.Core.List.{IsPrefix};
 ghost use Rattle.qplain.specs.declared.bounds.TheConstants.{MAX_ENTRIES};
 ghost use Rattle.qplain.specs.declared.call_fault.CallFault.TheVariants.{JournalFull};
 ghost use Rattle.qplain.specs.Journal.{IsLegal, no_tally};
-ghost use Rattle.qplain.specs.State.{start};
 ghost use Rattle.qshare_history.specs.Histories.{recorded};
 ghost use Rattle.qstore_journaled.specs.Journaled.{IsStoreOf};
 ghost use Rattle.qshare.specs.Calls.{AtGiven, IsFormOf, IsJournaled};
@@ -58,7 +57,7 @@ impl<S: StoreId> LockedStore<S, NoBoards> {
         rest: TallyPart<S>,
         clocked: bool,
     ) -> LockedStore<S, NoBoards>
-        requires store { IsStoreOf S.id.setting store × (store.journal ≡ []) }
+        requires store { IsStoreOf S.id.setting S.id.begun store × (store.journal ≡ []) }
         requires history { history ≡ recorded S.id.history [] }
         requires seats { seats ≡ S.id.counters.parts }
         requires tally { (tally ≡ no_tally) × (rest ≡ record { tally = no_tally; parts = 0 }) }
@@ -96,7 +95,7 @@ impl<S: StoreId> LockedStore<S, NoBoards> {
 impl<S: StoreId, B: Boards<S>> LockedStore<S, B> {
     /// The journaled store.
     pub(crate) fn store(&self) -> &JournaledStore
-        ensures { IsStoreOf S.id.setting result.now × (result.now.journal ≡ self.now.journal) }
+        ensures { IsStoreOf S.id.setting S.id.begun result.now × (result.now.journal ≡ self.now.journal) }
     {
         &self.store
     }
@@ -129,7 +128,7 @@ impl<S: StoreId, B: Boards<S>> LockedStore<S, B> {
         ensures stays { (mine.new.parts ≡ mine.old.parts) × (self.new.published ≡ self.old.published) }
         ensures err { OnErr result ((self.new ≡ self.old) × (mine.new ≡ mine.old)) }
         ensures full { (result ≡ Err JournalFull) ↔ (length self.old.journal ≡ MAX_ENTRIES) }
-        ensures legal { IsLegal (start S.id.setting) self.new.journal × (length self.new.journal ≤ MAX_ENTRIES) }
+        ensures legal { IsLegal S.id.begun self.new.journal × (length self.new.journal ≤ MAX_ENTRIES) }
     {
         let given = given_moment(self.clocked, &self.store, moment);
         self.store.ready(worker, cred, given, call)?;
@@ -160,7 +159,7 @@ impl<S: StoreId, B: Boards<S>> LockedStore<S, B> {
     /// What is published.
     pub(crate) fn published(&self) -> Prefix
         ensures published { result ≡ recorded S.id.history self.now.published }
-        ensures legal { IsLegal (start S.id.setting) self.now.published }
+        ensures legal { IsLegal S.id.begun self.now.published }
     {
         self.history.prefix()
     }
@@ -202,6 +201,7 @@ impl<S: StoreId, B: Boards<S>> LockedStore<S, B> {
     pub(crate) fn close<W: Wait>(self, rt: &W, shares: Vec<Share<S>>) -> JournaledStore
         requires { S.id.counters.parts ≤ length shares.items }
         ensures setting { result.setting ≡ S.id.setting }
+        ensures begun { result.begun ≡ S.id.begun }
         ensures end { IsEndOf S.id.clocked shares.items result }
     {
         self.await_all(rt, &shares);

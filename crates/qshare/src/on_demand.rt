@@ -52,7 +52,7 @@ impl<'a, S: StoreId, R: Wait + Drop> OnDemand<'a, S, R> {
     /// Publishes the board of the store's whole journal. Where memory is wanting a later call does.
     #[inline(never)]
     fn publish_all(&mut self, store: &JournaledStore, history: Prefix)
-        requires store { IsStoreOf S.id.setting store.now }
+        requires store { IsStoreOf S.id.setting S.id.begun store.now }
         requires begins { IsPrefix self.old.publisher store.now.journal }
         requires history { history ≡ recorded S.id.history store.now.journal }
         ensures { IsPrefix self.new.publisher store.now.journal }

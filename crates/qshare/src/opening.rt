@@ -1,6 +1,7 @@
 //! How a shared store is made: first a store, then its identity, then its seats.
 ghost use Rattle.std.specs.Prelude.{◌≡◌, ◌<◌, ◌≤◌, ◌⊎◌, ◌-◌, false, true, Err, IfOk, IfErr};
 ghost use Rattle.qplain.specs.Journal.{no_tally};
+ghost use Rattle.qplain.specs.State.{start};
 ghost use Rattle.qshare.specs.Locked.{IsNewStore};
 ghost use Rattle.qshare.specs.Seats.{new_seat, seats_of};
 ghost use Rattle.qshare.specs.declared.share_fault.ShareFault.TheVariants.{Seats};
@@ -47,6 +48,7 @@ impl Model for Opened {
 
     ghost view = { λ o. record {
       setting = o.store.setting;
+      begun = o.store.begun;
       history = o.history.history;
       counters = o.counters;
       clocked = o.clocked;
@@ -62,6 +64,7 @@ impl Model for Opened {
 fn open_store(alloc: Global, setup: Setup, seats: u64, seed: u64) -> Result<Opened, NoMemory>
     requires few { (0 < seats) × (seats ≤ MAX_SEATS) }
     ensures setting { IfOk result (λ o. o.setting ≡ setup) }
+    ensures begun { IfOk result (λ o. o.begun ≡ start setup) }
     ensures seats { IfOk result (λ o. o.counters.parts ≡ seats) }
     ensures clock { IfOk result (λ o. o.clocked ≡ false) }
 {
@@ -82,6 +85,7 @@ impl Opened {
     /// made.
     pub fn new(alloc: Global, setup: Setup, seats: u64, seed: u64) -> Result<Opened, ShareFault>
         ensures setting { IfOk result (λ o. o.setting ≡ setup) }
+        ensures begun { IfOk result (λ o. o.begun ≡ start setup) }
         ensures seats { IfOk result (λ o. o.counters.parts ≡ seats) }
         ensures clock { IfOk result (λ o. o.clocked ≡ false) }
         ensures refused { (0 < seats) × (seats ≤ MAX_SEATS)

@@ -54,7 +54,7 @@ fn let_wait(waiting: &mut Vec<PlacedRow>, store: &Store) -> Result<(), NoMemory>
 impl<S: StoreId, R: Wait + Drop> Boards<S> for Published<S, R> {
     ghost use Rattle.qshare.specs.Waiting.{Waits};
 
-    ghost waits = { λ b published journal. Waits S.id.setting b.publisher b.waiting.items published journal };
+    ghost waits = { λ b published journal. Waits S.id.begun b.publisher b.waiting.items published journal };
 
     fn note(&mut self, store: &JournaledStore) -> Result<(), NoMemory> {
         let_wait(&mut self.waiting, store.store())

@@ -1,7 +1,6 @@
 //! A worker's own access to a shared store.
 ghost use Rattle.std.specs.Prelude.{◌≡◌, ◌≤◌, length, IfOk};
 ghost use Rattle.qplain.specs.Journal.{IsLegal, no_tally};
-ghost use Rattle.qplain.specs.State.{start};
 ghost use Rattle.qshare_history.specs.Histories.{recorded};
 ghost use Rattle.qshare_boards.specs.Boards.{IsHistoryOf, shown_of};
 ghost use Rattle.qshare_boards.specs.Looks.{IsBoardAnswer, IsRecordAnswer};
@@ -68,7 +67,7 @@ impl<S: StoreId, V: Drop> Seat<S, V> {
     /// What the seat has seen.
     pub(crate) fn prefix(&self) -> &Prefix
         ensures prefix { result.now ≡ recorded S.id.history self.now.seen }
-        ensures legal { IsLegal (start S.id.setting) self.now.seen }
+        ensures legal { IsLegal S.id.begun self.now.seen }
     {
         &self.prefix
     }
@@ -76,7 +75,7 @@ impl<S: StoreId, V: Drop> Seat<S, V> {
     /// Sees all that is published.
     pub(crate) fn catch_up<B: Boards<S>>(&mut self, store: &LockedStore<S, B>)
         ensures seat { self.new ≡ record self.old { seen = store.now.published } }
-        ensures legal { IsLegal (start S.id.setting) store.now.published }
+        ensures legal { IsLegal S.id.begun store.now.published }
     {
         self.prefix = store.published();
     }
@@ -99,8 +98,8 @@ impl<S: StoreId> Seat<S, Viewer<S>> {
     /// limit. An Err is NoBoard where no board was handed out that has all that the seat has seen, reported first,
     /// after which the seat is wholly as it was, or OutOfMemory, after which it is so but for what it has seen.
     pub fn board(&mut self) -> Result<Board, LookFault>
-        ensures look { HasLooked S.id.setting self.old self.new result }
-        ensures board { IsBoardAnswer (start S.id.setting) self.new.seen result }
+        ensures look { HasLooked S.id.begun self.old self.new result }
+        ensures board { IsBoardAnswer S.id.begun self.new.seen result }
         ensures version { IfOk result (λ b. length self.old.seen ≤ b.version) }
         ensures whole { IfOk result (IsWhole S.id.setting) }
     {
@@ -117,10 +116,10 @@ impl<S: StoreId> Seat<S, Viewer<S>> {
     /// the seat is wholly as it was, or ESRCH where it has no such record, after which it is so but for what it has
     /// seen.
     pub fn record(&mut self, kind: Kind, id: u32) -> Result<(u64, BoardRow), LookFault>
-        ensures look { HasLooked S.id.setting self.old self.new result }
-        ensures record { IsRecordAnswer (start S.id.setting) self.new.seen kind id result }
+        ensures look { HasLooked S.id.begun self.old self.new result }
+        ensures record { IsRecordAnswer S.id.begun self.new.seen kind id result }
         ensures version { IfOk result (λ r. length self.old.seen ≤ r.0) }
-        ensures whole { IsWhole S.id.setting (shown_of (start S.id.setting) self.new.seen) }
+        ensures whole { IsWhole S.id.setting (shown_of S.id.begun self.new.seen) }
     {
         let since = self.prefix.again();
         let Looked { prefix, shown } = self.viewer.record(kind, id, since);

@@ -1,7 +1,7 @@
 //! The seats of a new store.
 ghost use Rattle.std.specs.Prelude.{◌≡◌, [], Err, IfOk, IfErr};
 ghost use Rattle.qplain.specs.Journal.{no_tally};
-ghost use Rattle.qplain.specs.Setups.{IsLawfulSetup};
+ghost use Rattle.qplain_laws.specs.Beginnings.{IsStateOf};
 ghost use Rattle.qshare_history.specs.Histories.{recorded};
 ghost use Rattle.qshare.specs.Seats.{seats_of};
 ghost use Rattle.qshare.specs.declared.share_fault.ShareFault.TheVariants.{Seats};
@@ -21,7 +21,7 @@ pub(crate) fn viewing_seats<S: StoreId, R: Wait + Drop>(
     count: u64,
     mut all: TallyPart<S>,
 ) -> Result<Vec<Seat<S, Viewer<S>>>, ShareFault>
-    requires setup { IsLawfulSetup S.id.setting }
+    requires beginning { IsStateOf S.id.setting S.id.begun }
     requires publisher { publisher.old ≡ [] }
     requires prefix { prefix.now ≡ recorded S.id.history [] }
     requires all { all ≡ record { tally = no_tally; parts = count } }

@@ -39,7 +39,7 @@ fn call_locked<A: ReceiptForm, S: StoreId, B: Boards<S>, V: Drop, W: Wait>(
     moment: u64,
     call: &Call,
 ) -> Result<A, CallFault>
-    ensures seen { HasSeenOn S.id.setting seat.old seat.new }
+    ensures seen { HasSeenOn S.id.begun seat.old seat.new }
     ensures called { IfOk result (IsFormOf A.form (AtGiven S.id.clocked cred.now moment call.now
         (λ line. IsCalled line seat.old seat.new))) }
     ensures kept { OnErr result (seat.new.tally ≡ seat.old.tally) }
@@ -82,7 +82,7 @@ impl<S: StoreId, B: Boards<S>> Shared<S, B> {
         moment: u64,
         call: &Call,
     ) -> Result<A, CallFault>
-        ensures seen { HasSeenOn S.id.setting seat.old seat.new }
+        ensures seen { HasSeenOn S.id.begun seat.old seat.new }
         ensures called { IfOk result (IsFormOf A.form (AtGiven S.id.clocked cred.now moment call.now
             (λ line. IsCalled line seat.old seat.new))) }
         ensures kept { OnErr result (seat.new.tally ≡ seat.old.tally) }
@@ -103,6 +103,7 @@ impl<S: StoreId, B: Boards<S>> Shared<S, B> {
         shares: Vec<Share<S>>,
     ) -> Result<JournaledStore, EndFault<S, B>>
         ensures setting { IfOk result (λ j. j.setting ≡ S.id.setting) }
+        ensures begun { IfOk result (λ j. j.begun ≡ S.id.begun) }
         ensures end { IfOk result (IsEndOf S.id.clocked shares.items) }
         ensures missing { (worker : ℕ) (shared : _) (given : _) → result ≡ Err (EndFault.Missing worker shared given)
             → (given.items ≡ shares.items) × IsLeastMissing shares.items S.id.counters.parts worker }

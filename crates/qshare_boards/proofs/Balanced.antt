@@ -1,5 +1,5 @@
 -- The board of whatever is played is whole.
-use Rattle.std.proofs.Common.{◌≡◌, ℕ, ◌<◌, Bool, true, false, cond, List, [], ◌∷◌, ◌++◌, length, map, filter, sum_by, Result, Ok, Err, IfOk, refl, sym, ap, ◌∙◌, subst, arith}
+use Rattle.std.proofs.Common.{◌≡◌, ℕ, ◌<◌, Bool, true, false, ◌||◌, cond, List, [], ◌∷◌, ◌++◌, length, map, filter, sum_by, Result, Ok, Err, IfOk, refl, sym, ap, ◌∙◌, subst, arith}
 use Rattle.std.specs.List.{list_any}
 use Rattle.std.proofs.lemmas.Bool.{or_right}
 use Rattle.std.proofs.lemmas.List.Folds.{list_any-append}
@@ -15,15 +15,16 @@ use Rattle.qrules.specs.Account.{HasEnds, count_in}
 use Rattle.qplain.specs.declared.board.Board.{Board}
 use Rattle.qplain.specs.declared.entry.Entry.{Entry}
 use Rattle.qplain.specs.declared.look_fault.LookFault.{LookFault}
-use Rattle.qplain.specs.Setups.{IsLawfulSetup, Setting}
+use Rattle.qplain.specs.Setups.{Setting}
 use Rattle.qplain.specs.declared.principal.Principal.{Principal}
 use Rattle.qplain.specs.State.{Holder, State, declared_in, holder_of, start}
 use Rattle.qplain.specs.Use.{total_of, use_of}
 use Rattle.qplain.specs.Journal.{play, played, row_of}
-use Rattle.qplain_laws.specs.Laws.{IsLawful, has_kind}
+use Rattle.qplain_laws.specs.Beginnings.{IsStateOf}
+use Rattle.qplain_laws.specs.Laws.{IsLawful, KeepsSetup, has_kind, identity_of}
 use Rattle.qplain_laws.proofs.Balance.{users_and_groups_stand, uses_add_up}
 use Rattle.qplain_laws.proofs.Undeclared.{kinds_stay}
-use Rattle.qplain_laws.proofs.Tallying.{journals_stay_lawful, size-played}
+use Rattle.qplain_laws.proofs.Tallying.{lawful-played, size-played}
 use Rattle.qshare_boards.specs.Boards.{shown_of}
 use Rattle.qshare_boards.specs.Laws.{BoardsAreWhole}
 use Rattle.qshare_boards.specs.Looks.{IsBoardAnswer}
@@ -64,6 +65,16 @@ kind_played : (S : State) (kind : Kind) (journal : List Entry) → has_kind (pla
 kind_played S kind [] = refl
 kind_played S kind (e ∷ rest) = kind_played (played S e).0 kind rest ∙ kinds_stay S e.cred e.moment e.call kind
 
+-- holders of the same identities are of the same kinds
+same-kinds : (kind : Kind) (hs : List Holder) → list_any (λ h. is_same_kind kind h.kind) hs ≡ list_any (λ i. is_same_kind kind i.0) (map identity_of hs)
+same-kinds kind [] = refl
+same-kinds kind (h ∷ hs) = ap (λ b. is_same_kind kind h.kind || b) (same-kinds kind hs)
+
+-- so a state that keeps another's setup has its kinds
+kinds-kept : (R S : State) (kind : Kind) → KeepsSetup R S → has_kind S kind ≡ has_kind R kind
+kinds-kept R S kind keeps =
+    same-kinds kind S.holders ∙ ap (list_any (λ i. is_same_kind kind i.0)) keeps.holders ∙ sym (same-kinds kind R.holders)
+
 -- projects that a setup declares are those of a new store
 any_project : (ps : List Principal) → 0 < length ps → list_any (λ h. is_same_kind Project h.kind) (map (holder_of Project) ps) ≡ true
 any_project [] some = absurd (omega (arith, some))
@@ -78,14 +89,15 @@ projects_begun s some =
     ∙ or_right (list_any is (declared_in User s)) (list_any is (declared_in Group s ++ declared_in Project s)) later
 
 pub boards_are_whole : BoardsAreWhole
-boards_are_whole s history setup =
-    let S : State = play (start s) history in
-    let lawful : IsLawful S = journals_stay_lawful s history setup in
-    let sizes = size-played (start s) history in
+boards_are_whole s begun history is =
+    let S : State = play begun history in
+    let lawful : IsLawful S = lawful-played begun history is.lawful in
+    let sizes = size-played begun history in
+    let keeps = is.keeps in
     let stand = users_and_groups_stand S lawful in
     let projects : 0 < length s.projects → has_kind S Project ≡ true =
-    λ some. kind_played (start s) Project history ∙ projects_begun s some in
-    let sums : (kind : Kind) (sort : Sort) → has_kind S kind ≡ true → sum_in (shown_of (start s) history) kind sort ≡ total_of S sort =
+    λ some. kind_played begun Project history ∙ kinds-kept (start s) begun Project keeps ∙ projects_begun s some in
+    let sums : (kind : Kind) (sort : Sort) → has_kind S kind ≡ true → sum_in (shown_of begun history) kind sort ≡ total_of S sort =
     λ kind sort declared. rows_add_up S kind sort S.holders ∙ uses_add_up S kind sort lawful declared in
     record {
       user_blocks = sums User Blocks stand.0;
@@ -94,13 +106,13 @@ boards_are_whole s history setup =
       group_inodes = sums Group Inodes stand.1;
       project_blocks = λ some. sums Project Blocks (projects some);
       project_inodes = λ some. sums Project Inodes (projects some);
-      blocks_fit = omega (arith, lawful.blocks_fit, sizes.0);
-      inodes_fit = omega (arith, lawful.inodes_fit, sizes.1);
+      blocks_fit = omega (arith, lawful.blocks_fit, sizes.0, keeps.size);
+      inodes_fit = omega (arith, lawful.inodes_fit, sizes.1, keeps.most_inodes);
       ends_stand = All-map (λ (r : BoardRow). HasEnds (account_in r)) (row_of S) S.holders lawful.ends_stand;
     }
 
 -- so is what a look was shown
-pub shown_whole : (s : Setting) (history : List Entry) (look : Result Board LookFault) → IsLawfulSetup s
-    → IsBoardAnswer (start s) history look → IfOk look (IsWhole s)
-shown_whole s history (Ok b) setup is = subst (IsWhole s) (sym is) (boards_are_whole s history setup)
-shown_whole s history (Err fault) setup is = tt
+pub shown_whole : (s : Setting) (S : State) (history : List Entry) (look : Result Board LookFault) → IsStateOf s S
+    → IsBoardAnswer S history look → IfOk look (IsWhole s)
+shown_whole s S history (Ok b) beginning is = subst (IsWhole s) (sym is) (boards_are_whole s S history beginning)
+shown_whole s S history (Err fault) beginning is = tt

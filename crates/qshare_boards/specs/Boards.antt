@@ -4,7 +4,7 @@ use mathlib.Core.List.{IsPrefix}
 use Rattle.qplain.specs.declared.board.Board.{Board}
 use Rattle.qplain.specs.declared.entry.Entry.{Entry}
 use Rattle.qplain.specs.Boards.{with_rows}
-use Rattle.qplain.specs.State.{State, start}
+use Rattle.qplain.specs.State.{State}
 use Rattle.qplain.specs.Journal.{IsLegal, board_of, play}
 use Rattle.qshare_history.specs.Histories.{Recorded}
 use Rattle.qshare_history.specs.StoreIds.{Identity}
@@ -26,7 +26,7 @@ changed_by b c = record {
 -- a legal history of this store
 pub record IsHistoryOf (id : Identity) (prefix : Recorded) : Type 0 where
   pub history : prefix.history ≡ id.history
-  pub legal : IsLegal (start id.setting) prefix.entries
+  pub legal : IsLegal id.begun prefix.entries
 
 -- such a one that begins with what is published
 pub record GoesOn (id : Identity) (published : List Entry) (prefix : Recorded) : Type 0 where
@@ -36,4 +36,4 @@ pub record GoesOn (id : Identity) (published : List Entry) (prefix : Recorded) :
 -- the change brings the board of what is published on to the board of such a one
 pub record BringsOn (id : Identity) (published : List Entry) (change : BoardChange) (prefix : Recorded) : Type 0 where
   pub on : GoesOn id published prefix
-  pub leads : changed_by (shown_of (start id.setting) published) change ≡ shown_of (start id.setting) prefix.entries
+  pub leads : changed_by (shown_of id.begun published) change ≡ shown_of id.begun prefix.entries

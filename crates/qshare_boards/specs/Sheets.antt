@@ -3,7 +3,7 @@ use Rattle.std.specs.Prelude.{◌≡◌, List, [], fold}
 use Rattle.qshare_history.specs.Histories.{Recorded}
 use Rattle.qplain.specs.declared.board.Board.{Board}
 use Rattle.qplain.specs.declared.entry.Entry.{Entry}
-use Rattle.qplain.specs.State.{State, start}
+use Rattle.qplain.specs.State.{State}
 use Rattle.qshare_history.specs.StoreIds.{Identity}
 use Rattle.qshare_boards.specs.declared.board_change.BoardChange.{BoardChange}
 use Rattle.qshare_boards.specs.declared.sheet.Batch.{Batch}
@@ -37,9 +37,9 @@ pub record IsPublished (id : Identity) (sheet : Sheet) (seen : List Entry) (wait
   pub none : waits ≡ []
   pub history : sheet.prefix.history ≡ id.history
   pub seen_is : seen ≡ sheet.prefix.entries
-  pub shown : board_in sheet ≡ shown_of (start id.setting) sheet.prefix.entries
+  pub shown : board_in sheet ≡ shown_of id.begun sheet.prefix.entries
 
 -- a legal history of this store goes on with what is published, and what waits leads to its board
 pub record LeadsTo (id : Identity) (sheet : Sheet) (waits : List Batch) (prefix : Recorded) : Type 0 where
   pub on : GoesOn id sheet.prefix.entries prefix
-  pub leads : fold taken_in (sealed_in sheet) waits ≡ board_and (start id.setting) prefix
+  pub leads : fold taken_in (sealed_in sheet) waits ≡ board_and id.begun prefix

@@ -1,6 +1,5 @@
 //! The writing side of the boards.
 ghost use Rattle.std.specs.Prelude.{◌≡◌, ◌<◌, ◌^◌, ◌∷◌, [], drop, IfOk};
-ghost use Rattle.qplain.specs.State.{start};
 ghost use Rattle.left_right.specs.Sides.{view as known};
 ghost use Rattle.qshare_history.specs.Histories.{recorded};
 ghost use Rattle.qshare_boards.specs.Boards.{BringsOn, changed_by, shown_of};
@@ -159,7 +158,7 @@ fn first_writer<S: StoreId, R: Wait>(
     readers: usize,
 ) -> Result<BoardWriter<S>, NoMemory>
     requires prefix { prefix.now ≡ recorded S.id.history [] }
-    requires board { board.now ≡ shown_of (start S.id.setting) [] }
+    requires board { board.now ≡ shown_of S.id.begun [] }
     requires readers { (0 < readers) × (readers < 2 ^ 32) }
     ensures published { IfOk result (λ w. IsPublished S.id w.desk.shown.value (known w.desk.place).seen
         (drop w.behind w.log.items)) }
@@ -186,7 +185,7 @@ impl<S: StoreId, R: Wait + Drop> Publisher<S, R> {
         readers: usize,
     ) -> Result<Publisher<S, R>, NoMemory>
         requires prefix { prefix.now ≡ recorded S.id.history [] }
-        requires board { board.now ≡ shown_of (start S.id.setting) [] }
+        requires board { board.now ≡ shown_of S.id.begun [] }
         requires readers { (0 < readers) × (readers < 2 ^ 32) }
         ensures { IfOk result (λ p. p ≡ []) }
     {

@@ -18,11 +18,10 @@ pub struct Publishing<S> {
 }
 
 impl<S: StoreId> Protocol<Sheet, SeenHistory> for Publishing<S> {
-    ghost use Rattle.qplain.specs.State.{start};
     ghost use Rattle.qshare_boards.specs.Sheets.{board_in};
     ghost use Rattle.qshare_boards.specs.Views.{Kept, newcomer};
 
-    ghost holds = { λ s. Kept S.id.history (start S.id.setting) s.prefix (board_in s) };
+    ghost holds = { λ s. Kept S.id.history S.id.begun s.prefix (board_in s) };
 
     ghost first = { newcomer };
 }
@@ -33,11 +32,10 @@ pub struct Sees<S> {
 }
 
 impl<S: StoreId> Outcome<Sheet, SeenHistory> for Sees<S> {
-    ghost use Rattle.qplain.specs.State.{start};
     ghost use Rattle.qshare_boards.specs.Sheets.{board_in};
     ghost use Rattle.qshare_boards.specs.Views.{IsThenSeen};
 
-    ghost then = { λ v x y w. IsThenSeen S.id.history (start S.id.setting) v y.prefix (board_in y) w };
+    ghost then = { λ v x y w. IsThenSeen S.id.history S.id.begun v y.prefix (board_in y) w };
 }
 
 /// What the writing side tells a reader that has just sat down.

@@ -2,8 +2,7 @@
 ghost use Rattle.std.specs.Prelude.{◌≡◌, Err, IfOk};
 ghost use mathlib.Core.List.{IsPrefix};
 ghost use Rattle.left_right.specs.Sides.{view as known};
-ghost use Rattle.qplain.specs.Setups.{IsLawfulSetup};
-ghost use Rattle.qplain.specs.State.{start};
+ghost use Rattle.qplain_laws.specs.Beginnings.{IsStateOf};
 ghost use Rattle.qshare_boards.specs.Boards.{IsHistoryOf, shown_of};
 ghost use Rattle.qshare_boards.specs.Looks.{IsBoardAnswer, IsLook, IsRecordAnswer};
 ghost use Rattle.qshare_boards.specs.Whole.{IsWhole};
@@ -34,14 +33,14 @@ pub struct Viewer<S: StoreId> {
 impl<S: StoreId> Model for Viewer<S> {
     ghost use Rattle.std.specs.Prelude.{◌≡◌, List};
     ghost use Rattle.left_right.specs.Sides.{view as known};
-    ghost use Rattle.qplain.specs.Setups.{IsLawfulSetup};
     ghost use Rattle.qplain.specs.declared.entry.Entry.{Entry};
+    ghost use Rattle.qplain_laws.specs.Beginnings.{IsStateOf};
 
     ghost Value = { List Entry };
 
     ghost view = { λ v. v.prefix.entries };
 
-    ghost invariant = { λ v. IsLawfulSetup S.id.setting × (v.prefix.history ≡ S.id.history)
+    ghost invariant = { λ v. IsStateOf S.id.setting S.id.begun × (v.prefix.history ≡ S.id.history)
         × ((known v.reader.place).seen ≡ v.prefix.entries) };
 }
 
@@ -103,7 +102,7 @@ fn look<S: StoreId>(
     ensures reader { ((known result.0.place).seen ≡ result.1.prefix.entries)
         × (result.1.prefix.history ≡ S.id.history) × IsPrefix with.1.prefix.entries result.1.prefix.entries }
     ensures look { IsLook S.id with.1.since result.1.looked.prefix result.1.looked.shown }
-    ensures board { IsBoardAnswer (start S.id.setting) result.1.looked.prefix.entries result.1.looked.shown }
+    ensures board { IsBoardAnswer S.id.begun result.1.looked.prefix.entries result.1.looked.shown }
 {
     let (alloc, Looker { prefix, since }) = with;
     match reader.enter_as::<Sees<S>>() {
@@ -131,7 +130,7 @@ fn look_up<S: StoreId>(
     ensures reader { ((known result.0.place).seen ≡ result.1.prefix.entries)
         × (result.1.prefix.history ≡ S.id.history) × IsPrefix with.2.prefix.entries result.1.prefix.entries }
     ensures look { IsLook S.id with.2.since result.1.looked.prefix result.1.looked.shown }
-    ensures record { IsRecordAnswer (start S.id.setting) result.1.looked.prefix.entries with.0 with.1
+    ensures record { IsRecordAnswer S.id.begun result.1.looked.prefix.entries with.0 with.1
         result.1.looked.shown }
 {
     let (kind, id, Looker { prefix, since }) = with;
@@ -157,7 +156,7 @@ impl<S: StoreId> Viewer<S> {
         publisher: &mut Publisher<S, R>,
         prefix: Prefix,
     ) -> Result<Viewer<S>, NoMemory>
-        requires setup { IsLawfulSetup S.id.setting }
+        requires beginning { IsStateOf S.id.setting S.id.begun }
         requires history { prefix.history ≡ S.id.history }
         requires published { publisher.old ≡ prefix.entries }
         ensures publisher { publisher.new ≡ publisher.old }
@@ -177,7 +176,7 @@ impl<S: StoreId> Viewer<S> {
     pub fn board(&mut self, since: Prefix) -> Looked<Board>
         requires { IsHistoryOf S.id since }
         ensures look { IsLook S.id since result.prefix result.shown }
-        ensures board { IsBoardAnswer (start S.id.setting) result.prefix.entries result.shown }
+        ensures board { IsBoardAnswer S.id.begun result.prefix.entries result.shown }
         ensures whole { IfOk result.shown (IsWhole S.id.setting) }
     {
         let prefix = self.prefix.again();
@@ -198,8 +197,8 @@ impl<S: StoreId> Viewer<S> {
     pub fn record(&mut self, kind: Kind, id: u32, since: Prefix) -> Looked<(u64, BoardRow)>
         requires { IsHistoryOf S.id since }
         ensures look { IsLook S.id since result.prefix result.shown }
-        ensures record { IsRecordAnswer (start S.id.setting) result.prefix.entries kind id result.shown }
-        ensures whole { IsWhole S.id.setting (shown_of (start S.id.setting) result.prefix.entries) }
+        ensures record { IsRecordAnswer S.id.begun result.prefix.entries kind id result.shown }
+        ensures whole { IsWhole S.id.setting (shown_of S.id.begun result.prefix.entries) }
     {
         let prefix = self.prefix.again();
         let with = (kind, id, Looker { prefix, since });

@@ -1,5 +1,5 @@
 -- A journaled store that makes one call more is again what its journal leaves.
-use Rattle.std.proofs.Common.{◌≡◌, ℕ, ◌+◌, ◌<◌, List, [], ◌∷◌, ◌++◌, length, take, slice_get, sym, ap, ◌∙◌, arith, Option, Some, subst}
+use Rattle.std.proofs.Common.{◌≡◌, ℕ, ◌+◌, ◌<◌, ◌≤◌, List, [], ◌∷◌, ◌++◌, length, take, slice_get, sym, ap, ◌∙◌, arith, Option, Some, subst}
 use Rattle.std.specs.Option.{unwrap_or}
 use Rattle.std.proofs.lemmas.List.{length-append, take_more}
 use Rattle.std.proofs.lemmas.Option.{get_or_from_slice_get, slice_get_within}
@@ -7,52 +7,55 @@ use Rattle.qplain.specs.declared.bounds.TheConstants.{MAX_ENTRIES}
 use Rattle.qplain.specs.declared.entry.Entry.{Entry}
 use Rattle.qplain.specs.declared.line.Line.{Line}
 use Rattle.qplain.specs.declared.reply.Reply.{Reply}
-use Rattle.qplain.specs.Setups.{IsLawfulSetup}
+use Rattle.qplain.specs.declared.setup.TheConstants.{MAX_BLOCKS, MAX_INODES}
+use Rattle.qplain.specs.Setups.{IsLawfulSetup, Setting}
 use Rattle.qplain.specs.State.{State, start}
 use Rattle.qplain.specs.Journal.{CanCount, change_of, play, played, tally_of}
 use Rattle.qplain.specs.Step.{step}
 use Rattle.qplain_laws.proofs.Playing.{legal-one_more, play-one_more}
-use Rattle.qplain_laws.proofs.Start.{start_is_lawful}
-use Rattle.qplain_laws.proofs.Tallying.{tallies_have_room}
+use Rattle.qplain_laws.specs.Beginnings.{IsStateOf}
+use Rattle.qplain_laws.proofs.Beginning.{start_is_state_of}
+use Rattle.qplain_laws.proofs.Tallying.{room-after, setup-small}
 use Rattle.qstore.specs.Ready.{committed}
 use Rattle.qstore_journaled.specs.Journaled.{IsPlayed, IsSameJournaled, Journaled}
 use Rattle.qstore_journaled.specs.Next.{HasNext, IsNext}
 
--- a new store is what the empty journal leaves
-pub begins : (j : Journaled) → IsLawfulSetup j.setting → j.stored.state ≡ start j.setting → j.journal ≡ [] → IsPlayed j
-begins j lawful state none = record {
-  setup = lawful;
-  lawful = start_is_lawful j.setting lawful;
+-- what a new store leaves is a state that it can begin with
+pub new_state : (setting : Setting) (S : State) → IsLawfulSetup setting → S ≡ start setting → IsStateOf setting S
+new_state setting S lawful new = subst (IsStateOf setting) (sym new) (start_is_state_of setting lawful)
+
+-- a store is what the empty journal leaves of it
+pub begins : (j : Journaled) → IsStateOf j.setting j.begun → j.stored.state ≡ j.begun → j.journal ≡ [] → IsPlayed j
+begins j beginning state none = record {
+  beginning = beginning;
   legal = rw none tt;
   state = rw none state;
   few = rw none (omega arith);
 }
 
--- with the same setup, state and journal it is so, whatever is ready
+-- with the same setup, beginning, state and journal it is so, whatever is ready
 pub stays : (old new : Journaled) → IsPlayed old → IsSameJournaled old new → IsPlayed new
 stays old new is same = record {
-  setup = rw same.setting is.setup;
-  lawful = rw same.setting is.lawful;
-  legal = rw (same.setting, same.journal) is.legal;
-  state = rw (same.setting, same.journal, same.state) is.state;
+  beginning = rw (same.setting, same.begun) is.beginning;
+  legal = rw (same.begun, same.journal) is.legal;
+  state = rw (same.begun, same.journal, same.state) is.state;
   few = rw same.journal is.few;
 }
 
 -- one entry more, whose reply and state are the plain machine's
 pub played_on : (old new : Journaled) (e : Entry) → IsPlayed old → length old.journal < MAX_ENTRIES → new.setting ≡ old.setting
-    → new.journal ≡ old.journal ++ e ∷ [] → new.stored.state ≡ (played old.stored.state e).0
+    → new.begun ≡ old.begun → new.journal ≡ old.journal ++ e ∷ [] → new.stored.state ≡ (played old.stored.state e).0
     → e.reply ≡ (played old.stored.state e).1 → IsPlayed new
-played_on old new e is few setting journal state reply =
-    let S : State = start old.setting in
+played_on old new e is few setting begun journal state reply =
+    let S : State = old.begun in
     let same : played old.stored.state e ≡ played (play S old.journal) e = ap (λ T. played T e) is.state in
     let left : new.stored.state ≡ play S (old.journal ++ e ∷ []) =
     state ∙ ap (λ (p : State × Reply). p.0) same ∙ sym (play-one_more S old.journal e) in
     let count : length (old.journal ++ e ∷ []) ≡ length old.journal + 1 = length-append old.journal (e ∷ []) in
     record {
-      setup = rw setting is.setup;
-      lawful = rw setting is.lawful;
-      legal = rw (setting, journal) (legal-one_more S old.journal e is.legal (reply ∙ ap (λ (p : State × Reply). p.1) same));
-      state = rw (setting, journal) left;
+      beginning = rw (setting, begun) is.beginning;
+      legal = rw (begun, journal) (legal-one_more S old.journal e is.legal (reply ∙ ap (λ (p : State × Reply). p.1) same));
+      state = rw (begun, journal) left;
       few = rw (journal, count) (omega arith);
     }
 
@@ -60,10 +63,13 @@ played_on old new e is few setting journal state reply =
 pub can_count : (j : Journaled) (reply : Reply) (line : Line) → IsPlayed j → length j.journal < MAX_ENTRIES
     → reply ≡ (step j.stored.state line.cred line.moment line.call).1 → CanCount (tally_of j.journal) (change_of reply)
 can_count j reply line is few stepped =
-    let S : State = start j.setting in
+    let S : State = j.begun in
+    let bounds = setup-small j.setting is.beginning.setup in
+    let keeps = is.beginning.keeps in
     let next : reply ≡ (step (play S j.journal) line.cred line.moment line.call).1 =
     stepped ∙ ap (λ T. (step T line.cred line.moment line.call).1) is.state in
-    rw next (tallies_have_room j.setting j.journal line.cred line.moment line.call is.setup is.legal (omega (arith, few)))
+    rw next (room-after S j.journal line.cred line.moment line.call is.beginning.lawful
+    (subst (λ n. n ≤ MAX_BLOCKS) (sym keeps.size) bounds.0) (subst (λ n. n ≤ MAX_INODES) (sym keeps.most_inodes) bounds.1) is.legal (omega (arith, few)))
 
 -- so may an entry that is ready
 pub next-counts : (j : Journaled) (e : Entry) → IsPlayed j → IsNext j e → CanCount (tally_of j.journal) (change_of e.reply)
@@ -72,9 +78,9 @@ next-counts j e is next =
 
 -- and with it the store is what its journal leaves
 pub next-played : (old new : Journaled) (e : Entry) → IsPlayed old → IsNext old e → new.setting ≡ old.setting
-    → new.journal ≡ old.journal ++ e ∷ [] → new.stored.state ≡ committed old.stored → IsPlayed new
-next-played old new e is next setting journal state =
-    played_on old new e is next.few setting journal (state ∙ ap (λ (p : State × Reply). p.0) next.step) (ap (λ (p : State × Reply). p.1) next.step)
+    → new.begun ≡ old.begun → new.journal ≡ old.journal ++ e ∷ [] → new.stored.state ≡ committed old.stored → IsPlayed new
+next-played old new e is next setting begun journal state =
+    played_on old new e is next.few setting begun journal (state ∙ ap (λ (p : State × Reply). p.0) next.step) (ap (λ (p : State × Reply). p.1) next.step)
 
 -- the entry that is told is the one that was ready
 pub taken-next : (j : Journaled) (e taken : Entry) → IsNext j e → j.next ≡ Some taken → IsNext j taken

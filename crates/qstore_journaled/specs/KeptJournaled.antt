@@ -8,6 +8,7 @@ use Rattle.qstore_journaled.specs.Journaled.{IsPlayed, Journaled}
 abbrev pub journaled_of : Inside → Journaled
 journaled_of a = record {
   setting = a.setup;
+  begun = a.begun;
   stored = a.store;
   journal = take a.len a.entries.items;
   next = slice_get a.entries.items a.len;

@@ -5,3 +5,4 @@ pub mod Taken
 pub mod Lines
 pub mod Next
 pub mod KeptJournaled
+pub mod Origins

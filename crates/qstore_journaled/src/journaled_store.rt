@@ -5,6 +5,8 @@ ghost use Rattle.qplain.specs.declared.bounds.TheConstants.{MAX_ENTRIES};
 ghost use Rattle.qplain.specs.declared.call_fault.CallFault.TheVariants.{JournalFull};
 ghost use Rattle.qplain.specs.declared.entry.Entry.{Entry as EntryValue};
 ghost use Rattle.qplain.specs.Journal.{tally_of};
+ghost use Rattle.qplain.specs.State.{start};
+ghost use Rattle.qplain_laws.specs.Beginnings.{IsStateOf};
 ghost use Rattle.qstore_journaled.specs.Journaled.{IsPlayed, IsSameJournaled};
 ghost use Rattle.qstore_journaled.specs.Lines.{line_of};
 ghost use Rattle.qstore_journaled.specs.Next.{HasNext, HasNextOf};
@@ -12,18 +14,21 @@ ghost use Rattle.qstore_journaled.specs.Taken.{AreItsParts};
 
 use crate::ended::Ended;
 use crate::entry::entry_for;
+use crate::origin::Origin;
 use qplain::{Call, CallFault, Cred, Entry, MAX_ENTRIES, NoMemory, Setup, Tallies};
 use qstore::Store;
 use std::alloc::Global;
 use std::marker::Model;
 
-/// A store with the journal of its calls, the journal's tally, and the setup that it began with. It is always what the
-/// journal leaves when one thread plays it on the plain machine, and each journaled reply is that machine's.
+/// A store with the journal of its calls, the journal's tally, and the setup and the state that it began with. It is
+/// always what the journal leaves when one thread plays it from there on the plain machine, and each journaled reply is
+/// that machine's.
 ///
-/// Contracts see the setup, the store, the journal, and the entry that is ready, if one is.
+/// Contracts see the setup, the state at the beginning, the store, the journal, and the entry that is ready, if one is.
 #[derive(Drop)]
 pub struct JournaledStore {
     setup: Setup,
+    begun: Origin,
     store: Store,
     /// The journal, and behind it the entry that is ready.
     entries: Vec<Entry>,
@@ -50,18 +55,34 @@ impl JournaledStore {
     /// The hashes of names begin at `seed`, which may be any number. An Err is out of memory; then nothing was made.
     pub fn new(alloc: Global, setup: Setup, seed: u64) -> Result<JournaledStore, NoMemory>
         ensures setting { IfOk result (λ j. j.setting ≡ setup) }
+        ensures begun { IfOk result (λ j. j.begun ≡ start setup) }
         ensures journal { IfOk result (λ j. j.journal ≡ []) }
         ensures played { IfOk result IsPlayed }
     {
         let store = Store::new(alloc, setup.copy(alloc)?, seed)?;
         setup.always_lawful();
-        Ok(JournaledStore {
+        Ok(JournaledStore::over(alloc, setup, store))
+    }
+
+    /// A store that stands already, with an empty journal: it begins with what it is. It takes no memory.
+    ///
+    /// The caller owes that a store of the setup can be in that state.
+    pub fn over(alloc: Global, setup: Setup, store: Store) -> JournaledStore
+        requires { IsStateOf setup store.state }
+        ensures setting { result.setting ≡ setup }
+        ensures begun { result.begun ≡ store.state }
+        ensures store { result.stored.state ≡ store.state }
+        ensures journal { result.journal ≡ [] }
+        ensures played { IsPlayed result }
+    {
+        JournaledStore {
+            begun: Origin::of(&store),
             setup,
             store,
             entries: Vec::new(alloc),
             len: 0,
             tallies: Tallies::new(),
-        })
+        }
     }
 
     /// The setup that it began with.
@@ -153,6 +174,7 @@ impl JournaledStore {
     pub fn commit(&mut self) -> u64
         requires { HasNext self.old }
         ensures setting { self.new.setting ≡ self.old.setting }
+        ensures begun { self.new.begun ≡ self.old.begun }
         ensures journal { (e : EntryValue) → self.old.next ≡ Some e
             → self.new.journal ≡ self.old.journal ++ e ∷ [] }
         ensures place { result ≡ length self.old.journal + 1 }
@@ -167,7 +189,7 @@ impl JournaledStore {
 
     /// The setup, the store, the journal and its tally.
     pub fn into_parts(self) -> Ended
-        ensures { AreItsParts self.setting self.journal result }
+        ensures { AreItsParts self.setting self.begun self.journal result }
     {
         let JournaledStore {
             setup,
@@ -175,6 +197,7 @@ impl JournaledStore {
             entries: mut journal,
             len,
             tallies,
+            ..
         } = self;
         journal.truncate(len);
         Ended {

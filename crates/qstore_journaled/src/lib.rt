@@ -1,4 +1,5 @@
-//! A store beside the setup that it began with and the journal of its calls: it is always what the journal leaves.
+//! A store beside the setup and the state that it began with and the journal of its calls: it is always what the journal
+//! leaves.
 #![tactic(auto)]
 
 pub use ended::Ended;
@@ -7,3 +8,4 @@ pub use journaled_store::JournaledStore;
 mod ended;
 mod entry;
 mod journaled_store;
+mod origin;

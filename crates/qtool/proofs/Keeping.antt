@@ -7,6 +7,7 @@ use Rattle.std.proofs.lemmas.List.Elements.{All-cons, All-head, All-nil, All-tai
 use Rattle.std.proofs.lemmas.List.Sums.{sum_by-cons}
 use Rattle.qplain.specs.Journal.{entries_of, entry_of}
 use Rattle.qplain.specs.Setups.{Setting}
+use Rattle.qplain.specs.State.{State}
 use Rattle.qplain.specs.Transcripts.{journaled_lines}
 use Rattle.qplain.specs.declared.call_fault.CallFault.{CallFault}
 use Rattle.qplain.specs.declared.entry.Entry.{Entry}
@@ -150,8 +151,8 @@ some_of : {X : Type 0} (xs : List X) → 0 < length xs → X
 some_of [] less = absurd (omega arith)
 some_of (x ∷ xs) less = x
 
-module _ {S : Type 0} (clocked : Bool) (took : S → Option (List ℕ)) (clients : List Progress) (left : List (EndedClient S)) (setting : Setting) (o : Outcome)
-    (service : IsServiceOf setting o) (of : IsOfClients (comes_to clocked took) clients left o)
+module _ {S : Type 0} (clocked : Bool) (took : S → Option (List ℕ)) (clients : List Progress) (left : List (EndedClient S)) (setting : Setting)
+    (begun : State) (o : Outcome) (service : IsServiceOf setting begun o) (of : IsOfClients (comes_to clocked took) clients left o)
     (new : All (λ c. IsNewClient c.owed c.stands) clients) where
   -- the lines of a client are those that it may write, answered within its share
   its_lines : (k : ℕ) (p : ClientTerms) (b : Served clients k p) (t : Transcript) (l : EndedClient S)

@@ -3,6 +3,7 @@ use Rattle.std.proofs.Common.{◌≡◌, ℕ, List, Option, Result, Ok, Err, IfO
 use Rattle.std.specs.Prelude.{IsOkAnd, string_bytes}
 use Rattle.std.specs.Io.KnownBytes.{Appends}
 use Rattle.qplain.specs.Setups.{Setting}
+use Rattle.qplain.specs.State.{start}
 use Rattle.qrun_replay.specs.Runs.{IsServiceOf}
 use Rattle.qrun_replay.specs.declared.outcome.Outcome.{Outcome}
 use Rattle.qrun.specs.Serving.{KeepsTime}
@@ -29,7 +30,7 @@ prints_run config scripts boards telling journal outcome (Err ending) files left
 -- what a service left was told, and its clients kept to their terms
 pub prints_service : {T : Type 0} (job : ServeJob) (setup : Result Setting Ending) (configured : List NamedClient) (outcome : Outcome)
     (result : Result T Ending) (old new : Scene) → IfOk setup (λ s. IsConfigNaming old.files (string_bytes job.config) s configured)
-    → IsOkAnd setup (λ s. IsServiceOf s outcome) → KeepsTime job.clock outcome
+    → IsOkAnd setup (λ s. IsServiceOf s (start s) outcome) → KeepsTime job.clock outcome
     → AreKept (terms_told job.shares (clients_of_job job configured)) outcome.journal.entries
     → Appends (told_at (is_taken (clients_of_job job configured)) old) (told_at (is_taken (clients_of_job job configured)) new)
     (outcome_end outcome job.at) → IfOk result (λ _. PrintsService job old new)

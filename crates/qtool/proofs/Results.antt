@@ -16,3 +16,8 @@ pub still_ok : {T E D : Type 0} (P Q : T → Type 0) (found : Result T E) (told 
 still_ok P Q (Ok x) told R S is same follows holds = rw is (follows x holds)
 still_ok P Q (Err e) (Ok y) R S is same follows holds = absurd (cc same)
 still_ok P Q (Err e) (Err d) R S is same follows holds = tt
+
+-- what is known of a value twice is known of it at once
+pub both_ok : {T E : Type 0} (P Q : T → Type 0) (found : Result T E) → IfOk found P → IfOk found Q → IfOk found (λ x. P x × Q x)
+both_ok P Q (Ok x) one other = (one, other)
+both_ok P Q (Err e) one other = tt

@@ -5,6 +5,7 @@ use Rattle.std.specs.List.{AllZip}
 use Rattle.qplain.specs.Journals.{Written}
 use Rattle.qplain.specs.Setups.{IsSetupOf, Setting, in_edition}
 use Rattle.qplain.specs.declared.line.Line.{Line}
+use Rattle.qplain.specs.State.{start}
 use Rattle.qtext_config.specs.ConfigClients.{NamedClient}
 use Rattle.qtext_config.specs.Configs.{clients_in, setting_in}
 use Rattle.qtext_files.specs.Journals.{journal_of}
@@ -51,7 +52,7 @@ pub record IsRunUnder (files : Held) (config : List ℕ) (names : List (List ℕ
   pub scripts : List (List Line)
   pub config_is : IsConfigUnder files config setting
   pub scripts_are : AreScriptsUnder files names scripts
-  pub is : IsOutcomeOf setting scripts outcome
+  pub is : IsOutcomeOf setting (start setting) scripts outcome
   pub looks : length outcome.boards ≡ boards
 
 -- the outcome is the replay of the journal under this name, under the configuration of this name
@@ -59,11 +60,12 @@ pub record IsReplayUnder (files : Held) (config journal : List ℕ) (outcome : O
   pub setting : Setting
   pub config_is : IsConfigUnder files config setting
   pub journal_is : IsJournalUnder files journal outcome.journal
-  pub is : IsReplayOf (in_edition outcome.journal.edition setting) outcome.journal outcome
+  pub is : IsReplayOf (in_edition outcome.journal.edition setting) (start (in_edition outcome.journal.edition setting))
+      outcome.journal outcome
 
 -- the outcome is what a service left under the configuration of this name, which names these clients
 pub record IsServiceUnder (files : Held) (config : List ℕ) (clients : List NamedClient) (outcome : Outcome)
     : Type 0 where
   pub setting : Setting
   pub config_is : IsConfigNaming files config setting clients
-  pub is : IsServiceOf setting outcome
+  pub is : IsServiceOf setting (start setting) outcome

@@ -2,6 +2,7 @@
 ghost use Rattle.std.specs.Prelude.{◌≡◌, ◌<◌, ◌≤◌, All, IfOk, IfSome, IsOkAnd, OnOk, length, map, true};
 ghost use Rattle.std.specs.Io.KnownBytes.{Appends};
 ghost use Rattle.qplain.specs.declared.edition.Edition.TheVariants.{Two};
+ghost use Rattle.qplain.specs.State.{start};
 ghost use Rattle.qtext_outcome.specs.Outcomes.{outcome_end};
 ghost use Rattle.qshare.specs.declared.opening.TheConstants.{MAX_SEATS};
 ghost use Rattle.qrun.specs.Serving.{KeepsTime, monitors_in};
@@ -168,7 +169,7 @@ fn serve_as_told<F: Files + NamedStreams + Send, R: Threads + Wait + Clock + Syn
 ) -> Result<Left<F>, Ending>
     requires some { (0 < length names.clients.now) × (setup.edition ≡ Two)
         × (seats_for (length names.clients.now) (monitors_in names.board) ≤ MAX_SEATS) }
-    ensures outcome { IfOk result (λ left. IsServiceOf setup left.outcome) }
+    ensures outcome { IfOk result (λ left. IsServiceOf setup (start setup) left.outcome) }
     ensures kept { IfOk result
         (λ left. AreKept (map terms_in names.entry.clients.now) left.outcome.journal.entries) }
 {
@@ -205,7 +206,7 @@ fn serve_by_clock<F: Files + NamedStreams + Send, R: Threads + Wait + Clock + Sy
 ) -> Result<Left<F>, Ending>
     requires some { (0 < length names.clients.now) × (setup.edition ≡ Two)
         × (seats_for (length names.clients.now) (monitors_in names.board) ≤ MAX_SEATS) }
-    ensures outcome { IfOk result (λ left. IsServiceOf setup left.outcome × KeepsTime true left.outcome) }
+    ensures outcome { IfOk result (λ left. IsServiceOf setup (start setup) left.outcome × KeepsTime true left.outcome) }
     ensures kept { IfOk result
         (λ left. AreKept (map terms_in names.entry.clients.now) left.outcome.journal.entries) }
 {
@@ -244,7 +245,7 @@ fn serve_of<F: Files + NamedStreams + Send, R: Threads + Wait + Clock + Sync>(
 ) -> Result<Left<F>, Ending>
     requires some { 0 < length names.clients.now }
     requires newest { IfOk setup (λ setup. setup.edition ≡ Two) }
-    ensures of { IfOk result (λ left. IsOkAnd setup (λ setup. IsServiceOf setup left.outcome)) }
+    ensures of { IfOk result (λ left. IsOkAnd setup (λ setup. IsServiceOf setup (start setup) left.outcome)) }
     ensures moments { IfOk result (λ left. KeepsTime job.now.clock left.outcome) }
     ensures kept { IfOk result
         (λ left. AreKept (map terms_in names.entry.clients.now) left.outcome.journal.entries) }

@@ -10,7 +10,7 @@ use Rattle.qplain.specs.declared.line.Line.{Line}
 use Rattle.qplain.specs.declared.receipt.Receipt.{Receipt}
 use Rattle.qplain.specs.Setups.{Setting}
 use Rattle.qplain.specs.declared.reply.Reply.{Reply}
-use Rattle.qplain.specs.State.{State, start}
+use Rattle.qplain.specs.State.{State}
 use Rattle.qplain.specs.Step.{step}
 use Rattle.qplain.specs.Journal.{IsLegal, play, played, tally_of}
 use Rattle.qplain.specs.Transcripts.{journaled_lines}
@@ -71,7 +71,7 @@ begins S worker (e ∷ es) (f ∷ fs) later one other mine its lines =
     (All-tail (Own worker) e es mine) (All-tail (Own worker) f fs its) rest in
     (more.0, λ i. same i ∷ more.1 i)
 
-module _ (setting : Setting) (lines : List Line) (o : Outcome) (host : IsHostOf setting lines o) where
+module _ (setting : Setting) (S : State) (lines : List Line) (o : Outcome) (host : IsHostOf setting S lines o) where
   -- the one transcript
   its_transcript : IsTranscriptOf 1 host.transcript.lines o.journal.entries host.transcript
   unfolding AreTranscriptsOf
@@ -99,29 +99,29 @@ module _ (setting : Setting) (lines : List Line) (o : Outcome) (host : IsHostOf 
   its_workers : o.journal.workers ≡ 1
   its_workers = host.service.left.workers ∙ ap (λ ts. length (lines_of ts)) host.alone
 
-pub begin_alike : (setting : Setting) (lines later : List Line) (a b : Outcome) → IsHostOf setting lines a → IsHostOf setting (lines ++ later) b
+pub begin_alike : (setting : Setting) (S : State) (lines later : List Line) (a b : Outcome) → IsHostOf setting S lines a → IsHostOf setting S (lines ++ later) b
     → IsPrefix a.journal.entries b.journal.entries
-begin_alike setting lines later a b one other =
-    begins (start setting) 1 a.journal.entries b.journal.entries later one.service.left.legal other.service.left.legal
-    (its_entries setting lines a one) (its_entries setting (lines ++ later) b other)
-    (its_lines setting (lines ++ later) b other ∙ ap (λ ls. ls ++ later) (sym (its_lines setting lines a one)))
+begin_alike setting S lines later a b one other =
+    begins S 1 a.journal.entries b.journal.entries later one.service.left.legal other.service.left.legal
+    (its_entries setting S lines a one) (its_entries setting S (lines ++ later) b other)
+    (its_lines setting S (lines ++ later) b other ∙ ap (λ ls. ls ++ later) (sym (its_lines setting S lines a one)))
 
-pub are_alike : (setting : Setting) (lines : List Line) (a b : Outcome) → IsHostOf setting lines a → IsHostOf setting lines b → AreAlike a b
-are_alike setting lines a b one other =
+pub are_alike : (setting : Setting) (S : State) (lines : List Line) (a b : Outcome) → IsHostOf setting S lines a → IsHostOf setting S lines b → AreAlike a b
+are_alike setting S lines a b one other =
     let es = a.journal.entries in
     let fs = b.journal.entries in
-    let prefix = begin_alike setting lines [] a b one (subst (λ ls. IsHostOf setting ls b) (sym (append-nil lines)) other) in
+    let prefix = begin_alike setting S lines [] a b one (subst (λ ls. IsHostOf setting S ls b) (sym (append-nil lines)) other) in
     let many : length es ≡ length fs =
-    sym (length-map es line_of_entry) ∙ ap length (its_lines setting lines a one ∙ sym (its_lines setting lines b other)) ∙ length-map fs line_of_entry in
+    sym (length-map es line_of_entry) ∙ ap length (its_lines setting S lines a one ∙ sym (its_lines setting S lines b other)) ∙ length-map fs line_of_entry in
     let none : prefix.0 ≡ [] = nil_from_length prefix.0 (omega (arith, many, ap length prefix.1, length-append es prefix.0)) in
     let entries : es ≡ fs = sym (append-nil es) ∙ ap (λ rest. es ++ rest) (sym none) ∙ prefix.1 in
     let left = one.service.left in
     let right = other.service.left in
-    let store : a.store.state ≡ b.store.state = left.store ∙ ap (play (start setting)) entries ∙ sym right.store in
+    let store : a.store.state ≡ b.store.state = left.store ∙ ap (play S) entries ∙ sym right.store in
     record {
       journal = λ i. record {
         edition = (left.edition.1 ∙ sym right.edition.1) i;
-        workers = (its_workers setting lines a one ∙ sym (its_workers setting lines b other)) i;
+        workers = (its_workers setting S lines a one ∙ sym (its_workers setting S lines b other)) i;
         entries = entries i;
       };
       tallies = left.tallies ∙ ap tally_of entries ∙ sym right.tallies;

@@ -39,7 +39,7 @@ pub fn run_with<G: Gate + Sync, R: Threads + Wait + Sync>(
     gate: &G,
 ) -> Result<Outcome, RunFault>
     requires { CanRun (length scripts.items) options }
-    ensures outcome { IfOk result (IsOutcomeOf config.setup scripts.items) }
+    ensures outcome { IfOk result (IsOutcomeOf config.setup (start config.setup) scripts.items) }
     ensures looks { IfOk result (λ o. length o.boards ≡ options.boards) }
     ensures fault { IfErr result (IsFaultOf (seats_for (length scripts.items) options.boards)) }
 {
@@ -53,7 +53,7 @@ pub fn run<R: Threads + Wait + Sync>(
     scripts: Vec<Script>,
 ) -> Result<Outcome, RunFault>
     requires { (0 < length scripts.items) × (length scripts.items ≤ MAX_SEATS) }
-    ensures outcome { IfOk result (IsOutcomeOf config.setup scripts.items) }
+    ensures outcome { IfOk result (IsOutcomeOf config.setup (start config.setup) scripts.items) }
     ensures looks { IfOk result (λ o. length o.boards ≡ 0) }
     ensures fault { IfErr result (IsFaultOf (length scripts.items)) }
 {
@@ -71,13 +71,15 @@ pub fn replay(
     journal: &Journal,
     seed: u64,
 ) -> Result<Outcome, ReplayFault>
-    ensures outcome { IfOk result (IsReplayOf (in_edition journal.now.edition config.setup) journal.now) }
+    ensures outcome { IfOk result (IsReplayOf (in_edition journal.now.edition config.setup)
+        (start (in_edition journal.now.edition config.setup)) journal.now) }
     ensures mismatch { (place : ℕ) → result ≡ Err (Mismatch place)
         → IsFirstMismatch (start (in_edition journal.now.edition config.setup)) journal.now.entries place }
 
     // The journal that workers have left under this configuration gives back what they have left, but for the lines
     // that failed.
-    ensures of_a_run { (lines : List (List Line)) (run : Outcome) → IsLeftByWorkers config.setup lines run
+    ensures of_a_run { (lines : List (List Line)) (run : Outcome)
+        → IsLeftByWorkers config.setup (start config.setup) lines run
         → journal.now ≡ run.journal → GivesBack run result }
 {
     qrun_replay::replay(alloc, config.setup, journal, seed)

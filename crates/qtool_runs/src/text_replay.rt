@@ -2,6 +2,7 @@
 ghost use Rattle.std.specs.Prelude.{◌≡◌, ℕ, List, Ok, Err, IfOk};
 ghost use Rattle.qplain.specs.declared.line.Line.{Line};
 ghost use Rattle.qplain.specs.Setups.{in_edition};
+ghost use Rattle.qplain.specs.State.{start};
 ghost use Rattle.qrun_replay.specs.declared.outcome.Outcome.{Outcome};
 ghost use Rattle.qrun_replay.specs.Replays.{IsReplayOf};
 ghost use Rattle.qrun_replay.specs.Runs.{IsLeftByWorkers};
@@ -68,14 +69,16 @@ pub fn replay_text(
     seed: u64,
 ) -> Result<Outcome, TextReplayFault>
     ensures outcome { IfOk result (λ o. (journal_of text.items ≡ Ok o.journal)
-        × IsReplayOf (in_edition o.journal.edition config.setup) o.journal o) }
+        × IsReplayOf (in_edition o.journal.edition config.setup)
+        (start (in_edition o.journal.edition config.setup)) o.journal o) }
     ensures text { (fault : TextFault) → result ≡ Err (Text fault) → journal_of text.items ≡ Err fault }
     ensures mismatch { (place : ℕ) → result ≡ Err (Mismatch place) → IsMismatchIn config.setup text.items place }
 
     // What `write_journal` has written of a journal that workers have left, replayed under their configuration, gives
     // back what they have left, but for the lines that failed. `CanBeRead` is what `write_journal` ensures.
-    ensures of_a_run { (lines : List (List Line)) (run : Outcome) → IsLeftByWorkers config.setup lines run
-        → CanBeRead run.journal → text.items ≡ journal_spelling run.journal → GivesBackOf run result }
+    ensures of_a_run { (lines : List (List Line)) (run : Outcome)
+        → IsLeftByWorkers config.setup (start config.setup) lines run → CanBeRead run.journal
+        → text.items ≡ journal_spelling run.journal → GivesBackOf run result }
 {
     let journal = Journal::read(alloc, &text)?;
     drop(text);

@@ -32,5 +32,5 @@ returns-clause-outcome c =
     let ts : List Transcript = map (transcript_from journal) c.args.answered.items in
     let many : c.len-workers.result ≡ length ts =
     c.len-workers.ensures ∙ c.args.answered.ok.0 ∙ sym (length-map c.args.answered.items (transcript_from journal)) in
-    gathered_told c.args.store.setting journal ts c.args.looks.items c.len-workers.result c.in_ok-outcome.outcome c.requires.edition
+    gathered_told c.args.store.setting c.args.store.begun journal ts c.args.looks.items c.len-workers.result c.in_ok-outcome.outcome c.requires.edition
     c.requires.told.told c.requires.lawful many (rw (sym c.new.ensures) c.in_ok-outcome.ensures)

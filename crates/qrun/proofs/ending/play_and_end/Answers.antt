@@ -1,6 +1,5 @@
 use Rattle.std.proofs.Common.{◌≡◌, true, false, length, option_map, ap, subst, sym, ◌∙◌, arith}
 use Rattle.std.proofs.lemmas.List.{length-map}
-use Rattle.qplain.specs.State.{start}
 use Rattle.qaudit_checks.specs.LawfulBoards.{AreLawful, boards_in}
 use Rattle.qshare_history.specs.Moments.{NeverFalls}
 use Rattle.qrun_replay.specs.Runs.{IsServiceOf}
@@ -22,19 +21,19 @@ returns-in_err-works-clause-fault g c =
 
 pub make_outcome-requires-clause-told : goal.make_outcome-requires-clause-told
 make_outcome-requires-clause-told g c =
-    let at = handed_in_by g.C.Client.talk g.M.Monitor.sees _ _ _ _ _ _ _ _ _ _ _ c.requires.staff c.in_ok-workers.ensures.clients_are
+    let at = handed_in_by g.C.Client.talk g.M.Monitor.sees _ _ _ _ _ _ _ _ _ _ _ _ c.requires.staff c.in_ok-workers.ensures.clients_are
     c.in_ok-works.ensures c.in_ok-own.ensures.shares c.part_observed-watch.ensures.watch c.in_ok-shares.ensures.shares in
-    (works_placed _ _ _ _ _ _ _ _ _ at c.in-Ok.store.journal c.in-Ok.ensures.end.seen (ap (λ t. t.calls) c.in-Ok.ensures.end.tally)
+    (works_placed _ _ _ _ _ _ _ _ _ _ at c.in-Ok.store.journal c.in-Ok.ensures.end.seen (ap (λ t. t.calls) c.in-Ok.ensures.end.tally)
     c.in-Ok.ensures.end.played.few c.in_ok-own.answered.items c.in_ok-own.ensures.answered).0
 
 pub make_outcome-requires-clause-lawful : goal.make_outcome-requires-clause-lawful
 make_outcome-requires-clause-lawful g c =
     let looks = c.in_ok-shares.looks.items in
     let journal = c.in-Ok.store.journal in
-    let at = handed_in_by g.C.Client.talk g.M.Monitor.sees _ _ _ _ _ _ _ _ _ _ _ c.requires.staff c.in_ok-workers.ensures.clients_are
+    let at = handed_in_by g.C.Client.talk g.M.Monitor.sees _ _ _ _ _ _ _ _ _ _ _ _ c.requires.staff c.in_ok-workers.ensures.clients_are
     c.in_ok-works.ensures c.in_ok-own.ensures.shares c.part_observed-watch.ensures.watch c.in_ok-shares.ensures.shares in
-    subst (λ s. AreLawful (start s) journal (boards_in looks)) (sym c.in-Ok.ensures.setting)
-    (looks_lawful _ _ _ _ _ _ _ _ _ at journal c.in-Ok.ensures.end.seen looks c.in_ok-shares.ensures.looks)
+    subst (λ S. AreLawful S journal (boards_in looks)) (sym c.in-Ok.ensures.begun)
+    (looks_lawful _ _ _ _ _ _ _ _ _ _ at journal c.in-Ok.ensures.end.seen looks c.in_ok-shares.ensures.looks)
 
 pub returns-in_err-outcome-in-Ok-clause-fault : goal.returns-in_err-outcome-in-Ok-clause-fault
 returns-in_err-outcome-in-Ok-clause-fault g c =
@@ -44,14 +43,14 @@ returns-in_err-outcome-in-Ok-clause-fault g c =
 
 pub unreachable-requires : goal.unreachable-requires
 unreachable-requires g c =
-    let at = handed_in_by g.C.Client.talk g.M.Monitor.sees _ _ _ _ _ _ _ _ _ _ _ c.requires.staff c.in_ok-workers.ensures.clients_are
+    let at = handed_in_by g.C.Client.talk g.M.Monitor.sees _ _ _ _ _ _ _ _ _ _ _ _ c.requires.staff c.in_ok-workers.ensures.clients_are
     c.in_ok-works.ensures c.in_ok-own.ensures.shares c.part_observed-watch.ensures.watch c.in_ok-shares.ensures.shares in
-    let wrong : false ≡ true = c.in-Err.ensures.all (all_shares_there _ _ _ _ _ _ _ _ _ at) in
+    let wrong : false ≡ true = c.in-Err.ensures.all (all_shares_there _ _ _ _ _ _ _ _ _ _ at) in
     absurd cc
 
 pub returns-clause-played : goal.returns-clause-played
 returns-clause-played g c =
-    let at = handed_in_by g.C.Client.talk g.M.Monitor.sees _ _ _ _ _ _ _ _ _ _ _ c.requires.staff c.in_ok-workers.ensures.clients_are
+    let at = handed_in_by g.C.Client.talk g.M.Monitor.sees _ _ _ _ _ _ _ _ _ _ _ _ c.requires.staff c.in_ok-workers.ensures.clients_are
     c.in_ok-works.ensures c.in_ok-own.ensures.shares c.part_observed-watch.ensures.watch c.in_ok-shares.ensures.shares in
     let journal = c.in-Ok.store.journal in
     let seen = c.in-Ok.ensures.end.seen in
@@ -60,11 +59,12 @@ returns-clause-played g c =
     let outcome = c.in_ok-outcome-in-Ok.outcome in
     let told = c.in_ok-outcome-in-Ok.ensures.told in
     record {
-      ended = has_ended _ _ _ _ _ _ _ _ _ at journal seen counted few c.in_ok-own.left.items c.in_ok-shares.looks.items outcome
-          (subst (λ s. IsServiceOf s outcome) c.in-Ok.ensures.setting c.in_ok-outcome-in-Ok.ensures.outcome)
-          (told.0 ∙ (works_placed _ _ _ _ _ _ _ _ _ at journal seen counted few c.in_ok-own.answered.items c.in_ok-own.ensures.answered).1)
+      ended = has_ended _ _ _ _ _ _ _ _ _ _ at journal seen counted few c.in_ok-own.left.items c.in_ok-shares.looks.items outcome
+          (subst (λ s. IsServiceOf s g.S.StoreId.id.begun outcome) c.in-Ok.ensures.setting
+          (subst (λ S. IsServiceOf c.in-Ok.store.setting S outcome) c.in-Ok.ensures.begun c.in_ok-outcome-in-Ok.ensures.outcome))
+          (told.0 ∙ (works_placed _ _ _ _ _ _ _ _ _ _ at journal seen counted few c.in_ok-own.answered.items c.in_ok-own.ensures.answered).1)
           c.in_ok-own.ensures.left c.in_ok-shares.ensures.looks told.1;
-      shown = monitor_shown g.M.Monitor.sees (start g.S.StoreId.id.setting) journal _ _ _ _ c.args.observer _ _ c.in_ok-works.ensures.1
+      shown = monitor_shown g.M.Monitor.sees g.S.StoreId.id.begun journal _ _ _ _ c.args.observer _ _ c.in_ok-works.ensures.1
           c.part_observed-watch.ensures.watch c.part_observed-watch.ensures.left c.in_ok-shares.ensures.shares seen told.2;
       moments = λ rules. subst NeverFalls (sym told.2) (c.in-Ok.ensures.end.moments rules);
     }

@@ -1,5 +1,4 @@
 use Rattle.std.proofs.Common.{◌≡◌, [], None, length, ap, append-nil, rules, sym, subst, ◌∙◌}
-use Rattle.qplain.specs.State.{start}
 use Rattle.qaudit_checks.specs.LawfulBoards.{AreLawful, boards_in}
 use Rattle.qrun.specs.Monitors.{IsShown}
 use Rattle.qrun.proofs.Observing.{IsShowing, shown_all, shows_next, shows_nothing, shows_on}
@@ -8,7 +7,7 @@ use Rattle.qrun.proofs.monitor.show_boards.Goals as goal
 
 pub loop-init : goal.loop-init
 loop-init g c =
-    let S = start g.S.StoreId.id.setting in
+    let S = g.S.StoreId.id.begun in
     let sees = g.M.Monitor.sees in
     let seen = c.showing.inside.seat.seen in
     let monitor = c.showing.inside.monitor in
@@ -17,7 +16,7 @@ loop-init g c =
 
 pub loop-preserved : goal.loop-preserved
 loop-preserved g c =
-    let S = start g.S.StoreId.id.setting in
+    let S = g.S.StoreId.id.begun in
     let inv = c.loop.invariant in
     let asked = c.ask-published.ensures in
     let shown = c.show_next-seen.ensures in
@@ -31,7 +30,7 @@ loop-preserved g c =
 
 pub returns-then-last-clause-watch : goal.returns-then-last-clause-watch
 returns-then-last-clause-watch g c =
-    let S = start g.S.StoreId.id.setting in
+    let S = g.S.StoreId.id.begun in
     let inv = c.loop.invariant in
     let asked = c.ask-published.ensures in
     let shown = c.show_next-seen.ensures in
@@ -45,7 +44,7 @@ returns-then-last-clause-watch g c =
 
 pub returns-then-last-clause-shown : goal.returns-then-last-clause-shown
 returns-then-last-clause-shown g c =
-    let S = start g.S.StoreId.id.setting in
+    let S = g.S.StoreId.id.begun in
     let inv = c.loop.invariant in
     let asked = c.ask-published.ensures in
     let shown = c.show_next-seen.ensures in

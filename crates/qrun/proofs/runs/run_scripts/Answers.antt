@@ -25,5 +25,5 @@ returns-in_err-played-clause-fault g c =
 
 pub returns-clause-outcome : goal.returns-clause-outcome
 returns-clause-outcome g c =
-    run_ended c.args.setup c.args.scripts.items c.in_ok-clients_of.field-0.items _ _ _ c.in_ok-played.played.outcome
+    run_ended c.args.setup _ c.args.scripts.items c.in_ok-clients_of.field-0.items _ _ _ c.in_ok-played.played.outcome
     c.in_ok-clients_of.ensures c.new-crew.ensures c.in_ok-played.ensures.played.ended

@@ -1,6 +1,5 @@
 use Rattle.std.proofs.Common.{arith, subst, sym, ap, ◌∙◌}
 use Rattle.std.proofs.lemmas.List.{nil_from_length}
-use Rattle.qplain.specs.State.{start}
 use Rattle.qaudit_checks.specs.LawfulBoards.{AreLawful, boards_in}
 use Rattle.qshare_history.proofs.Prefixes.{prefix_trans}
 use Rattle.qrun.proofs.Watched.{look_more, no_boards}
@@ -8,7 +7,7 @@ use Rattle.qrun.proofs.watcher.look_on.Goals as goal
 
 pub loop-look-init : goal.loop-look-init
 loop-look-init g c =
-    let S = start g.S.StoreId.id.setting in
+    let S = g.S.StoreId.id.begun in
     let seat = c.watcher.inside.seat in
     let room = c.watcher.inside.room in (
       c.watcher.invariant.1,
@@ -30,7 +29,7 @@ loop-look-preserved g c =
       omega (arith, pushed.capacity, so_far.1),
       looked.look.seen.worker ∙ waited.worker ∙ so_far.2,
       looked.look.tally ∙ waited.tally ∙ so_far.3,
-      look_more (start g.S.StoreId.id.setting) c.loop-look.seat.seen c.board.new.self.seen c.loop-look.looks.items
+      look_more g.S.StoreId.id.begun c.loop-look.seat.seen c.board.new.self.seen c.loop-look.looks.items
           c.push_reserved.new.self.items c.board.result so_far.4
           begins looked.board pushed.items,
     )
@@ -38,7 +37,7 @@ loop-look-preserved g c =
 pub returns : goal.returns
 returns g c =
     let so_far = c.loop-look.invariant in
-    let S = start g.S.StoreId.id.setting in
+    let S = g.S.StoreId.id.begun in
     let looks = c.loop-look.looks in
     let boards = ap (λ w. w.boards) c.watcher.view_is in
     record {

@@ -10,8 +10,8 @@ pub new-journal-requires : goal.new-journal-requires
 new-journal-requires c =
     let played = c.store-kept.ensures.played in
     rw (c.new.ensures, c.current_edition.ensures, c.into_parts-setup.ensures.setup, c.into_parts-setup.ensures.journal_is)
-    (journal_left c.args.store.setting c.args.store.journal c.args.workers played.lawful played.legal c.requires.few c.requires.workers c.requires.each
-    c.requires.of_edition)
+    (journal_left c.args.store.setting c.args.store.begun c.args.store.journal c.args.workers played.beginning.lawful played.legal
+    c.requires.few c.requires.workers c.requires.each c.requires.of_edition)
 
 pub transcripts_of-requires : goal.transcripts_of-requires
 transcripts_of-requires c =

@@ -6,5 +6,5 @@ pub returns-in_err-replay_entry-clause-mismatch : goal.returns-in_err-replay_ent
 returns-in_err-replay_entry-clause-mismatch c place told =
     let same : c.from_residual.result ≡ Err c.in_err-replay_entry.field-0.0 = search rules in
     mismatch_at _ c.args.entries.now c.loop-entry.entry-index c.entry-item.result place c.loop-entry-test.true
-    (rw (sym c.loop-entry.invariant.setting, sym c.loop-entry.invariant.journal, sym c.entry-item.is)
+    (rw (sym c.loop-entry.invariant.begun, sym c.loop-entry.invariant.journal, sym c.entry-item.is)
     (c.in_err-replay_entry.ensures.mismatch place (sym same ∙ told)))

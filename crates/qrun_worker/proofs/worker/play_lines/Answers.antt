@@ -26,7 +26,7 @@ loop-preserved g c =
     let called = c.call-answer.ensures in
     let one : HasGone old.seen new.seen old new (stands asked) (stands after) (talk before) (talk after) =
     called_further g.C.Form.ReceiptForm.form g.S.StoreId.id.clocked c.line-line.result.now g.C.Client.clocked
-    c.requires.clock g.S.StoreId.id.setting (stands asked) (stands after) (talk before) (talk asked)
+    c.requires.clock g.S.StoreId.id.begun (stands asked) (stands after) (talk before) (talk asked)
     (talk after) (g.C.Client.owed asked) c.line-line.ensures c.if-not-next.ensures.talk old new c.call-answer.result c.tell.ensures.told
     called.seen called.called called.kept called.full in (
       further c.args.seat.now.seen old.seen new.seen c.args.seat.now old new (stands begun) (stands before) (stands after) (talk begun)

@@ -1,5 +1,6 @@
 use Rattle.std.proofs.Common.{◌≡◌, Ok, subst}
 use Rattle.qplain.specs.Setups.{in_edition}
+use Rattle.qplain.specs.State.{start}
 use Rattle.qrun_replay.specs.Replays.{IsReplayOf}
 use Rattle.qrun_replay.specs.declared.outcome.Outcome.{Outcome}
 use Rattle.qtext_files.specs.Journals.{journal_of}
@@ -15,7 +16,8 @@ returns-clause-played g c =
     let setting = c.in_ok-config.config.setup in
     let text = c.in_ok-text.text.items in
     let under : IsUnder files journal text = subst (λ f. IsUnder f journal text) c.in_ok-config.ensures.same c.in_ok-text.ensures.under in
-    still_ok (λ (o : Outcome). (journal_of text ≡ Ok o.journal) × IsReplayOf (in_edition o.journal.edition setting) o.journal o)
+    still_ok (λ (o : Outcome). (journal_of text ≡ Ok o.journal)
+    × IsReplayOf (in_edition o.journal.edition setting) (start (in_edition o.journal.edition setting)) o.journal o)
     (IsReplayUnder files c.args.config.now journal) c.replay_text.result c.map_err.result _ _ c.map_err.ensures.cases c.map_err.ensures.variant
     (λ o is. record {
       setting = setting;

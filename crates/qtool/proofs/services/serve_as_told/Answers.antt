@@ -4,4 +4,4 @@ use Rattle.qtool.proofs.services.serve_as_told.Goals as goal
 
 pub returns-in-Ok-clause-kept : goal.returns-in-Ok-clause-kept
 returns-in-Ok-clause-kept g c =
-    keeps_terms false _ _ _ _ _ c.in-Ok.ensures.outcome.0 c.in-Ok.ensures.clients c.in_ok-clients.ensures.new _ c.in_ok-clients.ensures.terms
+    keeps_terms false _ _ _ _ _ _ c.in-Ok.ensures.outcome.0 c.in-Ok.ensures.clients c.in_ok-clients.ensures.new _ c.in_ok-clients.ensures.terms

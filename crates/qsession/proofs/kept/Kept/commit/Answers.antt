@@ -7,5 +7,5 @@ returns-in-Plain c = made_plain c.args.self.now c.in-Plain.store c.commit.new.se
 pub returns-in-Journaled : goal.returns-in-Journaled
 returns-in-Journaled c =
     let done = c.commit-in-Journaled in
-    made_journaled c.args.self.now c.in-Journaled.store done.new.self c.in-Journaled.is c.requires done.ensures.setting done.ensures.journal
+    made_journaled c.args.self.now c.in-Journaled.store done.new.self c.in-Journaled.is c.requires done.ensures.setting done.ensures.begun done.ensures.journal
     done.ensures.played

@@ -25,7 +25,11 @@ invariant_of-self-2 g c =
     let given = ap (λ (o : Option Entry). (unwrap_or o e).moment) (sym c.next.ensures ∙ c.in_ok-ready.ensures.next.1.is) in
     let waited = subst (g.B.Boards.waits c.self.inside.boards c.self.inside.history.entries) (sym same.journal) c.self.invariant.1 in (
       record {
-        of = record { setting_is = left.setting ∙ same.setting ∙ was.of.setting_is; played = left.played };
+        of = record {
+          setting_is = left.setting ∙ same.setting ∙ was.of.setting_is;
+          begun_is = left.begun ∙ same.begun ∙ was.of.begun_is;
+          played = left.played;
+        };
         published_of = was.published_of;
         begins = prefix_trans _ _ _ was.begins (e ∷ [], sym journal);
         tally_is = c.count_call.ensures.total ∙ sym (count_call-requires-clause-totals g c.before) ∙ c.tallies.ensures;

@@ -15,6 +15,6 @@ publish-requires g c =
     let is = c.store-kept.ensures.store in
     let replaces : Replaces rows (rows_of store.stored.state) = subst (λ s. Replaces rows (rows_of s.state)) is c.in-Ok.ensures in
     brings_on id store shown shown rows _ c.args.history c.requires.store
-    (all_lead id.setting store shown rows c.requires.store replaces) c.requires.begins c.requires.history
+    (all_lead id.setting id.begun store shown rows c.requires.store replaces) c.requires.begins c.requires.history
     (ap length c.entries.ensures.entries) refl (c.blocks-2.ensures ∙ ap (λ s. total_of s.state Blocks) is)
     (c.inodes.ensures ∙ ap (λ s. total_of s.state Inodes) is)

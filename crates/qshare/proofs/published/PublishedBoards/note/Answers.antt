@@ -13,5 +13,5 @@ returns-clause-ok g c published e is waits =
     let longer = c.let_wait.new.waiting.items in
     let led = subst (λ (s : Stored). IfOk c.let_wait.result (λ x. LeadsOn waiting s.state longer (committed s)))
     c.store.ensures.store c.let_wait.ensures.rows in
-    noted g.S.StoreId.id.setting store e c.args.self.now.publisher published waiting longer c.let_wait.result c.requires.store
+    noted g.S.StoreId.id.setting g.S.StoreId.id.begun store e c.args.self.now.publisher published waiting longer c.let_wait.result c.requires.store
     (taken-next store c.requires.next.0 e c.requires.next.1 is) waits led

@@ -25,7 +25,7 @@ invariant_of-self c =
     let next = told-next j _ e c.requires c.self.view_is c.next.ensures in
     let entries = one_more a.entries.items a.len e next.is in
     record {
-      played = next-played j _ e c.self.invariant.played next refl entries c.commit.ensures;
+      played = next-played j _ e c.self.invariant.played next refl refl entries c.commit.ensures;
       len = omega (arith, slice_get_within a.entries.items a.len e next.is);
       tallies = c.with_call-self-inside.ensures ∙ (λ i. counted (c.self.invariant.tallies i) (c.change-change.ensures i))
           ∙ sym (tally-one_more j.journal e) ∙ ap tally_of (sym entries);
@@ -42,4 +42,4 @@ returns-clause-played c =
     let j = journaled_of a in
     let e = c.next.result.now in
     let next = told-next j _ e c.requires c.self.view_is c.next.ensures in
-    next-played j _ e c.self.invariant.played next refl (one_more a.entries.items a.len e next.is) c.commit.ensures
+    next-played j _ e c.self.invariant.played next refl refl (one_more a.entries.items a.len e next.is) c.commit.ensures

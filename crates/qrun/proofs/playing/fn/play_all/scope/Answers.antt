@@ -2,7 +2,6 @@ use Rattle.std.proofs.Common.{◌≡◌, ℕ, ◌+◌, ◌<◌, [], ◌∷◌, �
 use Rattle.std.proofs.lemmas.List.{get_or_append_left, get_or_push}
 use Rattle.std.specs.Vec.Iter.{into_iter_items}
 use Rattle.qrun.proofs.Attending.{at_place, number_is, place_low}
-use Rattle.qplain.specs.State.{start}
 use Rattle.qrun.specs.Observers.{IsObserved, IsObservedBy}
 use Rattle.qrun_worker.specs.Work.{IsPlayed}
 use Rattle.qrun.proofs.Naming.{names_seat}
@@ -87,7 +86,7 @@ returns-in-Ok-join_promised g c =
             subst (λ x. IsPlayed (k + 1) (g.C.Client.talk x) (slice_index_or works.items k s)) client
             (subst (λ m. IsPlayed m (g.C.Client.talk h.promise.client.value) (slice_index_or works.items k s)) worker at.1.kept);
       },
-      subst (λ o. IsObservedBy g.M.Monitor.sees (start g.S.StoreId.id.setting) o None) (sym c.in_default.is ∙ c.loop-worker.invariant.3) refl,
+      subst (λ o. IsObservedBy g.M.Monitor.sees g.S.StoreId.id.begun o None) (sym c.in_default.is ∙ c.loop-worker.invariant.3) refl,
     )
 
 pub returns-in-Ok-joined : goal.returns-in-Ok-joined
@@ -114,7 +113,7 @@ returns-in-Ok-joined g c =
             subst (λ x. IsPlayed (k + 1) (g.C.Client.talk x) (slice_index_or works.items k s)) client
             (subst (λ m. IsPlayed m (g.C.Client.talk h.promise.client.value) (slice_index_or works.items k s)) worker at.1.kept);
       },
-      let S = start g.S.StoreId.id.setting in
+      let S = g.S.StoreId.id.begun in
           let sees = g.M.Monitor.sees in
           let h = c.in-Ok-spawn_scoped_with.handle in
           let o = c.join-observed.result in
