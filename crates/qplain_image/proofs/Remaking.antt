@@ -15,9 +15,9 @@ use Rattle.qplain_image.specs.Rows.{Row, StatesAreMadeAgain, Block, Name, blank,
 use Rattle.qplain_image.proofs.Refilling.{files_are_made_again}
 
 -- the inode has rows that tell of all of it: a directory's file is empty, and a file is sparse
-record HasRows (inode : Inode) : Type 0 where
-  directory : inode.dir ≡ true → inode.file ≡ empty_file
-  file : IsSparse inode.file
+pub record HasRows (inode : Inode) : Type 0 where
+  pub directory : inode.dir ≡ true → inode.file ≡ empty_file
+  pub file : IsSparse inode.file
 
 -- ---- holders
 
@@ -86,7 +86,7 @@ of-rows S has =
     ∙ with_names (record begun { holders = S.holders; inodes = S.inodes }) S.names
 
 -- each inode of such a state has its rows
-rows-stand : (setting : Setting) (S : State) → IsStateOf setting S → All HasRows (values_of S.inodes)
+pub rows-stand : (setting : Setting) (S : State) → IsStateOf setting S → All HasRows (values_of S.inodes)
 rows-stand setting S is = λ k d below.
     let sound = is.lawful.parts.inodes.sound k d below in
     record {

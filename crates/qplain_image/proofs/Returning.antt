@@ -13,12 +13,12 @@ use Rattle.qplain_image.proofs.GivingBack.{blocks_are_given_back}
 use Rattle.qplain_image.proofs.Remaking.{with_blocks, with_names}
 
 -- the file of an inode
-abbrev file_by : Bool → ℕ → List (ℕ × List ℕ) → File
+abbrev pub file_by : Bool → ℕ → List (ℕ × List ℕ) → File
 file_by true size blocks = empty_file
 file_by false size blocks = refilled size blocks
 
 -- the inode beside its number
-abbrev entry_of : InodePart → ℕ × Inode
+abbrev pub entry_of : InodePart → ℕ × Inode
 entry_of p = (p.number, record { dir = p.dir; owners = p.owners; file = file_by p.dir p.size p.blocks })
 
 -- ---- what is made
@@ -47,7 +47,7 @@ with_parts T (p ∷ ps) =
     ∙ ap (λ xs. record T { inodes = xs }) (append_assoc T.inodes (entry_of p ∷ []) (map entry_of ps))
 
 -- the state that sections make
-abbrev state_of : ℕ → Sections → State
+abbrev pub state_of : ℕ → Sections → State
 state_of limit s = record {
   size = s.size;
   most_inodes = s.most;
@@ -59,7 +59,7 @@ state_of limit s = record {
   next = s.next;
 }
 
-made : (limit : ℕ) (s : Sections) → made_of limit (section_rows s) ≡ state_of limit s
+pub made : (limit : ℕ) (s : Sections) → made_of limit (section_rows s) ≡ state_of limit s
 made limit s =
     let begun : State = record (blank limit) { size = s.size; most_inodes = s.most; next = s.next; graces = s.graces } in
     let inodes : List Row = flat_map part_rows s.inodes in
@@ -85,7 +85,7 @@ part-back number false owners size blocks are =
     let back = blocks_are_given_back size blocks are in
     λ i. FileHead number owners (back.0 i) ∷ map (λ b. Block b) (back.1 i)
 
-parts-back : (ps : List InodePart) → AllByRecursion (λ p. AreBlocksOf p.size 0 p.blocks) ps → flat_map inode_rows (map entry_of ps) ≡ flat_map part_rows ps
+pub parts-back : (ps : List InodePart) → AllByRecursion (λ p. AreBlocksOf p.size 0 p.blocks) ps → flat_map inode_rows (map entry_of ps) ≡ flat_map part_rows ps
 parts-back [] all = refl
 parts-back (p ∷ ps) all = λ i. part-back p.number p.dir p.owners p.size p.blocks all.0 i ++ parts-back ps all.1 i
 
