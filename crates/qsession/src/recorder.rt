@@ -6,7 +6,6 @@ ghost use Rattle.qplain.specs.declared.edition.Edition.TheVariants.{Two};
 ghost use Rattle.qplain.specs.declared.entry.Entry.{Entry as EntryValue};
 ghost use Rattle.qplain.specs.Journal.{entry_of, tally_of};
 ghost use Rattle.qplain.specs.State.{start};
-ghost use Rattle.qplain_laws.specs.Beginnings.{IsStateOf};
 ghost use Rattle.qstore_journaled.specs.Journaled.{IsPlayed, IsSameJournaled};
 ghost use Rattle.qstore_journaled.specs.Lines.{line_of};
 ghost use Rattle.qstore_journaled.specs.Next.{IsNext};
@@ -53,24 +52,6 @@ impl Recorder {
         Ok(Recorder {
             store: JournaledStore::new(alloc, setup, seed)?,
         })
-    }
-
-    /// A store that stands already, of a setup of edition 2, with an empty journal: it begins with what it is. It takes
-    /// no memory.
-    ///
-    /// The caller owes that a store of the setup can be in that state.
-    pub fn over(alloc: Global, setup: Setup, store: Store) -> Recorder
-        requires newest { setup.edition ≡ Two }
-        requires state { IsStateOf setup store.state }
-        ensures setting { result.setting ≡ setup }
-        ensures begun { result.begun ≡ store.state }
-        ensures store { result.stored.state ≡ store.state }
-        ensures journal { result.journal ≡ [] }
-        ensures played { IsPlayed result }
-    {
-        Recorder {
-            store: JournaledStore::over(alloc, setup, store),
-        }
     }
 
     /// The store.

@@ -23,8 +23,8 @@ pub fn images_tell_of_beginnings()
     ensures others { ImagesTellOfOtherBeginnings }
 {}
 
-/// Faults of images that were written by hand, each of the kinds of images and some of those of any text, with the line at
-/// which each is told.
+/// Faults of images that were written by hand, each of the kinds of images and some of those of any text, with the line
+/// at which each is told.
 pub fn worked_faults()
     ensures text { WorkedTextFaults }
     ensures order { WorkedOrderFaults }
