@@ -28,11 +28,11 @@ has_below b (x ∷ xs) k rises l =
     ∙ has_below (suc x) xs k rises.1 (omega (arith, rises.0))
 
 -- a list has its first index
-has_first : (x : ℕ) (xs : List ℕ) → has (x ∷ xs) x ≡ true
+pub has_first : (x : ℕ) (xs : List ℕ) → has (x ∷ xs) x ≡ true
 has_first x xs = ap (λ t. t || has xs x) (eq-eqb x x refl)
 
 -- another index is looked for in the rest
-has_later : (x k : ℕ) (xs : List ℕ) → (x ≡ k → ⊥) → has (x ∷ xs) k ≡ has xs k
+pub has_later : (x k : ℕ) (xs : List ℕ) → (x ≡ k → ⊥) → has (x ∷ xs) k ≡ has xs k
 has_later x k xs ne = ap (λ t. t || has xs k) (ne_eqb x k ne)
 
 -- two lists in order with the same indexes are equal

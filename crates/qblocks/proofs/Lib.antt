@@ -3,6 +3,7 @@ pub mod Dense
 mod Examples
 pub mod Fields
 pub mod Fills
+pub mod FirstFrom
 pub mod Freed
 pub mod Indexes
 pub mod Past

@@ -21,7 +21,7 @@ and_true true = refl
 and_true false = refl
 
 -- a row that is not there has no block
-absent_slot : {Z : Type 0} (row : Option (Box (List Slot) Z)) (j : ℕ) → is_some row ≡ false → is_some (slot_at (slots_of row) j) ≡ false
+pub absent_slot : {Z : Type 0} (row : Option (Box (List Slot) Z)) (j : ℕ) → is_some row ≡ false → is_some (slot_at (slots_of row) j) ≡ false
 absent_slot None j e = refl
 absent_slot (Some row) j e = absurd (both_ways _ e refl)
 

@@ -4,10 +4,11 @@
 --     after_write f off input    the file after a write
 --     after_truncate f size      the file at another size
 --     read_at f off len          the bytes that a read gives
+--     next_from from ks          the first of the indexes ks from this one on
 --     touches off n k            the write of n bytes at off touches the block k
 use Rattle.std.specs.Prelude.{◌≡◌, ℕ, zero, suc, ◌+◌, ◌-◌, ◌*◌, ◌/◌, Bool, ◌&&◌, ◌||◌, ◌==◌, nat_le, nat_lt}
-use Rattle.std.specs.Prelude.{if◌then◌else◌, List, [], ◌∷◌, ◌++◌, length, take, drop, filter, replicate}
-use Rattle.std.specs.List.{list_any}
+use Rattle.std.specs.Prelude.{if◌then◌else◌, List, [], ◌∷◌, ◌++◌, length, take, drop, filter, replicate, Option}
+use Rattle.std.specs.List.{find, list_any}
 use Rattle.qblocks.specs.declared.block.TheConstants.{BLOCK_SIZE}
 
 -- a file: the bytes below its size, and the indexes of its allocated blocks in increasing order
@@ -26,6 +27,10 @@ size_of file = length file.bytes
 -- how many blocks it has allocated
 abbrev pub blocks_of : File → ℕ
 blocks_of file = length file.allocated
+
+-- the first of the indexes that is this one or behind it
+abbrev pub next_from : ℕ → List ℕ → Option ℕ
+next_from from ks = find (λ k. nat_le from k) ks
 
 -- the second file has N blocks more than the first
 abbrev pub MoreBlocks : File → File → ℕ → Type 0

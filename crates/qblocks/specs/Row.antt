@@ -6,7 +6,7 @@
 --     CutsOff ..          what a cut does to bytes
 use Rattle.std.specs.Prelude.{◌≡◌, ◌≢◌, ℕ, zero, suc, ◌+◌, ◌-◌, ◌/◌, ◌%◌, ◌<◌, ◌≤◌, Bool, ◌||◌, ◌&&◌, nat_le, nat_lt}
 use Rattle.std.specs.Prelude.{nat_eq, if◌then◌else◌, List, length, slice_index, slice_index_or, is_some, Option, Some}
-use Rattle.std.specs.Prelude.{None, true}
+use Rattle.std.specs.Prelude.{None, true, false}
 use Rattle.qblocks.specs.declared.block.TheConstants.{BLOCK_SIZE}
 use Rattle.qblocks.specs.declared.row.TheConstants.{ROW_BLOCKS}
 
@@ -30,6 +30,12 @@ gaps test first (suc n) = gaps test first n + (if test (first + n) then 0 else 1
 -- how many of the blocks that n bytes at the offset touch fail the test
 abbrev pub gaps_in : (ℕ → Bool) → ℕ → ℕ → ℕ
 gaps_in test off n = gaps test (off / BLOCK_SIZE) (span_end BLOCK_SIZE off n - off / BLOCK_SIZE)
+
+-- the first index from this one on that passes the test, if there is one
+abbrev pub IsFirstFrom : (ℕ → Bool) → ℕ → Option ℕ → Type 0
+IsFirstFrom test from None = (q : ℕ) → from ≤ q → test q ≡ false
+IsFirstFrom test from (Some k) =
+    (from ≤ k) × (test k ≡ true) × ((q : ℕ) → from ≤ q → q < k → test q ≡ false)
 
 -- the bytes g are the bytes f, with the input in place of those from the offset on
 pub record Overwrites (f g : ℕ → ℕ) (off : ℕ) (input : List ℕ) : Type 0 where

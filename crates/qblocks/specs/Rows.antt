@@ -3,7 +3,7 @@
 --     filled m k     its block is allocated
 --     byte_at m o    the byte at the offset o, or 0
 --     FieldsFit ..   what is always true of a file's fields
-use Rattle.std.specs.Prelude.{◌≡◌, ◌≢◌, ℕ, ◌+◌, ◌-◌, ◌*◌, ◌/◌, ◌%◌, ◌<◌, ◌≤◌, ◌^◌, Bool, true, false, ◌||◌, nat_lt}
+use Rattle.std.specs.Prelude.{◌≡◌, ◌≢◌, ℕ, ◌+◌, ◌-◌, ◌*◌, ◌/◌, ◌%◌, ◌<◌, ◌≤◌, ◌^◌, Bool, true, ◌||◌, nat_lt}
 use Rattle.std.specs.Prelude.{List, [], length, map, filter, is_some, Option, Some, None, Box}
 use Rattle.std.specs.Ordering.{nat_cmp}
 use Rattle.std.specs.BTreeMap as tree
@@ -13,7 +13,7 @@ use Rattle.qblocks.specs.declared.block.TheConstants.{BLOCK_SIZE}
 use Rattle.qblocks.specs.declared.row.TheConstants.{ROW_BLOCKS, ROW_SIZE}
 use Rattle.qblocks.specs.File.{File}
 use Rattle.qblocks.specs.WriteRoom.{WriteRoom}
-use Rattle.qblocks.specs.Row.{Slot, slot_at, byte_of, gaps, in_pieces, Puts}
+use Rattle.qblocks.specs.Row.{IsFirstFrom, Slot, slot_at, byte_of, gaps, in_pieces, Puts}
 
 -- some slot of the row r is filled
 abbrev pub is_used : (ℕ → Bool) → ℕ → Bool
@@ -89,9 +89,7 @@ module _ {Z : Type 0} where
 
   -- the first row from this number on, if there is one
   abbrev pub IsNextRow : Table Z → ℕ → Option ℕ → Type 0
-  IsNextRow m from None = (q : ℕ) → from ≤ q → has_row m q ≡ false
-  IsNextRow m from (Some r) =
-      (from ≤ r) × (has_row m r ≡ true) × ((q : ℕ) → from ≤ q → q < r → has_row m q ≡ false)
+  IsNextRow m = IsFirstFrom (has_row m)
 
   -- the bytes at the offsets below the size
   unfoldable pub bytes_of : Table Z → ℕ → List ℕ

@@ -1,17 +1,18 @@
 //! Cutting the rows of a file off at a size.
-ghost use Rattle.std.specs.Prelude.{◌≡◌, true, ℕ, ◌+◌, ◌-◌, ◌*◌, ◌/◌, ◌<◌, ◌≤◌, ◌^◌, ◌&&◌, nat_lt, None, Some};
-ghost use Rattle.std.specs.Prelude.{option_map, IsSome, IfSome, IfNone};
+ghost use Rattle.std.specs.Prelude.{◌≡◌, true, ℕ, ◌+◌, ◌-◌, ◌*◌, ◌/◌, ◌<◌, ◌≤◌, ◌^◌, ◌&&◌, nat_lt, None};
+ghost use Rattle.std.specs.Prelude.{IsSome, IfSome, IfNone};
 ghost use Rattle.std.specs.Ordering.{nat_cmp};
 ghost use Rattle.std.specs.BTreeMap as tree;
 ghost use Rattle.std.specs.BTreeMap.{btree_map_len};
 ghost use Rattle.qblocks.specs.declared.block.TheConstants.{BLOCK_SIZE};
 ghost use Rattle.qblocks.specs.Row.{CutsOff, LosesBlocks, row_filled, row_byte};
-ghost use Rattle.qblocks.specs.Rows.{AreRows, ChangesRow, Frees, HasFrom, IsNextRow, IsThereIfUsed};
+ghost use Rattle.qblocks.specs.Rows.{AreRows, ChangesRow, Frees, HasFrom, IsThereIfUsed};
 ghost use Rattle.qblocks.specs.Rows.{has_row, row_of, filled, byte_at};
 
 use crate::block::BLOCK_SIZE;
+use crate::next::next_row;
 use crate::room::forget_row;
-use crate::row::{self, ROW_BLOCKS, ROW_SIZE, Row};
+use crate::row::{self, ROW_BLOCKS, ROW_SIZE};
 use crate::rows::Rows;
 
 /// Takes out the last row if its number is `keep` or above, and gives the number of its blocks.
@@ -84,35 +85,6 @@ pub(crate) fn cut(rows: &mut Rows, size: u64) -> u64
     let cut = cut_row(rows, size / ROW_SIZE, size % ROW_SIZE);
     forget_row(rows, size / ROW_SIZE);
     freed + cut
-}
-
-/// The first row from `from` on, with its number, by a search.
-fn search_row(rows: &Rows, from: u64) -> Option<(u64, &Box<Row>)>
-    ensures next { IsNextRow rows.now from (option_map (λ e. e.0) result) }
-    ensures row { IfSome result (λ e. tree.get nat_cmp rows.now e.0 ≡ Some e.1.now) }
-{
-    match rows.range(from..).next() {
-        Some((r, row)) => Some((*r, row)),
-        None => None,
-    }
-}
-
-/// The first row from `from` on, with its number. Where that is the last row, or none, nothing is searched.
-fn next_row(rows: &Rows, from: u64) -> Option<(u64, &Box<Row>)>
-    ensures next { IsNextRow rows.now from (option_map (λ e. e.0) result) }
-    ensures row { IfSome result (λ e. tree.get nat_cmp rows.now e.0 ≡ Some e.1.now) }
-{
-    let Some((last, row)) = rows.last_key_value() else {
-        return None;
-    };
-    if *last > from {
-        return search_row(rows, from);
-    }
-    if *last == from {
-        Some((*last, row))
-    } else {
-        None
-    }
 }
 
 /// How many blocks begin at `size` or after.

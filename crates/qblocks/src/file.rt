@@ -1,7 +1,6 @@
 //! A file: its size, its blocks and the room for its next write.
 ghost use Rattle.std.specs.Prelude.{◌≡◌, ◌+◌, ◌≤◌, ◌^◌, drop, length, take, IfOk, OnOk, OnErr};
-ghost use Rattle.std.specs.List.Sorted.{IsStrictlyIncreasing};
-ghost use Rattle.qblocks.specs.File.{empty_file, size_of, blocks_of, MoreBlocks, Adds, AllocatesTouched, after_write};
+ghost use Rattle.qblocks.specs.File.{empty_file, size_of, MoreBlocks, Adds, AllocatesTouched, after_write};
 ghost use Rattle.qblocks.specs.File.{after_truncate, read_at};
 ghost use Rattle.qblocks.specs.Input.{input_bytes};
 ghost use Rattle.qblocks.specs.WriteRoom.{no_room, IsReadyToPut};
@@ -17,6 +16,8 @@ use crate::spare::Spare;
 use std::alloc::{AllocError as NoMemory, Global};
 use std::collections::BTreeMap;
 use std::marker::Model;
+
+mod allocated;
 
 /// The greatest size in bytes: a bound of this crate's arithmetic, below which a store sets its own.
 pub const MAX_SIZE: u64 = 1 << 40;
@@ -69,14 +70,6 @@ impl BlockFile {
         ensures bound { result ≤ MAX_SIZE }
     {
         self.size
-    }
-
-    /// The number of allocated blocks. O(1).
-    pub fn allocated(&self) -> u64
-        ensures value { result ≡ blocks_of self.now.file }
-        ensures distinct { IsStrictlyIncreasing self.now.file.allocated }
-    {
-        self.count
     }
 
     /// How many blocks a write of `len` bytes at `off` would allocate.

@@ -7,6 +7,7 @@ mod cut;
 mod data;
 mod file;
 mod input;
+mod next;
 mod room;
 mod row;
 mod rows;

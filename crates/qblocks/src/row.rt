@@ -1,10 +1,10 @@
 //! A row: 16 slots beside each other, for 64 KiB of the file.
 ghost use Rattle.std.specs.Prelude.{◌≡◌, ◌≢◌, true, false, ℕ, ◌+◌, ◌-◌, ◌*◌, ◌/◌, ◌<◌, ◌≤◌, ◌&&◌, ◌^◌, nat_lt};
-ghost use Rattle.std.specs.Prelude.{length, is_some, IfOk, OnOk, None, if◌then◌else◌, ◌++◌, map, vec_len};
+ghost use Rattle.std.specs.Prelude.{length, is_some, IfOk, IfSome, OnOk, None, if◌then◌else◌, ◌++◌, map, vec_len};
 ghost use Rattle.std.specs.List.{range_with_len};
 ghost use Rattle.qblocks.specs.Input.{input_bytes};
-ghost use Rattle.qblocks.specs.Row.{CutsOff, PutsInRow, PutsInSlot, LosesBlocks, byte_of, slot_at, row_filled};
-ghost use Rattle.qblocks.specs.Row.{row_byte, gaps, gaps_in};
+ghost use Rattle.qblocks.specs.Row.{CutsOff, IsFirstFrom, PutsInRow, PutsInSlot, LosesBlocks, byte_of, slot_at};
+ghost use Rattle.qblocks.specs.Row.{row_filled, row_byte, gaps, gaps_in};
 
 use crate::block::{BLOCK_SIZE, Block};
 use crate::input::Input;
@@ -55,6 +55,20 @@ pub(crate) fn is_vacant(row: &Row) -> bool
         }
     }
     true
+}
+
+/// The first slot from `first` on that holds a block.
+pub(crate) fn next_slot(row: &Row, first: u64) -> Option<u64>
+    requires { first ≤ ROW_BLOCKS }
+    ensures next { IsFirstFrom (row_filled row.now) first result }
+    ensures bound { IfSome result (λ j. j < ROW_BLOCKS) }
+{
+    for j in first..ROW_BLOCKS {
+        if row[j as usize].is_some() {
+            return Some(j);
+        }
+    }
+    None
 }
 
 /// Writes `input` at the byte `at` of the block `j`, which comes from `spare` where there is none yet.

@@ -14,7 +14,8 @@ use Rattle.qplain_laws.proofs.Start.{start_is_lawful}
 use Rattle.qstore_tree.specs.TreeOf.{AreLinks}
 use Rattle.qstore_change.proofs.Making.{InOrder}
 use Rattle.qstore_accounts.specs.Books.{AreBooksOf, AreInRange}
-use Rattle.qstore.specs.Kept.{IsCounted, state_of}
+use Rattle.qstore.specs.Parts.{IsCounted}
+use Rattle.qstore.specs.Kept.{state_of}
 use Rattle.qstore.specs.declared.store.Store.TheInside.{Inside}
 
 -- the root directory has the links of a directory with no name in it

@@ -14,7 +14,7 @@ use Rattle.qrules.specs.Sort.{Blocks}
 use Rattle.qplain.specs.declared.setup.TheConstants.{MAX_BLOCKS}
 use Rattle.qplain.specs.State.{Inode, State, inode_at}
 use Rattle.qplain.specs.Use.{links_of, weight}
-use Rattle.qstore.specs.Kept.{IsCounted}
+use Rattle.qstore.specs.Parts.{IsCounted}
 use Rattle.qstore.specs.Rows.{inode_row_of}
 use Rattle.qstore_tree.specs.Tree.{kept_row}
 use Rattle.qstore_accounts.specs.Books.{Books}

@@ -11,7 +11,8 @@ use Rattle.qstore_accounts.specs.Bills.{settled}
 use Rattle.qstore_accounts.specs.Books.{AreBooksOf, AreInRange, Books, holders_of}
 use Rattle.qstore_accounts.proofs.Booked.{in_range-settled}
 use Rattle.qstore.specs.declared.store.Store.TheInside.{Inside}
-use Rattle.qstore.specs.Kept.{IsCounted, state_of, stored_of}
+use Rattle.qstore.specs.Parts.{IsCounted}
+use Rattle.qstore.specs.Kept.{state_of, stored_of}
 use Rattle.qstore.specs.Ready.{CanSettle, billed}
 use Rattle.qstore.specs.Stored.{IsStorable, Stored}
 

@@ -1,5 +1,6 @@
 -- In reading order. A module that no public clause cites says so.
 pub mod Stored
+pub mod Parts
 pub mod Ready
 pub mod Applied
 pub mod Rows

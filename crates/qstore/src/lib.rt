@@ -5,7 +5,7 @@ pub(crate) use plan::{Decision, Plan};
 pub use qplain::{
     Call, Change, Cred, Edition, Line, NoMemory, Path, Refusal, Reply, Setup, SetupFault,
 };
-pub use qstore_tree::Name;
+pub use qstore_tree::{Content, Name, Node};
 pub(crate) use request::{Exchange, Request};
 pub use store::Store;
 

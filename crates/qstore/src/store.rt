@@ -21,11 +21,13 @@ use std::alloc::Global;
 use std::marker::Model;
 
 mod arguments;
+mod bounds;
 mod chown;
 mod claims;
 mod commit;
 mod create;
 mod look;
+mod parts;
 mod plan;
 mod quota;
 mod removal;
@@ -66,11 +68,13 @@ impl Model for Store {
 
     ghost Value = { Stored };
 
-    ghost use Rattle.qstore.specs.Kept.{IsCounted, state_of, stored_of};
+    ghost use Rattle.qstore.specs.Kept.{stored_of};
 
     ghost view = { stored_of };
 
-    ghost invariant = { λ a. IsCounted (state_of a) a.accounts a.tree.links };
+    ghost use Rattle.qstore.specs.Parts.{AreParts};
+
+    ghost invariant = { λ a. AreParts a.file_limit a.accounts a.tree a.next };
 }
 
 impl Store {

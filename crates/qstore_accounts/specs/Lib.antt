@@ -5,6 +5,7 @@ pub mod Books
 pub mod Callers
 pub mod Bills
 pub mod Replacements
+pub mod Parts
 pub mod Rows
 pub mod Ledgers
 pub mod Decisions

@@ -25,13 +25,16 @@ use crate::kept_holder::KeptHolder;
 use crate::known_callers::KnownCallers;
 use crate::ledger::Ledger;
 use crate::times::Times;
+pub use parts::Parts;
 use qplain::{Cred, MAX_NUMBER, NoMemory, Refusal, Setup};
 use qrules::{Graces, Kind, Limits, MAX_MOMENT, RecordRow};
 use std::alloc::Global;
 use std::marker::Model;
 
 mod boards;
+mod bounds;
 mod callers;
+mod parts;
 
 /// The quota records of users, groups and projects, the totals, the bounds and the graces. Contracts see them as books.
 ///

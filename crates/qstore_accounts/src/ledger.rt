@@ -60,6 +60,14 @@ impl Ledger {
         Ok(Ledger { holders })
     }
 
+    /// These records.
+    pub(crate) fn of(holders: Vec<KeptHolder>) -> Ledger
+        requires { AreById holders.items }
+        ensures { result ≡ holders.items }
+    {
+        Ledger { holders }
+    }
+
     /// Where the kept holder of this id stands. O(log n).
     pub(crate) fn slot(&self, id: u32) -> Option<usize>
         ensures declared { is_some result ≡ list_any (λ o. id == o.id) self.now }

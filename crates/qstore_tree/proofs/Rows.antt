@@ -76,6 +76,13 @@ pub seen-each : (es : List (ℕ × Node)) → read_by inode_of es ≡ map seen e
 seen-each [] = refl
 seen-each (e ∷ es) = ap (λ l. seen e ∷ l) (seen-each es)
 
+-- what is seen of the nodes by number is what is seen of each, in another order
+pub nodes_seen : (nodes : List (ℕ × Node)) → IsDistinct nat_eq (keys_of nodes)
+    → IsPermutation (read_by inode_of (in_order nat_cmp nodes)) (map seen nodes)
+nodes_seen nodes d =
+    subst (λ (l : List (ℕ × Inode)). IsPermutation l (map seen nodes)) (sym (seen-each (in_order nat_cmp nodes)))
+    (IsPermutation-sym _ _ (map-shuffled nat_cmp_total nat_cmp-IsAntisymmetric seen unsigned_ties nodes d))
+
 -- the nodes' own rows are the rows with the kept link counts, in another order
 pub nodes_kept : (nodes : List (ℕ × Node)) → IsDistinct nat_eq (keys_of nodes)
     → IsPermutation (map (kept_row (read_by (λ n. n.links) (in_order nat_cmp nodes))) (read_by inode_of (in_order nat_cmp nodes)))
@@ -88,9 +95,7 @@ nodes_kept nodes d =
 pub nodes_few : (nodes : List (ℕ × Node)) → IsDistinct nat_eq (keys_of nodes)
     → All HasFewBlocks (read_by inode_of (in_order nat_cmp nodes)) → All HasFewBlocks (map seen nodes)
 nodes_few nodes d few =
-    All-permutation HasFewBlocks (map seen (in_order nat_cmp nodes)) (map seen nodes)
-    (IsPermutation-sym _ _ (map-shuffled nat_cmp_total nat_cmp-IsAntisymmetric seen unsigned_ties nodes d))
-    (subst (λ (es : List (ℕ × Inode)). All HasFewBlocks es) (seen-each (in_order nat_cmp nodes)) few)
+    All-permutation HasFewBlocks (read_by inode_of (in_order nat_cmp nodes)) (map seen nodes) (nodes_seen nodes d) few
 
 -- the numbers of the rows are those of the inodes
 pub numbers_kept : (links : List (ℕ × ℕ)) (es : List (ℕ × Inode)) → map (λ (row : InodeRow). row.ino) (map (kept_row links) es) ≡ keys_of es

@@ -1,9 +1,10 @@
 -- An inode as a store keeps it: with its link count, a directory with its names.
-use Rattle.std.specs.Prelude.{◌≡◌, ℕ, Bool, true, false, List, [], length, Option, Some, None}
+use Rattle.std.specs.Prelude.{◌≡◌, ℕ, Bool, true, false, List, [], length, replicate, Option, Some, None}
 use Rattle.qrules.specs.declared.inode_row.InodeRow.{InodeRow}
 use Rattle.qblocks.specs.File.{File, empty_file}
 use Rattle.qblocks.specs.WriteRoom.{RoomyFile}
 use Rattle.qplain.specs.State.{Inode}
+use Rattle.qplain.specs.declared.owners.Owners.{Owners}
 use Rattle.qstore_tree.specs.declared.node.Content.{Content}
 use Rattle.qstore_tree.specs.declared.node.Content.TheVariants.{File as AFile, Directory}
 use Rattle.qstore_tree.specs.declared.node.Node.{Node}
@@ -36,6 +37,14 @@ name_room_in (Directory names) = names.room
 -- the inode as the plain machine sees it
 abbrev pub inode_of : Node → Inode
 inode_of n = record { dir = is_dir_content n.content; owners = n.owners; file = file_in n.content }
+
+-- a file of these owners and of this size that has no block
+abbrev pub unfilled_file : Owners → ℕ → Inode
+unfilled_file owners size = record {
+  dir = false;
+  owners = owners;
+  file = record { bytes = replicate size 0; allocated = [] };
+}
 
 -- the two are one inode with one link count and the same names, whatever room there is
 pub record IsSameNode (old new : Node) : Type 0 where

@@ -18,6 +18,7 @@ use std::collections::HashMap;
 use std::marker::Model;
 
 mod links;
+mod open;
 mod put;
 mod rows;
 mod take;

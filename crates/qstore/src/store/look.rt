@@ -12,16 +12,15 @@ ghost use Rattle.qplain.specs.Files.{read_from, stat_at};
 ghost use Rattle.qplain.specs.Journal.{row_of};
 ghost use Rattle.qplain.specs.State.{name_key_cmp};
 ghost use Rattle.qplain.specs.Step.{settle, step};
-ghost use Rattle.qstore_tree.specs.Listed.{name_entry};
+ghost use Rattle.qstore_tree.specs.Listed.{name_entry, node_entry};
 ghost use Rattle.qstore.specs.Applied.{IsReadInto};
 ghost use Rattle.qstore.specs.Ready.{IsRefused};
 ghost use Rattle.qstore.specs.Rows.{StandsBefore, inode_row_of, name_row_of, record_row_of};
 
-use crate::{Call, Cred, Name, NoMemory, Refusal, Reply, Store};
+use crate::{Call, Content, Cred, Name, NoMemory, Node, Refusal, Reply, Store};
 use qblocks::BlockFile;
 use qplain::{MAX_DATA, SharedItems};
 use qrules::{BoardRow, InodeRow, NameRow, RecordRow};
-use qstore_tree::Content;
 use qstore_walk::{find, path_fault, stat_of};
 
 impl Store {
@@ -113,6 +112,14 @@ impl Store {
         ensures by_number { OnOk result (IsStrictlySortedBy nat_cmp (keys_of self.now.state.inodes)) }
     {
         self.tree.inode_rows(self.alloc)
+    }
+
+    /// The inodes by number, each once, borrowed. O(n log n), O(n) where none was taken out.
+    pub fn nodes(&self) -> Result<Vec<(u64, &Node)>, NoMemory>
+        ensures nodes { IfOk result (λ nodes. map node_entry nodes.items ≡ self.now.state.inodes) }
+        ensures by_number { OnOk result (IsStrictlySortedBy nat_cmp (keys_of self.now.state.inodes)) }
+    {
+        self.tree.nodes(self.alloc)
     }
 
     /// The names by directory, then by name, each once. O(n log n).

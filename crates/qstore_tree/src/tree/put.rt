@@ -62,7 +62,7 @@ impl Tree {
     /// Puts a new inode, with no name in it, under a number for which there is room. It takes no memory
     /// and always succeeds.
     #[inline(always)]
-    fn put_node(&mut self, number: u64, node: Node)
+    pub(crate) fn put_node(&mut self, number: u64, node: Node)
         requires room { 0 < self.old.room.inodes }
         requires absent { lookup (is_at (nat_cmp number)) self.old.inodes ≡ None }
         requires empty { names_in node.content ≡ [] }

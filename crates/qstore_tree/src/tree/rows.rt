@@ -1,14 +1,15 @@
-//! The rows of a tree, for audits, and its names, for who lists them.
+//! The rows of a tree, for audits, and its inodes and names, for who lists them.
 ghost use Rattle.std.specs.Prelude.{◌≡◌, ◌<◌, ◌^◌, length, map, All, IfOk, IsPermutation, OnOk};
 ghost use Rattle.std.specs.Ordering.{nat_cmp};
 ghost use Rattle.std.specs.List.Sorted.{IsStrictlySortedBy};
 ghost use Rattle.std.specs.Map.{keys_of};
 ghost use Rattle.qplain.specs.State.{name_key_cmp};
-ghost use Rattle.qstore_tree.specs.Listed.{name_entry};
+ghost use Rattle.qstore_tree.specs.Listed.{name_entry, node_entry};
 ghost use Rattle.qstore_tree.specs.Tree.{kept_row, name_row_of, names_in_all};
 
 use crate::name::Name;
 use crate::names::Names;
+use crate::node::Node;
 use crate::tree::Tree;
 use qplain::NoMemory;
 use qrules::{InodeRow, NameRow};
@@ -27,6 +28,19 @@ impl Tree {
         }
         rows.sort_unstable_by_key(|row| row.ino);
         Ok(rows)
+    }
+
+    /// The inodes by number, borrowed. O(n log n), O(n) where none was taken out.
+    pub fn nodes(&self, alloc: Global) -> Result<Vec<(u64, &Node)>, NoMemory>
+        ensures nodes { IfOk result (λ nodes. map node_entry nodes.items ≡ self.now.inodes) }
+        ensures by_number { OnOk result (IsStrictlySortedBy nat_cmp (keys_of self.now.inodes)) }
+    {
+        let mut nodes = Vec::with_capacity(alloc, self.nodes.len())?;
+        for (number, node) in self.nodes.iter() {
+            nodes.push((*number, node))?;
+        }
+        nodes.sort_unstable_by_key(|node| node.0);
+        Ok(nodes)
     }
 
     /// A row for each name, by directory, then by name. O(n log n), and for audits alone.

@@ -13,7 +13,8 @@ use Rattle.qstore_accounts.specs.Pushed.{IsPushed}
 use Rattle.qstore.specs.declared.plan.Plan.{Plan}
 use Rattle.qstore.specs.declared.plan.Plan.TheVariants.{Nothing, Change, Limits, SetGraces}
 use Rattle.qstore.specs.declared.store.Store.TheInside.{Inside}
-use Rattle.qstore.specs.Kept.{IsCounted, state_of, stored_of}
+use Rattle.qstore.specs.Parts.{IsCounted}
+use Rattle.qstore.specs.Kept.{state_of, stored_of}
 use Rattle.qstore.specs.Ready.{CanCarryOut, CanSettle, billed, effect}
 use Rattle.qstore.specs.Stored.{Stored}
 use Rattle.qstore.proofs.store.Store.push_changed_rows.Goals as goal
