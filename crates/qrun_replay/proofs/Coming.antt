@@ -50,6 +50,7 @@ left_by_workers setting begun lines journal workers transcripts boards o edition
   tallies = rw left.journal_is left.tallies;
   balanced = rw (left.store, left.tallies) (journals_balance begun journal left.legal);
   store = rw left.journal_is left.store;
+  stands = left.stands;
   transcripts = rw (left.transcripts_are, left.journal_is) told;
   belong = rw (left.transcripts_are, left.journal_is) belong;
   boards = rw (left.boards_are, left.journal_is) lawful;
@@ -64,9 +65,11 @@ pub again : (setting : Setting) (begun : State) (written : Written) (o : Outcome
 again setting begun written o edition left = record {
   setup = left.setup;
   legal = left.legal;
+  few = left.few;
   journal = left.journal_is ∙ ap (λ (e : Edition). record written { edition = e }) edition;
   tallies = rw left.journal_is left.tallies;
   store = left.store;
+  stands = left.stands;
   transcripts = left.transcripts_are;
   boards = left.boards_are;
   records = left.records;

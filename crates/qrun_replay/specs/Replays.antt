@@ -1,5 +1,5 @@
 -- What a journal leaves that is played again.
-use Rattle.std.specs.Prelude.{◌≡◌, ℕ, ◌+◌, List, [], ◌∷◌, ◌++◌, length, map, filter, Result, Ok, Err}
+use Rattle.std.specs.Prelude.{◌≡◌, ◌≤◌, ℕ, ◌+◌, List, [], ◌∷◌, ◌++◌, length, map, filter, Result, Ok, Err}
 use Rattle.std.specs.Result.{is_ok}
 use Rattle.std.specs.List.{range_with_len}
 use Rattle.qplain.specs.declared.call_fault.CallFault.{CallFault}
@@ -7,9 +7,11 @@ use Rattle.qplain.specs.declared.entry.Entry.{Entry}
 use Rattle.qplain.specs.declared.line.Line.{Line}
 use Rattle.qplain.specs.declared.receipt.Receipt.{Receipt}
 use Rattle.qplain.specs.declared.transcript.Transcript.{Transcript}
+use Rattle.qplain.specs.Editions.{max_entries_of}
 use Rattle.qplain.specs.Setups.{Setting}
 use Rattle.qplain.specs.State.{State}
 use Rattle.qplain.specs.Journal.{IsLegal, entries_of, play, played, tally_of}
+use Rattle.qplain_laws.specs.Beginnings.{IsStateOf}
 use Rattle.qstore.specs.Rows.{record_row_of}
 use Rattle.qaudit_checks.specs.OwnRows.{differences_in}
 use Rattle.qplain.specs.Journals.{Written}
@@ -56,15 +58,18 @@ pub record IsFirstMismatch (S : State) (journal : List Entry) (place : ℕ) : Ty
   pub parts : journal ≡ before ++ entry ∷ after
   pub here : IsMismatchAfter S before entry place
 
--- what playing this journal again leaves, from this beginning on, under this setup: the journal is legal and stays as
--- it is, the tallies are its own, each worker has its own entries for a transcript, no look was taken at the boards,
--- and the differences are those of the store's own rows, of which there are none
+-- what playing this journal again leaves, from this beginning on, under this setup: the journal is legal, no longer
+-- than it may be, and stays as it is, the tallies are its own, a store of the setup may begin with what is left, each
+-- worker has its own entries for a transcript, no look was taken at the boards, and the differences are those of the
+-- store's own rows, of which there are none
 pub record IsReplayOf (setting : Setting) (begun : State) (written : Written) (o : Outcome) : Type 0 where
   pub setup : o.setup ≡ setting
   pub legal : IsLegal begun written.entries
+  pub few : length written.entries ≤ max_entries_of setting.edition
   pub journal : o.journal ≡ written
   pub tallies : o.tallies ≡ tally_of o.journal.entries
   pub store : o.store.state ≡ play begun written.entries
+  pub stands : IsStateOf setting o.store.state
   pub transcripts : o.transcripts ≡ transcripts_in written
   pub boards : o.boards ≡ []
   pub records : o.records ≡ map (record_row_of o.store.state) o.store.state.holders

@@ -6,6 +6,7 @@ use Rattle.qplain.specs.Setups.{Setting}
 use Rattle.qplain.specs.State.{State}
 use Rattle.qplain.specs.Journal.{IsLegal, entries_of, play, tally_of}
 use Rattle.qplain.specs.Transcripts.{Belongs, journaled_lines}
+use Rattle.qplain_laws.specs.Beginnings.{IsStateOf}
 use Rattle.qplain_laws.specs.Journals.{IsBalancedFrom}
 use Rattle.qaudit_checks.specs.LawfulBoards.{AreLawful, boards_in}
 use Rattle.qstore.specs.Rows.{record_row_of}
@@ -33,8 +34,9 @@ AreTranscriptsOf worker (lines ∷ rest) journal [] = ⊥
 
 -- what workers leave who have played these lines, from this beginning on, under this setup, which is of edition 2 and
 -- so is the journal; that has a worker for each list of lines and is no longer than it may be, the tallies are its own
--- and balance with what was there and what is left, no entry belongs to anyone else, the boards that were shown are its
--- own and never fall, and the differences are those of the store's own rows, of which there are none
+-- and balance with what was there and what is left, with which a store of the setup may begin, no entry belongs to
+-- anyone else, the boards that were shown are its own and never fall, and the differences are those of the store's own
+-- rows, of which there are none
 pub record IsLeftByWorkers (setting : Setting) (begun : State) (lines : List (List Line)) (o : Outcome) : Type 0 where
   pub setup : o.setup ≡ setting
   pub edition : (setting.edition ≡ Two) × (o.journal.edition ≡ Two)
@@ -44,6 +46,7 @@ pub record IsLeftByWorkers (setting : Setting) (begun : State) (lines : List (Li
   pub tallies : o.tallies ≡ tally_of o.journal.entries
   pub balanced : IsBalancedFrom begun o.store.state o.tallies
   pub store : o.store.state ≡ play begun o.journal.entries
+  pub stands : IsStateOf setting o.store.state
   pub transcripts : AreTranscriptsOf 1 lines o.journal.entries o.transcripts
   pub belong : All (Belongs o.transcripts) o.journal.entries
   pub boards : AreLawful begun o.journal.entries (boards_in o.boards)

@@ -8,13 +8,14 @@ use Rattle.qplain.specs.declared.entry.Entry.{Entry}
 use Rattle.qplain.specs.declared.line.Line.{Line}
 use Rattle.qplain.specs.declared.reply.Reply.{Reply}
 use Rattle.qplain.specs.declared.setup.TheConstants.{MAX_BLOCKS, MAX_INODES}
+use Rattle.qplain.specs.Calls.{IsCall}
 use Rattle.qplain.specs.Setups.{IsLawfulSetup, Setting}
 use Rattle.qplain.specs.State.{State, start}
 use Rattle.qplain.specs.Journal.{CanCount, change_of, play, played, tally_of}
 use Rattle.qplain.specs.Step.{step}
 use Rattle.qplain_laws.proofs.Playing.{legal-one_more, play-one_more}
 use Rattle.qplain_laws.specs.Beginnings.{IsStateOf}
-use Rattle.qplain_laws.proofs.Beginning.{start_is_state_of}
+use Rattle.qplain_laws.proofs.Beginning.{start_is_state_of, steps_stay_states}
 use Rattle.qplain_laws.proofs.Tallying.{room-after, setup-small}
 use Rattle.qstore.specs.Ready.{committed}
 use Rattle.qstore_journaled.specs.Journaled.{IsPlayed, IsSameJournaled, Journaled}
@@ -30,6 +31,7 @@ begins j beginning state none = record {
   beginning = beginning;
   legal = rw none tt;
   state = rw none state;
+  stands = rw state beginning;
   few = rw none (omega arith);
 }
 
@@ -39,14 +41,16 @@ stays old new is same = record {
   beginning = rw (same.setting, same.begun) is.beginning;
   legal = rw (same.begun, same.journal) is.legal;
   state = rw (same.begun, same.journal, same.state) is.state;
+  stands = rw (same.setting, same.state) is.stands;
   few = rw same.journal is.few;
 }
 
 -- one entry more, whose reply and state are the plain machine's
-pub played_on : (old new : Journaled) (e : Entry) → IsPlayed old → length old.journal < MAX_ENTRIES → new.setting ≡ old.setting
+pub played_on : (old new : Journaled) (e : Entry) → IsPlayed old → IsCall e.call
+    → length old.journal < MAX_ENTRIES → new.setting ≡ old.setting
     → new.begun ≡ old.begun → new.journal ≡ old.journal ++ e ∷ [] → new.stored.state ≡ (played old.stored.state e).0
     → e.reply ≡ (played old.stored.state e).1 → IsPlayed new
-played_on old new e is few setting begun journal state reply =
+played_on old new e is call few setting begun journal state reply =
     let S : State = old.begun in
     let same : played old.stored.state e ≡ played (play S old.journal) e = ap (λ T. played T e) is.state in
     let left : new.stored.state ≡ play S (old.journal ++ e ∷ []) =
@@ -56,6 +60,8 @@ played_on old new e is few setting begun journal state reply =
       beginning = rw (setting, begun) is.beginning;
       legal = rw (begun, journal) (legal-one_more S old.journal e is.legal (reply ∙ ap (λ (p : State × Reply). p.1) same));
       state = rw (begun, journal) left;
+      stands = rw (setting, state)
+          (steps_stay_states old.setting old.stored.state e.cred e.moment e.call call is.stands);
       few = rw (journal, count) (omega arith);
     }
 
@@ -77,10 +83,12 @@ next-counts j e is next =
     can_count j e.reply (record { cred = e.cred; moment = e.moment; call = e.call }) is next.few (ap (λ (p : State × Reply). p.1) next.step)
 
 -- and with it the store is what its journal leaves
-pub next-played : (old new : Journaled) (e : Entry) → IsPlayed old → IsNext old e → new.setting ≡ old.setting
+pub next-played : (old new : Journaled) (e : Entry) → IsPlayed old → IsCall e.call → IsNext old e
+    → new.setting ≡ old.setting
     → new.begun ≡ old.begun → new.journal ≡ old.journal ++ e ∷ [] → new.stored.state ≡ committed old.stored → IsPlayed new
-next-played old new e is next setting begun journal state =
-    played_on old new e is next.few setting begun journal (state ∙ ap (λ (p : State × Reply). p.0) next.step) (ap (λ (p : State × Reply). p.1) next.step)
+next-played old new e is call next setting begun journal state =
+    played_on old new e is call next.few setting begun journal
+    (state ∙ ap (λ (p : State × Reply). p.0) next.step) (ap (λ (p : State × Reply). p.1) next.step)
 
 -- the entry that is told is the one that was ready
 pub taken-next : (j : Journaled) (e taken : Entry) → IsNext j e → j.next ≡ Some taken → IsNext j taken

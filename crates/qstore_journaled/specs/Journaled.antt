@@ -18,11 +18,13 @@ pub record Journaled : Type 0 where
   pub next : Option Entry
 
 -- The headline: the journal is legal from the beginning, and the store is exactly what it leaves when one thread plays
--- it from there on the plain machine; a store of the setup can begin so, and the journal is no longer than it may be.
+-- it from there on the plain machine; a store of the setup may begin with either state, and the journal is no longer
+-- than it may be.
 pub record IsPlayed (j : Journaled) : Type 0 where
   pub beginning : IsStateOf j.setting j.begun
   pub legal : IsLegal j.begun j.journal
   pub state : j.stored.state ≡ play j.begun j.journal
+  pub stands : IsStateOf j.setting j.stored.state
   pub few : length j.journal ≤ MAX_ENTRIES
 
 -- the two have the same setup, beginning, state and journal, whatever is ready

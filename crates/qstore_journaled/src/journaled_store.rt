@@ -13,8 +13,9 @@ ghost use Rattle.qstore_journaled.specs.Next.{HasNext, HasNextOf};
 ghost use Rattle.qstore_journaled.specs.Taken.{AreItsParts};
 
 use crate::ended::Ended;
-use crate::entry::entry_for;
+use crate::entry::{entry_for, make_place};
 use crate::origin::Origin;
+use crate::typed_call::call_is_typed;
 use qplain::{Call, CallFault, Cred, Entry, MAX_ENTRIES, NoMemory, Setup, Tallies};
 use qstore::Store;
 use std::alloc::Global;
@@ -116,7 +117,7 @@ impl JournaledStore {
     }
 
     /// Decides a call, makes every growth that it needs, and keeps the entry by which the journal will grow, with the
-    /// reply (`next`); setup, state and journal stay as they were.
+    /// reply (`next`); setup, beginning, state and journal stay as they were.
     ///
     /// Err is JournalFull, reported first, where the journal has its 1,048,576 entries, or OutOfMemory. Moments,
     /// refusals and costs are those of `Store::ready`. What is ready is for `commit`, and may be left: the next `ready`
@@ -137,14 +138,10 @@ impl JournaledStore {
         if self.len >= MAX_ENTRIES {
             return Err(CallFault::JournalFull);
         }
-        // Mostly no entry is ready any more, and `truncate` is out of line.
-        if self.entries.len() > self.len {
-            self.entries.truncate(self.len);
-        }
-        // A reply and an entry are large: a `?` would move them once more.
-        let Ok(()) = self.entries.reserve(1) else {
+        let Ok(()) = make_place(&mut self.entries, self.len) else {
             return Err(CallFault::OutOfMemory);
         };
+        // A reply and an entry are large: a `?` would move them once more.
         let Ok(reply) = self.store.ready(cred, moment, call) else {
             return Err(CallFault::OutOfMemory);
         };
@@ -180,7 +177,9 @@ impl JournaledStore {
         ensures place { result ≡ length self.old.journal + 1 }
         ensures played { IsPlayed self.new }
     {
-        let change = self.next().reply.change();
+        let entry = self.next();
+        call_is_typed(&entry.call);
+        let change = entry.reply.change();
         self.store.commit();
         self.tallies = self.tallies.with_call(change);
         self.len += 1;

@@ -1,5 +1,5 @@
-//! A store beside the setup and the state that it began with and the journal of its calls: it is always what the journal
-//! leaves.
+//! A store beside the setup and the state that it began with and the journal of its calls: it is always what the
+//! journal leaves.
 #![tactic(auto)]
 
 pub use ended::Ended;
@@ -9,3 +9,4 @@ mod ended;
 mod entry;
 mod journaled_store;
 mod origin;
+mod typed_call;

@@ -30,6 +30,7 @@ returns c =
       journal_is = written;
       tallies = ended.tallies;
       store = ended.store;
+      stands = ended.stands;
       transcripts_are = c.in_ok-transcripts.ensures ∙ ap (λ j. map (transcript_from j.entries) c.args.answered.items) written;
       boards_are = refl;
       records = c.new-3.ensures ∙ c.in_ok-records.ensures.rows ∙ ap (λ (S : State). map (record_row_of S) S.holders) same;

@@ -10,8 +10,8 @@ pub with_call-self-inside-requires : goal.with_call-self-inside-requires
 with_call-self-inside-requires c =
     let a = c.self.inside in
     let j = journaled_of a in
-    let e = c.next.result.now in
-    let next = told-next j _ e c.requires c.self.view_is c.next.ensures in
+    let e = c.next-entry.result.now in
+    let next = told-next j _ e c.requires c.self.view_is c.next-entry.ensures in
     record {
       room = subst (λ t. CanCount t c.change-change.result) (sym c.self.invariant.tallies)
           (subst (CanCount (tally_of j.journal)) (sym c.change-change.ensures) (next-counts j e c.self.invariant.played next));
@@ -21,11 +21,12 @@ pub invariant_of-self : goal.invariant_of-self
 invariant_of-self c =
     let a = c.self.inside in
     let j = journaled_of a in
-    let e = c.next.result.now in
-    let next = told-next j _ e c.requires c.self.view_is c.next.ensures in
+    let e = c.next-entry.result.now in
+    let next = told-next j _ e c.requires c.self.view_is c.next-entry.ensures in
     let entries = one_more a.entries.items a.len e next.is in
     record {
-      played = next-played j _ e c.self.invariant.played next refl refl entries c.commit.ensures;
+      played = next-played j _ e c.self.invariant.played c.call_is_typed.ensures next refl refl entries
+          c.commit.ensures;
       len = omega (arith, slice_get_within a.entries.items a.len e next.is);
       tallies = c.with_call-self-inside.ensures ∙ (λ i. counted (c.self.invariant.tallies i) (c.change-change.ensures i))
           ∙ sym (tally-one_more j.journal e) ∙ ap tally_of (sym entries);
@@ -40,6 +41,7 @@ pub returns-clause-played : goal.returns-clause-played
 returns-clause-played c =
     let a = c.self.inside in
     let j = journaled_of a in
-    let e = c.next.result.now in
-    let next = told-next j _ e c.requires c.self.view_is c.next.ensures in
-    next-played j _ e c.self.invariant.played next refl refl (one_more a.entries.items a.len e next.is) c.commit.ensures
+    let e = c.next-entry.result.now in
+    let next = told-next j _ e c.requires c.self.view_is c.next-entry.ensures in
+    next-played j _ e c.self.invariant.played c.call_is_typed.ensures next refl refl
+    (one_more a.entries.items a.len e next.is) c.commit.ensures
