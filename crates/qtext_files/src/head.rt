@@ -17,9 +17,9 @@ pub(crate) struct Head {
     pub(crate) workers: u64,
 }
 
-/// A word that stands in every head.
+/// A word that stands in every head, or BadHead where the word is another.
 #[tactic(auto, unfolding(crate::specs::Journals::head_keyword))]
-fn head_keyword(wanted: &[u8], word: &[u8]) -> Result<(), ReadFault>
+pub fn head_keyword(wanted: &[u8], word: &[u8]) -> Result<(), ReadFault>
     ensures { Gives result (head_keyword wanted.now word.now) }
 {
     if word == wanted {
@@ -28,9 +28,9 @@ fn head_keyword(wanted: &[u8], word: &[u8]) -> Result<(), ReadFault>
     Err(ReadFault::Fault(TextKind::BadHead))
 }
 
-/// The edition of a journal.
+/// The edition of a journal or an image, `1` or `2`, or BadHead.
 #[tactic(auto, unfolding(crate::specs::Journals::edition_of))]
-fn edition_of(word: &[u8]) -> Result<Edition, ReadFault>
+pub fn edition_of(word: &[u8]) -> Result<Edition, ReadFault>
     ensures { Gives result (edition_of word.now) }
 {
     if word == b"1".as_slice() {

@@ -2,6 +2,7 @@
 #![tactic(auto)]
 
 pub use from_text::FromText;
+pub use head::{edition_of, head_keyword};
 pub use journal_text::{put_journal, write_journal};
 pub use line::read_line;
 pub use qtext_write::WriteFault;

@@ -38,9 +38,9 @@ pub(crate) fn kind_of(edition: Edition, word: &[u8]) -> Result<Kind, ReadFault>
     Err(ReadFault::Fault(TextKind::BadWord))
 }
 
-/// The id of an owner, or a dash for the present one.
+/// The id of an owner, or None for a dash, else BadNumber.
 #[tactic(auto, unfolding(crate::specs::Arguments::owner_of))]
-pub(crate) fn owner_of(word: &[u8]) -> Result<Option<u32>, ReadFault>
+pub fn owner_of(word: &[u8]) -> Result<Option<u32>, ReadFault>
     ensures { Gives result (owner_of word.now) }
 {
     if word == b"-".as_slice() {
@@ -52,9 +52,9 @@ pub(crate) fn owner_of(word: &[u8]) -> Result<Option<u32>, ReadFault>
 
 /// `BSOFT BHARD ISOFT IHARD`.
 #[derive(Clone, Copy)]
-pub(crate) struct LimitsWords<'a> {
-    pub(crate) block_soft: &'a [u8],
-    pub(crate) block_hard: &'a [u8],
-    pub(crate) inode_soft: &'a [u8],
-    pub(crate) inode_hard: &'a [u8],
+pub struct LimitsWords<'a> {
+    pub block_soft: &'a [u8],
+    pub block_hard: &'a [u8],
+    pub inode_soft: &'a [u8],
+    pub inode_hard: &'a [u8],
 }

@@ -104,9 +104,9 @@ fn stat_of(
     Ok(Reply::Stat(stat))
 }
 
-/// `BSOFT BHARD ISOFT IHARD`.
+/// The limits of `BSOFT BHARD ISOFT IHARD`, or the fault of the first that is no number of 64 bits; of any range.
 #[tactic(auto, unfolding(crate::specs::RepliesRead::limits_of))]
-fn limits_of(words: LimitsWords<'_>) -> Result<Limits, ReadFault>
+pub fn limits_of(words: LimitsWords<'_>) -> Result<Limits, ReadFault>
     ensures { Gives result (limits_of words.entry.block_soft.now words.entry.block_hard.now
         words.entry.inode_soft.now words.entry.inode_hard.now) }
 {
@@ -151,9 +151,9 @@ fn bytes_of(alloc: Global, digits: &[u8]) -> Result<Reply, ReadFault>
     Ok(Reply::Bytes(SharedItems::new(bytes.into_vec())?))
 }
 
-/// A grace end, or a dash where none stands.
+/// A grace end, in seconds, or None for a dash, else the fault of what is no number of 64 bits.
 #[tactic(auto, unfolding(crate::specs::RepliesRead::end_of))]
-fn end_of(word: &[u8]) -> Result<Option<u64>, ReadFault>
+pub fn end_of(word: &[u8]) -> Result<Option<u64>, ReadFault>
     ensures { Gives result (end_of word.now) }
 {
     if word == b"-".as_slice() {
