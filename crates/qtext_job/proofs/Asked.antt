@@ -10,7 +10,7 @@ use Rattle.qtext_job.specs.Jobs.{HasScript, IsAskedBy, IsJobOf, IsNamedBy}
 
 named_some : (name : Text) (rows : List Row) (job : Job) → IsNamedBy name rows job → HasScript job
 named_some name rows (Run run) is =
-    let some = is.6.1 in
+    let some = is.7.1 in
     omega (arith, some, length-map run.scripts.items (λ s. string_bytes s))
 named_some name rows (Replay replay) is = tt
 named_some name rows (Serve serve) is = tt

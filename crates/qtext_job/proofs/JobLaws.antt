@@ -192,7 +192,7 @@ passed_on (Err e) P Q fault is h weaker = rw is (unless_weaker P Q fault weaker 
 -- a run has how it is told, and its numbers
 pub its_numbers : (rows : List Row) (job : Job) → IsNamedBy (codes "run") rows job
     → ((telling : Telling) × IsTellingIn rows telling) × ((boards : ℕ) × AreBoardsIn rows boards) × ((batch : ℕ) × IsBatchIn rows batch)
-its_numbers rows (Run run) h = ((run.telling, h.2), (run.boards, h.4), (run.batch, h.5))
+its_numbers rows (Run run) h = ((run.telling, h.2), (run.boards, h.5), (run.batch, h.6))
 its_numbers rows (Serve serve) h =
     let same : codes "run" ≡ codes "serve" = h.0 in
     absurd cc
@@ -228,7 +228,7 @@ pub its_service : (rows : List Row) (job : Job) → IsNamedBy (codes "serve") ro
 its_service rows (Run run) h =
     let same : codes "serve" ≡ codes "run" = h.0 in
     absurd cc
-its_service rows (Serve serve) h = ((serve.at, h.2), (serve.shares, h.7))
+its_service rows (Serve serve) h = ((serve.at, h.2), (serve.shares, h.8))
 its_service rows (Replay replay) h =
     let same : codes "serve" ≡ codes "replay" = h.0 in
     absurd cc

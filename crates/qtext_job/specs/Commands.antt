@@ -64,6 +64,10 @@ verbose = record (flag (codes "verbose")) { short = Some 118 }
 abbrev pub journal : Rule
 journal = record (option (codes "journal")) { short = Some 106 }
 
+-- `--save FILE`
+abbrev pub save : Rule
+save = option (codes "save")
+
 -- `--boards N`, from 0 to 1000, and 0 where it is not given
 abbrev pub boards : Rule
 boards = record (option (codes "boards")) { parser = Some (Unsigned 0 1000); defaults = codes "0" ∷ [] }
@@ -100,6 +104,10 @@ played = record (word (codes "journal")) { required = true }
 abbrev pub configured : List ℕ → App
 configured name = with_rule (new_app name) config
 
+-- a command that may save its store
+abbrev pub with_saving : App → App
+with_saving a = with_rule a save
+
 -- a command with the options of how its store is shared
 abbrev pub with_sharing : App → App
 with_sharing a = with_rule (with_rule a boards) batch
@@ -119,11 +127,11 @@ reporting name = with_view (with_rule (with_rule (configured name) report_at) fo
 
 -- `run`
 abbrev pub run : App
-run = with_rule (with_sharing (with_rule (reporting (codes "run")) journal)) scripts
+run = with_rule (with_sharing (with_saving (with_rule (reporting (codes "run")) journal))) scripts
 
 -- a command with the files that are written of what was served
 abbrev pub with_files : App → App
-with_files a = with_rule (with_rule a journal) (option (codes "board"))
+with_files a = with_rule (with_saving (with_rule a journal)) (option (codes "board"))
 
 -- a command with the moments of a service, and what it does at its end
 abbrev pub with_end : App → App
@@ -139,7 +147,7 @@ serve = with_rule (with_shares (with_end (configured (codes "serve")))) (words (
 
 -- `replay`
 abbrev pub replay : App
-replay = with_rule (reporting (codes "replay")) played
+replay = with_rule (with_saving (reporting (codes "replay"))) played
 
 -- `expand`, of the friendly script that is written out; standard input where none is named
 abbrev pub expand : App

@@ -36,6 +36,7 @@ IsNamedBy name rows (Run run) = (name ≡ codes "run")
     × (first_of (codes "config") rows ≡ Some (string_bytes run.config))
     × IsTellingIn rows run.telling
     × (first_of (codes "journal") rows ≡ option_map (λ s. string_bytes s) run.journal)
+    × (first_of (codes "save") rows ≡ option_map (λ s. string_bytes s) run.save)
     × AreBoardsIn rows run.boards
     × IsBatchIn rows run.batch
     × AreScriptsIn rows (map (λ s. string_bytes s) run.scripts.items)
@@ -45,12 +46,14 @@ IsNamedBy name rows (Serve serve) = (name ≡ codes "serve")
     × (serve.clock ≡ is_given (codes "clock") rows)
     × (serve.stop_at_failure ≡ is_given (codes "stop-at-failure") rows)
     × (first_of (codes "journal") rows ≡ option_map (λ s. string_bytes s) serve.journal)
+    × (first_of (codes "save") rows ≡ option_map (λ s. string_bytes s) serve.save)
     × (first_of (codes "board") rows ≡ option_map (λ s. string_bytes s) serve.board)
     × AreSharesIn rows serve.shares
     × AreClientsIn rows serve.pairs.items
 IsNamedBy name rows (Replay replay) = (name ≡ codes "replay")
     × (first_of (codes "config") rows ≡ Some (string_bytes replay.config))
     × IsTellingIn rows replay.telling
+    × (first_of (codes "save") rows ≡ option_map (λ s. string_bytes s) replay.save)
     × (first_of (codes "journal") rows ≡ Some (string_bytes replay.journal))
 IsNamedBy name rows (Expand expand) = (name ≡ codes "expand")
     × (first_of (codes "config") rows ≡ Some (string_bytes expand.config))

@@ -28,12 +28,13 @@ const MAX_BOARDS: u64 = 1000;
 const MAX_BATCH: u64 = 64;
 
 /// To run the scripts on a store of the configuration, each up to N lines at a time, while N boards are taken, to tell
-/// what came of it, and to write the journal of the run where a file is named for it.
+/// what came of it, and to write the journal of the run, and an image of the store, where files are named for them.
 #[derive(Debug, Drop)]
 pub struct RunJob {
     pub config: String,
     pub telling: Telling,
     pub journal: Option<String>,
+    pub save: Option<String>,
     pub boards: u64,
     pub batch: u64,
     pub scripts: Vec<String>,
@@ -41,9 +42,9 @@ pub struct RunJob {
 
 /// To answer the clients' lines on a store of the configuration, at their moments or a clock's, until all have ended
 /// or, where it is to stop at that, the first line has failed, to report at the moment, in seconds, to write the
-/// journal where a file is named for it, and likewise the board while clients are served. Each client that is bound to
-/// a caller may take the shares at most. Where none is named those of the configuration are served, and where it names
-/// none either there is one, on standard input and output.
+/// journal where a file is named for it, likewise an image of the store, and the board while clients are served. Each
+/// client that is bound to a caller may take the shares at most. Where none is named those of the configuration are
+/// served, and where it names none either there is one, on standard input and output.
 #[derive(Debug, Drop)]
 pub struct ServeJob {
     pub config: String,
@@ -51,16 +52,19 @@ pub struct ServeJob {
     pub clock: bool,
     pub stop_at_failure: bool,
     pub journal: Option<String>,
+    pub save: Option<String>,
     pub board: Option<String>,
     pub shares: ShareOptions,
     pub pairs: Vec<Pair>,
 }
 
-/// To play the journal on a store of the configuration, and to tell what came of it.
+/// To play the journal on a store of the configuration, to tell what came of it, and to write an image of the store
+/// where a file is named for it.
 #[derive(Debug, Drop)]
 pub struct ReplayJob {
     pub config: String,
     pub telling: Telling,
+    pub save: Option<String>,
     pub journal: String,
 }
 
@@ -158,6 +162,7 @@ fn run(alloc: Global, matches: &ArgMatches<'_>) -> Result<Job, LineFault>
     let config = named(alloc, matches, "config")?;
     let telling = telling(alloc, matches)?;
     let journal = optional(alloc, matches, "journal")?;
+    let save = optional(alloc, matches, "save")?;
     let boards = number(alloc, matches, "boards", 0, MAX_BOARDS)?;
     let batch = number(alloc, matches, "batch", 1, MAX_BATCH)?;
     let scripts = scripts(alloc, matches)?;
@@ -165,6 +170,7 @@ fn run(alloc: Global, matches: &ArgMatches<'_>) -> Result<Job, LineFault>
         config,
         telling,
         journal,
+        save,
         boards,
         batch,
         scripts,
@@ -183,6 +189,7 @@ fn serve(alloc: Global, matches: &ArgMatches<'_>) -> Result<Job, LineFault>
         clock: is_set(matches, "clock"),
         stop_at_failure: is_set(matches, "stop-at-failure"),
         journal: optional(alloc, matches, "journal")?,
+        save: optional(alloc, matches, "save")?,
         board: optional(alloc, matches, "board")?,
         shares: shares(alloc, matches)?,
         pairs: clients(alloc, matches)?,
@@ -197,6 +204,7 @@ fn replay(alloc: Global, matches: &ArgMatches<'_>) -> Result<Job, LineFault>
     Ok(Job::Replay(ReplayJob {
         config: named(alloc, matches, "config")?,
         telling: telling(alloc, matches)?,
+        save: optional(alloc, matches, "save")?,
         journal: named(alloc, matches, "journal")?,
     }))
 }

@@ -93,8 +93,8 @@ fn put_bytes<W: Write>(
     line.put_full(out)
 }
 
-/// Puts a space and an owner's id, or a dash for the present one.
-fn put_owner(line: &mut TextLine, owner: Option<u32>)
+/// Puts a space and an owner's id after what is there, or a dash for none.
+pub fn put_owner(line: &mut TextLine, owner: Option<u32>)
     requires { length line.old + 21 ≤ LINE_ROOM }
     ensures text { line.new ≡ line.old ++ 32 ∷ owner_text owner }
     ensures short { length line.new ≤ length line.old + 21 }
@@ -141,9 +141,9 @@ fn put_record(line: &mut TextLine, kind: Kind, id: u32)
     line.field(id as u64);
 }
 
-/// Puts limits, each after a space.
-fn put_limits(line: &mut TextLine, limits: &Limits)
-    requires { length line.old ≤ WORD_ROOM + 30 }
+/// Puts limits after what is there, each after a space: soft and hard of blocks, then of inodes.
+pub fn put_limits(line: &mut TextLine, limits: &Limits)
+    requires { length line.old ≤ WORD_ROOM + 42 }
     ensures text { line.new ≡ line.old ++ spaced (limits_words limits.now) }
     ensures short { length line.new ≤ CALL_ROOM }
     ensures typed { AreLimits limits.now }

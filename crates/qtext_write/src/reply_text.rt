@@ -15,8 +15,8 @@ use std::io::Write;
 /// How many bytes may stand before a reply.
 pub const REPLY_PLACE: usize = 720;
 
-/// Puts a space and a grace end.
-fn put_end(line: &mut TextLine, end: Option<u64>)
+/// Puts a space and a grace end after what is there, or a dash for none.
+pub fn put_end(line: &mut TextLine, end: Option<u64>)
     requires { length line.old + 21 ≤ LINE_ROOM }
     ensures text { line.new ≡ line.old ++ 32 ∷ end_text end }
     ensures short { length line.new ≤ length line.old + 21 }

@@ -15,7 +15,7 @@ IsStatus status = (status ≡ 0) ⊎ (status ≡ 1) ⊎ (status ≡ 2) ⊎ (stat
 abbrev pub IsFaultStatus : ℕ → Type 0
 IsFaultStatus status = (status ≡ 2) ⊎ (status ≡ 3) ⊎ (status ≡ 4) ⊎ (status ≡ 5)
 
--- the output has refused, or, after it, the file for the journal
+-- the output has refused, or, after it, the file for the journal or for the image
 abbrev pub IsRefusal : Ending → Type 0
 IsRefusal Output = ⊤
 IsRefusal (Unwritten name) = ⊤

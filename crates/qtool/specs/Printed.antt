@@ -1,12 +1,11 @@
 -- What the program prints, and what it keeps, where it ends well.
-use Rattle.std.specs.Prelude.{◌≡◌, ◌⊎◌, ℕ, Bool, true, false, List, [], map, All, Option, Some, Ok}
+use Rattle.std.specs.Prelude.{◌≡◌, ◌⊎◌, ℕ, Bool, true, false, List, [], length, map, All, Option, Some, None, Ok}
 use Rattle.std.specs.Prelude.{codes, if◌then◌else◌, unwrap_or}
-use Rattle.std.specs.Prelude.{IfSome, option_map, string_bytes}
+use Rattle.std.specs.Prelude.{IsSome, option_map, string_bytes}
 use Rattle.std.specs.Io.KnownBytes.{Appends}
 use Rattle.std.specs.Str.{bytes_eq}
 use Rattle.clap.specs.Words.{IsAmong, fault_of}
 use Rattle.clap.specs.declared.error.kind.ErrorKind.{ErrorKind}
-use Rattle.qplain.specs.Journals.{Written}
 use Rattle.qplain.specs.Setups.{Setting}
 use Rattle.qplain.specs.declared.transcript.Transcript.{Transcript}
 use Rattle.qrun_replay.specs.declared.outcome.Outcome.{Outcome}
@@ -16,8 +15,9 @@ use Rattle.qtext_outcome.specs.Denials.{IsDone}
 use Rattle.qtext_outcome.specs.Moments.{moment_of}
 use Rattle.qtext_outcome.specs.Outcomes.{outcome_end}
 use Rattle.qtext_rows.specs.Formats.{formatted_text}
-use Rattle.qtext_files.specs.Spelling.{CanBeRead, journal_spelling}
+use Rattle.qtext_files.specs.Spelling.{CanBeRead}
 use Rattle.qtext_config.specs.ConfigClients.{NamedClient}
+use Rattle.qtext_image.specs.Images.{image_of}
 use Rattle.qtext_expand.specs.Expansions.{expansion}
 use Rattle.qtext_check.specs.Faults.{faults_of}
 use Rattle.qtext_job.specs.Commands.{quotafs}
@@ -27,7 +27,9 @@ use Rattle.qtext_job.specs.declared.job.Job.TheVariants.{Run, Replay, Serve, Exp
 use Rattle.qtext_job.specs.declared.job.ServeJob.{ServeJob}
 use Rattle.qtext_job.specs.declared.line_fault.LineFault.{LineFault}
 use Rattle.qtext_job.specs.declared.line_fault.LineFault.TheVariants.{Line, Memory}
-use Rattle.qtool_files.specs.Held.{Held, StandsUnder, IsUnder}
+use Rattle.qtool_files.specs.Held.{Held, IsUnder}
+use Rattle.qtool_files.specs.Saved.{IsSaved, image_left}
+use Rattle.qtool.specs.Apart.{AreApart}
 use Rattle.qtool.specs.Served.{clients_of_job, is_taken}
 use Rattle.qtool.specs.Terms.{AreKept, terms_told}
 use Rattle.qtool.specs.Under.{IsConfigUnder, IsReplayUnder, IsRunUnder, IsServiceUnder}
@@ -47,25 +49,34 @@ pub record IsTold (telling : Telling) (outcome : Outcome) (status : ℕ) (old ne
   pub text : Appends old new (printed_text telling outcome)
   pub status_is : IsToldWith telling outcome.transcripts status
 
--- where a file is named for the journal, its spelling stands under that name, and can be read again
-abbrev pub IsJournalKept : Held → Held → Option (List ℕ) → Written → Type 0
-IsJournalKept files kept name journal =
-    IfSome name (λ name. StandsUnder files kept name (journal_spelling journal) × CanBeRead journal)
+-- the image of the store that is left is read again: as its edition, after the calls of its journal, in its state
+abbrev pub IsImageRead : Outcome → Type 0
+IsImageRead o = image_of (image_left o)
+    ≡ Ok (record { edition = o.setup.edition; place = length o.journal.entries; state = o.store.state })
 
--- an outcome of the run was printed, and its journal is kept where a file is named for it
+-- where files are named for them, which are others, the journal was saved, and then an image of the store, and both can
+-- be read again
+pub record IsKept (files kept : Held) (journal image : Option (List ℕ)) (o : Outcome) : Type 0 where
+  pub apart : AreApart journal image
+  pub saved : IsSaved files kept journal image o
+  pub journal_again : IsSome journal → CanBeRead o.journal
+  pub image_again : IsSome image → IsImageRead o
+
+-- an outcome of the run was printed, and its journal and its image are kept where files are named for them
 pub record PrintsRun (config : List ℕ) (scripts : List (List ℕ)) (boards : ℕ) (telling : Telling)
-    (journal : Option (List ℕ)) (status : ℕ) (files kept : Held) (old new : Option (List ℕ)) : Type 0 where
+    (journal image : Option (List ℕ)) (status : ℕ) (files kept : Held) (old new : Option (List ℕ)) : Type 0 where
   pub outcome : Outcome
   pub is : IsRunUnder files config scripts boards outcome
   pub told : IsTold telling outcome status old new
-  pub journal_is : IsJournalKept files kept journal outcome.journal
+  pub kept_is : IsKept files kept journal image outcome
 
--- the outcome of the replay was printed
-pub record PrintsReplay (config journal : List ℕ) (telling : Telling) (status : ℕ) (files : Held)
-    (old new : Option (List ℕ)) : Type 0 where
+-- the outcome of the replay was printed, and its image kept where a file is named for it
+pub record PrintsReplay (config journal : List ℕ) (telling : Telling) (image : Option (List ℕ)) (status : ℕ)
+    (files kept : Held) (old new : Option (List ℕ)) : Type 0 where
   pub outcome : Outcome
   pub is : IsReplayUnder files config journal outcome
   pub told : IsTold telling outcome status old new
+  pub kept_is : IsKept files kept None image outcome
 
 -- the file that is read for a friendly script of this name: what standard input comes from where it is `-`
 abbrev pub friendly_file : List ℕ → List ℕ
@@ -121,10 +132,11 @@ pub record PrintsService (job : ServeJob) (old new : Scene) : Type 0 where
 abbrev pub IsPrinted : Job → ℕ → Scene → Scene → Type 0
 IsPrinted (Run run) status old new =
     PrintsRun (string_bytes run.config) (map (λ s. string_bytes s) run.scripts.items) run.boards run.telling
-    (option_map (λ s. string_bytes s) run.journal) status old.files new.files old.output new.output
+    (option_map (λ s. string_bytes s) run.journal) (option_map (λ s. string_bytes s) run.save) status old.files
+    new.files old.output new.output
 IsPrinted (Replay replay) status old new =
-    PrintsReplay (string_bytes replay.config) (string_bytes replay.journal) replay.telling status old.files old.output
-    new.output
+    PrintsReplay (string_bytes replay.config) (string_bytes replay.journal) replay.telling
+    (option_map (λ s. string_bytes s) replay.save) status old.files new.files old.output new.output
 IsPrinted (Serve serve) status old new = (status ≡ 0) × PrintsService serve old new
 IsPrinted (Expand expand) status old new =
     (status ≡ 0) × PrintsExpansion (string_bytes expand.config)

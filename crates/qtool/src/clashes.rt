@@ -1,9 +1,9 @@
 //! Names of a service that must not be of one file, or of one stream.
 ghost use Rattle.std.specs.Prelude.{◌≡◌};
 
-use crate::Files;
 use crate::client_names::ClientNames;
 use crate::standard::STANDARD;
+use crate::{Files, SavedNames};
 use qplain::NoMemory;
 use qtext_client::Counts;
 use std::alloc::Global;
@@ -16,6 +16,9 @@ pub(crate) enum Role {
     Input(u64),
     Output(u64),
     Journal,
+    /// A journal that is read.
+    Played,
+    Image,
     Board,
     /// Standard output, where what is left of a service goes.
     Standard,
@@ -123,7 +126,7 @@ fn clash_with<F: Files>(files: &mut F, before: &[Named<'_>], named: &Named<'_>) 
 pub(crate) struct ServiceNames<'a> {
     pub(crate) config: &'a str,
     pub(crate) clients: &'a [ClientNames<'a>],
-    pub(crate) journal: Option<&'a str>,
+    pub(crate) saved: SavedNames<'a>,
     pub(crate) board: Option<&'a str>,
     /// Where what its clients are told is counted, for the board.
     pub(crate) counts: &'a Counts,
@@ -159,7 +162,12 @@ fn all_named<'a>(alloc: Global, names: ServiceNames<'a>) -> Result<Vec<Named<'a>
             name: output,
         })?;
     }
-    for (role, name) in [(Role::Journal, names.journal), (Role::Board, names.board)] {
+    let files = [
+        (Role::Journal, names.saved.journal),
+        (Role::Image, names.saved.image),
+        (Role::Board, names.board),
+    ];
+    for (role, name) in files {
         if let Some(name) = name {
             all.push(Named { role, name })?;
         }

@@ -5,21 +5,18 @@ ghost use Rattle.qtool.specs.Endings.{IsFaultStatus, IsRefusal};
 use crate::clashes::Clash;
 use crate::fault_text::{
     put_clash, put_config, put_fault, put_file, put_friendly, put_journal_fault, put_mismatch,
-    put_not_started, put_overwritten, put_script, put_unwritten,
+    put_not_started, put_script, put_unwritten,
 };
-use crate::{ConfigFault, FileFault, Refuser, TextFault};
+use crate::{ConfigFault, FileFault, Refuser, SavedNames, TextFault};
 use qplain::NoMemory;
 use qrun_client::ClientEnd;
 use qtext::Written;
-use qtool_files::Overwritten;
 use std::alloc::Global;
 use std::io::Write;
 
 /// Why the program ends before its work is done.
 #[derive(Debug, Drop)]
 pub(crate) enum Ending {
-    /// The journal would be written over what the run reads, or over its output.
-    Overwrites(Overwritten),
     /// No file of that name can be read, and why, where that is to be told.
     File {
         name: String,
@@ -31,7 +28,7 @@ pub(crate) enum Ending {
     TooManyScripts,
     /// There are as many scripts as workers, and boards are to be taken beside them.
     TooManyWithBoards,
-    /// Two names of a service are of one file or of one stream.
+    /// Two names of a job are of one file or of one stream.
     Clash(Clash),
     /// There are more clients than workers.
     TooManyClients,
@@ -57,23 +54,28 @@ pub(crate) enum Ending {
     Memory,
     /// The output refused.
     Output,
-    /// No journal can be written to the file of that name.
+    /// No journal, or no image, can be written to the file of that name.
     Unwritten(String),
     /// What was looked at has faults, as was told.
     Faulty,
 }
 
 impl Ending {
-    /// The ending where what came of a run was refused, whose journal was to go to the file of this name.
-    pub(crate) fn refused(alloc: Global, by: Refuser, journal: Option<&str>) -> Ending
+    /// The ending where what came of a run was refused, which was to be saved in the files of these names.
+    pub(crate) fn refused(alloc: Global, by: Refuser, names: SavedNames<'_>) -> Ending
         ensures { IsRefusal result }
     {
-        match (by, journal) {
-            (Refuser::Journal, Some(name)) => match String::from_str(alloc, name) {
-                Ok(name) => Ending::Unwritten(name),
-                Err(_) => Ending::Output,
-            },
-            _ => Ending::Output,
+        let name = match by {
+            Refuser::Output => None,
+            Refuser::Journal => names.journal,
+            Refuser::Image => names.image,
+        };
+        let Some(name) = name else {
+            return Ending::Output;
+        };
+        match String::from_str(alloc, name) {
+            Ok(name) => Ending::Unwritten(name),
+            Err(_) => Ending::Output,
         }
     }
 
@@ -119,7 +121,6 @@ impl Ending {
 
     pub(crate) fn put_line<E: Write>(&self, err: &mut E) -> Written {
         match self {
-            Ending::Overwrites(what) => put_overwritten(err, *what),
             Ending::File { name, why } => put_file(err, name.as_bytes(), *why),
             Ending::Config(fault) => put_config(err, fault),
             Ending::TooManyScripts => put_fault(err, b"at most 16 scripts"),

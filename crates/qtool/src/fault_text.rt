@@ -4,15 +4,15 @@ use crate::clashes::{Clash, Role};
 use crate::{ConfigFault, FileFault, TextFault};
 use qtext::{Piece, Written, put, put_pieces};
 use qtext_check::put_name;
-use qtool_files::Overwritten;
 use std::io::Write;
 
-/// Writes what a name of a service is of.
+/// Writes what a name is of.
 fn put_role<E: Write>(err: &mut E, role: Role) -> Written {
     match role {
         Role::Config => put(err, b"the configuration"),
         Role::Script(number) => put_numbered(err, b"script ", number),
-        Role::Journal => put(err, b"the journal"),
+        Role::Journal | Role::Played => put(err, b"the journal"),
+        Role::Image => put(err, b"the image"),
         Role::Board => put(err, b"the board"),
         Role::Standard => put(err, b"the output"),
         Role::Input(client) => put_numbered(err, b"the lines of client ", client),
@@ -40,19 +40,6 @@ pub(crate) fn put_clash<E: Write>(err: &mut E, clash: Clash) -> Written {
             put_role(err, other)?;
             put(err, b" are one stream\n")
         }
-    }
-}
-
-/// Writes a fault of the command line: which of its files the journal names.
-pub(crate) fn put_overwritten<E: Write>(err: &mut E, what: Overwritten) -> Written {
-    put(err, b"error: the journal would be written over ")?;
-    match what {
-        Overwritten::Config => put(err, b"the configuration\n"),
-        Overwritten::Script(number) => {
-            put_numbered(err, b"script ", number)?;
-            put(err, b"\n")
-        }
-        Overwritten::Output => put(err, b"the output\n"),
     }
 }
 

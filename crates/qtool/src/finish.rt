@@ -1,8 +1,9 @@
-//! What came of a run or of a replay, told: its outcome, its journal, and which lines were not done.
+//! What came of a run or of a replay, told: its outcome, what is saved of it, and which lines were not done.
 ghost use Rattle.std.specs.Prelude.{option_map, IfOk};
-ghost use Rattle.qtool.specs.Printed.{IsJournalKept, IsTold, IsToldWith};
+ghost use Rattle.qtool_files.specs.Saved.{IsReadable, IsSaved};
+ghost use Rattle.qtool.specs.Printed.{IsTold, IsToldWith};
 
-use crate::{Files, Outcome, OutcomeText, Refuser, finish_outcome};
+use crate::{Files, Outcome, OutcomeText, Refuser, SavedNames, finish_outcome};
 use qrun_replay::PlacedTranscript;
 use qtext::Telling;
 use qtext_outcome::{are_all_done, put_denials, report_moment};
@@ -30,20 +31,22 @@ fn tell_denials<E: Write>(transcripts: &[PlacedTranscript], telling: Telling, er
 pub(crate) fn finish<F: Files, O: Write, E: Write>(
     outcome: Outcome,
     telling: Telling,
-    journal: Option<&str>,
+    names: SavedNames<'_>,
     files: &mut F,
     out: &mut O,
     err: &mut E,
 ) -> Result<u8, Refuser>
     ensures told { IfOk result
         (λ status. IsTold telling outcome status (O.contents out.old) (O.contents out.new)) }
-    ensures kept { IfOk result (λ _. IsJournalKept (F.held files.old) (F.held files.new)
-        (option_map (λ n. n.now) journal.entry) outcome.journal) }
+    ensures saved { IfOk result (λ _. IsSaved (F.held files.old) (F.held files.new)
+        (option_map (λ n. n.now) names.entry.journal) (option_map (λ n. n.now) names.entry.image) outcome) }
+    ensures again { IfOk result (λ _. IsReadable (option_map (λ n. n.now) names.entry.journal)
+        (option_map (λ n. n.now) names.entry.image) outcome) }
 {
     let transcripts = outcome.transcripts.as_slice();
     let at = report_moment(telling.at, transcripts);
     let text = OutcomeText::Whole(telling.view);
-    let told = match finish_outcome(&outcome, text, at, journal, files, out) {
+    let told = match finish_outcome(&outcome, text, at, names, files, out) {
         Ok(()) => Ok(tell_denials(transcripts, telling, err)),
         Err(refuser) => Err(refuser),
     };

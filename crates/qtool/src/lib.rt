@@ -19,7 +19,9 @@ pub use qtext_config::{Config, ConfigFault};
 pub use qtext_files::{FromText, write_journal};
 pub use qtext_job::{Job, LineFault};
 pub use qtext_outcome::{WriteFault, write_outcome};
-pub use qtool_files::{FileFault, Files, NamedStreams, OutcomeText, Refuser, finish_outcome};
+pub use qtool_files::{
+    FileFault, Files, NamedStreams, OutcomeText, Refuser, SavedNames, finish_outcome,
+};
 pub use qtool_runs::{TextReplayFault, check_boards, replay, replay_text, run, run_with};
 
 mod checking;
@@ -33,6 +35,7 @@ mod program;
 mod reading;
 mod replaying;
 mod running;
+mod saving;
 mod served;
 mod services;
 mod standard;

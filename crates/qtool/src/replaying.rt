@@ -1,5 +1,5 @@
 //! Replays, from the name of a journal to what is told of it.
-ghost use Rattle.std.specs.Prelude.{◌≡◌, IfErr, IfOk, string_bytes};
+ghost use Rattle.std.specs.Prelude.{◌≡◌, IfErr, IfOk, option_map, string_bytes};
 ghost use Rattle.qtool.specs.Endings.{IsLeftUnlessRefused};
 ghost use Rattle.qtool.specs.Printed.{PrintsReplay};
 ghost use Rattle.qtool.specs.Under.{IsReplayUnder};
@@ -7,8 +7,9 @@ ghost use Rattle.qtool.specs.Under.{IsReplayUnder};
 use crate::ending::Ending;
 use crate::finish::finish;
 use crate::reading::{configuration, load};
-use crate::standard::test_played;
-use crate::{Files, Outcome, TextReplayFault, replay_text};
+use crate::saving::test_replayed;
+use crate::standard::{optional, test_played};
+use crate::{Files, Outcome, SavedNames, TextReplayFault, replay_text};
 use qtext_job::ReplayJob;
 use std::alloc::Global;
 use std::io::Write;
@@ -48,18 +49,23 @@ pub(crate) fn replay_job<F: Files, O: Write, E: Write>(
     err: &mut E,
 ) -> Result<u8, Ending>
     ensures printed { IfOk result (λ status. PrintsReplay (string_bytes replay.now.config)
-        (string_bytes replay.now.journal) replay.now.telling status (F.held files.old) (O.contents out.old)
-        (O.contents out.new)) }
+        (string_bytes replay.now.journal) replay.now.telling (option_map (λ n. string_bytes n) replay.now.save) status
+        (F.held files.old) (F.held files.new) (O.contents out.old) (O.contents out.new)) }
     ensures left { IfErr result (IsLeftUnlessRefused (O.contents out.old) (O.contents out.new)) }
 {
     let (config, journal) = (replay.config.as_str(), replay.journal.as_str());
     let telling = replay.telling;
+    let names = SavedNames {
+        journal: None,
+        image: optional(&replay.save),
+    };
     test_played(config, journal).map_err(Ending::Clash)?;
+    test_replayed(files, names.image, config, journal).map_err(Ending::Clash)?;
     let outcome = replay_of(alloc, seed, config, journal, files).map_err(|ending| ending.explained(
         telling.verbose,
     ))?;
-    match finish(outcome, telling, None, files, out, err) {
+    match finish(outcome, telling, names, files, out, err) {
         Ok(status) => Ok(status),
-        Err(refuser) => Err(Ending::refused(alloc, refuser, None)),
+        Err(refuser) => Err(Ending::refused(alloc, refuser, names)),
     }
 }

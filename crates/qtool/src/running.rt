@@ -10,11 +10,11 @@ ghost use Rattle.qtool.specs.declared.ending.Ending.TheVariants.{TooManyScripts,
 use crate::ending::Ending;
 use crate::finish::finish;
 use crate::reading::{configuration, read_scripts};
+use crate::saving::test_saved;
 use crate::standard::{optional, test_scripts};
-use crate::{Files, Machine, NoGate, Options, Outcome, RunFault, run_with};
+use crate::{Files, Machine, NoGate, Options, Outcome, RunFault, SavedNames, run_with};
 use qplain::MAX_WORKERS;
 use qtext_job::RunJob;
-use qtool_files::test_journal;
 use std::io::Write;
 use std::sync::Wait;
 use std::thread::Threads;
@@ -82,14 +82,21 @@ pub(crate) fn run_job<F: Files, O: Write, E: Write, R: Threads + Wait + Sync>(
     requires batch { (1 ≤ run.now.batch) × (run.now.batch ≤ 64) }
     ensures printed { IfOk result (λ status.
         PrintsRun (string_bytes run.now.config) (map (λ n. string_bytes n) run.now.scripts.items)
-        run.now.boards run.now.telling (option_map (λ n. string_bytes n) run.now.journal) status
-        (F.held files.old) (F.held files.new) (O.contents out.old) (O.contents out.new)) }
+        run.now.boards run.now.telling (option_map (λ n. string_bytes n) run.now.journal)
+        (option_map (λ n. string_bytes n) run.now.save) status (F.held files.old) (F.held files.new)
+        (O.contents out.old) (O.contents out.new)) }
     ensures left { IfErr result (IsLeftUnlessRefused (O.contents out.old) (O.contents out.new)) }
 {
     let (config, scripts) = (run.config.as_str(), run.scripts.as_slice());
-    let (journal, telling) = (optional(&run.journal), run.telling);
+    let names = SavedNames {
+        journal: optional(&run.journal),
+        image: optional(&run.save),
+    };
+    let telling = run.telling;
     test_scripts(config, scripts).map_err(Ending::Clash)?;
-    test_journal(files, journal, config, scripts).map_err(Ending::Overwrites)?;
+    if let Err(clash) = test_saved(files, names, config, scripts) {
+        return Err(Ending::Clash(clash));
+    }
     let options = Options {
         boards: run.boards,
         batch: run.batch,
@@ -97,8 +104,8 @@ pub(crate) fn run_job<F: Files, O: Write, E: Write, R: Threads + Wait + Sync>(
     let outcome = run_of(machine, config, scripts, options, files).map_err(
         |ending| ending.explained(telling.verbose),
     )?;
-    match finish(outcome, telling, journal, files, out, err) {
+    match finish(outcome, telling, names, files, out, err) {
         Ok(status) => Ok(status),
-        Err(refuser) => Err(Ending::refused(machine.alloc, refuser, journal)),
+        Err(refuser) => Err(Ending::refused(machine.alloc, refuser, names)),
     }
 }

@@ -20,7 +20,9 @@ use crate::running::ending_of_run;
 use crate::served::{ServiceConfig, served, service_config};
 use crate::standard::optional;
 use crate::told_streams::ToldStreams;
-use crate::{Files, Machine, NamedStreams, Outcome, OutcomeText, Setup, finish_outcome, serve};
+use crate::{
+    Files, Machine, NamedStreams, Outcome, OutcomeText, SavedNames, Setup, finish_outcome, serve,
+};
 use qplain::{MAX_WORKERS, NoMemory};
 use qrun::Service;
 use qrun_client::ClientEnd;
@@ -278,6 +280,14 @@ fn test_ends<S: Drop>(clients: &[EndedClient<S>]) -> Result<(), Ending> {
     Ok(())
 }
 
+/// The files that what a service leaves is saved in.
+fn saved_names(job: &ServeJob) -> SavedNames<'_> {
+    SavedNames {
+        journal: optional(&job.journal),
+        image: optional(&job.save),
+    }
+}
+
 /// Writes what a service has left. Its memory is left to the system, as that of a run.
 fn finish_service<F: Files, O: Write>(
     alloc: Global,
@@ -288,12 +298,12 @@ fn finish_service<F: Files, O: Write>(
 ) -> Result<(), Ending>
     ensures { OnOk result (Appends (O.contents out.old) (O.contents out.new) (outcome_end outcome job.now.at)) }
 {
-    let journal = optional(&job.journal);
-    let written = finish_outcome(&outcome, OutcomeText::Left, job.at, journal, files, out);
+    let names = saved_names(job);
+    let written = finish_outcome(&outcome, OutcomeText::Left, job.at, names, files, out);
     mem::forget(outcome);
     match written {
         Ok(()) => Ok(()),
-        Err(refuser) => Err(Ending::refused(alloc, refuser, journal)),
+        Err(refuser) => Err(Ending::refused(alloc, refuser, names)),
     }
 }
 
@@ -304,7 +314,7 @@ fn end_of<S: Drop>(clients: &[EndedClient<S>], refused: bool) -> Result<(), Endi
 }
 
 /// Serves the clients until all have ended, and only then writes: what is left goes to the output, or to the error
-/// output where the output is a client's, and then the journal to its file.
+/// output where the output is a client's, and then the journal and the image to their files.
 pub(crate) fn serve_job<F, O, E, R>(
     machine: &Machine<'_, R>,
     job: &ServeJob,
@@ -329,7 +339,7 @@ where
     let names = ServiceNames {
         config: job.config.as_str(),
         clients: &named,
-        journal: optional(&job.journal),
+        saved: saved_names(job),
         board: optional(&job.board),
         counts: &counts,
     };

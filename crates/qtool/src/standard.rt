@@ -36,7 +36,7 @@ pub(crate) fn test_scripts(config: &str, scripts: &[String]) -> Result<(), Clash
 /// Tests that the configuration and the journal that is played are not both standard input.
 pub(crate) fn test_played(config: &str, journal: &str) -> Result<(), Clash> {
     if config == STANDARD && journal == STANDARD {
-        return Err(Clash::Stream(Role::Config, Role::Journal));
+        return Err(Clash::Stream(Role::Config, Role::Played));
     }
     Ok(())
 }

@@ -1,4 +1,4 @@
--- What a journal must not be written over.
+-- What a file must not be written over.
 use Rattle.std.specs.Prelude.{ℕ, ◌≤◌}
 use Rattle.qtool_files.specs.declared.overwriting.Overwritten.{Overwritten}
 use Rattle.qtool_files.specs.declared.overwriting.Overwritten.TheVariants.{Config, Script, Output}

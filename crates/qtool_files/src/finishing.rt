@@ -1,17 +1,15 @@
-//! What came of a run or of a service, written out: its outcome, and then its journal.
-ghost use Rattle.std.specs.Prelude.{◌≡◌, Err, IfOk, IfErr, IfSome, IsSome, OnErr, OnOk};
+//! What came of a run or of a service, written out: its outcome, then its journal, and then an image of its store.
+ghost use Rattle.std.specs.Prelude.{◌≡◌, Err, IfOk, IfErr, option_map};
 ghost use Rattle.std.specs.Io.KnownBytes.{Appends};
 ghost use Rattle.qtext.specs.Written.{AppendsFront, Writes};
-ghost use Rattle.qtext_files.specs.Spelling.{CanBeRead, journal_spelling};
-ghost use Rattle.qtool_files.specs.Held.{StandsUnder};
 ghost use Rattle.qtool_files.specs.OutcomeTexts.{told_text};
+ghost use Rattle.qtool_files.specs.Saved.{IsLeftAt, IsReadable, IsSaved};
 ghost use Rattle.qtool_files.specs.declared.finishing.Refuser.TheVariants.{Output};
 
 use crate::Files;
-use qplain::Journal;
+use crate::saving::{save_image, save_journal};
 use qrun_replay::Outcome;
 use qtext::{RefusedWrite, View, Written};
-use qtext_files::put_journal;
 use qtext_outcome::put_left;
 use qtext_rows::put_formatted;
 use std::io::Write;
@@ -23,6 +21,8 @@ pub enum Refuser {
     Output,
     /// The file for the journal: a draft cannot be made, refuses, or cannot be kept.
     Journal,
+    /// The file for the image, likewise, or memory was wanted for it and not there.
+    Image,
 }
 
 /// What is written of an outcome.
@@ -32,6 +32,15 @@ pub enum OutcomeText {
     Whole(View),
     /// What is left of a service: all but what its clients were told, who have read it.
     Left,
+}
+
+/// The files that an outcome is saved in, beside its text, where they are named.
+#[derive(Clone, Copy, Debug)]
+pub struct SavedNames<'a> {
+    /// That of the journal.
+    pub journal: Option<&'a str>,
+    /// That of an image of the store.
+    pub image: Option<&'a str>,
 }
 
 /// Writes the text of an outcome, with the report at the moment, and flushes it.
@@ -49,61 +58,18 @@ fn finish_text<W: Write>(outcome: &Outcome, text: OutcomeText, at: u64, out: &mu
     Ok(())
 }
 
-/// Writes the journal, and flushes it.
-#[tactic(auto, using(crate::proofs::Flushes::refused_at_the_flush, qtext::proofs::Fronts::keeps_appends))]
-fn finish_journal<W: Write>(journal: &Journal, out: &mut W) -> Written
-    ensures writes { Writes (W.contents out.old) (W.contents out.new) result (journal_spelling journal.now) }
-    ensures again { IfOk result (λ _. CanBeRead journal.now) }
-{
-    if put_journal(out, journal).is_err() || out.flush().is_err() {
-        return Err(RefusedWrite);
-    }
-    Ok(())
-}
-
-/// Writes the journal as a draft, and keeps that under the name. A draft that refuses is given up.
-#[tactic(auto, using(crate::proofs::Drafts::written_whole))]
-fn keep_journal<F: Files>(journal: &Journal, files: &mut F, name: &str) -> Written
-    ensures again { IfOk result (λ _. CanBeRead journal.now) }
-    ensures kept { OnOk result
-        (StandsUnder (F.held files.old) (F.held files.new) name.now (journal_spelling journal.now)) }
-    ensures err { OnErr result (F.held files.new ≡ F.held files.old) }
-{
-    let Ok(mut draft) = files.draft(name) else {
-        return Err(RefusedWrite);
-    };
-    if finish_journal(journal, &mut draft).is_err() {
-        files.give_up(draft);
-        return Err(RefusedWrite);
-    }
-    files.keep(draft, name).map_err(|_| RefusedWrite)
-}
-
-/// The same, where a file is named for it.
-fn keep_asked<F: Files>(outcome: &Outcome, journal: Option<&str>, files: &mut F) -> Written
-    ensures again { IfOk result (λ _. IsSome journal.entry → CanBeRead outcome.now.journal) }
-    ensures kept { OnOk result (IfSome journal.entry (λ name.
-        StandsUnder (F.held files.old) (F.held files.new) name.now (journal_spelling outcome.now.journal))) }
-    ensures err { OnErr result (F.held files.new ≡ F.held files.old) }
-{
-    match journal {
-        Some(name) => keep_journal(outcome.journal.get(), files, name),
-        None => Ok(()),
-    }
-}
-
 /// Writes what came of a run or of a service to the output, as this text with the report at the moment, and flushes
-/// it; and then, where a file is named for it, writes the journal as a draft, flushes that, and keeps it under the
-/// name.
+/// it; and then, where files are named for them, its journal and an image of its store, each as a draft, which is
+/// flushed and kept under the name.
 ///
-/// An output that refuses leaves no journal: no draft is made. Where the journal is refused, the text stands whole in
-/// the output, and under the name there is what was there before. A program that is ended in between leaves the same,
-/// and may leave the draft.
+/// An output that refuses leaves no file: no draft is made. Where the journal or the image is refused, the text stands
+/// whole in the output, and under its name there is what was there before; the image comes behind the journal, and is
+/// not tried where that is refused. A program that is ended in between leaves the same, and may leave the draft.
 pub fn finish_outcome<F: Files, O: Write>(
     outcome: &Outcome,
     text: OutcomeText,
     at: u64,
-    journal: Option<&str>,
+    names: SavedNames<'_>,
     files: &mut F,
     out: &mut O,
 ) -> Result<(), Refuser>
@@ -112,15 +78,23 @@ pub fn finish_outcome<F: Files, O: Write>(
     ensures beginning { result ≡ Err Output
         → AppendsFront (O.contents out.old) (O.contents out.new) (told_text text outcome.now at) }
     ensures no_file { result ≡ Err Output → files.new ≡ files.old }
-    ensures again { IfOk result (λ _. IsSome journal.entry → CanBeRead outcome.now.journal) }
+    ensures again { IfOk result (λ _. IsReadable (option_map (λ n. n.now) names.entry.journal)
+        (option_map (λ n. n.now) names.entry.image) outcome.now) }
 
     // Where files tell what they hold, as the machine's do not.
-    ensures kept { IfOk result (λ _. IfSome journal.entry (λ name.
-        StandsUnder (F.held files.old) (F.held files.new) name.now (journal_spelling outcome.now.journal))) }
-    ensures as_before { IfErr result (λ _. F.held files.new ≡ F.held files.old) }
+    ensures saved { IfOk result (λ _. IsSaved (F.held files.old) (F.held files.new)
+        (option_map (λ n. n.now) names.entry.journal) (option_map (λ n. n.now) names.entry.image) outcome.now) }
+    ensures left { IfErr result (IsLeftAt (F.held files.old) (F.held files.new)
+        (option_map (λ n. n.now) names.entry.journal) outcome.now) }
 {
     if finish_text(outcome, text, at, out).is_err() {
         return Err(Refuser::Output);
     }
-    keep_asked(outcome, journal, files).map_err(|_| Refuser::Journal)
+    if save_journal(outcome, names.journal, files).is_err() {
+        return Err(Refuser::Journal);
+    }
+    if save_image(outcome, names.image, files).is_err() {
+        return Err(Refuser::Image);
+    }
+    Ok(())
 }

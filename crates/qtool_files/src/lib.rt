@@ -3,12 +3,13 @@
 
 pub use board_file::{BoardFile, ShownBoards};
 pub use files::{FileFault, Files, NamedStreams};
-pub use finishing::{OutcomeText, Refuser, finish_outcome};
-pub use overwriting::{Overwritten, test_journal};
+pub use finishing::{OutcomeText, Refuser, SavedNames, finish_outcome};
+pub use overwriting::{Overwritten, test_written};
 
 mod board_file;
 mod counted_board;
 mod files;
 mod finishing;
 mod overwriting;
+mod saving;
 mod seen_counts;

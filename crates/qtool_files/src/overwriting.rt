@@ -1,10 +1,10 @@
-//! What the journal of a run must not be written over.
+//! What a file that a run is saved in must not be written over.
 ghost use Rattle.std.specs.Prelude.{◌≡◌, ◌≤◌, IfErr, IfSome, length};
 ghost use Rattle.qtool_files.specs.Overwritten.{IsScriptOf};
 
 use crate::Files;
 
-/// What a journal would be written over: what the run reads, or what it prints to.
+/// What a file would be written over: what the run reads, or what it prints to.
 #[derive(Clone, Copy, Debug, PartialEq, Eq)]
 pub enum Overwritten {
     Config,
@@ -28,18 +28,18 @@ fn script_under<F: Files>(files: &mut F, name: &str, scripts: &[String]) -> Opti
     None
 }
 
-/// Tests that the journal, where one is asked for, is written over nothing that the run reads or prints to. Err is the
-/// first of these that it would be written over: the configuration, a script by its number from 1, the output.
-pub fn test_journal<F: Files>(
+/// Tests that the file of this name, where one is named, is written over nothing that the run reads or prints to. Err
+/// is the first of these that it would be written over: the configuration, a script by its number from 1, the output.
+pub fn test_written<F: Files>(
     files: &mut F,
-    journal: Option<&str>,
+    written: Option<&str>,
     config: &str,
     scripts: &[String],
 ) -> Result<(), Overwritten>
     ensures one { IfErr result (IsScriptOf (length scripts.now)) }
     ensures same { F.held files.new ≡ F.held files.old }
 {
-    let Some(name) = journal else {
+    let Some(name) = written else {
         return Ok(());
     };
     if files.is_same(name, config) {

@@ -20,6 +20,10 @@ mod service_command;
 const BOARDS: &str = "\
 The boards that one more thread takes while the scripts run, at most 1000";
 
+/// What help says of the file for the image.
+const SAVE: &str = "\
+The file that an image of the store is written to, last of all";
+
 /// A command of this name that does this.
 fn named<'a>(alloc: Global, name: &'a str, about: &'a str) -> Command<'a>
     ensures app { app_of result ≡ line.new_app name.now }
@@ -52,6 +56,15 @@ fn journal<'a>(alloc: Global) -> Arg<'a>
     )
 }
 
+/// The command with the file that its store may be saved to.
+fn with_saving<'a>(alloc: Global, command: Command<'a>) -> Result<Command<'a>, AllocError>
+    ensures app { IfOk result (λ c. app_of c ≡ line.with_saving (app_of command.entry)) }
+    ensures local { (out-Command command.entry).has_globals ≡ false
+        → IfOk result (λ c. (out-Command c).has_globals ≡ false) }
+{
+    with_arg(command, option(alloc, "save", "FILE").help(SAVE))
+}
+
 /// The command with the options of how its store is shared.
 fn with_sharing<'a>(alloc: Global, command: Command<'a>) -> Result<Command<'a>, AllocError>
     ensures app { IfOk result (λ c. app_of c ≡ line.with_sharing (app_of command.entry)) }
@@ -76,6 +89,7 @@ fn run<'a>(alloc: Global) -> Result<Command<'a>, AllocError>
     let about = "Plays scripts, read whole beforehand, on a new store and prints what came of it";
     let command = reporting(alloc, "run", about)?;
     let command = with_arg(command, journal(alloc))?;
+    let command = with_saving(alloc, command)?;
     let command = with_sharing(alloc, command)?;
     let scripts = words(alloc, "scripts", "SCRIPT")
         .help("The scripts, one a worker: a line is MOMENT UID:GID[,GROUP..] CALL")
@@ -91,7 +105,8 @@ fn replay<'a>(alloc: Global) -> Result<Command<'a>, AllocError>
     let journal = word(alloc, "journal", "JOURNAL")
         .help("The journal, as a run has written it")
         .required(true);
-    with_arg(reporting(alloc, "replay", about)?, journal)
+    let command = reporting(alloc, "replay", about)?;
+    with_arg(with_saving(alloc, command)?, journal)
 }
 
 fn expand<'a>(alloc: Global) -> Result<Command<'a>, AllocError>

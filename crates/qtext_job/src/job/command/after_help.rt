@@ -33,8 +33,8 @@ Statuses:
      or unreadable, or a client's stream
   3  memory or a thread is wanting, or a replay comes to another reply than its
      journal
-  4  the output refuses, or the file for the journal or for boards, or a client's
-     replies
+  4  the output refuses, or the file for the journal, for the image or for
+     boards, or a client's replies
   5  with --stop-at-failure: a client's line failed, and the service ended
 
 docs/FORMATS.md has all formats, docs/RULES.md all rules of the calls, and

@@ -5,7 +5,7 @@ ghost use Rattle.clap.specs.declared.builder.command.Command.TheViews.{out-Comma
 ghost use Rattle.qtext_job.specs.Commands as line;
 
 use super::argument::{flag, option, with_arg, words};
-use super::{configured, journal};
+use super::{configured, journal, with_saving};
 use clap::{Arg, Command, value_parser};
 use std::alloc::{AllocError, Global};
 
@@ -47,6 +47,7 @@ fn with_files<'a>(alloc: Global, command: Command<'a>) -> Result<Command<'a>, Al
         → IfOk result (λ c. (out-Command c).has_globals ≡ false) }
 {
     let command = with_arg(command, journal(alloc))?;
+    let command = with_saving(alloc, command)?;
     with_arg(command, option(alloc, "board", "FILE").help(BOARD))
 }
 
