@@ -172,7 +172,8 @@ fn put_last_call<W: Write>(out: &mut W, moment: u64) -> Written
         out,
         &[
             Piece::Text(
-                b"# HELP quotafs_last_call_timestamp_seconds When the last call was made, since 1970; 0 before the first.\n",
+                b"# HELP quotafs_last_call_timestamp_seconds \
+                When the last call was made, since 1970; 0 before the first.\n",
             ),
             Piece::Text(
                 b"# TYPE quotafs_last_call_timestamp_seconds gauge\nquotafs_last_call_timestamp_seconds ",
