@@ -53,7 +53,7 @@ any_workers : Spells decimal IsWorkers workers_of
 unfolding workers_of
 any_workers word workers e = let so = from_one BadHead 16 word workers (omega arith) e in (so.0, (so.1, so.2))
 
-keyword_found : (wanted word : List ℕ) (u : Unit {0}) → head_keyword wanted word ≡ Ok u → wanted ≡ word
+pub keyword_found : (wanted word : List ℕ) (u : Unit {0}) → head_keyword wanted word ≡ Ok u → wanted ≡ word
 unfolding head_keyword
 keyword_found wanted word u e = sym (same_word word wanted (kept _ (Ok tt) BadHead u e).0)
 
@@ -135,9 +135,10 @@ entry_found head l entry few e =
       fits = so.1;
     }
 
-head_in_found : (ws : List (List ℕ)) (head : Head) → head_in ws ≡ Ok head → (head_words head.edition head.workers ≡ ws) × IsWorkers head.workers
-unfolding head_in head_told
-head_in_found (q ∷ j ∷ v ∷ n ∷ w ∷ []) head e =
+pub head_told_found : (q j v n w : List ℕ) (head : Head) → head_told q j v n w ≡ Ok head
+    → (head_words head.edition head.workers ≡ q ∷ j ∷ v ∷ n ∷ w ∷ []) × IsWorkers head.workers
+unfolding head_told
+head_told_found q j v n w head e =
     step_found (head_keyword (codes "quotafs") q) _ e λ t is_q e.
     step_found (head_keyword (codes "journal") j) _ e λ u is_j e.
     step_found (edition_of v) _ e λ edition is_v e.
@@ -146,6 +147,10 @@ head_in_found (q ∷ j ∷ v ∷ n ∷ w ∷ []) head e =
     let so = any_workers w workers is_w in
     rw (← same_ok e)
     (rw (so.0, edition_found v edition is_v, ← keyword_found _ q t is_q, ← keyword_found _ j u is_j, ← keyword_found _ n y is_n) refl, so.1)
+
+pub head_in_found : (ws : List (List ℕ)) (head : Head) → head_in ws ≡ Ok head → (head_words head.edition head.workers ≡ ws) × IsWorkers head.workers
+unfolding head_in
+head_in_found (q ∷ j ∷ v ∷ n ∷ w ∷ []) head e = head_told_found q j v n w head e
 head_in_found ws head e = absurd (cc e)
 
 -- a line that is the head

@@ -33,7 +33,7 @@ use Rattle.qplain.specs.Held.{IsHeld}
 
 -- ---- entries
 
-entries : (head : Head) (es : List Entry) → AllByRecursion (IsEntryOf head.edition head.workers) es → AllByRecursion IsHeld es
+pub entries : (head : Head) (es : List Entry) → AllByRecursion (IsEntryOf head.edition head.workers) es → AllByRecursion IsHeld es
     → AllByRecursion (IsEntry head) es
 entries head [] of held = tt
 entries head (e ∷ es) of held = ((of.0, held.0), entries head es of.1 held.1)
@@ -45,7 +45,7 @@ drop_front : (xs ys : List (List ℕ)) → drop (length xs) (xs ++ ys) ≡ ys
 drop_front [] ys = refl
 drop_front (x ∷ xs) ys = drop_front xs ys
 
-both : (xs ys : List (List ℕ)) → AllByRecursion IsWord xs → AllByRecursion IsWord ys → AllByRecursion IsWord (xs ++ ys)
+pub both : (xs ys : List (List ℕ)) → AllByRecursion IsWord xs → AllByRecursion IsWord ys → AllByRecursion IsWord (xs ++ ys)
 both [] ys a b = b
 both (x ∷ xs) ys a b = (a.0, both xs ys a.1 b)
 
@@ -55,7 +55,7 @@ worker_again workers worker few some le =
     let none : (worker == 0) ≡ false = grind (arith, tests) in
     rw (number_again BadNumber workers worker (omega arith) le, none) refl
 
-workers_again : (workers : ℕ) → IsWorkers workers → workers_of (decimal workers) ≡ Ok workers
+pub workers_again : (workers : ℕ) → IsWorkers workers → workers_of (decimal workers) ≡ Ok workers
 unfolding workers_of
 workers_again workers is =
     let some : 0 < workers = is.0 in
@@ -80,12 +80,12 @@ edition_word : (e : Edition) → IsWord (edition_text e)
 edition_word One = refl
 edition_word Two = refl
 
-edition_again : (e : Edition) → edition_of (edition_text e) ≡ Ok e
+pub edition_again : (e : Edition) → edition_of (edition_text e) ≡ Ok e
 unfolding edition_of
 edition_again One = refl
 edition_again Two = refl
 
-head_word : (edition : Edition) (workers : ℕ) → IsWorkers workers → AllByRecursion IsWord (head_words edition workers)
+pub head_word : (edition : Edition) (workers : ℕ) → IsWorkers workers → AllByRecursion IsWord (head_words edition workers)
 head_word edition workers is =
     let few = is.1 in (refl, (refl, (edition_word edition, (refl, (decimal_word workers (omega (arith, few)), tt)))))
 
@@ -112,7 +112,7 @@ at_again head n e few le fits =
     let word = entry_word head e few fits in
     rw (near, joined_is_text _ _ word, joined_parts _ _ word, in_again head e few fits) refl
 
-each_again : (head : Head) (n : ℕ) (es : List Entry) → head.workers ≤ 16 → n + length es ≤ max_entries_of head.edition + 2
+pub each_again : (head : Head) (n : ℕ) (es : List Entry) → head.workers ≤ 16 → n + length es ≤ max_entries_of head.edition + 2
     → AllByRecursion (IsEntry head) es
     → each_of (at_entry head) (raw_lines_from n (parts 10 (flat_map entry_text es))) ≡ Ok es
 unfolding each_of

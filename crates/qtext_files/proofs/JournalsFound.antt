@@ -20,22 +20,22 @@ use Rattle.qtext_files.specs.Spelling.{entry_text, head_words, journal_spelling}
 use Rattle.qplain.specs.Held.{IsHeld}
 
 -- a line with its end, and what follows it
-line_then : (front line rest others : List ℕ) → front ≡ line → rest ≡ others → (front ++ 10 ∷ []) ++ rest ≡ line ++ 10 ∷ others
+pub line_then : (front line rest others : List ℕ) → front ≡ line → rest ≡ others → (front ++ 10 ∷ []) ++ rest ≡ line ++ 10 ∷ others
 line_then front line rest others here behind = rw (here, behind) (append_assoc line (10 ∷ []) others)
 
 no_bytes : (text : List ℕ) → length text ≡ 0 → [] ≡ text
 no_bytes [] none = refl
 no_bytes (b ∷ text) none = absurd (omega arith)
 
-not_whole : false ≡ true → ⊥
+pub not_whole : false ≡ true → ⊥
 not_whole e = cc e
 
 -- a line without an end, that is no line where it is empty
-abbrev cut_at : ℕ → List ℕ → List RawLine
+abbrev pub cut_at : ℕ → List ℕ → List RawLine
 cut_at n l = record { number = n; bytes = l; whole = false } ∷ []
 
 -- the entries are what the lines from here on spell, and their numbers are within bounds
-record AreEntries (head : Head) (n : ℕ) (text : List ℕ) (entries : List Entry) : Type 0 where
+pub record AreEntries (head : Head) (n : ℕ) (text : List ℕ) (entries : List Entry) : Type 0 where
   pub same : flat_map entry_text entries ≡ text
   pub few : n + length entries ≤ max_entries_of head.edition + 2
   pub each : AllByRecursion (IsEntry head) entries
@@ -58,12 +58,12 @@ no_head_cut l j false e =
     not_whole (head_found first head (in_line_found 1 (head_of first) is_head)).whole
 
 -- entries of the workers, and what their types hold
-both : (head : Head) (entries : List Entry) → AllByRecursion (IsEntry head) entries
+pub both : (head : Head) (entries : List Entry) → AllByRecursion (IsEntry head) entries
     → AllByRecursion (IsEntryOf head.edition head.workers) entries × AllByRecursion IsHeld entries
 both head [] fits = (tt, tt)
 both head (e ∷ entries) fits = let rest = both head entries fits.1 in ((fits.0.0, rest.0), (fits.0.1, rest.1))
 
-entries_found : (head : Head) (n : ℕ) (ls : List (List ℕ)) (entries : List Entry) → head.workers ≤ 16 → n ≤ max_entries_of head.edition + 2
+pub entries_found : (head : Head) (n : ℕ) (ls : List (List ℕ)) (entries : List Entry) → head.workers ≤ 16 → n ≤ max_entries_of head.edition + 2
     → each_of (at_entry head) (raw_lines_from n ls) ≡ Ok entries → AreEntries head n (join_with_byte 10 ls) entries
 unfolding raw_lines_from each_of
 entries_found head n [] entries few near e = rw (← same_ok e) (record { same = refl; few = omega arith; each = tt })

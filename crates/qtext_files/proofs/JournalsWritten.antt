@@ -18,10 +18,14 @@ held : (edition : Edition) (workers : ℕ) (es : List Entry) → AllByRecursion 
 held edition workers [] of spelled = tt
 held edition workers (e ∷ es) of spelled = (spelled.0 of.0.2, held edition workers es of.1 spelled.1)
 
+-- the entries of a journal that are spelled out are what their types can hold
+pub all_held : (j : Written) → IsJournal j → AllByRecursion IsSpelled j.entries → AllByRecursion IsHeld j.entries
+all_held j is spelled =
+    held j.edition j.workers j.entries (recursion_from_All (IsEntryOf j.edition j.workers) j.entries is.each) spelled
+
 -- a journal whose entries are spelled out is read again
 pub can_be_read : (j : Written) → IsJournal j → AllByRecursion IsSpelled j.entries → CanBeRead j
-can_be_read j is spelled =
-    journal_again j is (held j.edition j.workers j.entries (recursion_from_All (IsEntryOf j.edition j.workers) j.entries is.each) spelled)
+can_be_read j is spelled = journal_again j is (all_held j is spelled)
 
 -- one more entry is spelled out
 pub one_more : (es : List Entry) (i : ℕ) (e d : Entry) → e ≡ get_or es i d → i < length es → IsSpelled e

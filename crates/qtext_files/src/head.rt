@@ -57,7 +57,7 @@ fn workers_of(word: &[u8]) -> Result<u64, ReadFault>
 
 /// `quotafs journal E workers W` in its five words.
 #[tactic(auto, unfolding(crate::specs::Journals::head_told))]
-fn head_told(
+pub(crate) fn head_told(
     program: &[u8],
     journal: &[u8],
     edition: &[u8],
@@ -77,7 +77,7 @@ fn head_told(
 
 /// The five words of a head.
 #[tactic(auto, unfolding(crate::specs::Journals::head_in))]
-fn head_in(words: &[&[u8]]) -> Result<Head, ReadFault>
+pub(crate) fn head_in(words: &[&[u8]]) -> Result<Head, ReadFault>
     ensures head { Gives result (head_in (map (λ word. word.now) words.now)) }
     ensures range { IfOk result (λ head. IsWorkers head.workers) }
 {

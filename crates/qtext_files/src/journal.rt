@@ -21,7 +21,7 @@ use qtext_read::Paths;
 use std::alloc::Global;
 
 /// The entries after the first line, or the first line at fault.
-fn entries_of(alloc: Global, head: Head, text: &[u8]) -> Result<Items<Entry>, TextFault>
+pub(crate) fn entries_of(alloc: Global, head: Head, text: &[u8]) -> Result<Items<Entry>, TextFault>
     ensures entries { Reads result (each_of (at_entry head) (raw_lines_from 2 (parts 10 text.now))) }
     ensures few { IfOk result (λ entries. length entries ≤ max_entries_of head.edition) }
 {

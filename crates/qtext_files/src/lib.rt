@@ -3,10 +3,11 @@
 
 pub use from_text::FromText;
 pub use head::{edition_of, head_keyword};
-pub use journal_text::{put_journal, write_journal};
+pub use journal_text::{put_journal, put_segment, write_journal};
 pub use line::read_line;
 pub use qtext_write::WriteFault;
 pub use raw_line::{NextLine, next_line};
+pub use segment::Segment;
 
 mod callers;
 mod entry;
@@ -16,5 +17,7 @@ mod journal;
 mod journal_text;
 mod line;
 mod lines;
+mod placed;
 mod raw_line;
 mod script;
+mod segment;
