@@ -24,7 +24,7 @@ pub record IsWell (file : File) : Type 0 where
 empty-well : IsWell empty_file
 empty-well = record { rises = tt; holes = λ o none. refl; below = All-nil (λ k. begins_below 0 k ≡ true) }
 
-unfilled-well : (size : ℕ) → IsWell (unfilled size)
+pub unfilled-well : (size : ℕ) → IsWell (unfilled size)
 unfilled-well size = record {
   rises = tt;
   holes = λ o none. ⊎_elim
@@ -34,7 +34,7 @@ unfilled-well size = record {
   below = All-nil (λ k. begins_below (size_of (unfilled size)) k ≡ true);
 }
 
-block-well : (file : File) (b : ℕ × List ℕ) → IsWell file → IsWell (with_block file b)
+pub block-well : (file : File) (b : ℕ × List ℕ) → IsWell file → IsWell (with_block file b)
 block-well file b well =
     let limit : ℕ = size_of file + (b.0 * BLOCK_SIZE + length b.1) in
     let fits : nat_lt limit (b.0 * BLOCK_SIZE + length b.1) ≡ false = grind (arith, tests) in

@@ -20,10 +20,10 @@ passes-both limit before (r ∷ rs) more own later =
 
 -- ---- one row more in a section
 
-names-end : (records inodes names more : List Row) → records ++ (inodes ++ (names ++ more)) ≡ (records ++ (inodes ++ names)) ++ more
+pub names-end : (records inodes names more : List Row) → records ++ (inodes ++ (names ++ more)) ≡ (records ++ (inodes ++ names)) ++ more
 names-end records inodes names more = sym (append_assoc records (inodes ++ names) more ∙ ap (λ l. records ++ l) (append_assoc inodes names more))
 
-inodes-end : (records inodes more : List Row) → records ++ ((inodes ++ more) ++ []) ≡ (records ++ (inodes ++ [])) ++ more
+pub inodes-end : (records inodes more : List Row) → records ++ ((inodes ++ more) ++ []) ≡ (records ++ (inodes ++ [])) ++ more
 inodes-end records inodes more =
     ap (λ l. records ++ l) (append-nil (inodes ++ more)) ∙ sym (append_assoc records inodes more)
     ∙ ap (λ l. (records ++ l) ++ more) (sym (append-nil inodes))
@@ -32,11 +32,11 @@ records-end : (records more : List Row) → (records ++ more) ++ [] ≡ (records
 records-end records more = append-nil (records ++ more) ∙ ap (λ l. l ++ more) (sym (append-nil records))
 
 -- the row of a holder
-abbrev record_row : HolderPart → Row
+abbrev pub record_row : HolderPart → Row
 record_row t = Record t.holder t.blocks t.inodes
 
 -- and of a name
-abbrev name_row : NameKey × ℕ → Row
+abbrev pub name_row : NameKey × ℕ → Row
 name_row e = Name e.0 e.1
 
 -- the sections with these records, inodes and names
@@ -47,7 +47,7 @@ sections_with s records inodes names = record s { records = records; inodes = in
 abbrev pub part_of : Bool → ℕ → Owners → ℕ → List (ℕ × List ℕ) → InodePart
 part_of dir number owners size blocks = record { number = number; dir = dir; owners = owners; size = size; blocks = blocks }
 
-flat_map-end : (ps : List InodePart) (p : InodePart) → flat_map part_rows (ps ++ p ∷ []) ≡ flat_map part_rows ps ++ part_rows p
+pub flat_map-end : (ps : List InodePart) (p : InodePart) → flat_map part_rows (ps ++ p ∷ []) ≡ flat_map part_rows ps ++ part_rows p
 flat_map-end [] p = append-nil (part_rows p)
 flat_map-end (q ∷ ps) p = ap (λ l. part_rows q ++ l) (flat_map-end ps p) ∙ sym (append_assoc (part_rows q) (flat_map part_rows ps) (part_rows p))
 

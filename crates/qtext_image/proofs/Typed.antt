@@ -78,7 +78,7 @@ graces-small g is =
     small : (n : ℕ) → nat_le n MAX_GRACE ≡ true → n < 2 ^ 64
     small n le = grind (arith, tests)
 
-limit-small : (edition : Edition) → file_limit_of edition < 2 ^ 64
+pub limit-small : (edition : Edition) → file_limit_of edition < 2 ^ 64
 limit-small One = omega arith
 limit-small Two = omega arith
 
