@@ -3,14 +3,13 @@ ghost use Rattle.std.specs.Prelude.{◌≡◌, [], ◌≤◌, List, take, length
 ghost use Rattle.std.specs.Bool.{Decides};
 ghost use Rattle.qplain.specs.declared.board.Board.{Board};
 ghost use Rattle.qplain.specs.declared.entry.Entry.{Entry};
-ghost use Rattle.qplain.specs.State.{State, start};
+ghost use Rattle.qplain.specs.State.{State};
 ghost use Rattle.qplain.specs.Journal.{board_of, play};
 ghost use Rattle.qaudit_checks.specs.SeenBoards.{AreSeenBoards, IsJudged};
 
-use qplain::{Board, Entry, NoMemory, Setup};
+use qplain::{Board, Entry, NoMemory};
 use qrules::BoardRow;
 use qstore::Store;
-use std::alloc::Global;
 
 /// Plays the entries on a store, whatever it answers.
 fn play_on(store: &mut Store, entries: &[Entry]) -> Result<(), NoMemory>
@@ -48,12 +47,11 @@ pub(crate) struct Checker {
 }
 
 impl Checker {
-    /// A store of the setup, which has seen no board.
-    pub(crate) fn new(alloc: Global, setup: &Setup, seed: u64) -> Result<Checker, NoMemory>
-        ensures { IfOk result (λ c. (journal : List Entry) → AreSeenBoards (start setup.now) journal [] c) }
+    /// A store that has seen no board.
+    pub(crate) fn over(store: Store) -> Checker
+        ensures { (journal : List Entry) → AreSeenBoards store.state journal [] result }
     {
-        let store = Store::new(alloc, setup.copy(alloc)?, seed)?;
-        Ok(Checker { store, version: 0 })
+        Checker { store, version: 0 }
     }
 
     /// Whether it can go on to where the first `version` entries lead.

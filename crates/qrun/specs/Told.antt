@@ -1,12 +1,17 @@
 -- What workers have done, told as transcripts. No public clause cites this module.
-use Rattle.std.specs.Prelude.{◌≡◌, ℕ, ◌+◌, ◌<◌, ◌≤◌, List, [], ◌∷◌, length, map, sum_by, All}
+use Rattle.std.specs.Prelude.{◌≡◌, ℕ, ◌+◌, ◌<◌, ◌≤◌, List, [], ◌∷◌, length, map, sum_by, All, Result}
 use mathlib.Core.List.{IsPrefix}
+use Rattle.qplain.specs.declared.board.Board.{Board}
 use Rattle.qplain.specs.declared.bounds.TheConstants.{MAX_ENTRIES, MAX_LINES}
+use Rattle.qplain.specs.declared.edition.Edition.TheVariants.{Two}
 use Rattle.qplain.specs.declared.entry.Entry.{Entry}
 use Rattle.qplain.specs.declared.line.Line.{Line}
+use Rattle.qplain.specs.declared.look_fault.LookFault.{LookFault}
 use Rattle.qplain.specs.declared.transcript.Transcript.{Transcript}
 use Rattle.qshare_history.specs.Shares.{HandedIn}
 use Rattle.qaudit_checks.specs.Gathered.{IsGathered}
+use Rattle.qaudit_checks.specs.LawfulBoards.{AreLawful, boards_in}
+use Rattle.qstore_journaled.specs.Journaled.{Journaled}
 use Rattle.qshare.specs.declared.opening.TheConstants.{MAX_SEATS}
 use Rattle.qrun_replay.specs.declared.answered.Answered.{Answered}
 use Rattle.qrun_replay.specs.Placed.{HoldsPlaces, transcript_from}
@@ -66,3 +71,10 @@ answered_of w = record { worker = w.share.worker; places = w.places }
 pub record AreAllPlaced (journal : List Entry) (all : List Answered) : Type 0 where
   pub places : All (HoldsPlaces journal) all
   pub told : AreAllTold journal (map (transcript_from journal) all)
+
+-- the threads of a store, whose setup is of edition 2, have done their work: the journal has what stands at the places
+-- of those who were answered, who tell of all its entries, and what looks were given are its own boards
+pub record HaveWorked (j : Journaled) (answered : List Answered) (looks : List (Result Board LookFault)) : Type 0 where
+  pub edition : j.setting.edition ≡ Two
+  pub told : AreAllPlaced j.journal answered
+  pub lawful : AreLawful j.begun j.journal (boards_in looks)

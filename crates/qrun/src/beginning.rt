@@ -1,104 +1,51 @@
-//! From a setup and a crew to what is left: the store is made, and played on.
-ghost use Rattle.std.specs.Prelude.{◌≡◌, false, length, IfErr, IfOk};
+//! What a run or a service begins with.
+ghost use Rattle.std.specs.Prelude.{◌≡◌, ◌<◌, ℕ, true, IfOk, IfSome, IsSome};
 ghost use Rattle.qplain.specs.State.{start};
-ghost use Rattle.qrun.specs.Crews.{HasPlayed};
-ghost use Rattle.qrun.specs.Looking.{lookers_in, looks_to_keep, monitor_of};
-ghost use Rattle.qrun.specs.RunFaults.{IsFaultOf};
-ghost use Rattle.qrun.specs.Serving.{CanServe};
-ghost use Rattle.qrun.specs.Watching.{seats_for};
-ghost use Rattle.qrun_worker.specs.Work.{MayBeGiven};
+ghost use Rattle.qrun.specs.Beginnings.{HasBegun};
 
-use crate::crew::Crew;
-use crate::ending::play_and_end;
-use crate::looking::Looking;
-use crate::machine::Machine;
-use crate::monitor::{Monitor, Showing};
-use crate::observer::Observer;
-use crate::run_fault::RunFault;
-use crate::service::Service;
-use crate::watcher::Watcher;
-use qplain::Setup;
-use qrun_client::Client;
-use qrun_worker::Gate;
-use qshare::{Blind, NoBoards, Opened};
-use qshare_history::StoreId;
-use std::marker::Brand;
-use std::sync::Wait;
-use std::sync::atomic::AtomicBool;
-use std::thread::Threads;
+use qplain::{NoMemory, Setup};
+use qshare::JournaledStore;
+use qstore::Store;
+use std::alloc::Global;
 
-/// A new store, ruled by a clock where that is so.
-fn ruled(opened: Opened, clock: bool) -> Opened
-    requires { opened.clocked ≡ false }
-    ensures { result ≡ record opened { clocked = clock } }
-{
-    if clock { opened.with_clock() } else { opened }
+/// A store that begins, and where boards are to be checked another one that begins alike, on which the journal is
+/// played again.
+#[derive(Drop)]
+pub struct Beginning {
+    pub store: JournaledStore,
+    pub again: Option<Store>,
 }
 
-/// Has a crew play on a store of this identity, which is opened for who looks at its boards.
-fn play_opened<S, C, G, M, R>(
-    machine: &Machine<'_, R>,
-    opened: Opened,
-    crew: Crew<'_, C, G>,
-    looking: Looking<M>,
-) -> Result<Service<C::Left, M::Left>, RunFault>
-where
-    S: StoreId + Send + Sync + 'static,
-    C: Client + Drop + Send,
-    G: Gate + Sync,
-    M: Monitor + Drop + Send,
-    R: Threads + Wait + Sync,
-    requires id { (opened ≡ S.id) × MayBeGiven S.id.clocked C.clocked }
-    requires new { S.id.begun ≡ start S.id.setting }
-    requires can { CanServe S.id.setting (length crew) (lookers_in looking)
-        × (S.id.counters.parts ≡ seats_for (length crew) (lookers_in looking)) }
-    ensures played { IfOk result (λ s. HasPlayed C.talk M.sees S.id.setting S.id.begun S.id.clocked crew.entry
-        (looks_to_keep looking) (monitor_of looking) s.left.items s.outcome s.monitor) }
-    ensures fault { IfErr result (IsFaultOf S.id.counters.parts) }
+/// A new store of the setup, where boards are to be checked.
+fn other_of(
+    alloc: Global,
+    setup: &Setup,
+    seed: u64,
+    boards: bool,
+) -> Result<Option<Store>, NoMemory>
+    ensures alike { IfOk result (λ again. IfSome again (λ s. s.state ≡ start setup.now)) }
+    ensures there { IfOk result (λ again. boards ≡ true → IsSome again) }
 {
-    let Machine { rt, alloc, .. } = *machine;
-    let wanted = AtomicBool::new(false);
-    let ended = AtomicBool::new(false);
-    match looking {
-        Looking::Nobody => {
-            let (shared, seats) = opened.without_viewers::<S>()?;
-            play_and_end::<S, NoBoards, Blind, C, G, M, R>(
-                machine, shared, seats, crew, None, &ended,
-            )
-        }
-        Looking::Watching { calls, boards } => {
-            let (shared, seats, last) = opened.with_observer::<S, &R>(rt)?;
-            let watcher = Watcher::new(alloc, last, calls, boards)?;
-            let observer: Observer<'_, S, M> = Observer::Watcher(watcher);
-            play_and_end(machine, shared, seats, crew, Some(observer), &ended)
-        }
-        Looking::Showing(monitor) => {
-            let (shared, seats, last) = opened.on_demand::<S, &R>(rt, &wanted)?;
-            let observer = Observer::Showing(Showing::new(last, &wanted, monitor, &ended));
-            play_and_end(machine, shared, seats, crew, Some(observer), &ended)
-        }
+    if !boards {
+        return Ok(None);
     }
+    Ok(Some(Store::new(alloc, setup.copy(alloc)?, seed)?))
 }
 
-/// Has a crew play on a new store of the setup, ruled by a clock where that is so, at whose boards that one looks.
-pub(crate) fn play_on<C, G, M, R>(
-    machine: &Machine<'_, R>,
-    setup: Setup,
-    clock: bool,
-    crew: Crew<'_, C, G>,
-    looking: Looking<M>,
-) -> Result<Service<C::Left, M::Left>, RunFault>
-where
-    C: Client + Drop + Send,
-    G: Gate + Sync,
-    M: Monitor + Drop + Send,
-    R: Threads + Wait + Sync,
-    requires can { CanServe setup (length crew) (lookers_in looking) × MayBeGiven clock C.clocked }
-    ensures played { IfOk result (λ s. HasPlayed C.talk M.sees setup (start setup) clock crew.entry
-        (looks_to_keep looking) (monitor_of looking) s.left.items s.outcome s.monitor) }
-    ensures fault { IfErr result (IsFaultOf (seats_for (length crew.entry) (lookers_in looking))) }
-{
-    let seats = crew.len() + looking.lookers();
-    let opened = Opened::new(machine.alloc, setup, seats, machine.seed)?;
-    play_opened::<Brand, C, G, M, R>(machine, ruled(opened, clock), crew, looking)
+impl Beginning {
+    /// A new store of the setup, and one more where boards are to be checked.
+    ///
+    /// The hashes of names begin at `seed`, which may be any number; nothing of an outcome depends on it. An Err is out
+    /// of memory; then nothing was made.
+    pub fn new(alloc: Global, setup: Setup, seed: u64, boards: bool) -> Result<Beginning, NoMemory>
+        ensures setting { IfOk result (λ b. b.store.setting ≡ setup) }
+        ensures begun { IfOk result (λ b. b.store.begun ≡ start setup) }
+        ensures fresh { IfOk result (HasBegun 0) }
+        ensures has_begun { IfOk result
+            (λ b. (wanted : ℕ) → (0 < wanted → boards ≡ true) → HasBegun wanted b) }
+    {
+        let again = other_of(alloc, &setup, seed, boards)?;
+        let store = JournaledStore::new(alloc, setup, seed)?;
+        Ok(Beginning { store, again })
+    }
 }

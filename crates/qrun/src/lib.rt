@@ -1,6 +1,7 @@
 //! Runs and services: 1 to 16 scripts or clients, each with a worker in a thread of its own, on one shared store.
 #![tactic(auto)]
 
+pub use beginning::Beginning;
 pub use machine::Machine;
 pub use monitor::Monitor;
 pub use options::Options;
@@ -18,6 +19,7 @@ mod looking;
 mod machine;
 mod monitor;
 mod observer;
+mod opening;
 mod options;
 mod pace;
 mod parting;

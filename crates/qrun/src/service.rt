@@ -1,20 +1,20 @@
-//! Services: living clients, each served by a worker, on a shared store of their own.
+//! Services: living clients, each served by a worker, on a shared store.
 ghost use Rattle.std.specs.Prelude.{All, length, IfErr, IfOk};
-ghost use Rattle.qplain.specs.State.{start};
 ghost use Rattle.qrun_replay.specs.Runs.{IsServiceOf};
+ghost use Rattle.qrun.specs.Beginnings.{HasBegun};
 ghost use Rattle.qrun.specs.Monitors.{IsShownTo};
 ghost use Rattle.qrun.specs.RunFaults.{IsFaultOf};
 ghost use Rattle.qrun.specs.Serving.{CanServe, IsOfClients, KeepsTime, monitors_in};
 ghost use Rattle.qrun.specs.Watching.{seats_for};
 ghost use Rattle.qrun_worker.specs.Work.{IsNewClient, MayBeGiven};
 
-use crate::beginning::play_on;
+use crate::beginning::Beginning;
 use crate::crew::Crew;
 use crate::looking::Looking;
 use crate::machine::Machine;
 use crate::monitor::Monitor;
+use crate::opening::play_on;
 use crate::run_fault::RunFault;
-use qplain::Setup;
 use qrun_client::Client;
 use qrun_replay::Outcome;
 use qrun_worker::NoGate;
@@ -29,8 +29,8 @@ pub struct Service<L: Drop, W: Drop> {
     pub monitor: Option<W>,
 }
 
-/// Serves 1 to 16 clients on one new store of the setup, which is of edition 2: each by a worker in a thread of its
-/// own, line by line, until it has no more lines. Beside a monitor the clients are at most 15, and one thread more,
+/// Serves 1 to 16 clients on a store that begins, whose setup is of edition 2: each by a worker in a thread of its own,
+/// line by line, until it has no more lines. Beside a monitor the clients are at most 15, and one thread more,
 /// whose number is theirs and 1, shows it the boards as they come, and the last one when all clients have ended; else
 /// nobody can look at boards, and calls take less.
 ///
@@ -47,7 +47,7 @@ pub struct Service<L: Drop, W: Drop> {
 /// started have been served to their ends, and the store is given up.
 pub fn serve<C, M, R>(
     machine: &Machine<'_, R>,
-    setup: Setup,
+    beginning: Beginning,
     clients: Vec<C>,
     clock: bool,
     monitor: Option<M>,
@@ -56,13 +56,22 @@ where
     C: Client + Drop + Send,
     M: Monitor + Drop + Send,
     R: Threads + Wait + Sync,
-    requires can { CanServe setup (length clients.items) (monitors_in monitor) }
+    requires can { HasBegun 0 beginning
+        × CanServe beginning.store.setting (length clients.items) (monitors_in monitor) }
     requires new { All (λ c. IsNewClient (C.owed c) (C.stands c)) clients.items × MayBeGiven clock C.clocked }
-    ensures outcome { IfOk result (λ s. IsServiceOf setup (start setup) s.outcome × KeepsTime clock s.outcome) }
+    ensures outcome { IfOk result (λ s. IsServiceOf beginning.store.setting beginning.store.begun s.outcome
+        × KeepsTime clock s.outcome) }
     ensures clients { IfOk result (λ s. IsOfClients C.talk clients.items s.left.items s.outcome) }
-    ensures shown { IfOk result (λ s. IsShownTo M.sees (start setup) s.outcome.journal.entries monitor s.monitor) }
+    ensures shown { IfOk result
+        (λ s. IsShownTo M.sees beginning.store.begun s.outcome.journal.entries monitor s.monitor) }
     ensures fault { IfErr result (IsFaultOf (seats_for (length clients.items) (monitors_in monitor))) }
 {
     let crew = Crew::new(clients, &NoGate, 1);
-    play_on(machine, setup, clock, crew, Looking::of_monitor(monitor))
+    play_on(
+        machine,
+        beginning,
+        clock,
+        crew,
+        Looking::of_monitor(monitor),
+    )
 }

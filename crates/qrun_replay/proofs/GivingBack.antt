@@ -74,7 +74,7 @@ transcripts_again worker [] journal (t ∷ ts) are = absurd are
 transcripts_again worker (lines ∷ rest) journal [] are = absurd are
 
 -- what a replay of their journal leaves is what they have left, but for its failed lines
-as_before : (setting : Setting) (begun : State) (lines : List (List Line)) (old new : Outcome) → IsLeftByWorkers setting begun lines old
+pub as_before : (setting : Setting) (begun : State) (lines : List (List Line)) (old new : Outcome) → IsLeftByWorkers setting begun lines old
     → IsReplayOf setting begun old.journal new → IsAsBefore old new
 as_before setting begun lines old new run replay =
     let store : new.store.state ≡ old.store.state = replay.store ∙ sym run.store in
@@ -94,7 +94,7 @@ own_edition : (setting : Setting) (begun : State) (lines : List (List Line)) (ru
 own_edition setting begun lines run is = ap (λ (e : Edition). in_edition e setting) (is.edition.1 ∙ sym is.edition.0)
 
 -- and it meets no mismatch
-gives_back : (setting : Setting) (begun : State) (lines : List (List Line)) (old : Outcome) (r : Result Outcome ReplayFault)
+pub gives_back : (setting : Setting) (begun : State) (lines : List (List Line)) (old : Outcome) (r : Result Outcome ReplayFault)
     → IsLeftByWorkers setting begun lines old → IfOk r (IsReplayOf setting begun old.journal)
     → ((place : ℕ) → r ≡ Err (Mismatch place) → IsFirstMismatch begun old.journal.entries place) → GivesBack old r
 gives_back setting begun lines old (Ok new) run replay mismatch = as_before setting begun lines old new run replay
@@ -102,13 +102,8 @@ gives_back setting begun lines old (Err Memory) run replay mismatch = tt
 gives_back setting begun lines old (Err (Mismatch place)) run replay mismatch =
     no_mismatch begun old.journal.entries place run.legal (mismatch place refl)
 
--- so it does in the edition of their journal, which is their setup's
-pub gives_back_in : (setting : Setting) (lines : List (List Line)) (old : Outcome) (r : Result Outcome ReplayFault)
-    → IsLeftByWorkers setting (start setting) lines old
-    → IfOk r (IsReplayOf (in_edition old.journal.edition setting) (start (in_edition old.journal.edition setting)) old.journal)
-    → ((place : ℕ) → r ≡ Err (Mismatch place)
-    → IsFirstMismatch (start (in_edition old.journal.edition setting)) old.journal.entries place) → GivesBack old r
-gives_back_in setting lines old r run replay mismatch =
-    let own = own_edition setting (start setting) lines old run in
-    gives_back setting (start setting) lines old r run (subst (λ (s : Setting). IfOk r (IsReplayOf s (start s) old.journal)) own replay)
-    (λ place told. subst (λ (s : Setting). IsFirstMismatch (start s) old.journal.entries place) own (mismatch place told))
+-- workers have left it under their setup in the edition of their journal, too
+pub left_in : (setting : Setting) (lines : List (List Line)) (run : Outcome) → IsLeftByWorkers setting (start setting) lines run
+    → IsLeftByWorkers (in_edition run.journal.edition setting) (start (in_edition run.journal.edition setting)) lines run
+left_in setting lines run is =
+    subst (λ (s : Setting). IsLeftByWorkers s (start s) lines run) (sym (own_edition setting (start setting) lines run is)) is

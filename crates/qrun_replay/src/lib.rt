@@ -9,7 +9,7 @@ pub use placed_line::PlacedLine;
 pub use placed_reply::PlacedReply;
 pub use places::Places;
 pub use replay_fault::ReplayFault;
-pub use replays::replay;
+pub use replays::{replay, replay_on};
 pub use shared_journal::SharedJournal;
 
 mod answered;

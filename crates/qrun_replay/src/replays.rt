@@ -93,8 +93,13 @@ fn all_answered(alloc: Global, journal: &Journal) -> Result<Vec<Answered>, NoMem
     Ok(all)
 }
 
-/// Plays a journal again on a store that has just begun, whose setup is of its edition.
-fn play_again(
+/// Plays a journal again on a store that has just begun, whose setup is of its edition, one entry after the other,
+/// whoever's they are.
+///
+/// Where the store answers each entry as the journal does, this is what is left: the journal as it was, and for each
+/// worker, in order, its own entries as a transcript. Else the place of the first entry with another reply is told.
+/// O(entries), and what each call takes; no data are copied. After an Err the store is given up.
+pub fn replay_on(
     alloc: Global,
     mut store: JournaledStore,
     journal: &Journal,
@@ -104,6 +109,11 @@ fn play_again(
     ensures replay { IfOk result (IsReplayOf store.setting store.begun journal.now) }
     ensures mismatch { (place : ℕ) → result ≡ Err (Mismatch place)
         → IsFirstMismatch store.begun journal.now.entries place }
+
+    // The journal that workers have left from this beginning on gives back what they have left, but for the lines that
+    // failed.
+    ensures of_a_run { (lines : List (List Line)) (run : Outcome)
+        → IsLeftByWorkers store.setting store.begun lines run → journal.now ≡ run.journal → GivesBack run result }
 {
     replay_all(&mut store, journal.entries())?;
     let answered = all_answered(alloc, journal)?;
@@ -111,13 +121,8 @@ fn play_again(
     Ok(outcome_of(alloc, store, journal.workers(), answered, no_boards)?)
 }
 
-/// Plays a journal again on a new store of the setup in the journal's edition, one entry after the other, whoever's
-/// they are.
-///
-/// Where the store answers each entry as the journal does, this is what is left: the journal as it was, and for each
-/// worker, in order, its own entries as a transcript. Else the place of the first entry with another reply is told. The
-/// hashes of names begin at `seed`, which may be any number; nothing of the outcome depends on it. O(entries), and what
-/// each call takes; no data are copied. After an Err the store is given up.
+/// Plays a journal again, as `replay_on` does, on a new store of the setup in the journal's edition. The hashes of
+/// names begin at `seed`, which may be any number; nothing of the outcome depends on it.
 pub fn replay(
     alloc: Global,
     setup: Setup,
@@ -135,5 +140,5 @@ pub fn replay(
         → journal.now ≡ run.journal → GivesBack run result }
 {
     let store = JournaledStore::new(alloc, setup.edition(journal.edition()), seed)?;
-    play_again(alloc, store, journal)
+    replay_on(alloc, store, journal)
 }

@@ -1,5 +1,6 @@
 //! How a shared store is made: first a store, then its identity, then its seats.
-ghost use Rattle.std.specs.Prelude.{◌≡◌, ◌<◌, ◌≤◌, ◌⊎◌, ◌-◌, false, true, Err, IfOk, IfErr};
+ghost use Rattle.std.specs.Prelude.{◌≡◌, ◌<◌, ◌≤◌, ◌⊎◌, ◌-◌, [], false, true, Err, IfOk, IfErr, IsOk};
+ghost use Rattle.std.specs.Bool.{Decides};
 ghost use Rattle.qplain.specs.Journal.{no_tally};
 ghost use Rattle.qplain.specs.State.{start};
 ghost use Rattle.qshare.specs.Locked.{IsNewStore};
@@ -16,7 +17,7 @@ use crate::seat::{Blind, Seat};
 use crate::seating::{blind_seats, viewing_seats};
 use crate::share_fault::ShareFault;
 use crate::shared::Shared;
-use qplain::{NoMemory, Setup};
+use qplain::Setup;
 use qshare_boards::Viewer;
 use qshare_history::{BlankCounters, History, StoreId, TallyPart};
 use qstore_journaled::JournaledStore;
@@ -60,22 +61,11 @@ impl Model for Opened {
         × (0 < o.seats) × (o.seats ≤ 16) × (o.counters.parts ≡ o.seats) };
 }
 
-/// A new store of the setup, for N seats.
-fn open_store(alloc: Global, setup: Setup, seats: u64, seed: u64) -> Result<Opened, NoMemory>
-    requires few { (0 < seats) × (seats ≤ MAX_SEATS) }
-    ensures setting { IfOk result (λ o. o.setting ≡ setup) }
-    ensures begun { IfOk result (λ o. o.begun ≡ start setup) }
-    ensures seats { IfOk result (λ o. o.counters.parts ≡ seats) }
-    ensures clock { IfOk result (λ o. o.clocked ≡ false) }
+/// Whether a store may have so many seats.
+fn may_have(seats: u64) -> bool
+    ensures { Decides result ((0 < seats) × (seats ≤ MAX_SEATS)) }
 {
-    Ok(Opened {
-        alloc,
-        store: JournaledStore::new(alloc, setup, seed)?,
-        history: History::new(),
-        counters: BlankCounters::new(seats),
-        seats,
-        clocked: false,
-    })
+    0 < seats && seats <= MAX_SEATS
 }
 
 impl Opened {
@@ -92,13 +82,40 @@ impl Opened {
             → IfErr result (λ fault. fault ≡ ShareFault.OutOfMemory) }
         ensures most { (seats ≡ 0) ⊎ (MAX_SEATS < seats) → result ≡ Err ShareFault.Seats }
     {
-        if seats == 0 || seats > MAX_SEATS {
+        if !may_have(seats) {
             return Err(ShareFault::Seats);
         }
-        match open_store(alloc, setup, seats, seed) {
-            Ok(opened) => Ok(opened),
+        match JournaledStore::new(alloc, setup, seed) {
+            Ok(store) => Opened::over(alloc, store, seats),
             Err(_) => Err(ShareFault::OutOfMemory),
         }
+    }
+
+    /// A store that has just begun, for 1 to 16 seats, which no clock rules. It takes no memory.
+    ///
+    /// An Err is Seats, where there are too few or too many; then the store is given up.
+    pub fn over(alloc: Global, store: JournaledStore, seats: u64) -> Result<Opened, ShareFault>
+        requires fresh { store.journal ≡ [] }
+        ensures setting { IfOk result (λ o. o.setting ≡ store.setting) }
+        ensures begun { IfOk result (λ o. o.begun ≡ store.begun) }
+        ensures seats { IfOk result (λ o. o.counters.parts ≡ seats) }
+        ensures clock { IfOk result (λ o. o.clocked ≡ false) }
+        ensures refused { ((0 < seats) × (seats ≤ MAX_SEATS) → IsOk result)
+            × ((seats ≡ 0) ⊎ (MAX_SEATS < seats) → result ≡ Err ShareFault.Seats) }
+    {
+        if !may_have(seats) {
+            return Err(ShareFault::Seats);
+        }
+        // The store is what its journal leaves.
+        let _entries = store.entries();
+        Ok(Opened {
+            alloc,
+            store,
+            history: History::new(),
+            counters: BlankCounters::new(seats),
+            seats,
+            clocked: false,
+        })
     }
 
     /// The same store, ruled by a clock: the moments of its journal never fall.

@@ -5,6 +5,7 @@ ghost use Rattle.qplain.specs.declared.edition.Edition.TheVariants.{Two};
 ghost use Rattle.qplain.specs.State.{start};
 ghost use Rattle.qtext_outcome.specs.Outcomes.{outcome_end};
 ghost use Rattle.qshare.specs.declared.opening.TheConstants.{MAX_SEATS};
+ghost use Rattle.qrun.specs.Beginnings.{HasBegun};
 ghost use Rattle.qrun.specs.Serving.{KeepsTime, monitors_in};
 ghost use Rattle.qrun.specs.Watching.{seats_for};
 ghost use Rattle.qrun_replay.specs.Runs.{IsServiceOf};
@@ -24,7 +25,7 @@ use crate::{
     Files, Machine, NamedStreams, Outcome, OutcomeText, SavedNames, Setup, finish_outcome, serve,
 };
 use qplain::{MAX_WORKERS, NoMemory};
-use qrun::Service;
+use qrun::{Beginning, Service};
 use qrun_client::ClientEnd;
 use qtext_client::{
     ClockMoments, Counting, Counts, EndedClient, Moments, OwnMoments, StreamClient,
@@ -161,17 +162,19 @@ fn has_refused<F: Files>(boards: &Option<ShownBoards<'_, F>>) -> bool {
     }
 }
 
-/// Serves the clients of these names, whose lines are made at the moments that they tell, on a store of the setup.
+/// Serves the clients of these names, whose lines are made at the moments that they tell, on a store that begins.
 fn serve_as_told<F: Files + NamedStreams + Send, R: Threads + Wait + Clock + Sync>(
     machine: &Machine<'_, R>,
     names: ServiceNames<'_>,
-    setup: Setup,
+    beginning: Beginning,
     stop_at_failure: bool,
     files: &mut F,
 ) -> Result<Left<F>, Ending>
-    requires some { (0 < length names.clients.now) × (setup.edition ≡ Two)
+    requires begun { HasBegun 0 beginning × (beginning.store.setting.edition ≡ Two) }
+    requires some { (0 < length names.clients.now)
         × (seats_for (length names.clients.now) (monitors_in names.board) ≤ MAX_SEATS) }
-    ensures outcome { IfOk result (λ left. IsServiceOf setup (start setup) left.outcome) }
+    ensures outcome { IfOk result
+        (λ left. IsServiceOf beginning.store.setting beginning.store.begun left.outcome) }
     ensures kept { IfOk result
         (λ left. AreKept (map terms_in names.entry.clients.now) left.outcome.journal.entries) }
 {
@@ -181,8 +184,15 @@ fn serve_as_told<F: Files + NamedStreams + Send, R: Threads + Wait + Clock + Syn
     let counts = names.counted();
     let moments = OwnMoments { clock: rt };
     let clients = clients_of(alloc, files, names.clients, &moments, stop, counts)?;
-    let monitor = monitor_of(rt, alloc, files, names.board, &setup, names.counts)?;
-    match serve(machine, setup, clients, false, monitor) {
+    let monitor = monitor_of(
+        rt,
+        alloc,
+        files,
+        names.board,
+        beginning.store.setup(),
+        names.counts,
+    )?;
+    match serve(machine, beginning, clients, false, monitor) {
         Ok(
             Service {
                 outcome,
@@ -198,17 +208,20 @@ fn serve_as_told<F: Files + NamedStreams + Send, R: Threads + Wait + Clock + Syn
     }
 }
 
-/// Serves the clients of these names, whose lines are made at the moments of a clock, on a store that it rules.
+/// Serves the clients of these names, whose lines are made at the moments of a clock, on a store that begins, which it
+/// rules.
 fn serve_by_clock<F: Files + NamedStreams + Send, R: Threads + Wait + Clock + Sync>(
     machine: &Machine<'_, R>,
     names: ServiceNames<'_>,
-    setup: Setup,
+    beginning: Beginning,
     stop_at_failure: bool,
     files: &mut F,
 ) -> Result<Left<F>, Ending>
-    requires some { (0 < length names.clients.now) × (setup.edition ≡ Two)
+    requires begun { HasBegun 0 beginning × (beginning.store.setting.edition ≡ Two) }
+    requires some { (0 < length names.clients.now)
         × (seats_for (length names.clients.now) (monitors_in names.board) ≤ MAX_SEATS) }
-    ensures outcome { IfOk result (λ left. IsServiceOf setup (start setup) left.outcome × KeepsTime true left.outcome) }
+    ensures outcome { IfOk result (λ left. IsServiceOf beginning.store.setting beginning.store.begun left.outcome
+        × KeepsTime true left.outcome) }
     ensures kept { IfOk result
         (λ left. AreKept (map terms_in names.entry.clients.now) left.outcome.journal.entries) }
 {
@@ -218,8 +231,15 @@ fn serve_by_clock<F: Files + NamedStreams + Send, R: Threads + Wait + Clock + Sy
     let counts = names.counted();
     let moments = ClockMoments { clock: rt };
     let clients = clients_of(alloc, files, names.clients, &moments, stop, counts)?;
-    let monitor = monitor_of(rt, alloc, files, names.board, &setup, names.counts)?;
-    match serve(machine, setup, clients, true, monitor) {
+    let monitor = monitor_of(
+        rt,
+        alloc,
+        files,
+        names.board,
+        beginning.store.setup(),
+        names.counts,
+    )?;
+    match serve(machine, beginning, clients, true, monitor) {
         Ok(
             Service {
                 outcome,
@@ -253,11 +273,11 @@ fn serve_of<F: Files + NamedStreams + Send, R: Threads + Wait + Clock + Sync>(
         (λ left. AreKept (map terms_in names.entry.clients.now) left.outcome.journal.entries) }
 {
     test_names(machine.alloc, files, names)?;
-    let setup = setup?;
+    let beginning = Beginning::new(machine.alloc, setup?, machine.seed, false)?;
     if job.clock {
-        return serve_by_clock(machine, names, setup, job.stop_at_failure, files);
+        return serve_by_clock(machine, names, beginning, job.stop_at_failure, files);
     }
-    serve_as_told(machine, names, setup, job.stop_at_failure, files)
+    serve_as_told(machine, names, beginning, job.stop_at_failure, files)
 }
 
 /// Whether a client has ended since a line failed, its own or another's.

@@ -15,8 +15,9 @@ ghost use Rattle.qrun.specs.Watching.{seats_for};
 
 use qaudit_checks::BoardFault;
 use qplain::{Board, Journal, Script};
-use qrun::{Gate, Machine, NoGate, Options, RunFault, run_scripts};
+use qrun::{Beginning, Gate, Machine, NoGate, Options, RunFault, run_scripts};
 use qrun_replay::{Outcome, ReplayFault};
+use qstore::Store;
 use qtext_config::Config;
 use std::alloc::Global;
 use std::sync::Wait;
@@ -43,7 +44,9 @@ pub fn run_with<G: Gate + Sync, R: Threads + Wait + Sync>(
     ensures looks { IfOk result (λ o. length o.boards ≡ options.boards) }
     ensures fault { IfErr result (IsFaultOf (seats_for (length scripts.items) options.boards)) }
 {
-    run_scripts(machine, config.setup, scripts, options, gate)
+    let boards = options.boards > 0;
+    let beginning = Beginning::new(machine.alloc, config.setup, machine.seed, boards)?;
+    run_scripts(machine, beginning, scripts, options, gate)
 }
 
 /// `run_with` without boards, line by line, and with a gate that lets every line pass. The caller owes 1 to 16 scripts.
@@ -102,5 +105,6 @@ pub fn check_boards(
     ensures { IsVerdictOn (start (in_edition journal.now.edition config.setup)) journal.now.entries boards.now result }
 {
     let setup = config.setup.edition(journal.edition());
-    qaudit_checks::check_boards(alloc, &setup, journal.entries(), boards, seed)
+    let store = Store::new(alloc, setup, seed)?;
+    qaudit_checks::check_boards(store, journal.entries(), boards)
 }

@@ -4,8 +4,9 @@ use crate::given::{journal, lines, setup};
 use qaudit_checks::{BoardFault, check_boards, check_looks};
 use qplain::{Board, Edition, Line, LookFault, MAX_LINES, Script};
 use qrules::{BoardRow, Items, Kind, Limits};
-use qrun::{Machine, NoGate, Options, run_scripts};
+use qrun::{Beginning, Machine, NoGate, Options, run_scripts};
 use qrun_replay::Outcome;
+use qstore::Store;
 use std::alloc::Global;
 use std::sync::Wait;
 use std::test::Fail;
@@ -64,8 +65,8 @@ fn boards(alloc: Global, rows: &[(u64, u64, u64)]) -> Result<Vec<Board>, Fail> {
 fn checked(alloc: Global, rows: &[(u64, u64, u64)]) -> Result<Result<(), BoardFault>, Fail> {
     let boards = boards(alloc, rows)?;
     let journal = journal(alloc, JOURNAL)?;
-    let setup = setup(alloc)?;
-    Ok(check_boards(alloc, &setup, journal.entries(), &boards, 0))
+    let store = Store::new(alloc, setup(alloc)?, 0)?;
+    Ok(check_boards(store, journal.entries(), &boards))
 }
 
 // One is right, one wrong in a row alone, one in all, one falls, and one is beyond the journal.
@@ -89,8 +90,8 @@ fn the_first_board_that_fails_is_told(rt: HostRuntime) -> Result<(), Fail> {
 fn looks_checked(alloc: Global) -> Result<Result<(), BoardFault>, Fail> {
     let looks = vec![in alloc; Err(LookFault::NoBoard), Ok(board(alloc, 3, 1, 1)?)]?;
     let journal = journal(alloc, JOURNAL)?;
-    let setup = setup(alloc)?;
-    Ok(check_looks(alloc, &setup, journal.entries(), &looks, 0))
+    let store = Store::new(alloc, setup(alloc)?, 0)?;
+    Ok(check_looks(store, journal.entries(), &looks))
 }
 
 #[test]
@@ -129,7 +130,8 @@ fn crowd<R: Threads + Wait + Sync>(rt: &R, alloc: Global, batch: u64) -> Result<
     };
     let setup = setup(alloc)?.edition(Edition::Two);
     let machine = Machine { rt, alloc, seed: 0 };
-    match run_scripts(&machine, setup, scripts, options, &NoGate) {
+    let beginning = Beginning::new(alloc, setup, 0, true)?;
+    match run_scripts(&machine, beginning, scripts, options, &NoGate) {
         Ok(outcome) => Ok(outcome),
         Err(_) => Err(Fail::from("an outcome")),
     }
@@ -176,25 +178,28 @@ fn are_whole(looks: &[Result<Board, LookFault>]) -> bool {
 }
 
 /// Whether the boards of an outcome are whole, and the journal's.
-fn are_right(alloc: Global, outcome: &Outcome) -> bool {
+fn are_right(alloc: Global, outcome: &Outcome) -> Result<bool, Fail> {
     let looks = outcome.boards.as_slice();
     let entries = outcome.journal.get().entries();
-    looks.len() == 1000
-        && entries.len() == 15_000
-        && are_whole(looks)
-        && check_looks(alloc, &outcome.setup, entries, looks, 0).is_ok()
+    let store = Store::new(alloc, outcome.setup.copy(alloc)?, 0)?;
+    Ok(
+        looks.len() == 1000
+            && entries.len() == 15_000
+            && are_whole(looks)
+            && check_looks(store, entries, looks).is_ok(),
+    )
 }
 
 #[test]
 fn boards_beside_15_workers_are_whole(rt: HostRuntime) -> Result<(), Fail> {
     let outcome = crowd(&rt, rt.alloc(), 1)?;
-    assert!(rt; are_right(rt.alloc(), &outcome));
+    assert!(rt; are_right(rt.alloc(), &outcome)?);
     Ok(())
 }
 
 #[test]
 fn boards_beside_batches_are_whole(rt: HostRuntime) -> Result<(), Fail> {
     let outcome = crowd(&rt, rt.alloc(), 64)?;
-    assert!(rt; are_right(rt.alloc(), &outcome));
+    assert!(rt; are_right(rt.alloc(), &outcome)?);
     Ok(())
 }

@@ -11,6 +11,7 @@ use qplain::{Board, Entry, Line};
 use qrules::{Items, Kind};
 use qshare::{Boards, Held, Opened, Seat, ShareFault, Shared, Viewer};
 use qshare_history::StoreId;
+use qstore::Store;
 use std::alloc::Global;
 use std::io::Print;
 use std::marker::Brand;
@@ -121,13 +122,20 @@ fn walk<S: StoreId, B: Boards<S>, R: Wait + Print>(
         && note(rt, first, boards)
 }
 
+/// A new store.
+fn store(alloc: Global) -> Result<Store, &'static str> {
+    match Store::new(alloc, setup(alloc)?, 0) {
+        Ok(store) => Ok(store),
+        Err(_) => Err("a store"),
+    }
+}
+
 /// Whether the boards are those of the journal, which has the calls that were answered, and none is older than one
 /// before it.
 fn are_right(alloc: Global, journal: &[Entry], boards: &[Board]) -> bool {
-    match setup(alloc) {
-        Ok(setup) => {
-            (journal.len(), boards.len()) == (6, 4)
-                && check_boards(alloc, &setup, journal, boards, 0).is_ok()
+    match store(alloc) {
+        Ok(store) => {
+            (journal.len(), boards.len()) == (6, 4) && check_boards(store, journal, boards).is_ok()
         }
         Err(_) => false,
     }

@@ -1,7 +1,7 @@
 //! Clients served by workers, beside a monitor.
 use crate::given::{FIRST_FILES, OTHER_FILES, script, setup};
 use qplain::{Board, Edition};
-use qrun::{Machine, Monitor, serve};
+use qrun::{Beginning, Machine, Monitor, serve};
 use qrun_worker::ScriptClient;
 use std::hint::spin_loop;
 use std::sync::atomic::AtomicU64;
@@ -59,7 +59,8 @@ fn the_last_board_of_a_service_is_shown(rt: HostRuntime) -> Result<(), Fail> {
         alloc,
         seed: 0,
     };
-    let Ok(service) = serve(&machine, setup, clients, false, Some(monitor)) else {
+    let beginning = Beginning::new(alloc, setup, 0, false)?;
+    let Ok(service) = serve(&machine, beginning, clients, false, Some(monitor)) else {
         return Err(Fail::from("an outcome"));
     };
     let entries = service.outcome.journal.get().entries().len();

@@ -3,7 +3,7 @@ ghost use Rattle.std.specs.Prelude.{◌<◌, ◌≤◌};
 
 use crate::given::{FIRST_FILES, OTHER_FILES, script, setup};
 use qplain::{CallFault, Edition, Refusal, Reply};
-use qrun::{Gate, Machine, Options, run_scripts};
+use qrun::{Beginning, Gate, Machine, Options, run_scripts};
 use qrun_replay::{Outcome, PlacedReply};
 use std::alloc::Global;
 use std::hint::spin_loop;
@@ -99,7 +99,8 @@ fn run<R: Threads + Wait + Sync>(
     let scripts = vec![in alloc; script(alloc, FIRST_FILES)?, script(alloc, OTHER_FILES)?]?;
     let options = Options { boards: 0, batch };
     let machine = Machine { rt, alloc, seed: 0 };
-    match run_scripts(&machine, setup, scripts, options, gate) {
+    let beginning = Beginning::new(alloc, setup, 0, false)?;
+    match run_scripts(&machine, beginning, scripts, options, gate) {
         Ok(outcome) => Ok(outcome),
         Err(_) => Err(Fail::from("an outcome")),
     }

@@ -1,12 +1,11 @@
 use Rattle.std.proofs.Common.{◌+◌, take, sym, ap, subst}
-use Rattle.qplain.specs.State.{start}
 use Rattle.qaudit_checks.specs.SeenBoards.{AreSeenBoards, IsJudged}
 use Rattle.qaudit_checks.proofs.SeenBoards.{fails-here, more-boards, verdict-fails}
 use Rattle.qaudit_checks.proofs.boards.check_boards.Goals as goal
 
 pub returns-then-not-branch : goal.returns-then-not-branch
 returns-then-not-branch c =
-    let S = start c.args.setup.now in
+    let S = c.args.store.state in
     let entries = c.args.entries.now in
     let boards = c.args.boards.now in
     let at = c.loop-board.board-index in
@@ -19,7 +18,7 @@ returns-then-not-branch c =
 
 pub loop-board-preserved : goal.loop-board-preserved
 loop-board-preserved c =
-    let S = start c.args.setup.now in
+    let S = c.args.store.state in
     let entries = c.args.entries.now in
     let boards = c.args.boards.now in
     let at = c.loop-board.board-index in

@@ -1,6 +1,5 @@
 use Rattle.std.proofs.Common.{◌≡◌, ◌+◌, ◌++◌, ◌∷◌, [], length, take, sym, ap, subst, ◌∙◌, arith}
 use Rattle.std.proofs.lemmas.List.{length_push}
-use Rattle.qplain.specs.State.{start}
 use Rattle.qaudit_checks.specs.LawfulBoards.{boards_in}
 use Rattle.qaudit_checks.specs.SeenBoards.{AreSeenBoards, IsJudged}
 use Rattle.qaudit_checks.proofs.SeenBoards.{fails-shown, none-more, shown-more, verdict-fails}
@@ -9,7 +8,7 @@ use Rattle.qaudit_checks.proofs.boards.check_looks.Goals as goal
 
 pub returns-then-not-branch : goal.returns-then-not-branch
 returns-then-not-branch c =
-    let S = start c.args.setup.now in
+    let S = c.args.store.state in
     let entries = c.args.entries.now in
     let looks = c.args.looks.now in
     let at = c.loop-look.look-index in
@@ -23,7 +22,7 @@ returns-then-not-branch c =
 
 pub loop-look-preserved : goal.loop-look-preserved
 loop-look-preserved c =
-    let S = start c.args.setup.now in
+    let S = c.args.store.state in
     let entries = c.args.entries.now in
     let looks = c.args.looks.now in
     let at = c.loop-look.look-index in

@@ -11,7 +11,7 @@ use Rattle.qrun.proofs.concluding.make_outcome.Goals as goal
 
 pub outcome_of-requires-clause-each : goal.outcome_of-requires-clause-each
 outcome_of-requires-clause-each c =
-    let all = c.requires.told.told in
+    let all = c.requires.worked.told.told in
     let journal = c.args.store.journal in
     let ts : List Transcript = map (transcript_from journal) c.args.answered.items in
     let many : length ts ≡ c.len-workers.result =
@@ -20,11 +20,11 @@ outcome_of-requires-clause-each c =
 
 pub outcome_of-requires-clause-of_edition : goal.outcome_of-requires-clause-of_edition
 outcome_of-requires-clause-of_edition c =
-    subst (λ (e : Edition). AreOfEdition e c.args.store.journal) (sym c.requires.edition) (λ k d less. refl)
+    subst (λ (e : Edition). AreOfEdition e c.args.store.journal) (sym c.requires.worked.edition) (λ k d less. refl)
 
 pub outcome_of-requires-clause-few : goal.outcome_of-requires-clause-few
 outcome_of-requires-clause-few c =
-    subst (λ (e : Edition). length c.args.store.journal ≤ max_entries_of e) (sym c.requires.edition) c.requires.told.told.few
+    subst (λ (e : Edition). length c.args.store.journal ≤ max_entries_of e) (sym c.requires.worked.edition) c.requires.worked.told.told.few
 
 pub returns-clause-outcome : goal.returns-clause-outcome
 returns-clause-outcome c =
@@ -32,5 +32,5 @@ returns-clause-outcome c =
     let ts : List Transcript = map (transcript_from journal) c.args.answered.items in
     let many : c.len-workers.result ≡ length ts =
     c.len-workers.ensures ∙ c.args.answered.ok.0 ∙ sym (length-map c.args.answered.items (transcript_from journal)) in
-    gathered_told c.args.store.setting c.args.store.begun journal ts c.args.looks.items c.len-workers.result c.in_ok-outcome.outcome c.requires.edition
-    c.requires.told.told c.requires.lawful many (rw (sym c.new.ensures) c.in_ok-outcome.ensures)
+    gathered_told c.args.store.setting c.args.store.begun journal ts c.args.looks.items c.len-workers.result c.in_ok-outcome.outcome c.requires.worked.edition
+    c.requires.worked.told.told c.requires.worked.lawful many (rw (sym c.new.ensures) c.in_ok-outcome.ensures)

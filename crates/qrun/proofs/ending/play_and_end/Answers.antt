@@ -19,21 +19,26 @@ returns-in_err-works-clause-fault g c =
     (c.in_err-works.ensures parts
     (omega (arith, fits.0, ap length c.in_ok-workers.ensures.clients_are, length-map workers (λ p. p.client))) fits.1)
 
-pub make_outcome-requires-clause-told : goal.make_outcome-requires-clause-told
-make_outcome-requires-clause-told g c =
+pub make_outcome-requires-clause-again : goal.make_outcome-requires-clause-again
+make_outcome-requires-clause-again g c =
     let at = handed_in_by g.C.Client.talk g.M.Monitor.sees _ _ _ _ _ _ _ _ _ _ _ _ c.requires.staff c.in_ok-workers.ensures.clients_are
     c.in_ok-works.ensures c.in_ok-own.ensures.shares c.part_observed-watch.ensures.watch c.in_ok-shares.ensures.shares in
-    (works_placed _ _ _ _ _ _ _ _ _ _ at c.in-Ok.store.journal c.in-Ok.ensures.end.seen (ap (λ t. t.calls) c.in-Ok.ensures.end.tally)
-    c.in-Ok.ensures.end.played.few c.in_ok-own.answered.items c.in_ok-own.ensures.answered).0
+    let kept = ap length c.in_ok-shares.ensures.looks ∙ at.kept in
+    rw (c.in-Ok.ensures.begun, kept) c.requires.again
 
-pub make_outcome-requires-clause-lawful : goal.make_outcome-requires-clause-lawful
-make_outcome-requires-clause-lawful g c =
+pub make_outcome-requires-clause-worked : goal.make_outcome-requires-clause-worked
+make_outcome-requires-clause-worked g c =
     let looks = c.in_ok-shares.looks.items in
     let journal = c.in-Ok.store.journal in
     let at = handed_in_by g.C.Client.talk g.M.Monitor.sees _ _ _ _ _ _ _ _ _ _ _ _ c.requires.staff c.in_ok-workers.ensures.clients_are
     c.in_ok-works.ensures c.in_ok-own.ensures.shares c.part_observed-watch.ensures.watch c.in_ok-shares.ensures.shares in
-    subst (λ S. AreLawful S journal (boards_in looks)) (sym c.in-Ok.ensures.begun)
-    (looks_lawful _ _ _ _ _ _ _ _ _ _ at journal c.in-Ok.ensures.end.seen looks c.in_ok-shares.ensures.looks)
+    record {
+      edition = ap (λ s. s.edition) c.in-Ok.ensures.setting ∙ c.requires.staff.can.edition;
+      told = (works_placed _ _ _ _ _ _ _ _ _ _ at journal c.in-Ok.ensures.end.seen (ap (λ t. t.calls) c.in-Ok.ensures.end.tally)
+          c.in-Ok.ensures.end.played.few c.in_ok-own.answered.items c.in_ok-own.ensures.answered).0;
+      lawful = subst (λ S. AreLawful S journal (boards_in looks)) (sym c.in-Ok.ensures.begun)
+          (looks_lawful _ _ _ _ _ _ _ _ _ _ at journal c.in-Ok.ensures.end.seen looks c.in_ok-shares.ensures.looks);
+    }
 
 pub returns-in_err-outcome-in-Ok-clause-fault : goal.returns-in_err-outcome-in-Ok-clause-fault
 returns-in_err-outcome-in-Ok-clause-fault g c =

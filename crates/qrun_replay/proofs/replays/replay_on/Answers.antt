@@ -1,7 +1,11 @@
+use Rattle.std.proofs.Common.{◌≡◌, Err, ap}
 use Rattle.std.specs.List.{range_with_len}
+use Rattle.std.proofs.lemmas.Result.{err_from_is_err_and}
+use Rattle.qrun_replay.specs.declared.replay_fault.ReplayFault.TheVariants.{Mismatch}
 use Rattle.qrun_replay.proofs.Coming.{again}
+use Rattle.qrun_replay.proofs.GivingBack.{as_before, gives_back}
 use Rattle.qrun_replay.proofs.Placing.{all_places, transcripts_seen}
-use Rattle.qrun_replay.proofs.replays.play_again.Goals as goal
+use Rattle.qrun_replay.proofs.replays.replay_on.Goals as goal
 
 pub outcome_of-requires-clause-of_edition : goal.outcome_of-requires-clause-of_edition
 outcome_of-requires-clause-of_edition c =
@@ -34,3 +38,16 @@ returns-clause-replay c =
       c.new-no_boards.ensures,
       c.new.ensures.items,
     ) at c.in_ok-outcome_of.ensures)
+
+pub returns-clause-of_a_run : goal.returns-clause-of_a_run
+returns-clause-of_a_run c lines run is same =
+    as_before c.args.store.setting c.args.store.begun lines run c.in_ok-outcome_of.field-0 is (rw same at (returns-clause-replay c))
+
+pub returns-in_err-replay_all-clause-of_a_run : goal.returns-in_err-replay_all-clause-of_a_run
+returns-in_err-replay_all-clause-of_a_run c lines run is same =
+    let fault = err_from_is_err_and c.from_residual.result c.from_residual.ensures.1 in
+    rw (fault.1, fault.2)
+    (gives_back c.args.store.setting c.args.store.begun lines run (Err c.in_err-replay_all.field-0.0) is tt
+    (λ place told.
+    let which : c.in_err-replay_all.field-0.0 ≡ Mismatch place = cc told in
+    rw (c.entries.ensures.entries, same) at (c.in_err-replay_all.ensures.mismatch place (ap Err which))))

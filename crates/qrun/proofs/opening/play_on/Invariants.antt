@@ -1,4 +1,4 @@
-use Rattle.qrun.proofs.beginning.play_on.Given as goal
+use Rattle.qrun.proofs.opening.play_on.Given as goal
 
 abbrev pub ghosts-play_opened : goal.ghosts-play_opened
 ghosts-play_opened g a = record { id = a.opened }

@@ -1,6 +1,6 @@
 use Rattle.std.proofs.Common.{length, ap, sym, ◌∙◌}
 use Rattle.qrun.proofs.Naming.{staff_beside}
-use Rattle.qrun.proofs.beginning.play_opened.Goals as goal
+use Rattle.qrun.proofs.opening.play_opened.Goals as goal
 
 pub returns-in-Nobody-clause-played : goal.returns-in-Nobody-clause-played
 returns-in-Nobody-clause-played g c = rw c.in-Nobody.is c.play_and_end.ensures.played

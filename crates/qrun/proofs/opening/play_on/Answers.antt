@@ -3,13 +3,13 @@ use Rattle.qrun.specs.Looking.{lookers_in}
 use Rattle.qrun.specs.RunFaults.{IsFaultOf}
 use Rattle.qrun.specs.Serving.{CanServe}
 use Rattle.qrun.specs.Watching.{seats_for}
-use Rattle.qrun.proofs.Naming.{parts_for}
-use Rattle.qrun.proofs.beginning.play_on.Goals as goal
+use Rattle.qrun.proofs.Naming.{if_ok, parts_for}
+use Rattle.qrun.proofs.opening.play_on.Goals as goal
 
 pub play_opened-requires-clause-can : goal.play_opened-requires-clause-can
 play_opened-requires-clause-can g c κs within =
     let n = length c.args.crew in
-    let setting : c.ruled.result.setting ≡ c.args.setup = ap (λ o. o.setting) c.ruled.ensures ∙ c.in_ok-opened.ensures.setting in (
+    let setting : c.ruled.result.setting ≡ c.args.beginning.store.setting = ap (λ o. o.setting) c.ruled.ensures ∙ c.in_ok-opened.ensures.setting in (
       subst (λ s. CanServe s n (lookers_in c.args.looking)) (sym setting) c.requires.can.0,
       parts_for n c.args.looking _ _ _ (ap (λ o. o.counters.parts) c.ruled.ensures ∙ c.in_ok-opened.ensures.seats) c.len.ensures c.lookers.ensures,
     )
@@ -20,3 +20,10 @@ returns-clause-fault g c =
     let parts : c.ruled.result.counters.parts ≡ seats_for n (lookers_in c.args.looking) =
     parts_for n c.args.looking _ _ _ (ap (λ o. o.counters.parts) c.ruled.ensures ∙ c.in_ok-opened.ensures.seats) c.len.ensures c.lookers.ensures in
     subst (λ m. IfErr c.play_opened.result (IsFaultOf m)) parts c.play_opened.ensures.fault
+
+pub returns-clause-played : goal.returns-clause-played
+returns-clause-played g c =
+    let setting : c.ruled.result.setting ≡ c.args.beginning.store.setting = ap (λ o. o.setting) c.ruled.ensures ∙ c.in_ok-opened.ensures.setting in
+    let begun : c.ruled.result.begun ≡ c.args.beginning.store.begun = ap (λ o. o.begun) c.ruled.ensures ∙ c.in_ok-opened.ensures.begun in
+    let clock : c.ruled.result.clocked ≡ c.args.clock = ap (λ o. o.clocked) c.ruled.ensures in
+    if_ok c.play_opened.result (λ s played. rw (setting, begun, clock) at played) c.play_opened.ensures.played
