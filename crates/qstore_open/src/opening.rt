@@ -101,8 +101,8 @@ impl Opening {
     }
 
     /// The line of the first row, if there is one, that all rows together show not to be so: a total past the bounds, a
-    /// use other than the one that is counted, a grace end where none belongs or none where one does, a missing root, an
-    /// inode without its names or that no walk from the root reaches. O(n log n); an Err is out of memory.
+    /// use other than the one that is counted, a grace end where none belongs or none where one does, no root, an inode
+    /// without its names or that no walk from the root reaches. O(n log n); an Err is out of memory.
     pub fn wrong_line(&self, alloc: Global) -> Result<Option<u64>, NoMemory>
         requires { (limit : ℕ) × (rows : List Row) × (limit ≤ 2 ^ 40) × IsToldBy limit rows self.now }
         ensures { IfOk result (λ line. line ≡ end_line self.now.state self.now.records) }
